@@ -1,0 +1,7 @@
+//! The values of a script, its failures, and the table of their classes.
+#![tactic(auto)]
+
+pub mod boxed;
+pub mod items;
+pub mod text;
+pub mod value;

@@ -1,0 +1,38 @@
+use crate::boxed::Boxed;
+use crate::items::Items;
+use crate::text::Text;
+
+/// The place of a class in the table of classes.
+#[derive(Clone, Copy, Debug, PartialEq, Eq)]
+pub struct ClassId {
+    pub place: u32,
+}
+
+/// How something failed (Twisted: `Failure`).
+#[cycle(failure)]
+#[derive(Debug, Drop)]
+pub struct Failure {
+    pub class: ClassId,
+    pub message: Text,
+    pub sub: Option<Sub>,
+}
+
+/// The failure inside another, with the place of the Deferred that it came from (Twisted: `FirstError`).
+#[cycle(failure)]
+#[derive(Debug, Drop)]
+pub struct Sub {
+    pub index: u32,
+    pub failure: Boxed<Failure>,
+}
+
+/// What a Deferred can be fired with.
+#[derive(Debug, Drop)]
+pub enum Value {
+    Null,
+    Bool(bool),
+    Int(i64),
+    Text(Text),
+    List(Items<Value>),
+    /// A Deferred of this value has failed.
+    Fault(Boxed<Failure>),
+}
