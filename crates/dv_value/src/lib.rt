@@ -2,6 +2,7 @@
 #![tactic(auto)]
 
 pub mod boxed;
+pub mod class_id;
 pub mod items;
 pub mod text;
 pub mod value;

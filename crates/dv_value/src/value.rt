@@ -1,12 +1,7 @@
 use crate::boxed::Boxed;
+use crate::class_id::ClassId;
 use crate::items::Items;
 use crate::text::Text;
-
-/// The place of a class in the table of classes.
-#[derive(Clone, Copy, Debug, PartialEq, Eq)]
-pub struct ClassId {
-    pub place: u32,
-}
 
 /// How something failed (Twisted: `Failure`).
 #[cycle(failure)]
