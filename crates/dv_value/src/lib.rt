@@ -3,6 +3,11 @@
 
 pub mod boxed;
 pub mod class_id;
+pub mod classes;
+pub mod failure;
 pub mod items;
+pub mod laws;
+
 pub mod text;
 pub mod value;
+pub mod value_text;
