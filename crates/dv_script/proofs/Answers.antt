@@ -27,7 +27,12 @@ misshapen d is s h = let found : script_at d ≡ Some s = complete_script d s h 
 
 pub says : (bytes : List ℕ) (r : Result Script ScriptFault) → Passes bytes r → IfOk r (λ s. Says bytes s)
 says bytes (Ok s) h = record {
-  json = h.0; shape = shaped bytes h.0 s (document bytes (Ok s) h) h.4.0 h.4.1; few = h.4.2; named = h.4.3; known = h.4.4 }
+  json = h.0;
+  shape = shaped bytes h.0 s (document bytes (Ok s) h) h.4.0 h.4.1;
+  few = h.4.2;
+  named = h.4.3;
+  known = h.4.4;
+}
 says bytes (Err fault) h = tt
 
 pub refuses : (bytes : List ℕ) (r : Result Script ScriptFault) → Passes bytes r → IfErr r (λ fault. Refuses fault bytes)

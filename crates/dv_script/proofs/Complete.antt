@@ -74,5 +74,5 @@ pub complete_script : (d : Data) (s : Script) → IsScript d s → script_at d �
 unfolding script_at fields_at
 complete_script d s h =
     let listed : list_at (action_at builtin) h.list ≡ Some s.events =
-      complete_list (IsAction builtin) (action_at builtin) (complete_action builtin) h.list s.events (rw h.table at h.events) in
+    complete_list (IsAction builtin) (action_at builtin) (complete_action builtin) h.list s.events (rw h.table at h.events) in
     rw (h.whole, h.only, h.needed, listed, h.table) refl

@@ -20,8 +20,9 @@ picked Greater rest e d h = inl h
 member_nodes-get : (key : List ℕ) (ms : Members) (d : Data) → get_member key ms ≡ Some d → nodes d ≤ member_nodes ms
 member_nodes-get key no_members d e = cc
 member_nodes-get key (member k c ms) d e = elim (picked (slice_cmp nat_cmp key k) (get_member key ms) c d e) [
-  inl h ↦ let below : nodes d ≤ member_nodes ms = member_nodes-get key ms d h in omega (arith, below)
-  | inr h ↦ rw h (omega arith) ]
+  | inl h ↦ let below : nodes d ≤ member_nodes ms = member_nodes-get key ms d h in omega (arith, below)
+  | inr h ↦ rw h (omega arith)
+]
 
 -- a value has a node
 some_nodes : (d : Data) → 1 ≤ nodes d

@@ -72,25 +72,30 @@ Answered bytes = ((s : Script) × Says bytes s) ⊎ IsRefused bytes
 
 known_or_not : (bytes : List ℕ) (d : Data) (s : Script) → HasShape bytes d s → nodes d ≤ most_nodes → are_named s ≡ true → Answered bytes
 known_or_not bytes d s shape few named = elim (tested (are_known s)) [
-  inl known ↦ inl (s, record { json = d; shape = shape; few = few; named = named; known = known })
-  | inr unknown ↦ inr (BadClass, (λ e. cc), (d, s, shape, few, named, unknown)) ]
+  | inl known ↦ inl (s, record { json = d; shape = shape; few = few; named = named; known = known })
+  | inr unknown ↦ inr (BadClass, (λ e. cc), (d, s, shape, few, named, unknown))
+]
 
 named_or_not : (bytes : List ℕ) (d : Data) (s : Script) → HasShape bytes d s → nodes d ≤ most_nodes → Answered bytes
 named_or_not bytes d s shape few = elim (tested (are_named s)) [
-  inl named ↦ known_or_not bytes d s shape few named
-  | inr unnamed ↦ inr (BadName, (λ e. cc), (d, s, shape, few, unnamed)) ]
+  | inl named ↦ known_or_not bytes d s shape few named
+  | inr unnamed ↦ inr (BadName, (λ e. cc), (d, s, shape, few, unnamed))
+]
 
 few_or_many : (bytes : List ℕ) (d : Data) (s : Script) → HasShape bytes d s → Answered bytes
 few_or_many bytes d s shape = elim (leb_tells (nodes d) most_nodes) [
-  inl few ↦ named_or_not bytes d s shape few.1
-  | inr many ↦ inr (TooMany, (λ e. cc), (d, s, shape, many.1)) ]
+  | inl few ↦ named_or_not bytes d s shape few.1
+  | inr many ↦ inr (TooMany, (λ e. cc), (d, s, shape, many.1))
+]
 
 shaped_or_not : (bytes : List ℕ) (d : Data) → IsDocument bytes d → HasVersion d → Answered bytes
 shaped_or_not bytes d document version = elim (looked (script_at d)) [
-  inl found ↦ few_or_many bytes d found.0 (record { document = document; version = version; shape = sound_script d found.0 found.1 })
-  | inr none ↦ inr (BadShape, (λ e. cc), (d, document, version, misshapen d none)) ]
+  | inl found ↦ few_or_many bytes d found.0 (record { document = document; version = version; shape = sound_script d found.0 found.1 })
+  | inr none ↦ inr (BadShape, (λ e. cc), (d, document, version, misshapen d none))
+]
 
 pub says_or_is_refused : SaysOrIsRefused
 says_or_is_refused bytes d document = elim (tested (is_version d)) [
-  inl version ↦ shaped_or_not bytes d document (version_is d version)
-  | inr other ↦ inr (BadVersion, (λ e. cc), (d, document, no_version d other)) ]
+  | inl version ↦ shaped_or_not bytes d document (version_is d version)
+  | inr other ↦ inr (BadVersion, (λ e. cc), (d, document, no_version d other))
+]

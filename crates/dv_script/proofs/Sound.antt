@@ -58,8 +58,9 @@ end_text end.Trap = codes "trap"
 word_step : {W : Type 0} (text_of : W → List ℕ) (text key : List ℕ) (word found : W) (rest : Option W) → text_of word ≡ key
     → (rest ≡ Some found → text ≡ text_of found) → cond (bytes_eq text key) (Some word) rest ≡ Some found → text ≡ text_of found
 word_step text_of text key word found rest is otherwise e = elim (chosen (bytes_eq text key) (Some word) rest (Some found) e) [
-  inl h ↦ (bytes_eq-Decides text key).0 h.0 ∙ sym is ∙ ap text_of (some_injective h.1)
-  | inr h ↦ otherwise h ]
+  | inl h ↦ (bytes_eq-Decides text key).0 h.0 ∙ sym is ∙ ap text_of (some_injective h.1)
+  | inr h ↦ otherwise h
+]
 
 action_word_is : (text : List ℕ) (word : ActionWord) → action_word text ≡ Some word → text ≡ action_text word
 action_word_is text word =
@@ -176,8 +177,9 @@ sound_field default x Is at one (Some d) e = one d x e
 fields_is : (keys : List (List ℕ)) (ms : Members) (t : ⊤) → fields_at keys (object ms) ≡ Some t → has_only keys ms ≡ true
 unfolding fields_at
 fields_is keys ms t e = elim (chosen (has_only keys ms) (Some tt) None (Some t) e) [
-  inl h ↦ h.0
-  | inr h ↦ cc ]
+  | inl h ↦ h.0
+  | inr h ↦ cc
+]
 
 -- ---- ends, bodies, actions, scripts
 
@@ -220,7 +222,7 @@ sound_body table (object ms) x e =
     bind (fields_at body_keys (object ms)) _ x e (λ t t_is t_then.
     bind (field Pass (end_at table) (get_member (codes "end") ms)) _ x t_then (λ l l_is l_then.
     rw (← some_injective l_then)
-      (body ms l (fields_is body_keys ms t t_is) (sound_field Pass l (IsEnd table) (end_at table) (sound_end table) (get_member (codes "end") ms) l_is))))
+    (body ms l (fields_is body_keys ms t t_is) (sound_field Pass l (IsEnd table) (end_at table) (sound_end table) (get_member (codes "end") ms) l_is))))
 sound_body table _ x e = cc
 
 sound_named : (table : List Class) (ds : Items) (p : List ℕ × Body) → name_and_body table ds ≡ Some p → (d : Data) × (ds ≡ item (string p.0) (item d no_items)) × IsBody table d p.1
@@ -267,7 +269,7 @@ sound_action_of table action.AddCallbacks ds x e =
     bind (body_at table p.1) _ x n_then (λ c c_is c_then.
     bind (body_at table p.2) _ x c_then (λ f f_is f_then.
     rw (three_is ds p p_is, text_is p.0 n n_is, ← some_injective f_then)
-      (add_callbacks n p.1 p.2 c f (sound_body table p.1 c c_is) (sound_body table p.2 f f_is))))))
+    (add_callbacks n p.1 p.2 c f (sound_body table p.1 c c_is) (sound_body table p.2 f f_is))))))
 
 sound_action : (table : List Class) (d : Data) (x : Action) → action_at table d ≡ Some x → IsAction table d x
 unfolding action_at
@@ -284,6 +286,12 @@ sound_script (object ms) s e =
     bind (get_member (codes "events") ms) _ s t_then (λ v v_is v_then.
     bind (list_at (action_at builtin) v) _ s v_then (λ y y_is y_then.
     rw (← some_injective y_then) (record {
-      members = ms; whole = refl; only = fields_is script_keys ms t t_is; table = refl; list = v; needed = v_is;
-      events = sound_list (IsAction builtin) (action_at builtin) (sound_action builtin) v y y_is }))))
+      members = ms;
+      whole = refl;
+      only = fields_is script_keys ms t t_is;
+      table = refl;
+      list = v;
+      needed = v_is;
+      events = sound_list (IsAction builtin) (action_at builtin) (sound_action builtin) v y y_is;
+    }))))
 sound_script _ s e = cc

@@ -16,9 +16,7 @@ fn knows(classes: &Classes, class: ClassId) -> bool
 fn knows_all(classes: &Classes, listed: &[ClassId]) -> bool
     ensures { result ≡ list_all (knows (length classes.now)) listed.now }
 {
-    listed
-        .iter()
-        .all(|class| knows(classes, *class))
+    listed.iter().all(|class| knows(classes, *class))
 }
 
 fn knows_end(classes: &Classes, end: &End) -> bool
