@@ -7,9 +7,7 @@ use Rattle.serde_json.specs.Find.{get_member}
 use Rattle.dv_script.specs.declared.script.Script.{Script}
 use Rattle.dv_script.specs.Grammar.{Each, IsAction, IsScript}
 use Rattle.dv_script.specs.Limits.{nodes, item_nodes, member_nodes}
-
-some_injective : {A : Type 0} {x y : A} → Some x ≡ Some y → x ≡ y
-some_injective h = cc
+use Rattle.dv_script.proofs.Sound.{some_injective}
 
 picked : (o : Ordering) (rest : Option Data) (e d : Data) → match_ordering o rest (Some e) rest ≡ Some d → (rest ≡ Some d) ⊎ (e ≡ d)
 picked Less rest e d h = inl h

@@ -12,12 +12,9 @@ use Rattle.dv_script.specs.Shape.{script_at}
 use Rattle.dv_script.specs.Passes.{is_version}
 use Rattle.dv_script.specs.Laws.{IsRefused, SaysOneAtMost, RefusedSaysNone, SaysOrIsRefused}
 use Rattle.dv_script.proofs.Complete.{complete_script}
-use Rattle.dv_script.proofs.Sound.{sound_script}
+use Rattle.dv_script.proofs.Sound.{sound_script, some_injective}
 use Rattle.dv_script.proofs.Version.{version_is, no_version}
 use Rattle.dv_script.proofs.Answers.{misshapen}
-
-some_injective : {A : Type 0} {x y : A} → Some x ≡ Some y → x ≡ y
-some_injective h = cc
 
 -- bytes are the text of one value
 same_value : (bytes : List ℕ) (d e : Data) → IsDocument bytes d → IsDocument bytes e → d ≡ e

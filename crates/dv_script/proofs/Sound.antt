@@ -22,7 +22,7 @@ use Rattle.dv_script.specs.Shape.{value_at, values_at, each, list_at, text_at, i
 
 -- ---- steps of a reader
 
-some_injective : {A : Type 0} {x y : A} → Some x ≡ Some y → x ≡ y
+pub some_injective : {A : Type 0} {x y : A} → Some x ≡ Some y → x ≡ y
 some_injective h = cc
 
 bind : {A B P : Type 0} (o : Option A) (f : A → Option B) (y : B) → option_and_then f o ≡ Some y → ((x : A) → o ≡ Some x → f x ≡ Some y → P) → P

@@ -1,6 +1,5 @@
 -- The grammar of scripts: which JSON stands for what, a rule a line (Twisted: the methods of `Deferred`).
-use Rattle.std.specs.Prelude.{◌≡◌, ℕ, ℤ, Bool, true, ◌&&◌, List, [], ◌∷◌, length, Option, Some, None, unwrap_or, codes}
-use Rattle.std.specs.Prelude.{bytes_eq}
+use Rattle.std.specs.Prelude.{◌≡◌, ℕ, ℤ, Bool, true, ◌&&◌, List, [], ◌∷◌, length, Option, Some, None, unwrap_or, bytes_eq, codes}
 use Rattle.std.specs.List.{list_any}
 use Rattle.serde_json.specs.Data.{Num, Data, null, boolean, number, string, array, object, Items, no_items, item, Members, no_members, member}
 use Rattle.serde_json.specs.Find.{as_i64, get_member}
@@ -66,7 +65,7 @@ abbrev pub IsInteger : Data → ℤ → Type 0
 IsInteger d n = (x : Num) × (d ≡ number x) × (as_i64 x ≡ Some n)
 
 mutual
-  -- VALUE
+  -- VALUE: null, a boolean, an integer of 64 bits, a text or an array of values
   pub data IsValue : Data → Value → Type 0 where
     a_null : IsValue null Null
     a_bool : (b : Bool) → IsValue (boolean b) (Flag b)
@@ -74,6 +73,7 @@ mutual
     a_text : (text : List ℕ) → IsValue (string text) (Text text)
     a_list : (ds : Items) (vs : List Value) → AreValues ds vs → IsValue (array ds) (Values vs)
 
+  -- the items of an array of values
   pub data AreValues : Items → List Value → Type 0 where
     no_values : AreValues no_items []
     more_values : (d : Data) (ds : Items) (v : Value) (vs : List Value) → IsValue d v → AreValues ds vs
@@ -94,13 +94,13 @@ pub data IsEnd (table : List Class) : Data → End → Type 0 where
   traps : (cs : Items) (classes : List ℕ) (d : Data) (v : Value) → Each (IsClass table) cs classes → IsValue d v
       → IsEnd table (call (codes "trap") (array cs ∷ d ∷ [])) (Trap classes v)
 
--- BODY
+-- BODY: what a callback or an errback does
 pub data IsBody (table : List Class) : Data → Body → Type 0 where
   -- an object with the key `end` alone, without which it passes its input on
   body : (ms : Members) (end : End) → has_only body_keys ms ≡ true → Field Pass (IsEnd table) (get_member (codes "end") ms) end
       → IsBody table (object ms) (record { end = end })
 
--- ACTION
+-- ACTION: what is done to a Deferred, which is named first
 pub data IsAction (table : List Class) : Data → Action → Type 0 where
   -- ["deferred",D]
   deferred : (name : List ℕ) → IsAction table (call (codes "deferred") (string name ∷ [])) (Deferred name)
