@@ -3,6 +3,7 @@
 
 pub mod boxed;
 pub mod class_id;
+pub mod deque;
 pub mod items;
 pub mod text;
 pub mod value;

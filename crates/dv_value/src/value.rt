@@ -1,3 +1,5 @@
+ghost use Rattle.std.specs.Prelude.{◌≡◌};
+
 use crate::boxed::Boxed;
 use crate::class_id::ClassId;
 use crate::items::Items;
@@ -30,4 +32,22 @@ pub enum Value {
     List(Items<Value>),
     /// A Deferred of this value has failed.
     Fault(Boxed<Failure>),
+}
+
+impl Value {
+    ghost use Rattle.dv_value.specs.Value.{is_fault};
+
+    /// Whether a Deferred of this value has failed.
+    pub fn is_fault(&self) -> bool
+        ensures { result ≡ is_fault self.now }
+    {
+        match self {
+            Value::Null => false,
+            Value::Bool(_) => false,
+            Value::Int(_) => false,
+            Value::Text(_) => false,
+            Value::List(_) => false,
+            Value::Fault(_) => true,
+        }
+    }
 }
