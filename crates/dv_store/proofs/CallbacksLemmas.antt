@@ -29,9 +29,10 @@ module _ {P K : Type 0} (passes_at : P → Bool → Bool) (id : ℕ) (rs : List 
       let passed : Record P K = record r { items = rest } in
       let run : Record P K = record r { items = rest; running = true } in
       let count : length r.items ≡ length rest + 1 = omega (arith, ap length first) in
-      elim (passes_at pair (is_fault r.value)) as (λ b. Balances (cond b (Passed, slice_set rs id passed) (Run pair, slice_set rs id run)))
-        [ true ↦ omega (arith, unused_pairs-set rs id r passed found, count)
-        | false ↦ omega (arith, unused_pairs-set rs id r run found, count) ]
+      elim (passes_at pair (is_fault r.value)) as (λ b. Balances (cond b (Passed, slice_set rs id passed) (Run pair, slice_set rs id run))) [
+        | true ↦ omega (arith, unused_pairs-set rs id r passed found, count)
+        | false ↦ omega (arith, unused_pairs-set rs id r run found, count)
+      ]
 
   use_first-balances : (r : Record P K) (pairs : List P) → slice_get rs id ≡ Some r → r.items ≡ pairs →
       Balances (use_first passes_at id r pairs rs)
@@ -42,7 +43,7 @@ module _ {P K : Type 0} (passes_at : P → Bool → Bool) (id : ℕ) (rs : List 
   step_found-balances None found = nothing-balances
   step_found-balances (Some r) found =
       elim (is_ready r) as (λ b. Balances (cond b (use_first passes_at id r r.items rs) (Nothing, rs)))
-        [ true ↦ use_first-balances r r.items found refl | false ↦ nothing-balances ]
+      [ true ↦ use_first-balances r r.items found refl | false ↦ nothing-balances ]
 
 -- a step uses one pair at most, and adds none
 pub step-uses_one : {P K : Type 0} (passes_at : P → Bool → Bool) → StepUsesOnePairAtMost P K passes_at

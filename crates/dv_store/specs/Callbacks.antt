@@ -16,7 +16,6 @@ abbrev pub is_ready : {P K : Type 0} → Record P K → Bool
 is_ready r = r.fired && not r.running
 
 module _ {P K : Type 0} (passes_at : P → Bool → Bool) where
-
   -- a pair without a side for the value passes it on; else its side runs
   abbrev pub use_pair : ℕ → Record P K → P → List P → List (Record P K) → Stepped P K
   use_pair id r pair rest rs =

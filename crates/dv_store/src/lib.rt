@@ -6,4 +6,5 @@ pub mod laws;
 pub mod record;
 pub mod sides;
 pub mod store;
-
+#[cfg(test)]
+mod tests;

@@ -78,14 +78,18 @@ impl<P: Sides + Drop, K: Drop> Store<P, K> {
     /// Makes an unfired Deferred without pairs, and gives it the next number (Twisted: `Deferred`).
     ///
     /// Where memory is refused, its name and its canceller are dropped.
-    pub fn make(&mut self, name: Option<Text>, canceller: Option<K>) -> Result<DeferredId, StoreFault>
+    pub fn make(
+        &mut self,
+        name: Option<Text>,
+        canceller: Option<K>,
+    ) -> Result<DeferredId, StoreFault>
         requires room { length self.old < 2 ^ 32 - 1 }
         ensures id { IfOk result (λ id. id ≡ length self.old) }
         ensures ok { OnOk result (self.new ≡ self.old ++ new_record name canceller ∷ []) }
         ensures err { OnErr result (self.new ≡ self.old) }
         ensures cause { IfErr result RefusesMake }
     {
-        let id = DeferredId::new(self.records.len() as u32);
+        let id = DeferredId::new(self.len() as u32);
         self.records.try_reserve(1)?;
         let record = Record {
             name,
@@ -172,6 +176,7 @@ impl<P: Sides + Drop, K: Drop> Store<P, K> {
     pub fn into_records(self) -> Vec<Record<P, K>>
         ensures { result.items ≡ self }
     {
-        self.records
+        let Store { alloc: _, records } = self;
+        records
     }
 }
