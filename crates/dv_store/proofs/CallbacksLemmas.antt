@@ -2,7 +2,7 @@
 use Rattle.std.proofs.Common.{◌≡◌, refl, ap, ℕ, ◌+◌, Bool, true, false, cond, List, [], ◌∷◌, length, Option, Some, None, slice_get, slice_set, arith}
 use Rattle.std.proofs.lemmas.List.Sums.{sum_by-set}
 use Rattle.std.proofs.lemmas.Option.{slice_get_within, get_or_from_slice_get}
-use Rattle.dv_value.specs.Value.{is_fault}
+use Rattle.dv_value.specs.Failure.{is_fault}
 use Rattle.dv_store.specs.Callbacks.{Stepped, is_ready, use_pair, use_first, step_found, step}
 use Rattle.dv_store.specs.Laws.{StepUsesOnePairAtMost, unused_pairs, pairs_used}
 use Rattle.dv_store.specs.declared.record.Record.{Record}

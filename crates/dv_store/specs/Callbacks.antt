@@ -1,6 +1,6 @@
 -- One pair used (Twisted: the Deferred Reference, "Callbacks"; `Deferred.addCallbacks`).
 use Rattle.std.specs.Prelude.{ℕ, Bool, true, false, not, ◌&&◌, if◌then◌else◌, List, [], ◌∷◌, Option, Some, None, slice_get, slice_set}
-use Rattle.dv_value.specs.Value.{is_fault}
+use Rattle.dv_value.specs.Failure.{is_fault}
 use Rattle.dv_value.specs.declared.value.Value.{Value}
 use Rattle.dv_store.specs.Record.{changing}
 use Rattle.dv_store.specs.declared.record.Record.{Record}

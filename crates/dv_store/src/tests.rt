@@ -7,8 +7,9 @@ use crate::store::{Step, Store};
 use dv_journal::deferred_id::DeferredId;
 use dv_value::boxed::Boxed;
 use dv_value::class_id::ClassId;
+use dv_value::failure::Failure;
 use dv_value::text::Text;
-use dv_value::value::{Failure, Value};
+use dv_value::value::Value;
 use std::test::Fail;
 
 /// A pair that is known by a number, and whose sides do nothing.

@@ -19,6 +19,16 @@ impl Model for ClassId {
 }
 
 impl ClassId {
+    /// The root of all.
+    pub const EXCEPTION: ClassId = ClassId { place: 0 };
+    pub const VALUE_ERROR: ClassId = ClassId { place: 1 };
+    pub const TYPE_ERROR: ClassId = ClassId { place: 2 };
+    pub const NAME_ERROR: ClassId = ClassId { place: 3 };
+    pub const OVERFLOW_ERROR: ClassId = ClassId { place: 5 };
+    pub const ALREADY_CALLED_ERROR: ClassId = ClassId { place: 7 };
+    pub const SCHEDULER_ERROR: ClassId = ClassId { place: 12 };
+    pub const TASK_FINISHED: ClassId = ClassId { place: 15 };
+
     pub fn new(place: u32) -> ClassId
         ensures { result ≡ place }
     {

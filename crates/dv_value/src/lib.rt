@@ -3,7 +3,12 @@
 
 pub mod boxed;
 pub mod class_id;
+pub mod classes;
 pub mod deque;
+pub mod failure;
 pub mod items;
+pub mod laws;
+
 pub mod text;
 pub mod value;
+pub mod value_text;

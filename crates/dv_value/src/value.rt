@@ -1,26 +1,12 @@
-ghost use Rattle.std.specs.Prelude.{◌≡◌};
+ghost use Rattle.std.specs.Prelude.{◌≡◌, ◌^◌, ◌-◌, IfOk, map, min, sum};
+ghost use Rattle.dv_value.specs.Size.{size};
+ghost use Rattle.dv_value.specs.Failure.{is_fault};
 
 use crate::boxed::Boxed;
-use crate::class_id::ClassId;
+use crate::failure::Failure;
 use crate::items::Items;
 use crate::text::Text;
-
-/// How something failed (Twisted: `Failure`).
-#[cycle(failure)]
-#[derive(Debug, Drop)]
-pub struct Failure {
-    pub class: ClassId,
-    pub message: Text,
-    pub sub: Option<Sub>,
-}
-
-/// The failure inside another, with the place of the Deferred that it came from (Twisted: `FirstError`).
-#[cycle(failure)]
-#[derive(Debug, Drop)]
-pub struct Sub {
-    pub index: u32,
-    pub failure: Boxed<Failure>,
-}
+use std::alloc::{AllocError, Global};
 
 /// What a Deferred can be fired with.
 #[derive(Debug, Drop)]
@@ -35,19 +21,67 @@ pub enum Value {
 }
 
 impl Value {
-    ghost use Rattle.dv_value.specs.Value.{is_fault};
-
     /// Whether a Deferred of this value has failed.
     pub fn is_fault(&self) -> bool
         ensures { result ≡ is_fault self.now }
     {
         match self {
-            Value::Null => false,
-            Value::Bool(_) => false,
-            Value::Int(_) => false,
-            Value::Text(_) => false,
-            Value::List(_) => false,
             Value::Fault(_) => true,
+            Value::Null
+            | Value::Bool(_)
+            | Value::Int(_)
+            | Value::Text(_)
+            | Value::List(_) => false,
         }
     }
+
+    /// A value that equals this one, in memory of its own.
+    #[cycle(copy)]
+    pub fn copy(&self, alloc: Global) -> Result<Value, AllocError>
+        ensures { IfOk result (λ v. v ≡ self.now) }
+    {
+        match self {
+            Value::Null => Ok(Value::Null),
+            Value::Bool(b) => Ok(Value::Bool(*b)),
+            Value::Int(n) => Ok(Value::Int(*n)),
+            Value::Text(text) => Ok(Value::Text(text.copy(alloc)?)),
+            Value::List(values) => Ok(Value::List(copy_all(alloc, values.as_slice())?)),
+            Value::Fault(failure) => Ok(Value::Fault(Boxed::new(alloc, failure.get().copy(alloc)?)?)),
+        }
+    }
+
+    /// How much an entry of the journal weighs more for showing the value; it stops at `u64::MAX`.
+    #[cycle(size)]
+    pub fn size(&self) -> u64
+        ensures { result ≡ min (size self.now) (2 ^ 64 - 1) }
+    {
+        match self {
+            Value::Null | Value::Bool(_) | Value::Int(_) => 1,
+            Value::Text(text) => (text.as_str().len() as u64).saturating_add(1),
+            Value::List(values) => size_all(values.as_slice()).saturating_add(1),
+            Value::Fault(failure) => failure.get().size(),
+        }
+    }
+}
+
+#[cycle(copy)]
+fn copy_all(alloc: Global, values: &[Value]) -> Result<Items<Value>, AllocError>
+    ensures { IfOk result (λ vs. vs ≡ values.now) }
+{
+    let mut copies = Items::new(alloc);
+    for value in values {
+        copies.push(value.copy(alloc)?)?;
+    }
+    Ok(copies)
+}
+
+#[cycle(size)]
+fn size_all(values: &[Value]) -> u64
+    ensures { result ≡ min (sum (map size values.now)) (2 ^ 64 - 1) }
+{
+    let mut total = 0u64;
+    for value in values {
+        total = total.saturating_add(value.size());
+    }
+    total
 }

@@ -1,0 +1,77 @@
+-- Paths in a table of classes.
+use Rattle.std.proofs.Common.{◌≡◌, ℕ, zero, suc, ◌+◌, ◌-◌, ◌<◌, Bool, true, false, ◌&&◌, nat_lt, List, [], ◌∷◌, Option, None, Some, slice_get, option_and_then, refl, arith, ap}
+use Rattle.std.specs.Option.{option_map_or}
+use Rattle.std.proofs.lemmas.Bool.{ltb-true}
+use Rattle.dv_value.specs.declared.classes.Class.{Class}
+use Rattle.dv_value.specs.Builtin.{builtin}
+use Rattle.dv_value.specs.Classes.{path, path_within, parent_of}
+use Rattle.dv_value.specs.Laws.{ParentsStandBefore, PathsGoUp}
+
+-- one step of a path
+pub path_step : (n : ℕ) (table : List Class) (c : ℕ) → 0 < n → path_within n table c ≡ c ∷ option_map_or (path_within (n - 1) table) (parent_of table c) []
+path_step zero table c h = absurd (omega arith)
+path_step (suc n) table c h =
+    let e : suc n - 1 ≡ n = omega arith in
+    rw e refl
+
+module _ (table : List Class) (ordered : ParentsStandBefore table) where
+  -- as many steps as there are places up to the class are enough
+  abbrev Enough : ℕ → Type 0
+  Enough n = (m c : ℕ) → c < n → c < m → path_within n table c ≡ path_within m table c
+
+  above : (n m c : ℕ) (p : Option ℕ) → Enough n → c < suc n → c < suc m → parent_of table c ≡ p → option_map_or (path_within n table) p [] ≡ option_map_or (path_within m table) p []
+  above n m c None enough below within e = refl
+  above n m c (Some p) enough below within e =
+      let up : p < c = ordered c p e in
+      enough m p (omega arith) (omega arith)
+
+  enough_steps : (n : ℕ) → Enough n
+  enough_steps zero m c below within = absurd (omega arith)
+  enough_steps (suc n) zero c below within = absurd (omega arith)
+  enough_steps (suc n) (suc m) c below within = ap (λ (l : List ℕ). c ∷ l) (above n m c _ (enough_steps n) below within refl)
+
+  up_from : (c : ℕ) (p : Option ℕ) → parent_of table c ≡ p → option_map_or (path_within c table) p [] ≡ option_map_or (path table) p []
+  up_from c None e = refl
+  up_from c (Some p) e =
+      let up : p < c = ordered c p e in
+      enough_steps c (suc p) p up (omega arith)
+
+  pub paths_go_up : PathsGoUp table
+  paths_go_up c = ap (λ (l : List ℕ). c ∷ l) (up_from c _ refl)
+
+-- a test of a table, whose first class is at this place
+before : ℕ → Option ℕ → Bool
+before c None = true
+before c (Some p) = nat_lt p c
+
+all_before : ℕ → List Class → Bool
+all_before c [] = true
+all_before c (class ∷ classes) = before c class.parent && all_before (suc c) classes
+
+both_left : (a b : Bool) → (a && b) ≡ true → a ≡ true
+both_left true b h = refl
+both_left false b h = cc
+
+both_right : (a b : Bool) → (a && b) ≡ true → b ≡ true
+both_right true b h = h
+both_right false b h = cc
+
+stands_before : (c k : ℕ) (p : Option ℕ) (q : ℕ) → before k p ≡ true → p ≡ Some q → q < k
+unfolding before
+stands_before c k None q h e = cc
+stands_before c k (Some p) q h e =
+    let same : p ≡ q = cc in
+    omega (arith, ltb-true p k h, same)
+
+all_stand_before : (classes : List Class) (k c q : ℕ) → all_before k classes ≡ true → parent_of classes c ≡ Some q → q < c + k
+unfolding all_before
+all_stand_before [] k c q h e = cc
+all_stand_before (class ∷ classes) k zero q h e = omega (arith, stands_before 0 k class.parent q (both_left _ _ h) e)
+all_stand_before (class ∷ classes) k (suc c) q h e = omega (arith, all_stand_before classes (suc k) c q (both_right _ _ h) e)
+
+builtin_ordered : ParentsStandBefore builtin
+unfolding builtin all_before before
+builtin_ordered c p e = omega (arith, all_stand_before builtin 0 c p refl e)
+
+pub builtin_paths_go_up : PathsGoUp builtin
+builtin_paths_go_up = paths_go_up builtin builtin_ordered

@@ -1,0 +1,7 @@
+use Rattle.std.proofs.Common.{refl}
+use Rattle.dv_value.specs.Builtin.{builtin}
+use Rattle.dv_value.proofs.laws.builtins_have_their_places.Goals as goal
+
+pub returns : goal.returns
+unfolding builtin
+returns c = record { type_error = refl; name_error = refl; overflow_error = refl; already_called_error = refl }

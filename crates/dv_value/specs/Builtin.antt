@@ -1,0 +1,45 @@
+-- The classes that every script has, a parent and its children a line.
+use Rattle.std.specs.Prelude.{ℕ, List, [], ◌∷◌, ◌++◌, Option, None, Some, map, codes}
+use Rattle.dv_value.specs.declared.classes.Class.{Class}
+
+-- the classes of these names, in this order, as children of one parent
+abbrev pub children_of : Option ℕ → List (List ℕ) → List Class
+children_of parent names = map (λ name. record { name = name; parent = parent }) names
+
+-- the places of those that a rule names
+abbrev pub exception : ℕ
+exception = 0
+
+abbrev pub value_error : ℕ
+value_error = 1
+
+abbrev pub type_error : ℕ
+type_error = 2
+
+abbrev pub name_error : ℕ
+name_error = 3
+
+abbrev pub overflow_error : ℕ
+overflow_error = 5
+
+abbrev pub already_called_error : ℕ
+already_called_error = 7
+
+abbrev pub scheduler_error : ℕ
+scheduler_error = 12
+
+abbrev pub task_finished : ℕ
+task_finished = 15
+
+abbrev pub of_exception : List (List ℕ)
+of_exception =
+    codes "ValueError" ∷ codes "TypeError" ∷ codes "NameError" ∷ codes "AssertionError" ∷ codes "OverflowError" ∷ codes "RuntimeError"
+    ∷ codes "AlreadyCalledError" ∷ codes "CancelledError" ∷ codes "FirstError" ∷ codes "QueueOverflow" ∷ codes "QueueUnderflow" ∷ codes "SchedulerError" ∷ []
+
+unfoldable pub builtin : List Class
+builtin =
+    children_of None (codes "Exception" ∷ [])
+    ++ children_of (Some exception) of_exception
+    ++ children_of (Some value_error) (codes "AlreadyCalled" ∷ codes "AlreadyCancelled" ∷ [])
+    ++ children_of (Some scheduler_error) (codes "TaskFinished" ∷ codes "NotPaused" ∷ [])
+    ++ children_of (Some task_finished) (codes "TaskDone" ∷ codes "TaskStopped" ∷ codes "TaskFailed" ∷ [])

@@ -1,0 +1,25 @@
+-- Laws of the table of classes.
+use Rattle.std.specs.Prelude.{ℕ, ◌≡◌, ◌<◌, List, [], ◌∷◌, Some, slice_get, codes}
+use Rattle.std.specs.Option.{option_map_or}
+use Rattle.dv_value.specs.declared.classes.Class.{Class}
+use Rattle.dv_value.specs.Classes.{parent_of, path, find_class}
+use Rattle.dv_value.specs.Builtin.{builtin, type_error, name_error, overflow_error, already_called_error}
+
+-- each class's parent stands before it
+abbrev pub ParentsStandBefore : List Class → Type 0
+ParentsStandBefore table = (c p : ℕ) → parent_of table c ≡ Some p → p < c
+
+-- the path of a class is the class, then the path of its parent
+abbrev pub PathsGoUp : List Class → Type 0
+PathsGoUp table = (c : ℕ) → path table c ≡ c ∷ option_map_or (path table) (parent_of table c) []
+
+-- where parents stand before their children
+abbrev pub PathsOfOrderedTablesGoUp : Type 0
+PathsOfOrderedTablesGoUp = (table : List Class) → ParentsStandBefore table → PathsGoUp table
+
+-- each class that a rule names stands in its place
+pub record BuiltinsHaveTheirPlaces : Type 0 where
+  pub type_error : find_class (codes "TypeError") builtin ≡ Some type_error
+  pub name_error : find_class (codes "NameError") builtin ≡ Some name_error
+  pub overflow_error : find_class (codes "OverflowError") builtin ≡ Some overflow_error
+  pub already_called_error : find_class (codes "AlreadyCalledError") builtin ≡ Some already_called_error

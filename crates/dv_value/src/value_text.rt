@@ -1,0 +1,166 @@
+ghost use Rattle.std.specs.Prelude.{◌≡◌, ◌++◌, OnOk, map, string_bytes};
+ghost use Rattle.json.specs.Print.{quoted};
+ghost use Rattle.dv_value.specs.ValueText.{json, list_text, failure_json, failure_text, outcome};
+
+use crate::classes::Classes;
+use crate::failure::Failure;
+use crate::text::Text;
+use crate::value::Value;
+use json::Writer;
+use std::alloc::{AllocError, Global};
+
+/// Adds a text as a JSON string. After an error, `out` ends anyhow.
+#[tactic(auto, using(crate::proofs::Quoted::one_string))]
+pub fn write_string(alloc: Global, out: &mut String, text: &str) -> Result<(), AllocError>
+    ensures { OnOk result (string_bytes out.new ≡ string_bytes out.old ++ quoted text.now) }
+{
+    let mut writer = Writer::new(Vec::new(alloc));
+    writer.string(text)?;
+    match String::from_utf8(writer.into_inner()) {
+        Ok(string) => out.push_str(string.as_str()),
+        Err(_) => unreachable!(),
+    }
+}
+
+/// Adds the compact JSON of a failure. After an error, `out` ends anyhow.
+pub fn write_failure_json(
+    alloc: Global,
+    classes: &Classes,
+    out: &mut String,
+    failure: &Failure,
+) -> Result<(), AllocError>
+    ensures { OnOk result (string_bytes out.new ≡ string_bytes out.old ++ failure_json classes.now failure.now) }
+{
+    write!(out, "{{\"fail\":")?;
+    write_string(alloc, out, classes.name(failure.class))?;
+    match &failure.sub {
+        None => {
+            write!(out, ",\"message\":")?;
+            write_string(alloc, out, failure.message.as_str())?;
+            write!(out, "}}")
+        }
+        Some(sub) => {
+            write!(out, ",\"index\":{},\"message\":", sub.index)?;
+            write_string(alloc, out, failure.message.as_str())?;
+            write!(out, ",\"sub\":")?;
+            write_failure_json(alloc, classes, out, sub.failure.get())?;
+            write!(out, "}}")
+        }
+    }
+}
+
+/// Adds a failure as the journal shows it: its class, its message, and what is inside. After an error, `out` ends
+/// anyhow.
+pub fn write_failure(
+    alloc: Global,
+    classes: &Classes,
+    out: &mut String,
+    failure: &Failure,
+) -> Result<(), AllocError>
+    ensures { OnOk result (string_bytes out.new ≡ string_bytes out.old ++ failure_text classes.now failure.now) }
+{
+    write!(out, "{} ", classes.name(failure.class))?;
+    write_string(alloc, out, failure.message.as_str())?;
+    match &failure.sub {
+        None => Ok(()),
+        Some(sub) => {
+            write!(out, " at {} of ", sub.index)?;
+            write_failure(alloc, classes, out, sub.failure.get())?;
+            Ok(())
+        }
+    }
+}
+
+/// Adds the compact JSON of a value. After an error, `out` ends anyhow.
+#[cycle(write_json)]
+pub fn write_json(
+    alloc: Global,
+    classes: &Classes,
+    out: &mut String,
+    value: &Value,
+) -> Result<(), AllocError>
+    ensures { OnOk result (string_bytes out.new ≡ string_bytes out.old ++ json classes.now value.now) }
+{
+    match value {
+        Value::Null => write!(out, "null"),
+        Value::Bool(true) => write!(out, "true"),
+        Value::Bool(false) => write!(out, "false"),
+        Value::Int(n) => write!(out, "{n}"),
+        Value::Text(text) => write_string(alloc, out, text.as_str()),
+        Value::List(values) => {
+            write_list(alloc, classes, out, values.as_slice())?;
+            Ok(())
+        }
+        Value::Fault(failure) => write_failure_json(alloc, classes, out, failure.get()),
+    }
+}
+
+#[cycle(write_json)]
+fn write_list(
+    alloc: Global,
+    classes: &Classes,
+    out: &mut String,
+    values: &[Value],
+) -> Result<(), AllocError>
+    ensures { OnOk result (string_bytes out.new ≡ string_bytes out.old ++ list_text (map (json classes.now) values.now)) }
+{
+    write!(out, "[")?;
+    let mut later = false;
+    for value in values {
+        if later {
+            write!(out, ",")?;
+        }
+        write_json(alloc, classes, out, value)?;
+        later = true;
+    }
+    write!(out, "]")?;
+    Ok(())
+}
+
+/// Adds what an outcome shows of a value: `ok` and its JSON, or `fail` and its failure. After an error, `out` ends
+/// anyhow.
+pub fn write_outcome(
+    alloc: Global,
+    classes: &Classes,
+    out: &mut String,
+    value: &Value,
+) -> Result<(), AllocError>
+    ensures { OnOk result (string_bytes out.new ≡ string_bytes out.old ++ outcome classes.now value.now) }
+{
+    match value {
+        Value::Null
+        | Value::Bool(_)
+        | Value::Int(_)
+        | Value::Text(_)
+        | Value::List(_) => {
+            write!(out, "ok ")?;
+            write_json(alloc, classes, out, value)
+        }
+        Value::Fault(failure) => {
+            write!(out, "fail ")?;
+            write_failure(alloc, classes, out, failure.get())
+        }
+    }
+}
+
+impl Value {
+    ghost use Rattle.std.specs.Prelude.{IfOk};
+
+    /// The compact JSON of the value.
+    pub fn json(&self, alloc: Global, classes: &Classes) -> Result<Text, AllocError>
+        ensures { IfOk result (λ text. text ≡ json classes.now self.now) }
+    {
+        let mut out = String::new(alloc);
+        write_json(alloc, classes, &mut out, self)?;
+        Ok(Text::from_string(out))
+    }
+
+    /// What an outcome shows of the value.
+    pub fn outcome(&self, alloc: Global, classes: &Classes) -> Result<Text, AllocError>
+        ensures { IfOk result (λ text. text ≡ outcome classes.now self.now) }
+    {
+        let mut out = String::new(alloc);
+        write_outcome(alloc, classes, &mut out, self)?;
+        Ok(Text::from_string(out))
+    }
+}
