@@ -1,10 +1,11 @@
 ghost use Rattle.std.specs.Prelude.{◌≡◌};
 
-use crate::sink::{Sink, SinkFault};
+use crate::sink::{Sink, SinkFault, has_failed};
 use std::io;
 use std::marker::Model;
 
-/// A sink over a writer of std, which contracts see as that writer and a count of failures.
+/// A sink over a writer of std, which contracts see as that writer and a count of failures. Each error of the writer is
+/// a failure, one that tells of an interruption too.
 #[derive(Drop)]
 pub struct IoSink<W> {
     writer: W,
@@ -39,17 +40,10 @@ impl<W: io::Write> Sink for IoSink<W> {
     ghost failures = { λ s. s.failures };
 
     fn write(&mut self, piece: &[u8]) -> Result<usize, SinkFault> {
-        match self.writer.write(piece) {
-            Ok(n) => {
-                if n == 0 && !piece.is_empty() {
-                    self.failures = self.failures.saturating_add(1);
-                }
-                Ok(n)
-            }
-            Err(_) => {
-                self.failures = self.failures.saturating_add(1);
-                Err(SinkFault)
-            }
+        let answer = self.writer.write(piece).map_err(|_| SinkFault);
+        if has_failed(piece, answer) {
+            self.failures = self.failures.saturating_add(1);
         }
+        answer
     }
 }

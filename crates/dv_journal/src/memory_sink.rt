@@ -1,10 +1,10 @@
-ghost use Rattle.std.specs.Prelude.{◌≡◌, ◌≤◌, ◌+◌, IfOk, Some, vec_len, vec_capacity};
+ghost use Rattle.std.specs.Prelude.{◌≡◌, IfOk, Some};
 ghost use Rattle.std.specs.Io.{WritesAtMost};
 ghost use Rattle.std.specs.Io.KnownBytes.{WriteAppends};
-ghost use Rattle.dv_journal.specs.Sink.{failed, failures_after};
+ghost use Rattle.dv_journal.specs.Sink.{failures_after};
 ghost use Rattle.dv_journal.specs.MemorySink.{fresh, trouble_here, trouble_ahead, filling_answer, answer_of, with_taken, after_write};
 
-use crate::sink::{Sink, SinkFault};
+use crate::sink::{Sink, SinkFault, has_failed};
 use std::alloc::{AllocError, Global};
 use std::marker::Model;
 
@@ -112,23 +112,14 @@ impl Sink for MemorySink {
         ensures taken { WriteAppends (Some self.old.bytes) (Some self.new.bytes) result piece.now }
         ensures failed { self.new.failures ≡ failures_after self.old.failures piece.now result }
     {
-        let result = match self.next_trouble() {
+        let answer = match self.next_trouble() {
             Some(Trouble::Fails) => Err(SinkFault),
             Some(Trouble::TakesNothing) => Ok(0),
             None => self.fill(piece),
         };
-        if has_failed(piece, result) {
+        if has_failed(piece, answer) {
             self.failures = self.failures.saturating_add(1);
         }
-        result
-    }
-}
-
-fn has_failed(piece: &[u8], answer: Result<usize, SinkFault>) -> bool
-    ensures { result ≡ failed piece.now answer }
-{
-    match answer {
-        Ok(n) => n == 0 && !piece.is_empty(),
-        Err(SinkFault) => true,
+        answer
     }
 }

@@ -1,7 +1,7 @@
 ghost use Rattle.std.specs.Prelude.{◌≡◌, List, ℕ, Option, OnOk, OnErr};
 ghost use Rattle.std.specs.Io.{WritesAtMost};
 ghost use Rattle.std.specs.Io.KnownBytes.{Appends, WriteAppends};
-ghost use Rattle.dv_journal.specs.Sink.{failures_after, HasFailed, AppendsPrefix};
+ghost use Rattle.dv_journal.specs.Sink.{failed, failures_after, HasFailed, AppendsPrefix};
 
 use thiserror::Error;
 
@@ -44,4 +44,14 @@ pub fn write_all<W: Sink>(sink: &mut W, bytes: &[u8]) -> Result<(), SinkFault>
         rest = &rest[n..];
     }
     Ok(())
+}
+
+// whether a call that answered so to a piece failed
+pub(crate) fn has_failed(piece: &[u8], answer: Result<usize, SinkFault>) -> bool
+    ensures { result ≡ failed piece.now answer }
+{
+    match answer {
+        Ok(n) => n == 0 && !piece.is_empty(),
+        Err(SinkFault) => true,
+    }
 }
