@@ -10,7 +10,8 @@ pub but_all : (a : Option (List ℕ)) (text : List ℕ) → AppendsBut a a text 
 but_all a text = ([], Appends-nil a, refl)
 
 -- one call more took n bytes; `take (length rest - n) (drop n rest)` is `&rest[n..]`
-pub but_less : (a b c : Option (List ℕ)) (text rest : List ℕ) (n : ℕ) → AppendsBut a b text rest → Appends b c (take n rest) → AppendsBut a c text (take (length rest - n) (drop n rest))
+pub but_less : (a b c : Option (List ℕ)) (text rest : List ℕ) (n : ℕ) →
+    AppendsBut a b text rest → Appends b c (take n rest) → AppendsBut a c text (take (length rest - n) (drop n rest))
 but_less a b c text rest n so_far more = (
   so_far.0 ++ take n rest,
   Appends-trans a b c so_far.0 (take n rest) so_far.1 more,
@@ -20,7 +21,8 @@ but_less a b c text rest n so_far more = (
 )
 
 -- one call more took nothing
-pub but_kept : (a b c : Option (List ℕ)) (text rest : List ℕ) → AppendsBut a b text rest → Keeps b c → AppendsBut a c text rest
+pub but_kept : (a b c : Option (List ℕ)) (text rest : List ℕ) →
+    AppendsBut a b text rest → Keeps b c → AppendsBut a c text rest
 but_kept a b c text rest so_far kept = (so_far.0, Appends-kept a b c so_far.0 so_far.1 kept, so_far.2)
 
 -- nothing is left
@@ -30,3 +32,5 @@ but_nothing a b text so_far = subst (Appends a b) (sym (so_far.2 ∙ append-nil 
 -- one failure more shows
 pub fails : (n : ℕ) → HasFailed n (one_more n)
 fails n = search arith
+
+pub ruleset pieces = (but_kept, but_all, but_nothing, fails)

@@ -5,7 +5,8 @@ use Rattle.dv_journal.specs.declared.memory_sink.Trouble.{Trouble}
 use Rattle.dv_journal.specs.declared.memory_sink.Trouble.TheVariants.{Fails, TakesNothing}
 use Rattle.dv_journal.specs.Sink.{failures_after}
 
--- the bytes that it took, how many more it has room for, how many it takes a call at most, its trouble after so many calls, and how often it has failed
+-- the bytes that it took, how many more it has room for, how many it takes a call at most,
+-- its trouble after so many calls, and how often it has failed
 pub record Kept : Type 0 where
   pub bytes : List ℕ
   pub room : ℕ
@@ -30,7 +31,8 @@ trouble_ahead (Some due) = if due.0 == 0 then None else Some (due.0 - 1, due.1)
 -- full, it fails; else it takes as much of the piece as a call takes and as there is room for
 abbrev pub filling_answer : Kept → List ℕ → Result ℕ SinkFault
 filling_answer kept piece =
-    if (kept.room == 0) && nat_lt 0 (length piece) then Err (record {}) else Ok (min (min (length piece) kept.per_call) kept.room)
+    if (kept.room == 0) && nat_lt 0 (length piece) then Err (record {})
+    else Ok (min (min (length piece) kept.per_call) kept.room)
 
 -- what it answers in this trouble, or in none
 abbrev pub answer_in : Option Trouble → Kept → List ℕ → Result ℕ SinkFault
@@ -47,7 +49,9 @@ abbrev pub with_taken : Kept → List ℕ → Result ℕ SinkFault → Kept
 with_taken kept piece (Err fault) = kept
 with_taken kept piece (Ok n) = record kept { bytes = kept.bytes ++ take n piece; room = kept.room - n }
 
--- what it holds after a call that answered so: the bytes, one call less before its trouble, and the count of failures
+-- what it holds after a call that answered so: the bytes, one call less before its trouble,
+-- and the count of failures
 abbrev pub after_write : Kept → List ℕ → Result ℕ SinkFault → Kept
 after_write kept piece answer =
-    record (with_taken kept piece answer) { trouble = trouble_ahead kept.trouble; failures = failures_after kept.failures piece answer }
+    let filled = with_taken kept piece answer in
+    record filled { trouble = trouble_ahead kept.trouble; failures = failures_after kept.failures piece answer }

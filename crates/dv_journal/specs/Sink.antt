@@ -1,4 +1,4 @@
--- What a call does to the bytes that a sink has taken, where it tells them, and to its count of failures.
+-- What a call does to the bytes that a sink has taken, where it tells them, and to its failures.
 use Rattle.std.specs.Prelude.{◌≡◌, ◌⊎◌, ◌<◌, ◌≤◌, ◌+◌, ◌-◌, ◌^◌, ◌++◌, ◌==◌, ◌&&◌, if◌then◌else◌, nat_lt, ℕ, min, Bool, true, List, Option, Result, Ok, Err, length, refl}
 use Rattle.std.specs.Io.KnownBytes.{Appends}
 use Rattle.std.specs.Coded.{Coded, code_by, coded×, coded_ℕ}
@@ -35,4 +35,5 @@ pub record Counted (T : Type 0) : Type 0 where
 
 -- it is stored as the pair of both
 abbrev pub counted_code : {T : Type 0} → Coded T → Coded (Counted T)
-counted_code {T} code = code_by (T × ℕ) (coded× code coded_ℕ) (λ c. (c.inner, c.failures)) (λ p. record { inner = p.0; failures = p.1 }) (λ _. refl)
+counted_code {T} code =
+    code_by (T × ℕ) (coded× code coded_ℕ) (λ c. (c.inner, c.failures)) (λ p. record { inner = p.0; failures = p.1 }) (λ _. refl)

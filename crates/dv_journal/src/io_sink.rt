@@ -4,8 +4,8 @@ use crate::sink::{Sink, SinkFault, has_failed};
 use std::io;
 use std::marker::Model;
 
-/// A sink over a writer of std, which contracts see as that writer and a count of failures. Each error of the writer is
-/// a failure, one that tells of an interruption too.
+/// A sink over a writer of std, which contracts see as that writer and a count of failures.
+/// Each error of the writer is a failure, one that tells of an interruption too.
 #[derive(Drop)]
 pub struct IoSink<W> {
     writer: W,

@@ -2,7 +2,8 @@ ghost use Rattle.std.specs.Prelude.{◌≡◌, IfOk, Some};
 ghost use Rattle.std.specs.Io.{WritesAtMost};
 ghost use Rattle.std.specs.Io.KnownBytes.{WriteAppends};
 ghost use Rattle.dv_journal.specs.Sink.{failures_after};
-ghost use Rattle.dv_journal.specs.MemorySink.{fresh, trouble_here, trouble_ahead, filling_answer, answer_of, with_taken, after_write};
+ghost use Rattle.dv_journal.specs.MemorySink.{fresh, trouble_here, trouble_ahead};
+ghost use Rattle.dv_journal.specs.MemorySink.{filling_answer, answer_of, with_taken, after_write};
 
 use crate::sink::{Sink, SinkFault, has_failed};
 use std::alloc::{AllocError, Global};
@@ -33,7 +34,13 @@ impl Model for MemorySink {
 
     ghost Value = { Kept };
 
-    ghost view = { λ s. record { bytes = s.bytes.items; room = s.room; per_call = s.per_call; trouble = s.trouble; failures = s.failures } };
+    ghost view = { λ s. record {
+      bytes = s.bytes.items;
+      room = s.room;
+      per_call = s.per_call;
+      trouble = s.trouble;
+      failures = s.failures;
+    } };
 
     ghost invariant = { λ s. vec_len s.bytes + s.room ≤ vec_capacity s.bytes };
 }

@@ -18,17 +18,17 @@ pub trait Sink {
     /// How often it has failed. At its last value the count stays, and shows nothing.
     ghost failures: { Self → ℕ };
 
-    /// Takes bytes from the front of a piece, and answers how many. No byte of a piece that isn't empty is a failure,
-    /// as an error is.
+    /// Takes bytes from the front of a piece, and answers how many. To take no byte of a piece that
+    /// isn't empty is a failure, as an error is.
     fn write(&mut self, piece: &[u8]) -> Result<usize, SinkFault>
         ensures bound { WritesAtMost result piece.now }
         ensures taken { WriteAppends (taken self.old) (taken self.new) result piece.now }
         ensures failed { failures self.new ≡ failures_after (failures self.old) piece.now result };
 }
 
-/// Writes all the bytes in order, by as many calls as the sink asks for. It gives up at the sink's first failure, and
-/// what was taken by then is a prefix of the bytes.
-#[tactic(auto, using(crate::proofs::Taken::but_less, crate::proofs::Taken::but_kept, crate::proofs::Taken::but_all, crate::proofs::Taken::but_nothing, crate::proofs::Taken::fails))]
+/// Writes all the bytes in order, by as many calls as the sink asks for. It gives up at the sink's
+/// first failure; what was taken by then is a prefix of the bytes.
+#[tactic(auto, using(crate::proofs::Taken::pieces))]
 pub fn write_all<W: Sink>(sink: &mut W, bytes: &[u8]) -> Result<(), SinkFault>
     ensures ok { OnOk result (Appends (W.taken sink.old) (W.taken sink.new) bytes.now) }
     ensures kept { OnOk result (W.failures sink.new ≡ W.failures sink.old) }

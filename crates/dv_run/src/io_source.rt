@@ -4,8 +4,8 @@ use crate::source::{Source, SourceFault};
 use std::io;
 use std::marker::Model;
 
-/// A source over a reader of std, which contracts see as that reader and a count of failures. Each error of the reader
-/// is a failure, one that tells of an interruption too.
+/// A source over a reader of std, which contracts see as that reader and a count of failures.
+/// Each error of the reader is a failure, one that tells of an interruption too.
 #[derive(Drop)]
 pub struct IoSource<R> {
     reader: R,

@@ -2,7 +2,8 @@ ghost use Rattle.std.specs.Prelude.{◌≡◌, ◌<◌, Some, length};
 ghost use Rattle.std.specs.Io.{ReadsAtMost};
 ghost use Rattle.std.specs.Io.KnownBytes.{ReadConsumes};
 ghost use Rattle.dv_run.specs.Source.{failures_after_read};
-ghost use Rattle.dv_run.specs.MemorySource.{fresh, fails_here, failure_ahead, answer_of, after_read, filled};
+ghost use Rattle.dv_run.specs.MemorySource.{fresh, fails_here, failure_ahead};
+ghost use Rattle.dv_run.specs.MemorySource.{answer_of, after_read, filled};
 
 use crate::source::{Source, SourceFault};
 use std::marker::Model;
@@ -22,7 +23,12 @@ impl<'a> Model for MemorySource<'a> {
 
     ghost Value = { Supply };
 
-    ghost view = { λ s. record { left = s.rest.now; per_call = s.per_call; failure = s.failure; failures = s.failures } };
+    ghost view = { λ s. record {
+      left = s.rest.now;
+      per_call = s.per_call;
+      failure = s.failure;
+      failures = s.failures;
+    } };
 
     ghost invariant = { λ s. 0 < s.per_call };
 }

@@ -20,8 +20,8 @@ pub trait Source {
     /// How often it has failed. At its last value the count stays, and shows nothing.
     ghost failures: { Self → ℕ };
 
-    /// Puts bytes at the front of the buffer, and answers how many. No byte into a buffer with room is the end of the
-    /// input, and no failure.
+    /// Puts bytes at the front of the buffer, and answers how many. No byte into a buffer with room
+    /// is the end of the input, and no failure.
     fn read(&mut self, buffer: &mut [u8]) -> Result<usize, SourceFault>
         ensures bound { ReadsAtMost result buffer.new }
         ensures bytes { ReadConsumes (left self.old) (left self.new) result buffer.new }
@@ -57,21 +57,24 @@ impl From<AllocError> for ReadError {
     }
 }
 
-/// Reads to the end of the input, or so many bytes. It gives up at the source's first failure, or where memory is
-/// refused; the bytes that were read by then are lost.
-#[tactic(auto, using(crate::proofs::Front::front_full, crate::proofs::Front::front_end, crate::proofs::Front::consumes_some, crate::proofs::Front::consumes_more))]
+/// Reads to the end of the input, or so many bytes, in time linear in what it reads. It gives up at
+/// the source's first failure, or where memory is refused; what was read by then is lost.
+#[tactic(auto, using(crate::proofs::Front::pieces))]
 pub fn read_up_to<R: Source>(
     alloc: Global,
     source: &mut R,
     most: usize,
 ) -> Result<Vec<u8>, ReadError>
     ensures front { IfOk result (λ bytes. IsFrontOf (R.left source.old) most bytes.items) }
-    ensures left { IfOk result (λ bytes. Consumes (R.left source.old) (R.left source.new) bytes.items) }
+    ensures left { IfOk result (λ bytes.
+        Consumes (R.left source.old) (R.left source.new) bytes.items) }
     ensures bound { IfOk result (λ bytes. length bytes.items ≤ most) }
     ensures kept { OnOk result (R.failures source.new ≡ R.failures source.old) }
     ensures err { OnErr result (ConsumesSome (R.left source.old) (R.left source.new)) }
-    ensures cause { IsErrOf result ReadError.ReadFault → HasFailed (R.failures source.old) (R.failures source.new) }
-    ensures memory { IsErrOf result ReadError.OutOfMemory → R.failures source.new ≡ R.failures source.old }
+    ensures cause { IsErrOf result ReadError.ReadFault
+        → HasFailed (R.failures source.old) (R.failures source.new) }
+    ensures memory { IsErrOf result ReadError.OutOfMemory
+        → R.failures source.new ≡ R.failures source.old }
 {
     let mut bytes = Vec::new(alloc);
     let mut buffer = [0u8; 4096];

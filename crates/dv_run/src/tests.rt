@@ -1,6 +1,7 @@
 use crate::io_source::IoSource;
 use crate::memory_source::MemorySource;
 use crate::source::{ReadError, read_up_to};
+use std::io::{self, Read};
 use std::test::Fail;
 
 const TEXT: &[u8] = b"{\"version\":3}";
@@ -33,5 +34,21 @@ fn a_failed_read_is_a_read_fault(rt: HostRuntime) -> Result<(), Fail> {
 fn a_reader_of_std_gives_its_bytes(rt: HostRuntime) -> Result<(), Fail> {
     let bytes = read_up_to(rt.alloc(), &mut IoSource::new(TEXT), 100)?;
     assert_eq!(rt; bytes.as_slice(), TEXT);
+    Ok(())
+}
+
+#[derive(Drop)]
+struct Broken;
+
+impl io::Read for Broken {
+    fn read(&mut self, _: &mut [u8]) -> io::Result<usize> {
+        Err(io::Error::from(io::ErrorKind::BrokenPipe))
+    }
+}
+
+#[test]
+fn a_reader_of_std_that_fails_is_a_read_fault(rt: HostRuntime) -> Result<(), Fail> {
+    let result = read_up_to(rt.alloc(), &mut IoSource::new(TEXT.chain(Broken)), 100);
+    assert!(rt; matches!(&result, Err(ReadError::ReadFault)));
     Ok(())
 }
