@@ -1,5 +1,5 @@
 -- A text that a sink takes piece by piece.
-use Rattle.std.proofs.Common.{◌≡◌, ℕ, length, List, [], ◌++◌, ◌-◌, arith, Option, take, drop, refl, sym, ◌∙◌, ap, subst, append_assoc, take-append-drop}
+use Rattle.std.proofs.Common.{ℕ, length, List, [], ◌++◌, ◌-◌, arith, Option, take, drop, refl, sym, ◌∙◌, ap, subst, append_assoc, take-append-drop}
 use Rattle.std.proofs.lemmas.List.{append-nil, take_rest}
 use Rattle.std.proofs.KnownBytes.{Appends-nil, Appends-trans, Appends-kept}
 use Rattle.std.specs.Io.KnownBytes.{Appends, Keeps}

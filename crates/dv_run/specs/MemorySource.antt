@@ -1,6 +1,5 @@
 -- What a source over bytes has to give, what it answers to a read, and what it has then.
 use Rattle.std.specs.Prelude.{List, ℕ, Bool, false, ◌-◌, ◌++◌, ◌==◌, min, length, take, drop, if◌then◌else◌, Option, Some, None, Result, Ok, Err}
-use Rattle.dv_journal.specs.Sink.{one_more}
 use Rattle.dv_run.specs.declared.source.SourceFault.{SourceFault}
 use Rattle.dv_run.specs.Source.{failures_after_read}
 
