@@ -33,4 +33,5 @@ but_nothing a b text so_far = subst (Appends a b) (sym (so_far.2 ∙ append-nil 
 pub fails : (n : ℕ) → HasFailed n (one_more n)
 fails n = search arith
 
+-- what the goals of a loop over writes cite
 pub ruleset pieces = (but_kept, but_all, but_nothing, fails)

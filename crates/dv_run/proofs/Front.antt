@@ -29,4 +29,5 @@ pub consumes_more : (a b c : Option (List ℕ)) (bytes more : List ℕ) →
     Consumes a b bytes → Consumes b c more → ConsumesSome a c
 consumes_more a b c bytes more taken next = (bytes ++ more, Consumes-trans a b c bytes more taken next)
 
+-- what the goals of a loop over reads cite
 pub ruleset pieces = (front_full, front_end, consumes_some, consumes_more)
