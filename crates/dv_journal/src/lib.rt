@@ -2,3 +2,8 @@
 #![tactic(auto)]
 
 pub mod deferred_id;
+pub mod io_sink;
+pub mod memory_sink;
+pub mod sink;
+#[cfg(test)]
+mod tests;

@@ -4,6 +4,7 @@
 pub mod boxed;
 pub mod class_id;
 pub mod classes;
+pub mod deque;
 pub mod failure;
 pub mod items;
 pub mod laws;

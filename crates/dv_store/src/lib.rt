@@ -1,0 +1,10 @@
+//! The records of Deferreds, and the steps that use up their pairs.
+#![tactic(auto)]
+
+pub mod error;
+pub mod laws;
+pub mod record;
+pub mod sides;
+pub mod store;
+#[cfg(test)]
+mod tests;
