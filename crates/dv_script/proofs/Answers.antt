@@ -1,5 +1,5 @@
 -- What the passes answer is what the bytes say.
-use Rattle.std.proofs.Common.{◌≡◌, ℕ, ◌≤◌, List, length, Some, None, Result, Ok, Err, IfOk, IfErr, true, sym, ◌∙◌, arith}
+use Rattle.std.proofs.Common.{◌≡◌, ℕ, ◌≤◌, List, length, Some, None, Result, Ok, Err, IfOk, IfErr, true, arith}
 use Rattle.serde_json.specs.Data.{Data}
 use Rattle.dv_script.specs.declared.script.Script.{Script}
 use Rattle.dv_script.specs.declared.error.ScriptFault.{ScriptFault}

@@ -1,7 +1,7 @@
 -- What the grammar relates is read.
-use Rattle.std.proofs.Common.{◌≡◌, ℕ, ℤ, List, [], ◌∷◌, Option, Some, None, refl, codes}
-use Rattle.serde_json.specs.Data.{Data, null, boolean, number, string, array, object, Items, no_items, item}
-use Rattle.serde_json.specs.Find.{as_i64, get_member}
+use Rattle.std.proofs.Common.{◌≡◌, ℕ, List, [], ◌∷◌, Option, Some, None, refl, codes}
+use Rattle.serde_json.specs.Data.{Data, Items, no_items, item}
+use Rattle.serde_json.specs.Find.{get_member}
 use Rattle.dv_value.specs.declared.value.Value.{Value}
 use Rattle.dv_value.specs.declared.classes.Class.{Class}
 use Rattle.dv_value.specs.Builtin.{builtin}
@@ -10,7 +10,7 @@ use Rattle.dv_script.specs.declared.body.End.TheVariants.{Pass}
 use Rattle.dv_script.specs.declared.body.Body.{Body}
 use Rattle.dv_script.specs.declared.action.Action.{Action}
 use Rattle.dv_script.specs.declared.script.Script.{Script}
-use Rattle.dv_script.specs.Grammar.{Each, IsList, Field, IsClass, IsInteger, IsValue, a_null, a_bool, an_int, a_text, a_list, AreValues, no_values, more_values, IsEnd, returns, passes, adds, raises, traps, IsBody, body, IsAction, deferred, callback, errback, add_callback, add_errback, add_both, add_callbacks, IsScript}
+use Rattle.dv_script.specs.Grammar.{Each, IsList, Field, IsClass, IsValue, a_null, a_bool, an_int, a_text, a_list, AreValues, no_values, more_values, IsEnd, returns, passes, adds, raises, traps, IsBody, body, IsAction, deferred, callback, errback, add_callback, add_errback, add_both, add_callbacks, IsScript}
 use Rattle.dv_script.specs.Shape.{value_at, values_at, each, list_at, class_at, end_at, end_of, call_at, none, first, one, two, three, fields_at, field, body_at, name_and_body, action_at, action_of, script_at}
 
 mutual

@@ -1,13 +1,12 @@
 -- What documents say.
-use Rattle.std.proofs.Common.{◌≡◌, ◌≢◌, ℕ, ◌≤◌, ◌<◌, Bool, true, false, List, Option, Some, None, refl, sym, ap, subst, ◌∙◌, ◌⊎◌, inl, inr, arith}
+use Rattle.std.proofs.Common.{◌≡◌, ℕ, ◌≤◌, ◌<◌, Bool, true, false, List, Option, Some, None, refl, sym, ap, subst, ◌∙◌, ◌⊎◌, inl, inr, arith}
 use Rattle.std.proofs.lemmas.Bool.Decides.{leb_tells}
 use Rattle.serde_json.specs.Data.{Data}
 use Rattle.dv_script.specs.declared.script.Script.{Script}
-use Rattle.dv_script.specs.declared.error.ScriptFault.{ScriptFault}
 use Rattle.dv_script.specs.declared.error.ScriptFault.TheVariants.{TooLong, NotJson, BadVersion, BadShape, TooMany, BadName, BadClass, OutOfMemory}
 use Rattle.dv_script.specs.Grammar.{IsScript}
 use Rattle.dv_script.specs.Limits.{most_nodes, nodes}
-use Rattle.dv_script.specs.Refusal.{IsDocument, HasVersion, HasShape, are_named, are_known, Says, Refuses}
+use Rattle.dv_script.specs.Refusal.{IsDocument, HasVersion, HasShape, are_named, are_known, Says}
 use Rattle.dv_script.specs.Shape.{script_at}
 use Rattle.dv_script.specs.Passes.{is_version}
 use Rattle.dv_script.specs.Laws.{IsRefused, SaysOneAtMost, RefusedSaysNone, SaysOrIsRefused}

@@ -1,7 +1,7 @@
 -- The test of the version tells whether a value has it.
-use Rattle.std.proofs.Common.{◌≡◌, ℕ, true, false, Option, Some, None, option_and_then, refl, codes}
+use Rattle.std.proofs.Common.{◌≡◌, true, false, Option, Some, None, option_and_then, refl, codes}
 use Rattle.std.proofs.lemmas.Bool.{eqb-true}
-use Rattle.serde_json.specs.Data.{Data, null, boolean, number, string, array, object, Num, unsigned, negative, float}
+use Rattle.serde_json.specs.Data.{Data, number, unsigned, negative, float}
 use Rattle.serde_json.specs.Find.{get, as_number, as_u64}
 use Rattle.dv_script.specs.Refusal.{HasVersion}
 use Rattle.dv_script.specs.Passes.{is_one, is_version}

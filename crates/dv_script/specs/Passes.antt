@@ -9,7 +9,7 @@ use Rattle.dv_script.specs.declared.error.ScriptFault.TheVariants.{TooLong, NotJ
 use Rattle.dv_script.specs.declared.reading.stop.Stop.{Stop}
 use Rattle.dv_script.specs.declared.reading.stop.Stop.TheVariants as stop
 use Rattle.dv_script.specs.Limits.{most_bytes, most_nodes, nodes}
-use Rattle.dv_script.specs.Refusal.{IsDocument, are_named, are_known}
+use Rattle.dv_script.specs.Refusal.{are_named, are_known}
 use Rattle.dv_script.specs.Shape.{script_at}
 
 -- the refusal of a reader that stops

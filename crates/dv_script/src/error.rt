@@ -1,5 +1,4 @@
 use crate::reading::stop::Stop;
-use std::alloc::AllocError;
 use thiserror::Error;
 
 /// Why a script is refused: the least of these of which the condition holds.
@@ -29,17 +28,6 @@ pub enum ScriptFault {
     /// Memory was refused: this may come in place of any other answer.
     #[error("8 OutOfMemory")]
     OutOfMemory,
-}
-
-impl From<AllocError> for ScriptFault {
-    ghost use Rattle.std.specs.Prelude.{◌≡◌};
-    ghost use Rattle.dv_script.specs.declared.error.ScriptFault.TheVariants.{OutOfMemory};
-
-    ghost from_gives = { λ _ fault. fault ≡ OutOfMemory };
-
-    fn from(_error: AllocError) -> ScriptFault {
-        ScriptFault::OutOfMemory
-    }
 }
 
 impl From<Stop> for ScriptFault {

@@ -10,8 +10,8 @@ fn padded(alloc: Global, len: usize) -> Result<Vec<u8>, AllocError> {
     Ok(bytes)
 }
 
-/// An action between `before` and `after`, of which the value is an array of so many zeros and no more. The whole
-/// has seven nodes more than zeros.
+/// So many zeros between `before` and `after`. Round one action whose value is the array of them, a script has seven
+/// nodes more.
 fn with_zeros(
     alloc: Global,
     before: &str,
