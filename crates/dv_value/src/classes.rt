@@ -94,6 +94,13 @@ impl Classes {
         }
     }
 
+    /// How many classes there are.
+    pub fn count(&self) -> u32
+        ensures { result ≡ length self.now }
+    {
+        self.classes.len() as u32
+    }
+
     /// The name of a class, or no name for a class of another table.
     pub fn name(&self, class: ClassId) -> &str
         ensures { result.now ≡ name_of self.now class }

@@ -1,0 +1,10 @@
+pub mod Grammar
+pub mod Names
+pub mod KnownClasses
+pub mod Limits
+pub mod Refusal
+pub mod Laws
+pub mod Words
+pub mod Shape
+pub mod Answer
+pub mod Passes

@@ -1,0 +1,48 @@
+ghost use Rattle.serde_json.specs.View.{view, items_view};
+ghost use Rattle.dv_script.specs.Answer.{Reads};
+ghost use Rattle.dv_script.specs.Shape.{end_at, end_of};
+
+use crate::body::End;
+use crate::reading::leaf::{call, class, classes_in, integer, none, one, text, two};
+use crate::reading::stop::Stop;
+use crate::reading::value::value;
+use crate::words::EndWord;
+use dv_value::classes::Classes;
+use serde_json::Value as Json;
+use std::alloc::Global;
+
+/// How a body ends.
+#[tactic(auto, unfolding(crate::specs::Shape::end_at))]
+pub fn end(alloc: Global, classes: &Classes, json: &Json) -> Result<End, Stop>
+    ensures { Reads result (end_at classes.now (view json.now)) }
+{
+    let (word, arguments) = call(json)?;
+    match EndWord::named(word) {
+        Some(word) => Ok(end_of(alloc, classes, word, arguments)?),
+        None => Err(Stop::BadShape),
+    }
+}
+
+#[tactic(auto, unfolding(crate::specs::Shape::end_of))]
+fn end_of(alloc: Global, classes: &Classes, word: EndWord, arguments: &[Json]) -> Result<End, Stop>
+    ensures { Reads result (end_of classes.now word (items_view arguments.now)) }
+{
+    match word {
+        EndWord::Return => Ok(End::Return(value(alloc, one(arguments)?)?)),
+        EndWord::Pass => {
+            none(arguments)?;
+            Ok(End::Pass)
+        }
+        EndWord::Plus => Ok(End::Plus(integer(one(arguments)?)?)),
+        EndWord::Raise => {
+            let (name, message) = two(arguments)?;
+            let class = class(classes, name)?;
+            Ok(End::Raise(class, text(alloc, message)?))
+        }
+        EndWord::Trap => {
+            let (names, json) = two(arguments)?;
+            let listed = classes_in(alloc, classes, names)?;
+            Ok(End::Trap(listed, value(alloc, json)?))
+        }
+    }
+}
