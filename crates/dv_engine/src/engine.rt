@@ -49,8 +49,8 @@ fn outcomes_of<'s>(
     Ok(outcomes)
 }
 
-fn outcome_of<'s>(record: Record<Pair<'s>, Side<'s>>) -> Outcome
-    ensures { result ≡ outcome_of record.entry }
+fn outcome_of<'s>(deferred: Record<Pair<'s>, Side<'s>>) -> Outcome
+    ensures { result ≡ outcome_of deferred.entry }
 {
     let Record {
         name,
@@ -59,7 +59,7 @@ fn outcome_of<'s>(record: Record<Pair<'s>, Side<'s>>) -> Outcome
         items: _,
         running: _,
         canceller: _,
-    } = record;
+    } = deferred;
     let state = if fired {
         State::Fired(value)
     } else {
