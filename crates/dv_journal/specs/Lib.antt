@@ -1,2 +1,5 @@
+pub mod Entry
+pub mod Journal
+pub mod Line
 pub mod Sink
 pub mod MemorySink

@@ -2,6 +2,27 @@ use crate::sink::SinkFault;
 use std::alloc::AllocError;
 use thiserror::Error;
 
+/// Why an entry isn't written. The journal is then as it was.
+#[derive(Clone, Copy, Debug, PartialEq, Eq, Drop, Error)]
+pub enum Stop {
+    /// The entry would pass the journal's limit.
+    #[error("journal limit reached")]
+    Limit,
+    #[error("out of memory")]
+    OutOfMemory,
+}
+
+impl From<AllocError> for Stop {
+    ghost use Rattle.std.specs.Prelude.{◌≡◌};
+    ghost use Rattle.dv_journal.specs.declared.error.Stop.TheVariants.{OutOfMemory};
+
+    ghost from_gives = { λ _ stop. stop ≡ OutOfMemory };
+
+    fn from(_error: AllocError) -> Stop {
+        Stop::OutOfMemory
+    }
+}
+
 /// Why a print gave up. What was written by then is a prefix of the text.
 #[derive(Clone, Copy, Debug, PartialEq, Eq, Drop, Error)]
 pub enum PrintFault {

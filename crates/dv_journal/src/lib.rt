@@ -1,9 +1,12 @@
-//! The journal of a run: numbers of Deferreds, and where its text goes.
+//! The journal of a run: its entries, their text, and where that goes.
 #![tactic(auto)]
 
 pub mod deferred_id;
+pub mod entry;
 pub mod error;
 pub mod io_sink;
+pub mod journal;
+pub mod line;
 pub mod memory_sink;
 pub mod sink;
 #[cfg(test)]

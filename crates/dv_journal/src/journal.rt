@@ -1,0 +1,115 @@
+ghost use Rattle.std.specs.Prelude.{◌≡◌, ◌<◌, ◌^◌, ◌↔◌, IsTrue, OnOk, OnErr, IsErrOf};
+ghost use Rattle.std.specs.Io.KnownBytes.{Appends};
+ghost use Rattle.dv_journal.specs.Sink.{HasFailed, AppendsPrefix};
+ghost use Rattle.dv_journal.specs.Journal.{empty, total_weight, Fits, PassesLimit, with_entry};
+ghost use Rattle.dv_journal.specs.Line.{text_of};
+
+use crate::entry::Entry;
+use crate::error::{PrintFault, Stop};
+use crate::line::write_line;
+use crate::sink::{Sink, write_all};
+use dv_value::classes::Classes;
+use dv_value::items::Items;
+use std::alloc::Global;
+use std::marker::Model;
+
+/// What happened in a run, in order, up to a limit.
+#[derive(Debug, Drop)]
+pub struct Journal {
+    alloc: Global,
+    entries: Items<Entry>,
+    weight: u64,
+    limit: u64,
+}
+
+impl Model for Journal {
+    ghost use Rattle.std.specs.Prelude.{◌≡◌, ◌≤◌, ◌<◌, ◌^◌};
+    ghost use Rattle.std.specs.Coded.{codes};
+    ghost use Rattle.dv_value.specs.contracts.failure.Failure as failure;
+    ghost use Rattle.dv_value.specs.contracts.value.Value as value;
+    ghost use Rattle.dv_journal.specs.Journal.{Written, total_weight};
+
+    ghost Value = { Written };
+
+    ghost coded = { Prim.hlevel (codes, failure.the_row.coded, value.the_row.coded) };
+
+    ghost view = { λ j. record { entries = j.entries; limit = j.limit } };
+
+    ghost invariant = { λ j. (j.weight ≡ total_weight j.entries) × (j.weight ≤ j.limit) × (j.limit < 2 ^ 32) };
+}
+
+impl Journal {
+    /// No entries yet. It takes no memory before the first is written.
+    pub fn new(alloc: Global, limit: u64) -> Journal
+        requires { limit < 2 ^ 32 }
+        ensures { result ≡ empty limit }
+    {
+        Journal {
+            alloc,
+            entries: Items::new(alloc),
+            weight: 0,
+            limit,
+        }
+    }
+
+    /// What its entries weigh together.
+    pub fn weight(&self) -> u64
+        ensures { result ≡ total_weight self.now.entries }
+    {
+        self.weight
+    }
+
+    /// The most that its entries may weigh together.
+    pub fn limit(&self) -> u64
+        ensures { result ≡ self.now.limit }
+    {
+        self.limit
+    }
+
+    /// The entries, in the order in which they were written.
+    pub fn entries(&self) -> &[Entry]
+        ensures { result.now ≡ self.now.entries }
+    {
+        self.entries.as_slice()
+    }
+
+    /// Whether the journal stays within its limit with this entry.
+    pub fn fits(&self, entry: &Entry) -> bool
+        ensures { IsTrue result ↔ Fits self.now entry.now }
+    {
+        entry.weight() <= self.limit - self.weight
+    }
+
+    /// Adds an entry at the end. One that would pass the limit isn't written, whatever memory there is; an entry that
+    /// isn't written is dropped.
+    pub fn write(&mut self, entry: Entry) -> Result<(), Stop>
+        ensures ok { OnOk result (self.new ≡ with_entry self.old entry) }
+        ensures limit { IsErrOf result Stop.Limit ↔ PassesLimit self.old entry }
+        ensures err { OnErr result (self.new ≡ self.old) }
+    {
+        let weight = entry.weight();
+        if self.limit - self.weight < weight {
+            return Err(Stop::Limit);
+        }
+        self.entries.push(entry)?;
+        self.weight += weight;
+        Ok(())
+    }
+
+    /// Writes the line of each entry, with one buffer for all lines. Where it gives up, what was written is a prefix of
+    /// the text.
+    pub fn print<W: Sink>(&self, classes: &Classes, sink: &mut W) -> Result<(), PrintFault>
+        ensures ok { OnOk result (Appends (W.taken sink.old) (W.taken sink.new) (text_of classes.now self.now.entries)) }
+        ensures kept { OnOk result (W.failures sink.new ≡ W.failures sink.old) }
+        ensures err { OnErr result (AppendsPrefix (W.taken sink.old) (W.taken sink.new) (text_of classes.now self.now.entries)) }
+        ensures cause { IsErrOf result PrintFault.WriteFault → HasFailed (W.failures sink.old) (W.failures sink.new) }
+    {
+        let mut line = String::new(self.alloc);
+        for entry in self.entries.as_slice() {
+            line.clear();
+            write_line(self.alloc, classes, &mut line, entry)?;
+            write_all(sink, line.as_bytes())?;
+        }
+        Ok(())
+    }
+}
