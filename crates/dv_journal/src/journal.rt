@@ -13,6 +13,9 @@ use dv_value::items::Items;
 use std::alloc::Global;
 use std::marker::Model;
 
+// how many bytes of lines are gathered before they are written
+const PIECE: usize = 4096;
+
 /// What happened in a run, in order, up to a limit.
 #[derive(Debug, Drop)]
 pub struct Journal {
@@ -96,20 +99,23 @@ impl Journal {
         Ok(())
     }
 
-    /// Writes the line of each entry, with one buffer for all lines. Where it gives up, what was written is a prefix of
-    /// the text.
+    /// Writes the line of each entry, some kilobytes at a time, with one buffer for all. Where it gives up, what was
+    /// written is a prefix of the text.
     pub fn print<W: Sink>(&self, classes: &Classes, sink: &mut W) -> Result<(), PrintFault>
         ensures ok { OnOk result (Appends (W.taken sink.old) (W.taken sink.new) (text_of classes.now self.now.entries)) }
         ensures kept { OnOk result (W.failures sink.new ≡ W.failures sink.old) }
         ensures err { OnErr result (AppendsPrefix (W.taken sink.old) (W.taken sink.new) (text_of classes.now self.now.entries)) }
         ensures cause { IsErrOf result PrintFault.WriteFault → HasFailed (W.failures sink.old) (W.failures sink.new) }
     {
-        let mut line = String::new(self.alloc);
+        let mut gathered = String::new(self.alloc);
         for entry in self.entries.as_slice() {
-            line.clear();
-            write_line(self.alloc, classes, &mut line, entry)?;
-            write_all(sink, line.as_bytes())?;
+            write_line(self.alloc, classes, &mut gathered, entry)?;
+            if gathered.len() >= PIECE {
+                write_all(sink, gathered.as_bytes())?;
+                gathered.clear();
+            }
         }
+        write_all(sink, gathered.as_bytes())?;
         Ok(())
     }
 }

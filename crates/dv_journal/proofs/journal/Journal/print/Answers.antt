@@ -1,9 +1,10 @@
-use Rattle.std.proofs.Common.{◌≡◌, ℕ, ◌++◌, List, ◌∙◌, ap, rules}
+use Rattle.std.proofs.Common.{◌≡◌, ◌+◌, ◌++◌, drop, refl, sym, ◌∙◌, ap, rules, string_bytes}
 use Rattle.dv_journal.specs.Journal.{Written}
-use Rattle.dv_journal.specs.Sink.{AppendsPrefix}
-use Rattle.dv_journal.specs.Line.{line_of, text_of}
+use Rattle.dv_journal.specs.Sink.{AppendsBut, AppendsPrefix}
+use Rattle.dv_journal.specs.Line.{text_of}
 use Rattle.dv_journal.proofs.Taken.{but_next, prefix_next}
-use Rattle.dv_journal.proofs.JournalLemmas.{next_line}
+use Rattle.dv_journal.proofs.JournalLemmas.{gathered_next}
+use Rattle.dv_journal.proofs.journal.Journal.print.Goals.{then-len-ge-PIECE+in_ok-write_all, else-len-ge-PIECE}
 use Rattle.dv_journal.proofs.journal.Journal.print.Goals as goal
 
 pub returns-in_err-write_line-clause-err : goal.returns-in_err-write_line-clause-err
@@ -14,17 +15,30 @@ returns-in_err-write_line-clause-err g c =
 pub returns-in_err-write_all-clause-err : goal.returns-in_err-write_all-clause-err
 returns-in_err-write_all-clause-err g c =
     let same : c.as_slice-entry-items.result.now ≡ c.args.self.now.entries = c.as_slice-entry-items.ensures ∙ ap (λ (w : Written). w.entries) c.self.view_is in
-    let is : c.as_bytes.result.now ≡ line_of c.args.classes.now c.entry-item.result =
-    c.as_bytes.ensures.value ∙ c.in_ok-write_line.ensures ∙ ap (λ (l : List ℕ). l ++ line_of c.args.classes.now c.entry-item.result) c.clear.ensures.bytes in
-    let next = next_line c.args.classes.now c.as_slice-entry-items.result.now c.args.self.now.entries c.loop-entry.entry-index c.entry-item.result c.as_bytes.result.now same c.loop-entry-test.true c.entry-item.is is in
+    let so_far : AppendsBut (g.W.Sink.taken c.args.sink.now) (g.W.Sink.taken c.loop-entry.sink) (text_of c.args.classes.now c.args.self.now.entries)
+    (c.as_bytes.result.now ++ text_of c.args.classes.now (drop (c.loop-entry.entry-index + 1) c.args.self.now.entries)) =
+    gathered_next _ _ _ c.args.classes.now c.args.self.now.entries c.loop-entry.entry-index c.entry-item.result (string_bytes c.loop-entry.gathered) c.as_bytes.result.now
+    (rw (← same) c.loop-entry-test.true) (rw (← same) c.entry-item.is) (c.as_bytes.ensures.value ∙ c.in_ok-write_line.ensures) c.loop-entry.invariant.0 in
     let cut : AppendsPrefix (g.W.Sink.taken c.args.sink.now) (g.W.Sink.taken c.write_all.new.sink) (text_of c.args.classes.now c.args.self.now.entries) =
-    prefix_next _ _ _ _ _ _ _ c.loop-entry.invariant.0 next c.in_err-write_all.ensures.err in
+    prefix_next _ _ _ _ _ _ _ so_far refl c.in_err-write_all.ensures.err in
     search rules
 
 pub loop-entry-preserved : goal.loop-entry-preserved
 loop-entry-preserved g c =
     let same : c.as_slice-entry-items.result.now ≡ c.args.self.now.entries = c.as_slice-entry-items.ensures ∙ ap (λ (w : Written). w.entries) c.self.view_is in
-    let is : c.as_bytes.result.now ≡ line_of c.args.classes.now c.entry-item.result =
-    c.as_bytes.ensures.value ∙ c.in_ok-write_line.ensures ∙ ap (λ (l : List ℕ). l ++ line_of c.args.classes.now c.entry-item.result) c.clear.ensures.bytes in
-    let next = next_line c.args.classes.now c.as_slice-entry-items.result.now c.args.self.now.entries c.loop-entry.entry-index c.entry-item.result c.as_bytes.result.now same c.loop-entry-test.true c.entry-item.is is in
-    (but_next _ _ _ _ _ _ _ c.loop-entry.invariant.0 next c.in_ok-write_all.ensures.ok, search rules)
+    let so_far : AppendsBut (g.W.Sink.taken c.args.sink.now) (g.W.Sink.taken c.loop-entry.sink) (text_of c.args.classes.now c.args.self.now.entries)
+    (string_bytes c.write_line.new.out ++ text_of c.args.classes.now (drop (c.loop-entry.entry-index + 1) c.args.self.now.entries)) =
+    gathered_next _ _ _ c.args.classes.now c.args.self.now.entries c.loop-entry.entry-index c.entry-item.result (string_bytes c.loop-entry.gathered) (string_bytes c.write_line.new.out)
+    (rw (← same) c.loop-entry-test.true) (rw (← same) c.entry-item.is) c.in_ok-write_line.ensures c.loop-entry.invariant.0 in
+    elim c.if-len-ge-PIECE.branch [
+      | then-len-ge-PIECE+in_ok-write_all w ↦
+          rw (w.sink-is, w.gathered-is, w.clear.ensures.bytes)
+          (but_next _ _ _ _ w.as_bytes.result.now _ _ so_far (ap (λ l. l ++ text_of c.args.classes.now (drop (c.loop-entry.entry-index + 1) c.args.self.now.entries)) (sym w.as_bytes.ensures.value)) w.in_ok-write_all.ensures.ok, search rules)
+      | else-len-ge-PIECE w ↦ rw (w.sink-is, w.gathered-is) (so_far, search rules)
+    ]
+
+pub returns-in_err-write_all-2-clause-err : goal.returns-in_err-write_all-2-clause-err
+returns-in_err-write_all-2-clause-err g c =
+    let cut : AppendsPrefix (g.W.Sink.taken c.args.sink.now) (g.W.Sink.taken c.write_all-2.new.sink) (text_of c.args.classes.now c.args.self.now.entries) =
+    prefix_next _ _ _ _ c.as_bytes-2.result.now _ _ c.loop-entry.invariant.0 (ap (λ l. l ++ text_of c.args.classes.now (drop c.loop-entry.entry-index c.args.self.now.entries)) (sym c.as_bytes-2.ensures.value)) c.in_err-write_all-2.ensures.err in
+    search rules
