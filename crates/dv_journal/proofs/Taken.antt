@@ -1,9 +1,9 @@
 -- A text that a sink takes piece by piece.
-use Rattle.std.proofs.Common.{ℕ, length, List, [], ◌++◌, ◌-◌, arith, Option, take, drop, refl, sym, ◌∙◌, ap, subst, append_assoc, take-append-drop}
+use Rattle.std.proofs.Common.{◌≡◌, ℕ, length, List, [], ◌++◌, ◌-◌, arith, Option, take, drop, refl, sym, ◌∙◌, ap, subst, append_assoc, take-append-drop}
 use Rattle.std.proofs.lemmas.List.{append-nil, take_rest}
 use Rattle.std.proofs.KnownBytes.{Appends-nil, Appends-trans, Appends-kept}
 use Rattle.std.specs.Io.KnownBytes.{Appends, Keeps}
-use Rattle.dv_journal.specs.Sink.{AppendsBut, HasFailed, one_more}
+use Rattle.dv_journal.specs.Sink.{AppendsBut, AppendsPrefix, HasFailed, one_more}
 
 -- nothing was taken, and all is left
 pub but_all : (a : Option (List ℕ)) (text : List ℕ) → AppendsBut a a text text
@@ -32,6 +32,22 @@ but_nothing a b text so_far = subst (Appends a b) (sym (so_far.2 ∙ append-nil 
 -- one failure more shows
 pub fails : (n : ℕ) → HasFailed n (one_more n)
 fails n = search arith
+
+-- the next part of the text was taken whole
+pub but_next : (a b c : Option (List ℕ)) (text part rest after : List ℕ) →
+    AppendsBut a b text rest → rest ≡ part ++ after → Appends b c part → AppendsBut a c text after
+but_next a b c text part rest after so_far next more = (
+  so_far.0 ++ part,
+  Appends-trans a b c so_far.0 part so_far.1 more,
+  so_far.2 ∙ ap (λ (l : List ℕ). so_far.0 ++ l) next ∙ sym (append_assoc so_far.0 part after),
+)
+
+-- the next part of the text was cut short
+pub prefix_next : (a b c : Option (List ℕ)) (text part rest after : List ℕ) →
+    AppendsBut a b text rest → rest ≡ part ++ after → AppendsPrefix b c part → AppendsPrefix a c text
+prefix_next a b c text part rest after so_far next more =
+    let (left, (taken, grew, whole)) = more in
+    (left ++ after, but_next a b c text taken rest (left ++ after) so_far (next ∙ ap (λ (l : List ℕ). l ++ after) whole ∙ append_assoc taken left after) grew)
 
 -- what the goals of a loop over writes cite
 pub ruleset pieces = (but_kept, but_all, but_nothing, fails)

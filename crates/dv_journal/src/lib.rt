@@ -2,6 +2,7 @@
 #![tactic(auto)]
 
 pub mod deferred_id;
+pub mod error;
 pub mod io_sink;
 pub mod memory_sink;
 pub mod sink;

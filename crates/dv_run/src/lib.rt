@@ -1,8 +1,12 @@
 //! Runs a script: reads it, performs it and prints its outcomes.
 #![tactic(auto)]
 
+pub mod error;
+pub mod exit;
 pub mod io_source;
 pub mod memory_source;
+pub mod output;
+pub mod run;
 pub mod source;
 #[cfg(test)]
 mod tests;

@@ -1,1 +1,1 @@
-mod CallbacksLemmas
+pub mod CallbacksLemmas

@@ -1,0 +1,46 @@
+-- What tasks, events and scripts do: the rules tied together, as a recursion whose depth has a bound.
+use Rattle.std.specs.Prelude.{ℕ, zero, suc, ◌≡◌, List, [], ◌∷◌, None, Some}
+use Rattle.dv_value.specs.declared.value.Value.{Value}
+use Rattle.dv_script.specs.declared.action.Action.{Action}
+use Rattle.dv_script.specs.declared.script.Script.{Script}
+use Rattle.dv_engine.specs.Callbacks.{settle_by}
+use Rattle.dv_engine.specs.Pair.{Bodies}
+use Rattle.dv_engine.specs.Perform.{perform_by, act_by, fire_by, add_by}
+use Rattle.dv_engine.specs.Task.{Task, Settle, Perform, Act, Answer, Meant}
+use Rattle.dv_engine.specs.World.{World, step, first_world}
+use Rattle.dv_engine.specs.declared.performed.Performed.{Performed}
+
+-- each task by its rule, over the meaning of the tasks that the rule names
+abbrev pub task_by : Meant → Task → World → Answer
+task_by go (Settle d) w = settle_by go d (step d w).0 (step d w).1
+task_by go (Perform body input) w = perform_by go body input w
+task_by go (Act action) w = act_by go action w
+
+-- the meaning of tasks whose rules nest to this depth
+unfoldable pub meaning : ℕ → Meant
+meaning zero task w = None
+meaning (suc depth) task w = task_by (meaning depth) task w
+
+-- a task leads from a world to what it came to and the world after it
+pub record Gives (task : Task) (w : World) (performed : Performed) (after : World) : Type 0 where
+  pub depth : ℕ
+  pub ends : meaning depth task w ≡ Some (performed, after)
+
+-- firing a named Deferred with a value leads there
+pub record Fires (name : List ℕ) (value : Value) (w : World) (performed : Performed) (after : World) : Type 0 where
+  pub depth : ℕ
+  pub ends : fire_by (meaning depth) name value w ≡ Some (performed, after)
+
+-- adding a pair to a named Deferred leads there
+pub record Adds (name : List ℕ) (pair : Bodies) (w : World) (performed : Performed) (after : World) : Type 0 where
+  pub depth : ℕ
+  pub ends : add_by (meaning depth) name pair w ≡ Some (performed, after)
+
+-- events are performed in order, whatever the ones before came to
+abbrev pub Runs : List Action → World → World → Type 0
+Runs [] w after = after ≡ w
+Runs (action ∷ actions) w after = (performed : Performed) × (next : World) × Gives (Act action) w performed next × Runs actions next after
+
+-- a script leads from a world in which nothing is made to the world at its end
+abbrev pub Means : Script → World → Type 0
+Means script after = Runs script.events (first_world script.classes) after

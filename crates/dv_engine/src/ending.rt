@@ -1,0 +1,85 @@
+ghost use Rattle.std.specs.Prelude.{◌≡◌, ◌+ℤ◌, IfOk};
+ghost use Rattle.dv_value.specs.Classes.{check};
+ghost use Rattle.dv_value.specs.Failure.{class_of};
+ghost use Rattle.dv_engine.specs.Ending.{fault, sum_or_overflow, plus_to, trap_of, trapped_by, end_gives};
+ghost use Rattle.dv_value.specs.declared.value.Value.{out-Value};
+
+use dv_script::body::End;
+use dv_value::boxed::Boxed;
+use dv_value::class_id::ClassId;
+use dv_value::classes::Classes;
+use dv_value::failure::Failure;
+use dv_value::text::Text;
+use dv_value::value::Value;
+use std::alloc::{AllocError, Global};
+
+/// A failure as a value.
+pub fn fault(alloc: Global, class: ClassId, message: &str) -> Result<Value, AllocError>
+    ensures { IfOk result (λ v. v ≡ fault class message.now) }
+{
+    let message = Text::of(alloc, message)?;
+    Ok(Value::Fault(Boxed::new(alloc, Failure::new(class, message))?))
+}
+
+/// What an end gives for an input.
+pub fn end_gives(
+    alloc: Global,
+    classes: &Classes,
+    end: &End,
+    input: &Value,
+) -> Result<Value, AllocError>
+    ensures { IfOk result (λ v. v ≡ end_gives classes.now end.now input.now) }
+{
+    match end {
+        End::Return(value) => value.copy(alloc),
+        End::Pass => input.copy(alloc),
+        End::Plus(n) => plus(alloc, *n, input),
+        End::Raise(class, message) => fault(alloc, *class, message.as_str()),
+        End::Trap(listed, value) => trap(alloc, classes, listed.as_slice(), value, input),
+    }
+}
+
+fn plus(alloc: Global, n: i64, input: &Value) -> Result<Value, AllocError>
+    ensures { IfOk result (λ v. v ≡ plus_to n (out-Value input.now)) }
+{
+    match input {
+        Value::Int(m) => sum(alloc, *m, n),
+        Value::Null
+        | Value::Bool(_)
+        | Value::Text(_)
+        | Value::List(_)
+        | Value::Fault(_) => fault(alloc, ClassId::TYPE_ERROR, "plus"),
+    }
+}
+
+
+fn sum(alloc: Global, m: i64, n: i64) -> Result<Value, AllocError>
+    ensures { IfOk result (λ v. v ≡ sum_or_overflow (m +ℤ n)) }
+{
+    match m.checked_add(n) {
+        Some(sum) => Ok(Value::Int(sum)),
+        None => fault(alloc, ClassId::OVERFLOW_ERROR, "plus"),
+    }
+}
+
+fn trap(
+    alloc: Global,
+    classes: &Classes,
+    listed: &[ClassId],
+    value: &Value,
+    input: &Value,
+) -> Result<Value, AllocError>
+    ensures { IfOk result (λ v. v ≡ trap_of classes.now listed.now value.now input.now (out-Value input.now)) }
+{
+    match input {
+        Value::Fault(failure) => match failure.get().check(classes, listed) {
+            Some(_) => value.copy(alloc),
+            None => input.copy(alloc),
+        },
+        Value::Null
+        | Value::Bool(_)
+        | Value::Int(_)
+        | Value::Text(_)
+        | Value::List(_) => fault(alloc, ClassId::TYPE_ERROR, "trap"),
+    }
+}

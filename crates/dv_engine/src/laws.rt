@@ -1,0 +1,15 @@
+//! Laws of whole runs, each a function with an empty body whose clauses are the laws.
+
+ghost use Rattle.dv_engine.specs.Laws.{EveryTaskEnds, EachTaskHasOneResult, EveryScriptEnds, EachScriptHasOneMeaning};
+
+/// Every task ends, and in one way.
+pub fn tasks_end()
+    ensures ends { EveryTaskEnds }
+    ensures one { EachTaskHasOneResult }
+{}
+
+/// Every script leads to a world, and to one only.
+pub fn scripts_end()
+    ensures ends { EveryScriptEnds }
+    ensures one { EachScriptHasOneMeaning }
+{}

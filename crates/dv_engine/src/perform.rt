@@ -1,0 +1,144 @@
+ghost use Rattle.std.specs.Prelude.{◌≡◌, ◌<◌, ◌^◌, ◌-◌, length, IfOk, OnOk};
+ghost use Rattle.std.specs.Option.{option_copied};
+ghost use Rattle.dv_value.specs.Failure.{is_fault};
+ghost use Rattle.dv_engine.specs.Meaning.{Gives, Fires, Adds};
+ghost use Rattle.dv_engine.specs.Pair.{side_for};
+ghost use Rattle.dv_engine.specs.Settling.{side_gives};
+ghost use Rattle.dv_engine.specs.Task.{Settle, Act};
+ghost use Rattle.dv_engine.specs.World.{value_of};
+ghost use Rattle.dv_engine.specs.declared.performed.Performed.TheVariants.{Done};
+
+use crate::ending::{end_gives, fault};
+use crate::pair::Pair;
+use crate::performed::Performed;
+use crate::world::{World, raised};
+use dv_journal::deferred_id::DeferredId;
+use dv_script::action::Action;
+use dv_script::body::Body;
+use dv_store::store::Step;
+use dv_value::class_id::ClassId;
+use dv_value::classes::Classes;
+use dv_value::value::Value;
+use std::alloc::{AllocError, Global};
+
+/// Settles a Deferred: uses its pairs in turn, until there is nothing to do.
+#[tactic(auto, using(crate::proofs::Rules::settling_rules, crate::proofs::WorldLemmas::taking_rules))]
+pub fn settle<'s>(
+    alloc: Global,
+    world: &mut World<'s>,
+    id: DeferredId,
+) -> Result<(), AllocError>
+    ensures { OnOk result (Gives (Settle id) world.old Done world.new) }
+{
+    'pairs: loop {
+        match world.step(id) {
+            Step::Nothing => return Ok(()),
+            Step::Passed => {}
+            Step::Run(pair) => {
+                let value = run(alloc, world, id, &pair)?;
+                world.put(id, value);
+            }
+        }
+    }
+}
+
+// what the side of a pair for the value of a Deferred gives
+fn run<'s>(
+    alloc: Global,
+    world: &World<'s>,
+    id: DeferredId,
+    pair: &Pair<'s>,
+) -> Result<Value, AllocError>
+    ensures { IfOk result (λ v. v ≡ side_gives world.now.classes (side_for pair.now (is_fault (value_of id world.now))) (value_of id world.now)) }
+{
+    let null = Value::Null;
+    let input = match world.record(id) {
+        None => &null,
+        Some(record) => &record.value,
+    };
+    side_gives(alloc, world.classes(), pair.side_for(input.is_fault()), input)
+}
+
+fn side_gives(
+    alloc: Global,
+    classes: &Classes,
+    side: Option<&Body>,
+    input: &Value,
+) -> Result<Value, AllocError>
+    ensures { IfOk result (λ v. v ≡ side_gives classes.now (option_copied side.entry) input.now) }
+{
+    match side {
+        None => input.copy(alloc),
+        Some(body) => end_gives(alloc, classes, &body.end, input),
+    }
+}
+
+/// Fires a Deferred by its name, and settles it at once.
+#[tactic(auto, using(crate::proofs::Rules::named_rules))]
+fn fire<'s>(
+    alloc: Global,
+    world: &mut World<'s>,
+    name: &str,
+    value: Value,
+) -> Result<Performed, AllocError>
+    ensures { IfOk result (λ performed. Fires name.now value world.old performed world.new) }
+{
+    let Some(id) = world.find(name) else {
+        return raised(alloc, ClassId::NAME_ERROR, name);
+    };
+    match world.fire(id, value)? {
+        Performed::Done => {
+            settle(alloc, world, id)?;
+            Ok(Performed::Done)
+        }
+        Performed::Gave(value) => Ok(Performed::Gave(value)),
+        Performed::Raised(failure) => Ok(Performed::Raised(failure)),
+    }
+}
+
+/// Adds a pair to a Deferred by its name, and settles it at once.
+#[tactic(auto, using(crate::proofs::Rules::named_rules))]
+fn add<'s>(
+    alloc: Global,
+    world: &mut World<'s>,
+    name: &str,
+    pair: Pair<'s>,
+) -> Result<Performed, AllocError>
+    ensures { IfOk result (λ performed. Adds name.now pair.entry world.old performed world.new) }
+{
+    let Some(id) = world.find(name) else {
+        return raised(alloc, ClassId::NAME_ERROR, name);
+    };
+    world.append(id, pair)?;
+    settle(alloc, world, id)?;
+    Ok(Performed::Done)
+}
+
+/// Performs an action.
+#[tactic(auto, using(crate::proofs::Rules::action_rules))]
+pub fn act<'s>(
+    alloc: Global,
+    world: &mut World<'s>,
+    action: &'s Action,
+) -> Result<Performed, AllocError>
+    requires room { length world.old.records < 2 ^ 32 - 1 }
+    ensures { IfOk result (λ performed. Gives (Act action.now) world.old performed world.new) }
+{
+    match action {
+        Action::Deferred(name) => {
+            world.make(name.as_str())?;
+            Ok(Performed::Done)
+        }
+        Action::Callback(name, value) => fire(alloc, world, name.as_str(), value.copy(alloc)?),
+        Action::Errback(name, class, message) => {
+            let value = fault(alloc, *class, message.as_str())?;
+            fire(alloc, world, name.as_str(), value)
+        }
+        Action::AddCallback(name, body) => add(alloc, world, name.as_str(), Pair::callback(body)),
+        Action::AddErrback(name, body) => add(alloc, world, name.as_str(), Pair::errback(body)),
+        Action::AddBoth(name, body) => add(alloc, world, name.as_str(), Pair::both(body, body)),
+        Action::AddCallbacks(name, callback, errback) => {
+            add(alloc, world, name.as_str(), Pair::both(callback, errback))
+        }
+    }
+}

@@ -1,0 +1,26 @@
+use dv_value::items::Items;
+use dv_value::text::Text;
+use dv_value::value::Value;
+
+/// What has become of a Deferred.
+#[derive(Debug, Drop)]
+pub enum State {
+    Unfired,
+    /// Fired, and of this value at the end.
+    Fired(Value),
+}
+
+/// A Deferred at the end of a run.
+#[derive(Debug, Drop)]
+pub struct Outcome {
+    /// Its name at its making, where it has one.
+    pub name: Option<Text>,
+    pub state: State,
+}
+
+/// What a run has come to.
+#[derive(Debug, Drop)]
+pub struct Report {
+    /// The outcomes of all Deferreds, in order of making.
+    pub outcomes: Items<Outcome>,
+}

@@ -1,0 +1,146 @@
+ghost use Rattle.std.specs.Prelude.{◌≡◌, ◌<◌, ◌^◌, ◌-◌, length, slice_get, IfOk, OnOk};
+ghost use Rattle.std.specs.Option.{option_copied};
+ghost use Rattle.dv_value.specs.Failure.{plain_failure};
+ghost use Rattle.dv_engine.specs.declared.performed.Performed.TheVariants.{Raised};
+
+use crate::names::Names;
+use crate::pair::{Pair, Side};
+use crate::performed::Performed;
+use dv_journal::deferred_id::DeferredId;
+use dv_store::error::StoreFault;
+use dv_store::record::Record;
+use dv_store::store::{Step, Store};
+use dv_value::class_id::ClassId;
+use dv_value::classes::Classes;
+use dv_value::failure::Failure;
+use dv_value::text::Text;
+use dv_value::value::Value;
+use std::alloc::{AllocError, Global};
+use std::marker::Model;
+
+/// The world of a run: its Deferreds, their names and the classes of failures.
+#[derive(Drop)]
+pub struct World<'s> {
+    alloc: Global,
+    classes: &'s Classes,
+    names: Names,
+    store: Store<Pair<'s>, Side<'s>>,
+}
+
+impl<'s> Model for World<'s> {
+    ghost use Rattle.dv_engine.specs.World.{World as Seen};
+    ghost use Rattle.dv_script.specs.contracts.body.Body as body_contract;
+    ghost use Rattle.dv_value.specs.contracts.classes.Class as class_contract;
+    ghost use Rattle.dv_value.specs.contracts.value.Value as value_contract;
+    ghost use Rattle.std.specs.Coded.{codes};
+
+    ghost Value = { Seen };
+
+    ghost coded = { Prim.hlevel (codes, body_contract.the_row.coded, class_contract.the_row.coded, value_contract.the_row.coded) };
+
+    ghost view = { λ w. record { classes = w.classes.now; names = w.names; records = w.store } };
+}
+
+impl<'s> World<'s> {
+    ghost use Rattle.dv_engine.specs.Names.{number_of};
+    ghost use Rattle.dv_engine.specs.World.{first_world, value_of, step, put, append, make, fire, unbound};
+
+    /// A world in which nothing is made.
+    pub fn new(alloc: Global, classes: &'s Classes) -> World<'s>
+        ensures { result ≡ first_world classes.now }
+    {
+        World {
+            alloc,
+            classes,
+            names: Names::new(alloc),
+            store: Store::new(alloc),
+        }
+    }
+
+    pub fn classes(&self) -> &'s Classes
+        ensures { result.now ≡ self.now.classes }
+    {
+        self.classes
+    }
+
+    /// The Deferred that a name is bound to.
+    pub fn find(&self, name: &str) -> Option<DeferredId>
+        ensures { result ≡ number_of name.now self.now.names }
+    {
+        self.names.find(name)
+    }
+
+    pub fn record(&self, id: DeferredId) -> Option<&Record<Pair<'s>, Side<'s>>>
+        ensures { option_copied result ≡ slice_get self.now.records id }
+    {
+        self.store.record(id)
+    }
+
+    /// The first move of settling a Deferred.
+    #[tactic(auto, unfolding(crate::specs::World::step))]
+    pub fn step(&mut self, id: DeferredId) -> Step<Pair<'s>>
+        ensures { (result, self.new) ≡ step id self.old }
+    {
+        self.store.step(id)
+    }
+
+    /// What a side gave becomes the value of its Deferred.
+    #[tactic(auto, unfolding(crate::specs::World::put))]
+    pub fn put(&mut self, id: DeferredId, value: Value)
+        ensures { self.new ≡ put id value self.old }
+    {
+        self.store.put(id, value);
+    }
+
+    /// Adds a pair, and doesn't settle.
+    #[tactic(auto, unfolding(crate::specs::World::append))]
+    pub fn append(&mut self, id: DeferredId, pair: Pair<'s>) -> Result<(), AllocError>
+        ensures { OnOk result (self.new ≡ append id pair.entry self.old) }
+    {
+        match self.store.append(id, pair) {
+            Ok(()) => Ok(()),
+            Err(StoreFault::AlreadyCalled) => unreachable!(),
+            Err(StoreFault::OutOfMemory) => Err(AllocError),
+        }
+    }
+
+    /// Makes a Deferred, and binds its name.
+    #[tactic(auto, unfolding(crate::specs::World::make))]
+    pub fn make(&mut self, name: &str) -> Result<(), AllocError>
+        requires { length self.old.records < 2 ^ 32 - 1 }
+        ensures { OnOk result (self.new ≡ make name.now self.old) }
+    {
+        let shown = Text::of(self.alloc, name)?;
+        match self.store.make(Some(shown), None) {
+            Ok(id) => self.names.bind(name, id),
+            Err(StoreFault::AlreadyCalled) => unreachable!(),
+            Err(StoreFault::OutOfMemory) => Err(AllocError),
+        }
+    }
+
+    /// Fires a Deferred, and doesn't settle.
+    #[tactic(auto, unfolding(crate::specs::World::fire))]
+    pub fn fire(&mut self, id: DeferredId, value: Value) -> Result<Performed, AllocError>
+        ensures { IfOk result (λ performed. (performed, self.new) ≡ fire id value self.old) }
+    {
+        match self.store.fire(id, value) {
+            Ok(()) => Ok(Performed::Done),
+            Err(StoreFault::AlreadyCalled) => raised(self.alloc, ClassId::ALREADY_CALLED_ERROR, ""),
+            Err(StoreFault::OutOfMemory) => unreachable!(),
+        }
+    }
+
+    /// All records, in order of making.
+    pub fn into_records(self) -> Vec<Record<Pair<'s>, Side<'s>>>
+        ensures { result.items ≡ self.entry.records }
+    {
+        self.store.into_records()
+    }
+}
+
+/// A failure that was raised.
+pub fn raised(alloc: Global, class: ClassId, message: &str) -> Result<Performed, AllocError>
+    ensures { IfOk result (λ p. p ≡ Raised (plain_failure class message.now)) }
+{
+    Ok(Performed::Raised(Failure::new(class, Text::of(alloc, message)?)))
+}

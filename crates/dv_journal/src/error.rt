@@ -1,0 +1,35 @@
+use crate::sink::SinkFault;
+use std::alloc::AllocError;
+use thiserror::Error;
+
+/// Why a print gave up. What was written by then is a prefix of the text.
+#[derive(Clone, Copy, Debug, PartialEq, Eq, Drop, Error)]
+pub enum PrintFault {
+    /// The sink failed, or took no byte.
+    #[error("write failed")]
+    WriteFault,
+    #[error("out of memory")]
+    OutOfMemory,
+}
+
+impl From<SinkFault> for PrintFault {
+    ghost use Rattle.std.specs.Prelude.{◌≡◌};
+    ghost use Rattle.dv_journal.specs.declared.error.PrintFault.TheVariants.{WriteFault};
+
+    ghost from_gives = { λ _ fault. fault ≡ WriteFault };
+
+    fn from(_fault: SinkFault) -> PrintFault {
+        PrintFault::WriteFault
+    }
+}
+
+impl From<AllocError> for PrintFault {
+    ghost use Rattle.std.specs.Prelude.{◌≡◌};
+    ghost use Rattle.dv_journal.specs.declared.error.PrintFault.TheVariants.{OutOfMemory};
+
+    ghost from_gives = { λ _ fault. fault ≡ OutOfMemory };
+
+    fn from(_error: AllocError) -> PrintFault {
+        PrintFault::OutOfMemory
+    }
+}

@@ -1,0 +1,70 @@
+-- How a run ends, by how its parts do.
+use Rattle.std.proofs.Common.{◌≡◌, ◌≢◌, ℕ, List, Option, inl, inr, subst, ap, sym}
+use Rattle.std.proofs.KnownBytes.{Keeps-refl}
+use Rattle.std.specs.Io.KnownBytes.{Appends, Keeps}
+use Rattle.dv_engine.specs.Report.{Reports}
+use Rattle.dv_engine.specs.declared.report.Report.{Report}
+use Rattle.dv_journal.specs.Sink.{AppendsPrefix}
+use Rattle.dv_journal.specs.declared.error.PrintFault.{PrintFault}
+use Rattle.dv_journal.specs.declared.error.PrintFault.TheVariants as printing
+use Rattle.dv_script.specs.Refusal.{Says, Refuses}
+use Rattle.dv_script.specs.declared.error.ScriptFault.{ScriptFault}
+use Rattle.dv_script.specs.declared.error.ScriptFault.TheVariants as script
+use Rattle.dv_script.specs.declared.script.Script.{Script}
+use Rattle.dv_run.specs.Faults.{of_read, of_script, of_print}
+use Rattle.dv_run.specs.Output.{output}
+use Rattle.dv_run.specs.Run.{Told, most_read, IsText, SaysText, Prints, PrintsPrefix, RefusesInput, GivesUp}
+use Rattle.dv_run.specs.Source.{IsFrontOf}
+use Rattle.dv_run.specs.declared.error.RunFault.{RunFault}
+use Rattle.dv_run.specs.declared.error.RunFault.TheVariants.{ScriptRefused, OutOfMemory, ReadFault, WriteFault}
+use Rattle.dv_run.specs.declared.source.ReadError.{ReadError}
+use Rattle.dv_run.specs.declared.source.ReadError.TheVariants as reading
+
+-- a read that gave up: nothing was written
+pub after_read : (input old : Told) (error : ReadError) → GivesUp (of_read error) input old old
+after_read input old reading.ReadFault = Keeps-refl old
+after_read input old reading.OutOfMemory = inl (Keeps-refl old)
+
+refused_as : (input old : Told) (bytes : List ℕ) (fault : ScriptFault) → IsFrontOf input most_read bytes → Refuses fault bytes → fault ≢ script.OutOfMemory → RefusesInput input old old fault
+refused_as input old bytes fault front refused reason = record { bytes = bytes; read = front; refused = refused; reason = reason; written = Keeps-refl old }
+
+-- a script that is refused: nothing was written
+pub after_script : (input old : Told) (bytes : List ℕ) (fault : ScriptFault) → IsFrontOf input most_read bytes → Refuses fault bytes → GivesUp (of_script fault) input old old
+after_script input old bytes script.TooLong front refused = refused_as input old bytes script.TooLong front refused (λ e. cc)
+after_script input old bytes script.NotJson front refused = refused_as input old bytes script.NotJson front refused (λ e. cc)
+after_script input old bytes script.BadVersion front refused = refused_as input old bytes script.BadVersion front refused (λ e. cc)
+after_script input old bytes script.BadShape front refused = refused_as input old bytes script.BadShape front refused (λ e. cc)
+after_script input old bytes script.TooMany front refused = refused_as input old bytes script.TooMany front refused (λ e. cc)
+after_script input old bytes script.BadName front refused = refused_as input old bytes script.BadName front refused (λ e. cc)
+after_script input old bytes script.BadClass front refused = refused_as input old bytes script.BadClass front refused (λ e. cc)
+after_script input old bytes script.OutOfMemory front refused = inl (Keeps-refl old)
+
+-- a script that isn't performed for want of memory: nothing was written
+pub after_perform : (input old : Told) → GivesUp OutOfMemory input old old
+after_perform input old = inl (Keeps-refl old)
+
+-- the text of the script that the input says
+says_text : (input : Told) (bytes : List ℕ) (read : Script) (report : Report) → IsFrontOf input most_read bytes → Says bytes read → Reports read report → SaysText input (output read.classes report.outcomes)
+says_text input bytes read report front says reports = record {
+  bytes = bytes;
+  script = read;
+  read = front;
+  says = says;
+  is = record { world = reports.world; means = reports.means; lines = ap (output read.classes) reports.outcomes };
+}
+
+-- a print that gave up: a prefix was written
+pub after_print : (input old new : Told) (bytes : List ℕ) (read : Script) (report : Report) (fault : PrintFault) → IsFrontOf input most_read bytes → Says bytes read → Reports read report
+    → AppendsPrefix old new (output read.classes report.outcomes) → GivesUp (of_print fault) input old new
+after_print input old new bytes read report printing.WriteFault front says reports written =
+    record { text = _; says = says_text input bytes read report front says reports; written = written }
+after_print input old new bytes read report printing.OutOfMemory front says reports written =
+    inr (record { text = _; says = says_text input bytes read report front says reports; written = written })
+
+-- all was written
+pub after_all : (input old new : Told) (bytes : List ℕ) (read : Script) (report : Report) → IsFrontOf input most_read bytes → Says bytes read → Reports read report
+    → Appends old new (output read.classes report.outcomes) → Prints input old new
+after_all input old new bytes read report front says reports written =
+    record { text = _; says = says_text input bytes read report front says reports; written = written }
+
+pub ruleset run_rules = (after_read, after_script, after_perform, after_print, after_all)

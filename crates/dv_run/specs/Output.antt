@@ -1,0 +1,30 @@
+-- The lines that tell the outcomes of a run.
+use Rattle.std.specs.Prelude.{ℕ, suc, List, [], ◌∷◌, ◌++◌, Option, None, Some, codes}
+use Rattle.std.specs.Fmt.{decimal}
+use Rattle.dv_value.specs.ValueText.{outcome}
+use Rattle.dv_value.specs.declared.classes.Class.{Class}
+use Rattle.dv_engine.specs.declared.report.Outcome.{Outcome}
+use Rattle.dv_engine.specs.declared.report.State.{State}
+use Rattle.dv_engine.specs.declared.report.State.TheVariants.{Unfired, Fired}
+
+-- the name, or a dash for a Deferred without one
+abbrev pub name_text : Option (List ℕ) → List ℕ
+name_text None = codes "-"
+name_text (Some name) = name
+
+-- unfired, or what it was fired with: `ok` and a value, or `fail` and a failure
+abbrev pub state_text : List Class → State → List ℕ
+state_text table Unfired = codes "unfired"
+state_text table (Fired value) = outcome table value
+
+-- #N NAME STATE
+abbrev pub outcome_line : List Class → ℕ → Outcome → List ℕ
+outcome_line table number o = codes "#" ++ decimal number ++ codes " " ++ name_text o.name ++ codes " " ++ state_text table o.state ++ codes "\n"
+
+abbrev pub lines_from : List Class → ℕ → List Outcome → List ℕ
+lines_from table number [] = []
+lines_from table number (o ∷ outcomes) = outcome_line table number o ++ lines_from table (suc number) outcomes
+
+-- a line for each Deferred, in order of making
+abbrev pub output : List Class → List Outcome → List ℕ
+output table outcomes = lines_from table 0 outcomes

@@ -1,0 +1,71 @@
+ghost use Rattle.std.specs.Prelude.{◌≡◌, ◌++◌, OnOk, OnErr, IsErrOf, string_bytes};
+ghost use Rattle.std.specs.Io.KnownBytes.{Appends};
+ghost use Rattle.dv_journal.specs.Sink.{HasFailed, AppendsPrefix};
+ghost use Rattle.dv_run.specs.Output.{name_text, state_text, outcome_line, output};
+
+use dv_engine::report::{Outcome, State};
+use dv_journal::error::PrintFault;
+use dv_journal::sink::{Sink, write_all};
+use dv_value::classes::Classes;
+use dv_value::text::Text;
+use dv_value::value_text::write_outcome;
+use std::alloc::{AllocError, Global};
+
+fn name_text(name: &Option<Text>) -> &str
+    ensures { result.now ≡ name_text name.now }
+{
+    match name {
+        None => "-",
+        Some(name) => name.as_str(),
+    }
+}
+
+fn write_state(
+    alloc: Global,
+    classes: &Classes,
+    line: &mut String,
+    state: &State,
+) -> Result<(), AllocError>
+    ensures { OnOk result (string_bytes line.new ≡ string_bytes line.old ++ state_text classes.now state.now) }
+{
+    match state {
+        State::Unfired => write!(line, "unfired"),
+        State::Fired(value) => write_outcome(alloc, classes, line, value),
+    }
+}
+
+fn write_line(
+    alloc: Global,
+    classes: &Classes,
+    line: &mut String,
+    number: usize,
+    outcome: &Outcome,
+) -> Result<(), AllocError>
+    ensures { OnOk result (string_bytes line.new ≡ string_bytes line.old ++ outcome_line classes.now number outcome.now) }
+{
+    write!(line, "#{number} {} ", name_text(&outcome.name))?;
+    write_state(alloc, classes, line, &outcome.state)?;
+    write!(line, "\n")
+}
+
+/// Writes a line for each outcome, with one buffer for all lines. Where it gives up, what was written is a prefix of
+/// the text.
+pub fn print_outcomes<W: Sink>(
+    alloc: Global,
+    classes: &Classes,
+    outcomes: &[Outcome],
+    sink: &mut W,
+) -> Result<(), PrintFault>
+    ensures ok { OnOk result (Appends (W.taken sink.old) (W.taken sink.new) (output classes.now outcomes.now)) }
+    ensures kept { OnOk result (W.failures sink.new ≡ W.failures sink.old) }
+    ensures err { OnErr result (AppendsPrefix (W.taken sink.old) (W.taken sink.new) (output classes.now outcomes.now)) }
+    ensures cause { IsErrOf result PrintFault.WriteFault → HasFailed (W.failures sink.old) (W.failures sink.new) }
+{
+    let mut line = String::new(alloc);
+    'lines: for number in 0..outcomes.len() {
+        line.clear();
+        write_line(alloc, classes, &mut line, number, &outcomes[number])?;
+        write_all(sink, line.as_bytes())?;
+    }
+    Ok(())
+}
