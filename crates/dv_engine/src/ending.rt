@@ -44,14 +44,13 @@ fn plus(alloc: Global, n: i64, input: &Value) -> Result<Value, AllocError>
 {
     match input {
         Value::Int(m) => sum(alloc, *m, n),
-        Value::Null
-        | Value::Bool(_)
-        | Value::Text(_)
-        | Value::List(_)
-        | Value::Fault(_) => fault(alloc, ClassId::TYPE_ERROR, "plus"),
+        Value::Null | Value::Bool(_) | Value::Text(_) | Value::List(_) | Value::Fault(_) => fault(
+            alloc,
+            ClassId::TYPE_ERROR,
+            "plus",
+        ),
     }
 }
-
 
 fn sum(alloc: Global, m: i64, n: i64) -> Result<Value, AllocError>
     ensures { IfOk result (λ v. v ≡ sum_or_overflow (m +ℤ n)) }
@@ -76,10 +75,10 @@ fn trap(
             Some(_) => value.copy(alloc),
             None => input.copy(alloc),
         },
-        Value::Null
-        | Value::Bool(_)
-        | Value::Int(_)
-        | Value::Text(_)
-        | Value::List(_) => fault(alloc, ClassId::TYPE_ERROR, "trap"),
+        Value::Null | Value::Bool(_) | Value::Int(_) | Value::Text(_) | Value::List(_) => fault(
+            alloc,
+            ClassId::TYPE_ERROR,
+            "trap",
+        ),
     }
 }

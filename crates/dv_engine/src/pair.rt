@@ -93,7 +93,11 @@ impl<'s> Pair<'s> {
     pub fn side_for(&self, failed: bool) -> Option<&'s Body>
         ensures { option_copied result ≡ side_for self.now failed }
     {
-        let side = if failed { &self.errback } else { &self.callback };
+        let side = if failed {
+            &self.errback
+        } else {
+            &self.callback
+        };
         match side {
             None => None,
             Some(side) => Some(side.body()),

@@ -23,11 +23,7 @@ use std::alloc::{AllocError, Global};
 
 /// Settles a Deferred: uses its pairs in turn, until there is nothing to do.
 #[tactic(auto, using(crate::proofs::Rules::settling_rules, crate::proofs::WorldLemmas::taking_rules))]
-pub fn settle<'s>(
-    alloc: Global,
-    world: &mut World<'s>,
-    id: DeferredId,
-) -> Result<(), AllocError>
+pub fn settle<'s>(alloc: Global, world: &mut World<'s>, id: DeferredId) -> Result<(), AllocError>
     ensures { OnOk result (Gives (Settle id) world.old Done world.new) }
 {
     'pairs: loop {
@@ -56,7 +52,12 @@ fn run<'s>(
         None => &null,
         Some(record) => &record.value,
     };
-    side_gives(alloc, world.classes(), pair.side_for(input.is_fault()), input)
+    side_gives(
+        alloc,
+        world.classes(),
+        pair.side_for(input.is_fault()),
+        input,
+    )
 }
 
 fn side_gives(
