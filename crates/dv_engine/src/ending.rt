@@ -39,6 +39,7 @@ pub fn end_gives(
     }
 }
 
+/// The input plus `n`. TypeError where the input is no integer, OverflowError where the sum is none of 64 bits.
 fn plus(alloc: Global, n: i64, input: &Value) -> Result<Value, AllocError>
     ensures { IfOk result (λ v. v ≡ plus_to n (out-Value input.now)) }
 {
@@ -52,6 +53,7 @@ fn plus(alloc: Global, n: i64, input: &Value) -> Result<Value, AllocError>
     }
 }
 
+/// The sum, or OverflowError.
 fn sum(alloc: Global, m: i64, n: i64) -> Result<Value, AllocError>
     ensures { IfOk result (λ v. v ≡ sum_or_overflow (m +ℤ n)) }
 {
@@ -61,6 +63,8 @@ fn sum(alloc: Global, m: i64, n: i64) -> Result<Value, AllocError>
     }
 }
 
+/// The value, where the input is a failure of one of the classes; else the input (Twisted: `Failure.trap`). TypeError
+/// where the input is no failure.
 fn trap(
     alloc: Global,
     classes: &Classes,

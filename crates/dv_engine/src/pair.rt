@@ -24,12 +24,14 @@ impl<'s> Model for Side<'s> {
 }
 
 impl<'s> Side<'s> {
+    /// The body, lent.
     pub fn new(body: &'s Body) -> Side<'s>
         ensures { result ≡ body.now }
     {
         Side { body }
     }
 
+    /// The body, as long as the script is lent.
     pub fn body(&self) -> &'s Body
         ensures { result.now ≡ self.now }
     {
