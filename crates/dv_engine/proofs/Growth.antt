@@ -51,7 +51,7 @@ used : (d : ℕ) (r : Record Bodies Body) (pairs : List Bodies) (rs : Records) �
 used d r [] rs = refl
 used d r (pair ∷ rest) rs =
     either (λ (s : callbacks.Stepped Bodies Body). length s.1) (length rs) (passes pair (is_fault r.value)) _ _
-        (length-set rs d (record r { items = rest })) (length-set rs d (record r { items = rest; running = true }))
+    (length-set rs d (record r { items = rest })) (length-set rs d (record r { items = rest; running = true }))
 
 stepped : (d : ℕ) (o : Option (Record Bodies Body)) (rs : Records) → length (callbacks.step_found passes d o rs).1 ≡ length rs
 stepped d None rs = refl

@@ -32,4 +32,4 @@ pub with_name_shown : (k : String Global) (n : ℕ) (es : Entries) → shown (in
 with_name_shown k n [] = refl
 with_name_shown k n (e ∷ es) =
     by_order (string_cmp k e.0) ((k, n) ∷ e ∷ es) ((e.0, n) ∷ es) (e ∷ insert_entry string_cmp es k n) _
-        (ap (λ (l : Names). (string_bytes e.0, e.1) ∷ l) (with_name_shown k n es))
+    (ap (λ (l : Names). (string_bytes e.0, e.1) ∷ l) (with_name_shown k n es))

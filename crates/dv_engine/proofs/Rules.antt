@@ -123,8 +123,8 @@ pub settle_run : {d : ℕ} {w w1 : World} {move : Step Bodies} {pair : Bodies} {
     → w2 ≡ put d (side_gives w1.classes (side_for pair (is_fault (value_of d w1))) (value_of d w1)) w1 → Gives (Settle d) w2 o u → Gives (Settle d) w o u
 settle_run {d} {w} {w1} {move} {pair} {w2} {o} {u} e f q g =
     settle_level (suc g.depth) d w move _ w1 o u e f
-        (rw (side_run g.depth (side_for pair (is_fault (value_of d w1))) (value_of d w1) w1)
-            (subst (λ x. meaning (suc g.depth) (Settle d) x ≡ Some (o, u)) q ((next_depth g.depth).at (Settle d) w2 (o, u) g.ends)))
+    (rw (side_run g.depth (side_for pair (is_fault (value_of d w1))) (value_of d w1) w1)
+    (subst (λ x. meaning (suc g.depth) (Settle d) x ≡ Some (o, u)) q ((next_depth g.depth).at (Settle d) w2 (o, u) g.ends)))
 
 -- a firing of a named Deferred
 pub fires_unbound : {name : List ℕ} {value : Value} {w : World} {p : Performed} → number_of name w.names ≡ None → p ≡ unbound name → Fires name value w p w

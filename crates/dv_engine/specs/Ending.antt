@@ -19,6 +19,7 @@ abbrev pub fits : ℤ → Bool
 fits (pos n) = nat_lt n (2 ^ 63)
 fits (negsuc n) = nat_lt n (2 ^ 63)
 
+-- a sum of 64 bits, or an OverflowError
 abbrev pub sum_or_overflow : ℤ → Value
 sum_or_overflow n = if fits n then Int n else fault overflow_error (codes "plus")
 

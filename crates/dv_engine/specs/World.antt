@@ -32,6 +32,7 @@ pub record World : Type 0 where
 abbrev pub first_world : List Class → World
 first_world classes = record { classes = classes; names = []; records = [] }
 
+-- the same names and classes, and these records
 abbrev pub with_records : Records → World → World
 with_records rs w = record w { records = rs }
 
@@ -55,6 +56,7 @@ append d pair w = with_records (records.append d pair w.records) w
 unfoldable pub make : List ℕ → World → World
 make name w = record w { records = w.records ++ new_record (Some name) None ∷ []; names = with_name name (length w.records) w.names }
 
+-- whether d is fired; one that isn't there isn't
 abbrev pub is_fired : ℕ → World → Bool
 is_fired d w = option_map_or (λ r. r.fired) (slice_get w.records d) false
 
