@@ -1,4 +1,4 @@
-use Rattle.std.proofs.Common.{◌≡◌, ℕ, ◌+◌, ◌++◌, List, drop, sym, ◌∙◌, ap, rules}
+use Rattle.std.proofs.Common.{◌≡◌, ℕ, ◌++◌, List, ◌∙◌, ap, rules}
 use Rattle.dv_journal.specs.Sink.{AppendsPrefix}
 use Rattle.dv_journal.proofs.Taken.{but_next, prefix_next}
 use Rattle.dv_run.specs.Output.{output, outcome_line}
