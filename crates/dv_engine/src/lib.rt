@@ -9,4 +9,6 @@ mod pair;
 mod perform;
 mod performed;
 pub mod report;
+#[cfg(test)]
+mod tests;
 mod world;
