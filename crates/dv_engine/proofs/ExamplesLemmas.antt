@@ -12,7 +12,6 @@ use Rattle.dv_engine.specs.Meaning.{meaning, Runs}
 use Rattle.dv_engine.specs.Report.{outcomes_of}
 use Rattle.dv_engine.specs.Task.{Act, Answer}
 use Rattle.dv_engine.specs.World.{World, first_world, step, put, append, make, fire}
-use Rattle.dv_engine.specs.declared.performed.Performed.{Performed}
 use Rattle.dv_engine.specs.declared.report.Outcome.{Outcome}
 
 abbrev Next : Type 0

@@ -1,8 +1,7 @@
 -- How many Deferreds a task makes: an action makes one at most, and nothing else makes any.
-use Rattle.std.proofs.Common.{◌≡◌, ℕ, zero, suc, ◌+◌, ◌≤◌, Bool, true, false, cond, List, [], ◌∷◌, ◌++◌, length, Option, None, Some, slice_get, refl, ap, arith, length-append}
+use Rattle.std.proofs.Common.{◌≡◌, ℕ, zero, suc, ◌+◌, ◌≤◌, Bool, true, false, cond, List, [], ◌∷◌, length, Option, None, Some, slice_get, refl, ap, arith, length-append}
 use Rattle.std.proofs.lemmas.List.{length-set}
-use Rattle.dv_value.specs.Failure.{is_fault, plain_failure}
-use Rattle.dv_value.specs.Builtin.{already_called_error}
+use Rattle.dv_value.specs.Failure.{is_fault}
 use Rattle.dv_value.specs.declared.value.Value.{Value}
 use Rattle.dv_script.specs.declared.action.Action.{Action}
 use Rattle.dv_script.specs.declared.action.Action.TheVariants.{Deferred, Callback, Errback, AddCallback, AddErrback, AddBoth, AddCallbacks}

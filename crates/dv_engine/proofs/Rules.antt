@@ -1,5 +1,5 @@
 -- More depth changes no answer, and the rules by which answers are put together.
-use Rattle.std.proofs.Common.{◌≡◌, ℕ, zero, suc, ◌+◌, List, [], ◌∷◌, Option, None, Some, refl, ap, sym, subst, zero-add, suc-add, add_comm}
+use Rattle.std.proofs.Common.{◌≡◌, ℕ, zero, suc, ◌+◌, List, Option, None, Some, refl, ap, sym, subst, zero-add, suc-add, add_comm}
 use Rattle.dv_value.specs.declared.value.Value.{Value}
 use Rattle.dv_value.specs.Failure.{is_fault}
 use Rattle.dv_script.specs.declared.action.Action.{Action}
@@ -7,12 +7,12 @@ use Rattle.dv_script.specs.declared.action.Action.TheVariants.{Deferred, Callbac
 use Rattle.dv_script.specs.declared.body.Body.{Body}
 use Rattle.dv_store.specs.declared.store.Step.{Step}
 use Rattle.dv_store.specs.declared.store.Step.TheVariants.{Nothing, Passed, Run}
-use Rattle.dv_engine.specs.Callbacks.{place, run_by, run_pair_by, settle_by}
-use Rattle.dv_engine.specs.Ending.{end_gives, fault}
+use Rattle.dv_engine.specs.Callbacks.{run_by, settle_by}
+use Rattle.dv_engine.specs.Ending.{fault}
 use Rattle.dv_engine.specs.Meaning.{task_by, meaning, Gives, Fires, Adds}
 use Rattle.dv_engine.specs.Names.{number_of}
 use Rattle.dv_engine.specs.Pair.{Bodies, side_for}
-use Rattle.dv_engine.specs.Perform.{perform_by, settled_by, named_by, fire_by, add_by, act_by}
+use Rattle.dv_engine.specs.Perform.{settled_by, named_by, fire_by, add_by, act_by}
 use Rattle.dv_engine.specs.Settling.{side_gives}
 use Rattle.dv_engine.specs.Task.{Task, Settle, Perform, Act, Answer, Meant, ◌>>=◌}
 use Rattle.dv_engine.specs.World.{World, step, put, append, make, fire, value_of, unbound}

@@ -4,7 +4,6 @@ use Rattle.dv_value.specs.Builtin.{type_error, overflow_error}
 use Rattle.dv_value.specs.Classes.{check}
 use Rattle.dv_value.specs.Failure.{class_of, plain_failure}
 use Rattle.dv_value.specs.declared.classes.Class.{Class}
-use Rattle.dv_value.specs.declared.failure.Failure.{Failure}
 use Rattle.dv_value.specs.declared.value.Value.{Value, Int, Fault, out-Value}
 use Rattle.dv_value.specs.declared.value.Value.TheOpen.{Value-F}
 use Rattle.dv_script.specs.declared.body.End.{End}

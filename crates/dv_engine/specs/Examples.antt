@@ -1,7 +1,7 @@
 -- Small scripts, and what they make of their Deferreds (Twisted: the Deferred Reference, "Callbacks", "Errbacks" and "Handling either callback or errback").
-use Rattle.std.specs.Prelude.{ℕ, ℤ, pos, ◌≡◌, List, [], ◌∷◌, Some, codes}
+use Rattle.std.specs.Prelude.{ℕ, pos, ◌≡◌, List, [], ◌∷◌, Some, codes}
 use Rattle.dv_value.specs.Builtin.{builtin, exception, value_error, type_error, overflow_error}
-use Rattle.dv_value.specs.declared.value.Value.{Value, Null, Int, Text}
+use Rattle.dv_value.specs.declared.value.Value.{Int, Text}
 use Rattle.dv_script.specs.declared.action.Action.{Action}
 use Rattle.dv_script.specs.declared.action.Action.TheVariants.{Deferred, Callback, Errback, AddCallback, AddErrback, AddBoth, AddCallbacks}
 use Rattle.dv_script.specs.declared.body.Body.{Body}

@@ -1,8 +1,7 @@
-use Rattle.std.proofs.Common.{◌≡◌, ◌+◌, ◌∷◌, List, get_or, drop, ◌∙◌, ap, sym, subst, arith, rules}
+use Rattle.std.proofs.Common.{◌≡◌, ◌+◌, ◌∷◌, List, drop, ◌∙◌, ap, sym, subst, arith, rules}
 use Rattle.std.proofs.lemmas.List.{drop_more}
 use Rattle.dv_script.specs.declared.action.Action.{Action}
 use Rattle.dv_engine.specs.Meaning.{Runs}
-use Rattle.dv_engine.specs.World.{World}
 use Rattle.dv_engine.proofs.Growth.{act_makes_one}
 use Rattle.dv_engine.proofs.engine.run.Goals as goal
 
