@@ -1,8 +1,7 @@
 -- How many Deferreds a task makes: an action makes one at most, and nothing else makes any.
-use Rattle.std.proofs.Common.{◌≡◌, ℕ, zero, suc, ◌+◌, ◌≤◌, Bool, true, false, cond, List, [], ◌∷◌, ◌++◌, length, Option, None, Some, slice_get, refl, ap, arith, length-append}
+use Rattle.std.proofs.Common.{◌≡◌, ℕ, zero, suc, ◌+◌, ◌≤◌, Bool, true, false, cond, List, [], ◌∷◌, length, Option, None, Some, slice_get, refl, ap, arith, length-append}
 use Rattle.std.proofs.lemmas.List.{length-set}
-use Rattle.dv_value.specs.Failure.{is_fault, plain_failure}
-use Rattle.dv_value.specs.Builtin.{already_called_error}
+use Rattle.dv_value.specs.Failure.{is_fault}
 use Rattle.dv_value.specs.declared.value.Value.{Value}
 use Rattle.dv_script.specs.declared.action.Action.{Action}
 use Rattle.dv_script.specs.declared.action.Action.TheVariants.{Deferred, Callback, Errback, AddCallback, AddErrback, AddBoth, AddCallbacks}
@@ -51,7 +50,7 @@ used : (d : ℕ) (r : Record Bodies Body) (pairs : List Bodies) (rs : Records) �
 used d r [] rs = refl
 used d r (pair ∷ rest) rs =
     either (λ (s : callbacks.Stepped Bodies Body). length s.1) (length rs) (passes pair (is_fault r.value)) _ _
-        (length-set rs d (record r { items = rest })) (length-set rs d (record r { items = rest; running = true }))
+    (length-set rs d (record r { items = rest })) (length-set rs d (record r { items = rest; running = true }))
 
 stepped : (d : ℕ) (o : Option (Record Bodies Body)) (rs : Records) → length (callbacks.step_found passes d o rs).1 ≡ length rs
 stepped d None rs = refl

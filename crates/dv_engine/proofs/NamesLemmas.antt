@@ -1,9 +1,9 @@
 -- What a map of names shows.
-use Rattle.std.proofs.Common.{◌≡◌, ℕ, List, [], ◌∷◌, map, refl, ap, Bool, true, false, if◌then◌else◌, Option, None, Some, string_bytes, bytes_eq}
+use Rattle.std.proofs.Common.{◌≡◌, ℕ, List, [], ◌∷◌, map, refl, ap, string_bytes}
 use Rattle.std.specs.BTreeMap.{insert_entry, is_at}
 use Rattle.std.specs.Map.{lookup}
 use Rattle.std.specs.Cmp.Lexicographic.{slice_cmp}
-use Rattle.std.specs.Ordering.{nat_cmp, is_eq, match_ordering}
+use Rattle.std.specs.Ordering.{nat_cmp, match_ordering}
 use Rattle.std.specs.String.{string_cmp}
 use Rattle.std.specs.declared.alloc.Global.{Global}
 use Rattle.std.specs.declared.string.String.{String}
@@ -32,4 +32,4 @@ pub with_name_shown : (k : String Global) (n : ℕ) (es : Entries) → shown (in
 with_name_shown k n [] = refl
 with_name_shown k n (e ∷ es) =
     by_order (string_cmp k e.0) ((k, n) ∷ e ∷ es) ((e.0, n) ∷ es) (e ∷ insert_entry string_cmp es k n) _
-        (ap (λ (l : Names). (string_bytes e.0, e.1) ∷ l) (with_name_shown k n es))
+    (ap (λ (l : Names). (string_bytes e.0, e.1) ∷ l) (with_name_shown k n es))

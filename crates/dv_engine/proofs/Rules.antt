@@ -1,5 +1,5 @@
 -- More depth changes no answer, and the rules by which answers are put together.
-use Rattle.std.proofs.Common.{◌≡◌, ℕ, zero, suc, ◌+◌, List, [], ◌∷◌, Option, None, Some, refl, ap, sym, subst, zero-add, suc-add, add_comm}
+use Rattle.std.proofs.Common.{◌≡◌, ℕ, zero, suc, ◌+◌, List, Option, None, Some, refl, ap, sym, subst, zero-add, suc-add, add_comm}
 use Rattle.dv_value.specs.declared.value.Value.{Value}
 use Rattle.dv_value.specs.Failure.{is_fault}
 use Rattle.dv_script.specs.declared.action.Action.{Action}
@@ -7,12 +7,12 @@ use Rattle.dv_script.specs.declared.action.Action.TheVariants.{Deferred, Callbac
 use Rattle.dv_script.specs.declared.body.Body.{Body}
 use Rattle.dv_store.specs.declared.store.Step.{Step}
 use Rattle.dv_store.specs.declared.store.Step.TheVariants.{Nothing, Passed, Run}
-use Rattle.dv_engine.specs.Callbacks.{place, run_by, run_pair_by, settle_by}
-use Rattle.dv_engine.specs.Ending.{end_gives, fault}
+use Rattle.dv_engine.specs.Callbacks.{run_by, settle_by}
+use Rattle.dv_engine.specs.Ending.{fault}
 use Rattle.dv_engine.specs.Meaning.{task_by, meaning, Gives, Fires, Adds}
 use Rattle.dv_engine.specs.Names.{number_of}
 use Rattle.dv_engine.specs.Pair.{Bodies, side_for}
-use Rattle.dv_engine.specs.Perform.{perform_by, settled_by, named_by, fire_by, add_by, act_by}
+use Rattle.dv_engine.specs.Perform.{settled_by, named_by, fire_by, add_by, act_by}
 use Rattle.dv_engine.specs.Settling.{side_gives}
 use Rattle.dv_engine.specs.Task.{Task, Settle, Perform, Act, Answer, Meant, ◌>>=◌}
 use Rattle.dv_engine.specs.World.{World, step, put, append, make, fire, value_of, unbound}
@@ -123,8 +123,8 @@ pub settle_run : {d : ℕ} {w w1 : World} {move : Step Bodies} {pair : Bodies} {
     → w2 ≡ put d (side_gives w1.classes (side_for pair (is_fault (value_of d w1))) (value_of d w1)) w1 → Gives (Settle d) w2 o u → Gives (Settle d) w o u
 settle_run {d} {w} {w1} {move} {pair} {w2} {o} {u} e f q g =
     settle_level (suc g.depth) d w move _ w1 o u e f
-        (rw (side_run g.depth (side_for pair (is_fault (value_of d w1))) (value_of d w1) w1)
-            (subst (λ x. meaning (suc g.depth) (Settle d) x ≡ Some (o, u)) q ((next_depth g.depth).at (Settle d) w2 (o, u) g.ends)))
+    (rw (side_run g.depth (side_for pair (is_fault (value_of d w1))) (value_of d w1) w1)
+    (subst (λ x. meaning (suc g.depth) (Settle d) x ≡ Some (o, u)) q ((next_depth g.depth).at (Settle d) w2 (o, u) g.ends)))
 
 -- a firing of a named Deferred
 pub fires_unbound : {name : List ℕ} {value : Value} {w : World} {p : Performed} → number_of name w.names ≡ None → p ≡ unbound name → Fires name value w p w

@@ -1,10 +1,9 @@
 -- Every task ends: by the pairs that are left, and then by the rule of the task.
-use Rattle.std.proofs.Common.{◌≡◌, ℕ, zero, suc, ◌<◌, ◌≤◌, List, [], ◌∷◌, Option, None, Some, refl, ap, sym, subst, ◌∙◌, arith}
+use Rattle.std.proofs.Common.{◌≡◌, ℕ, zero, suc, ◌<◌, List, [], ◌∷◌, Option, None, Some, refl, sym, subst, ◌∙◌, arith}
 use Rattle.dv_value.specs.Failure.{is_fault}
 use Rattle.dv_value.specs.declared.value.Value.{Value}
 use Rattle.dv_script.specs.declared.action.Action.{Action}
 use Rattle.dv_script.specs.declared.action.Action.TheVariants.{Deferred, Callback, Errback, AddCallback, AddErrback, AddBoth, AddCallbacks}
-use Rattle.dv_script.specs.declared.script.Script.{Script}
 use Rattle.dv_store.specs.Laws.{unused_pairs}
 use Rattle.dv_store.specs.declared.store.Step.{Step}
 use Rattle.dv_store.specs.declared.store.Step.TheVariants.{Nothing, Passed, Run}

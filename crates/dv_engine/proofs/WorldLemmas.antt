@@ -1,5 +1,5 @@
 -- How many pairs are left when a Deferred is settled.
-use Rattle.std.proofs.Common.{◌≡◌, ℕ, ◌+◌, ◌<◌, Option, None, Some, List, length, slice_get, slice_set, refl, ap, sym, subst, arith}
+use Rattle.std.proofs.Common.{◌≡◌, ℕ, ◌+◌, ◌<◌, Option, None, Some, length, slice_get, refl, ap, sym, subst, arith}
 use Rattle.std.proofs.lemmas.List.Sums.{sum_by-set}
 use Rattle.std.proofs.lemmas.Option.{slice_get_within, get_or_from_slice_get}
 use Rattle.dv_value.specs.declared.value.Value.{Value}
@@ -10,7 +10,7 @@ use Rattle.dv_store.specs.Laws.{unused_pairs, pairs_used}
 use Rattle.dv_store.specs.Record.{changing_found}
 use Rattle.dv_store.specs.declared.record.Record.{Record}
 use Rattle.dv_store.specs.declared.store.Step.{Step}
-use Rattle.dv_store.specs.declared.store.Step.TheVariants.{Nothing, Passed, Run}
+use Rattle.dv_store.specs.declared.store.Step.TheVariants.{Passed, Run}
 use Rattle.dv_engine.specs.Pair.{Bodies, passes}
 use Rattle.dv_engine.specs.World.{World, Records, step, put}
 

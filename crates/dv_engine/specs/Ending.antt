@@ -4,7 +4,6 @@ use Rattle.dv_value.specs.Builtin.{type_error, overflow_error}
 use Rattle.dv_value.specs.Classes.{check}
 use Rattle.dv_value.specs.Failure.{class_of, plain_failure}
 use Rattle.dv_value.specs.declared.classes.Class.{Class}
-use Rattle.dv_value.specs.declared.failure.Failure.{Failure}
 use Rattle.dv_value.specs.declared.value.Value.{Value, Int, Fault, out-Value}
 use Rattle.dv_value.specs.declared.value.Value.TheOpen.{Value-F}
 use Rattle.dv_script.specs.declared.body.End.{End}
@@ -19,6 +18,7 @@ abbrev pub fits : ℤ → Bool
 fits (pos n) = nat_lt n (2 ^ 63)
 fits (negsuc n) = nat_lt n (2 ^ 63)
 
+-- a sum of 64 bits, or an OverflowError
 abbrev pub sum_or_overflow : ℤ → Value
 sum_or_overflow n = if fits n then Int n else fault overflow_error (codes "plus")
 

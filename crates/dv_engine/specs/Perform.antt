@@ -35,6 +35,7 @@ fire_by go name value w = named_by (number_of name w.names) name w (λ d. settle
 abbrev pub add_by : Meant → List ℕ → Bodies → World → Answer
 add_by go name pair w = named_by (number_of name w.names) name w (λ d. go (Settle d) (append d pair w))
 
+-- each action by its rule; a pair of `addBoth` has the same body on both sides
 abbrev pub act_by : Meant → Action → World → Answer
 act_by go (Deferred name) w = Some (Done, make name w)
 act_by go (Callback name value) w = fire_by go name value w

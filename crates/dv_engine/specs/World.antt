@@ -1,11 +1,10 @@
 -- The world of a run: its Deferreds, their names and the classes of failures, and one step of each kind.
-use Rattle.std.specs.Prelude.{ℕ, Bool, true, false, if◌then◌else◌, List, [], ◌∷◌, ◌++◌, length, Option, None, Some, slice_get, codes}
+use Rattle.std.specs.Prelude.{ℕ, Bool, false, if◌then◌else◌, List, [], ◌∷◌, ◌++◌, length, None, Some, slice_get}
 use Rattle.std.specs.Option.{option_map_or}
 use Rattle.dv_value.specs.Builtin.{name_error, already_called_error}
 use Rattle.dv_value.specs.Failure.{plain_failure}
 use Rattle.dv_value.specs.declared.classes.Class.{Class}
-use Rattle.dv_value.specs.declared.failure.Failure.{Failure}
-use Rattle.dv_value.specs.declared.value.Value.{Value, Null, Fault}
+use Rattle.dv_value.specs.declared.value.Value.{Value, Null}
 use Rattle.dv_script.specs.declared.body.Body.{Body}
 use Rattle.dv_store.specs.Callbacks as callbacks
 use Rattle.dv_store.specs.Fire as firing
@@ -13,10 +12,10 @@ use Rattle.dv_store.specs.Record as records
 use Rattle.dv_store.specs.Record.{new_record}
 use Rattle.dv_store.specs.declared.record.Record.{Record}
 use Rattle.dv_store.specs.declared.store.Step.{Step}
-use Rattle.dv_engine.specs.Names.{Names, number_of, with_name}
+use Rattle.dv_engine.specs.Names.{Names, with_name}
 use Rattle.dv_engine.specs.Pair.{Bodies, passes}
 use Rattle.dv_engine.specs.declared.performed.Performed.{Performed}
-use Rattle.dv_engine.specs.declared.performed.Performed.TheVariants.{Done, Gave, Raised}
+use Rattle.dv_engine.specs.declared.performed.Performed.TheVariants.{Done, Raised}
 
 -- the records of all Deferreds, in order of making
 abbrev pub Records : Type 0
@@ -32,6 +31,7 @@ pub record World : Type 0 where
 abbrev pub first_world : List Class → World
 first_world classes = record { classes = classes; names = []; records = [] }
 
+-- the same names and classes, and these records
 abbrev pub with_records : Records → World → World
 with_records rs w = record w { records = rs }
 
@@ -55,6 +55,7 @@ append d pair w = with_records (records.append d pair w.records) w
 unfoldable pub make : List ℕ → World → World
 make name w = record w { records = w.records ++ new_record (Some name) None ∷ []; names = with_name name (length w.records) w.names }
 
+-- whether d is fired; one that isn't there isn't
 abbrev pub is_fired : ℕ → World → Bool
 is_fired d w = option_map_or (λ r. r.fired) (slice_get w.records d) false
 

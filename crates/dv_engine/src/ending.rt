@@ -39,20 +39,21 @@ pub fn end_gives(
     }
 }
 
+/// The input plus `n`. TypeError where the input is no integer, OverflowError where the sum is none of 64 bits.
 fn plus(alloc: Global, n: i64, input: &Value) -> Result<Value, AllocError>
     ensures { IfOk result (λ v. v ≡ plus_to n (out-Value input.now)) }
 {
     match input {
         Value::Int(m) => sum(alloc, *m, n),
-        Value::Null
-        | Value::Bool(_)
-        | Value::Text(_)
-        | Value::List(_)
-        | Value::Fault(_) => fault(alloc, ClassId::TYPE_ERROR, "plus"),
+        Value::Null | Value::Bool(_) | Value::Text(_) | Value::List(_) | Value::Fault(_) => fault(
+            alloc,
+            ClassId::TYPE_ERROR,
+            "plus",
+        ),
     }
 }
 
-
+/// The sum, or OverflowError.
 fn sum(alloc: Global, m: i64, n: i64) -> Result<Value, AllocError>
     ensures { IfOk result (λ v. v ≡ sum_or_overflow (m +ℤ n)) }
 {
@@ -62,6 +63,8 @@ fn sum(alloc: Global, m: i64, n: i64) -> Result<Value, AllocError>
     }
 }
 
+/// The value, where the input is a failure of one of the classes; else the input (Twisted: `Failure.trap`). TypeError
+/// where the input is no failure.
 fn trap(
     alloc: Global,
     classes: &Classes,
@@ -76,10 +79,10 @@ fn trap(
             Some(_) => value.copy(alloc),
             None => input.copy(alloc),
         },
-        Value::Null
-        | Value::Bool(_)
-        | Value::Int(_)
-        | Value::Text(_)
-        | Value::List(_) => fault(alloc, ClassId::TYPE_ERROR, "trap"),
+        Value::Null | Value::Bool(_) | Value::Int(_) | Value::Text(_) | Value::List(_) => fault(
+            alloc,
+            ClassId::TYPE_ERROR,
+            "trap",
+        ),
     }
 }

@@ -24,7 +24,7 @@ pub fn perform(alloc: Global, script: &Script) -> Result<Report, AllocError>
     })
 }
 
-// the world that a script leads to
+/// The world that a script leads to.
 fn run<'s>(alloc: Global, script: &'s Script) -> Result<World<'s>, AllocError>
     requires few { length script.now.events < 2 ^ 32 - 1 }
     ensures { IfOk result (λ world. Means script.now world) }
@@ -36,6 +36,7 @@ fn run<'s>(alloc: Global, script: &'s Script) -> Result<World<'s>, AllocError>
     Ok(world)
 }
 
+/// The outcomes of all Deferreds, in order of making.
 fn outcomes_of<'s>(
     alloc: Global,
     records: Vec<Record<Pair<'s>, Side<'s>>>,
@@ -49,6 +50,7 @@ fn outcomes_of<'s>(
     Ok(outcomes)
 }
 
+/// What has become of a Deferred; its value is moved.
 fn outcome_of<'s>(deferred: Record<Pair<'s>, Side<'s>>) -> Outcome
     ensures { result ≡ outcome_of deferred.entry }
 {

@@ -1,12 +1,14 @@
 //! Performs a script: what its events do to the Deferreds that they make.
 #![tactic(auto)]
 
-pub mod ending;
+mod ending;
 pub mod engine;
 pub mod laws;
-pub mod names;
-pub mod pair;
-pub mod perform;
-pub mod performed;
+mod names;
+mod pair;
+mod perform;
+mod performed;
 pub mod report;
-pub mod world;
+#[cfg(test)]
+mod tests;
+mod world;

@@ -23,6 +23,7 @@ impl Model for Names {
 impl Names {
     ghost use Rattle.dv_engine.specs.Names.{number_of, with_name};
 
+    /// No names. It takes no memory before the first is bound.
     pub fn new(alloc: Global) -> Names
         ensures { result ≡ [] }
     {

@@ -24,12 +24,14 @@ impl<'s> Model for Side<'s> {
 }
 
 impl<'s> Side<'s> {
+    /// The body, lent.
     pub fn new(body: &'s Body) -> Side<'s>
         ensures { result ≡ body.now }
     {
         Side { body }
     }
 
+    /// The body, as long as the script is lent.
     pub fn body(&self) -> &'s Body
         ensures { result.now ≡ self.now }
     {
@@ -93,7 +95,11 @@ impl<'s> Pair<'s> {
     pub fn side_for(&self, failed: bool) -> Option<&'s Body>
         ensures { option_copied result ≡ side_for self.now failed }
     {
-        let side = if failed { &self.errback } else { &self.callback };
+        let side = if failed {
+            &self.errback
+        } else {
+            &self.callback
+        };
         match side {
             None => None,
             Some(side) => Some(side.body()),

@@ -11,23 +11,19 @@ ghost use Rattle.dv_engine.specs.declared.performed.Performed.TheVariants.{Done}
 use crate::ending::{end_gives, fault};
 use crate::pair::Pair;
 use crate::performed::Performed;
-use crate::world::{World, raised};
+use crate::world::{World, unbound};
 use dv_journal::deferred_id::DeferredId;
 use dv_script::action::Action;
 use dv_script::body::Body;
 use dv_store::store::Step;
-use dv_value::class_id::ClassId;
 use dv_value::classes::Classes;
 use dv_value::value::Value;
 use std::alloc::{AllocError, Global};
 
-/// Settles a Deferred: uses its pairs in turn, until there is nothing to do.
+/// Settles a Deferred: uses its pairs in turn, until there is nothing to do (Twisted: `Deferred._runCallbacks`). Each
+/// pair is used before what its side gives is known, so where memory is refused the pair is lost.
 #[tactic(auto, using(crate::proofs::Rules::settling_rules, crate::proofs::WorldLemmas::taking_rules))]
-pub fn settle<'s>(
-    alloc: Global,
-    world: &mut World<'s>,
-    id: DeferredId,
-) -> Result<(), AllocError>
+pub fn settle<'s>(alloc: Global, world: &mut World<'s>, id: DeferredId) -> Result<(), AllocError>
     ensures { OnOk result (Gives (Settle id) world.old Done world.new) }
 {
     'pairs: loop {
@@ -42,7 +38,7 @@ pub fn settle<'s>(
     }
 }
 
-// what the side of a pair for the value of a Deferred gives
+/// What the side of a pair for the value of a Deferred gives.
 fn run<'s>(
     alloc: Global,
     world: &World<'s>,
@@ -56,9 +52,15 @@ fn run<'s>(
         None => &null,
         Some(record) => &record.value,
     };
-    side_gives(alloc, world.classes(), pair.side_for(input.is_fault()), input)
+    side_gives(
+        alloc,
+        world.classes(),
+        pair.side_for(input.is_fault()),
+        input,
+    )
 }
 
+/// What the side of a pair gives for an input.
 fn side_gives(
     alloc: Global,
     classes: &Classes,
@@ -73,7 +75,7 @@ fn side_gives(
     }
 }
 
-/// Fires a Deferred by its name, and settles it at once.
+/// Fires a Deferred by its name, and settles it at once (Twisted: `Deferred.callback`, `Deferred.errback`).
 #[tactic(auto, using(crate::proofs::Rules::named_rules))]
 fn fire<'s>(
     alloc: Global,
@@ -84,7 +86,7 @@ fn fire<'s>(
     ensures { IfOk result (λ performed. Fires name.now value world.old performed world.new) }
 {
     let Some(id) = world.find(name) else {
-        return raised(alloc, ClassId::NAME_ERROR, name);
+        return unbound(alloc, name);
     };
     match world.fire(id, value)? {
         Performed::Done => {
@@ -96,7 +98,7 @@ fn fire<'s>(
     }
 }
 
-/// Adds a pair to a Deferred by its name, and settles it at once.
+/// Adds a pair to a Deferred by its name, and settles it at once (Twisted: `Deferred.addCallbacks`).
 #[tactic(auto, using(crate::proofs::Rules::named_rules))]
 fn add<'s>(
     alloc: Global,
@@ -107,14 +109,15 @@ fn add<'s>(
     ensures { IfOk result (λ performed. Adds name.now pair.entry world.old performed world.new) }
 {
     let Some(id) = world.find(name) else {
-        return raised(alloc, ClassId::NAME_ERROR, name);
+        return unbound(alloc, name);
     };
     world.append(id, pair)?;
     settle(alloc, world, id)?;
     Ok(Performed::Done)
 }
 
-/// Performs an action.
+/// Performs an action. A name that isn't bound raises NameError, and a second firing AlreadyCalledError; either leaves
+/// the world as it was.
 #[tactic(auto, using(crate::proofs::Rules::action_rules))]
 pub fn act<'s>(
     alloc: Global,

@@ -5,6 +5,7 @@ use dv_value::value::Value;
 /// What has become of a Deferred.
 #[derive(Debug, Drop)]
 pub enum State {
+    /// Not fired in this run.
     Unfired,
     /// Fired, and of this value at the end.
     Fired(Value),
@@ -15,6 +16,7 @@ pub enum State {
 pub struct Outcome {
     /// Its name at its making, where it has one.
     pub name: Option<Text>,
+    /// Whether it was fired, and with what it ended.
     pub state: State,
 }
 

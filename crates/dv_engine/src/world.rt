@@ -1,6 +1,7 @@
 ghost use Rattle.std.specs.Prelude.{◌≡◌, ◌<◌, ◌^◌, ◌-◌, length, slice_get, IfOk, OnOk};
 ghost use Rattle.std.specs.Option.{option_copied};
 ghost use Rattle.dv_value.specs.Failure.{plain_failure};
+ghost use Rattle.dv_engine.specs.World.{unbound};
 ghost use Rattle.dv_engine.specs.declared.performed.Performed.TheVariants.{Raised};
 
 use crate::names::Names;
@@ -43,7 +44,7 @@ impl<'s> Model for World<'s> {
 
 impl<'s> World<'s> {
     ghost use Rattle.dv_engine.specs.Names.{number_of};
-    ghost use Rattle.dv_engine.specs.World.{first_world, value_of, step, put, append, make, fire, unbound};
+    ghost use Rattle.dv_engine.specs.World.{first_world, value_of, step, put, append, make, fire};
 
     /// A world in which nothing is made.
     pub fn new(alloc: Global, classes: &'s Classes) -> World<'s>
@@ -57,6 +58,7 @@ impl<'s> World<'s> {
         }
     }
 
+    /// The classes of the script's failures.
     pub fn classes(&self) -> &'s Classes
         ensures { result.now ≡ self.now.classes }
     {
@@ -70,6 +72,7 @@ impl<'s> World<'s> {
         self.names.find(name)
     }
 
+    /// What is kept of a Deferred.
     pub fn record(&self, id: DeferredId) -> Option<&Record<Pair<'s>, Side<'s>>>
         ensures { option_copied result ≡ slice_get self.now.records id }
     {
@@ -104,7 +107,7 @@ impl<'s> World<'s> {
         }
     }
 
-    /// Makes a Deferred, and binds its name.
+    /// Makes a Deferred, and binds its name to it, also where that was bound to another.
     #[tactic(auto, unfolding(crate::specs::World::make))]
     pub fn make(&mut self, name: &str) -> Result<(), AllocError>
         requires { length self.old.records < 2 ^ 32 - 1 }
@@ -118,7 +121,7 @@ impl<'s> World<'s> {
         }
     }
 
-    /// Fires a Deferred, and doesn't settle.
+    /// Fires a Deferred, and doesn't settle. A second firing raises AlreadyCalledError, and the value is dropped.
     #[tactic(auto, unfolding(crate::specs::World::fire))]
     pub fn fire(&mut self, id: DeferredId, value: Value) -> Result<Performed, AllocError>
         ensures { IfOk result (λ performed. (performed, self.new) ≡ fire id value self.old) }
@@ -138,8 +141,15 @@ impl<'s> World<'s> {
     }
 }
 
+/// What a name that isn't bound raises.
+pub fn unbound(alloc: Global, name: &str) -> Result<Performed, AllocError>
+    ensures { IfOk result (λ p. p ≡ unbound name.now) }
+{
+    raised(alloc, ClassId::NAME_ERROR, name)
+}
+
 /// A failure that was raised.
-pub fn raised(alloc: Global, class: ClassId, message: &str) -> Result<Performed, AllocError>
+fn raised(alloc: Global, class: ClassId, message: &str) -> Result<Performed, AllocError>
     ensures { IfOk result (λ p. p ≡ Raised (plain_failure class message.now)) }
 {
     Ok(Performed::Raised(Failure::new(class, Text::of(alloc, message)?)))

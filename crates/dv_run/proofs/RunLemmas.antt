@@ -1,7 +1,7 @@
 -- How a run ends, by how its parts do.
-use Rattle.std.proofs.Common.{◌≡◌, ◌≢◌, ℕ, List, Option, inl, inr, subst, ap, sym}
+use Rattle.std.proofs.Common.{◌≢◌, ℕ, List, inl, inr, ap}
 use Rattle.std.proofs.KnownBytes.{Keeps-refl}
-use Rattle.std.specs.Io.KnownBytes.{Appends, Keeps}
+use Rattle.std.specs.Io.KnownBytes.{Appends}
 use Rattle.dv_engine.specs.Report.{Reports}
 use Rattle.dv_engine.specs.declared.report.Report.{Report}
 use Rattle.dv_journal.specs.Sink.{AppendsPrefix}
@@ -13,10 +13,9 @@ use Rattle.dv_script.specs.declared.error.ScriptFault.TheVariants as script
 use Rattle.dv_script.specs.declared.script.Script.{Script}
 use Rattle.dv_run.specs.Faults.{of_read, of_script, of_print}
 use Rattle.dv_run.specs.Output.{output}
-use Rattle.dv_run.specs.Run.{Told, most_read, IsText, SaysText, Prints, PrintsPrefix, RefusesInput, GivesUp}
+use Rattle.dv_run.specs.Run.{Told, most_read, SaysText, Prints, RefusesInput, GivesUp}
 use Rattle.dv_run.specs.Source.{IsFrontOf}
-use Rattle.dv_run.specs.declared.error.RunFault.{RunFault}
-use Rattle.dv_run.specs.declared.error.RunFault.TheVariants.{ScriptRefused, OutOfMemory, ReadFault, WriteFault}
+use Rattle.dv_run.specs.declared.error.RunFault.TheVariants.{OutOfMemory}
 use Rattle.dv_run.specs.declared.source.ReadError.{ReadError}
 use Rattle.dv_run.specs.declared.source.ReadError.TheVariants as reading
 

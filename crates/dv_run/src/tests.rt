@@ -1,54 +1,18 @@
-use crate::io_source::IoSource;
+mod exit;
+mod faults;
+mod refusals;
+mod rows;
+mod sources;
+
+use crate::error::RunFault;
 use crate::memory_source::MemorySource;
-use crate::source::{ReadError, read_up_to};
-use std::io::{self, Read};
-use std::test::Fail;
+use crate::run::{Ended, run};
+use dv_journal::memory_sink::MemorySink;
+use std::alloc::{AllocError, Global};
 
-const TEXT: &[u8] = b"{\"version\":3}";
-
-#[test]
-fn a_source_of_few_bytes_a_call_gives_the_same_bytes(rt: HostRuntime) -> Result<(), Fail> {
-    for per_call in 1..5usize {
-        let bytes = read_up_to(rt.alloc(), &mut MemorySource::new(TEXT, per_call), 100)?;
-        assert_eq!(rt; bytes.as_slice(), TEXT, "at {per_call}");
-    }
-    Ok(())
-}
-
-#[test]
-fn a_read_stops_at_its_bound(rt: HostRuntime) -> Result<(), Fail> {
-    let bytes = read_up_to(rt.alloc(), &mut MemorySource::new(TEXT, 3), 8)?;
-    assert_eq!(rt; bytes.as_slice(), b"{\"versio".as_slice());
-    Ok(())
-}
-
-#[test]
-fn a_failed_read_is_a_read_fault(rt: HostRuntime) -> Result<(), Fail> {
-    let mut source = MemorySource::new(TEXT, 3).with_failure(2);
-    let result = read_up_to(rt.alloc(), &mut source, 100);
-    assert!(rt; matches!(&result, Err(ReadError::ReadFault)));
-    Ok(())
-}
-
-#[test]
-fn a_reader_of_std_gives_its_bytes(rt: HostRuntime) -> Result<(), Fail> {
-    let bytes = read_up_to(rt.alloc(), &mut IoSource::new(TEXT), 100)?;
-    assert_eq!(rt; bytes.as_slice(), TEXT);
-    Ok(())
-}
-
-#[derive(Drop)]
-struct Broken;
-
-impl io::Read for Broken {
-    fn read(&mut self, _: &mut [u8]) -> io::Result<usize> {
-        Err(io::Error::from(io::ErrorKind::BrokenPipe))
-    }
-}
-
-#[test]
-fn a_reader_of_std_that_fails_is_a_read_fault(rt: HostRuntime) -> Result<(), Fail> {
-    let result = read_up_to(rt.alloc(), &mut IoSource::new(TEXT.chain(Broken)), 100);
-    assert!(rt; matches!(&result, Err(ReadError::ReadFault)));
-    Ok(())
+/// How a run over these bytes ended, and what it wrote.
+fn ran(alloc: Global, input: &[u8]) -> Result<(Result<Ended, RunFault>, MemorySink), AllocError> {
+    let mut sink = MemorySink::new(alloc, 1000, 4096)?;
+    let ended = run(alloc, &mut MemorySource::new(input, 4096), &mut sink);
+    Ok((ended, sink))
 }

@@ -1,5 +1,5 @@
 -- The table of classes: each class with its parent, and what a class descends from (Twisted: `Failure.check`, `Failure.trap`).
-use Rattle.std.specs.Prelude.{ℕ, zero, suc, Bool, List, [], ◌∷◌, Option, None, Some, Result, Ok, Err, slice_get, nat_eq, option_and_then, find, position, bytes_eq}
+use Rattle.std.specs.Prelude.{ℕ, zero, suc, Bool, List, [], ◌∷◌, Option, slice_get, nat_eq, option_and_then, find, position, bytes_eq}
 use Rattle.std.specs.List.{list_any}
 use Rattle.std.specs.Option.{option_map_or}
 use Rattle.dv_value.specs.declared.classes.Class.{Class}

@@ -1,8 +1,8 @@
 -- Laws of the table of classes.
-use Rattle.std.specs.Prelude.{ℕ, ◌≡◌, ◌<◌, List, [], ◌∷◌, Some, slice_get, codes}
+use Rattle.std.specs.Prelude.{ℕ, ◌≡◌, ◌≢◌, ◌↔◌, ◌<◌, List, [], ◌∷◌, Some, length, codes}
 use Rattle.std.specs.Option.{option_map_or}
 use Rattle.dv_value.specs.declared.classes.Class.{Class}
-use Rattle.dv_value.specs.Classes.{parent_of, path, find_class}
+use Rattle.dv_value.specs.Classes.{parent_of, path, find_class, name_of}
 use Rattle.dv_value.specs.Builtin.{builtin, type_error, name_error, overflow_error, already_called_error}
 
 -- each class's parent stands before it
@@ -23,3 +23,17 @@ pub record BuiltinsHaveTheirPlaces : Type 0 where
   pub name_error : find_class (codes "NameError") builtin ≡ Some name_error
   pub overflow_error : find_class (codes "OverflowError") builtin ≡ Some overflow_error
   pub already_called_error : find_class (codes "AlreadyCalledError") builtin ≡ Some already_called_error
+
+-- the place of the first class of this name
+pub record IsFirstOf (name : List ℕ) (table : List Class) (c : ℕ) : Type 0 where
+  pub within : c < length table
+  pub named : name_of table c ≡ name
+  pub first : (d : ℕ) → d < c → name_of table d ≢ name
+
+-- what is found by a name is the first class of that name
+abbrev pub FindsTheFirst : Type 0
+FindsTheFirst = (name : List ℕ) (table : List Class) (c : ℕ) → (find_class name table ≡ Some c) ↔ IsFirstOf name table c
+
+-- each class is found by its name, so that no two have the same
+abbrev pub NamesAreDistinct : List Class → Type 0
+NamesAreDistinct table = (c : ℕ) → c < length table → find_class (name_of table c) table ≡ Some c

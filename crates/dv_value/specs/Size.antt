@@ -3,7 +3,6 @@ use Rattle.std.specs.Prelude.{ℕ, ◌+◌, length, sum, Option, None, Some}
 use Rattle.dv_value.specs.declared.failure.Failure.{Failure}
 use Rattle.dv_value.specs.declared.failure.Failure.TheFolds.{fold-Failure}
 use Rattle.dv_value.specs.declared.failure.Failure.TheOpen.{Failure-F}
-use Rattle.dv_value.specs.declared.failure.Failure.TheOpen.{Sub-F}
 use Rattle.dv_value.specs.declared.value.Value.{Value, fold-Value}
 use Rattle.dv_value.specs.declared.value.Value.TheOpen.{Value-F}
 

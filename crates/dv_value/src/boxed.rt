@@ -18,6 +18,7 @@ impl<T> Model for Boxed<T> {
 }
 
 impl<T> Boxed<T> {
+    /// What it holds.
     pub fn get(&self) -> &T
         ensures { result.now ≡ self.now }
     {

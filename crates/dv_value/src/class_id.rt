@@ -19,22 +19,31 @@ impl Model for ClassId {
 }
 
 impl ClassId {
-    /// The root of all.
+    /// The root, which each class of the table descends from.
     pub const EXCEPTION: ClassId = ClassId { place: 0 };
+    /// Above what a delayed call raises that was called or cancelled already.
     pub const VALUE_ERROR: ClassId = ClassId { place: 1 };
+    /// For a value of another kind than the action takes.
     pub const TYPE_ERROR: ClassId = ClassId { place: 2 };
+    /// For a name that nothing bears; the message is the name.
     pub const NAME_ERROR: ClassId = ClassId { place: 3 };
+    /// For a sum that no `i64` holds.
     pub const OVERFLOW_ERROR: ClassId = ClassId { place: 5 };
+    /// For a second firing of a Deferred (Twisted: `defer.AlreadyCalledError`).
     pub const ALREADY_CALLED_ERROR: ClassId = ClassId { place: 7 };
+    /// Above what a cooperative task raises (Twisted: `task.SchedulerError`).
     pub const SCHEDULER_ERROR: ClassId = ClassId { place: 12 };
+    /// Above how a cooperative task has ended (Twisted: `task.TaskFinished`).
     pub const TASK_FINISHED: ClassId = ClassId { place: 15 };
 
+    /// The class at this place, which need not be in any table.
     pub fn new(place: u32) -> ClassId
         ensures { result ≡ place }
     {
         ClassId { place }
     }
 
+    /// Its place in the table, from 0.
     pub fn place(self) -> u32
         ensures { result ≡ self }
     {

@@ -8,7 +8,7 @@ use crate::text::Text;
 use std::alloc::{AllocError, Global};
 use std::marker::Model;
 
-/// A class of failures, with its parent.
+/// A class of failures, with its parent: the root has none.
 #[derive(Debug, Drop)]
 pub struct Class {
     pub name: Text,
@@ -37,7 +37,7 @@ impl Classes {
     ghost use Rattle.dv_value.specs.Classes.{name_of, parent_of, path_within, descends};
     ghost use Rattle.dv_value.specs.Builtin.{children_of, builtin};
 
-    /// The classes that every script has.
+    /// The classes that every script has, each after its parent.
     #[tactic(auto, unfolding(crate::specs::Builtin::builtin))]
     pub fn builtin(alloc: Global) -> Result<Classes, AllocError>
         ensures { IfOk result (λ table. table ≡ builtin) }
@@ -84,7 +84,7 @@ impl Classes {
         Ok(Classes { classes })
     }
 
-    /// The class of this name.
+    /// The first class of this name, byte for byte, if there is one.
     pub fn find(&self, name: &str) -> Option<ClassId>
         ensures { result ≡ find_class name.now self.now }
     {
@@ -120,7 +120,7 @@ impl Classes {
         }
     }
 
-    /// Whether `class` is `from`, or has it above.
+    /// Whether `class` is `from`, or has it above. A class with no place in the table descends from itself alone.
     pub fn descends(&self, class: ClassId, from: ClassId) -> bool
         ensures { result ≡ descends self.now class from }
     {
@@ -171,7 +171,5 @@ fn place_of(classes: &[Class], name: &str) -> Option<usize>
     ensures place { result ≡ find_class name.now classes.now }
     ensures within { IfSome result (λ place. place < length classes.now) }
 {
-    classes
-        .iter()
-        .position(|class| class.name.as_str() == name)
+    classes.iter().position(|class| class.name.as_str() == name)
 }

@@ -32,6 +32,7 @@ impl<T> Deque<T> {
         }
     }
 
+    /// Whether there is nothing to pop.
     pub fn is_empty(&self) -> bool
         ensures { IsTrue result ↔ (self.now ≡ []) }
     {
@@ -45,7 +46,7 @@ impl<T> Deque<T> {
         self.items.front()
     }
 
-    /// Takes the first item, in constant time.
+    /// Takes the item that was pushed first of those that are left, in constant time.
     pub fn pop_front(&mut self) -> Option<T>
         ensures value { result ≡ slice_get self.old 0 }
         ensures rest { self.new ≡ drop 1 self.old }

@@ -15,6 +15,7 @@ use std::alloc::{AllocError, Global};
 pub struct Failure {
     pub class: ClassId,
     pub message: Text,
+    /// What failed inside, where the class is that of a DeferredList's failure.
     pub sub: Option<Sub>,
 }
 
@@ -22,6 +23,7 @@ pub struct Failure {
 #[cycle(failure)]
 #[derive(Debug, Drop)]
 pub struct Sub {
+    /// The place among the list's Deferreds, from 0.
     pub index: u32,
     pub failure: Boxed<Failure>,
 }
@@ -38,14 +40,16 @@ impl Failure {
         }
     }
 
-    /// The first of the listed classes that the failure is of (Twisted: `Failure.check`).
+    /// The first of the listed classes that the failure is of, in the order of the list and not of the table (Twisted:
+    /// `Failure.check`).
     pub fn check(&self, classes: &Classes, listed: &[ClassId]) -> Option<ClassId>
         ensures { result ≡ check classes.now (class_of self.now) listed.now }
     {
         first_above(classes, self.class, listed)
     }
 
-    /// The same, or the failure itself back, where it is of none of them (Twisted: `Failure.trap`).
+    /// The first of the listed classes that the failure is of. Where it is of none of them, the failure itself comes back,
+    /// to be raised again (Twisted: `Failure.trap`).
     pub fn trap(self, classes: &Classes, listed: &[ClassId]) -> Result<ClassId, Failure>
         ensures { result ≡ trap classes.now self listed.now }
     {
@@ -74,7 +78,8 @@ impl Failure {
         })
     }
 
-    /// How much an entry of the journal weighs more for showing the failure; it stops at `u64::MAX`.
+    /// How much an entry of the journal weighs more for showing the failure, in bytes of its messages and one for each
+    /// failure; it stops at `u64::MAX`.
     pub fn size(&self) -> u64
         ensures { result ≡ min (failure_size self.now) (2 ^ 64 - 1) }
     {

@@ -30,6 +30,7 @@ impl<T> Items<T> {
         }
     }
 
+    /// The items, in the order that they were pushed.
     pub fn as_slice(&self) -> &[T]
         ensures { result.now ≡ self.now }
     {

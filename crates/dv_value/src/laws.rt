@@ -1,7 +1,7 @@
 //! Laws of the table of classes, each a function with an empty body whose clause is the law.
 
 ghost use Rattle.dv_value.specs.Builtin.{builtin};
-ghost use Rattle.dv_value.specs.Laws.{PathsOfOrderedTablesGoUp, ParentsStandBefore, PathsGoUp, BuiltinsHaveTheirPlaces};
+ghost use Rattle.dv_value.specs.Laws.{PathsOfOrderedTablesGoUp, PathsGoUp, BuiltinsHaveTheirPlaces, FindsTheFirst, NamesAreDistinct};
 
 /// Where each class's parent stands before it, the path of a class is the class and then the path of its parent.
 pub fn paths_go_up()
@@ -16,4 +16,14 @@ pub fn builtin_paths_go_up()
 /// The classes that rules name stand where the rules look for them.
 pub fn builtins_have_their_places()
     ensures { BuiltinsHaveTheirPlaces }
+{}
+
+/// A name finds the first class of that name, and nothing where there is none.
+pub fn the_first_of_a_name_is_found()
+    ensures { FindsTheFirst }
+{}
+
+/// No two of the classes that every script has share a name.
+pub fn builtin_names_are_distinct()
+    ensures { NamesAreDistinct builtin }
 {}

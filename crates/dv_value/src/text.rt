@@ -18,7 +18,7 @@ impl Model for Text {
 }
 
 impl Text {
-    /// A copy of `text`.
+    /// A copy of `text`, in memory of its own.
     pub fn of(alloc: Global, text: &str) -> Result<Text, AllocError>
         ensures { IfOk result (λ t. t ≡ text.now) }
     {
@@ -27,18 +27,21 @@ impl Text {
         })
     }
 
+    /// The text of a string, whose memory it keeps.
     pub fn from_string(text: String) -> Text
         ensures { result ≡ string_bytes text }
     {
         Text { text }
     }
 
+    /// The text, with nothing escaped.
     pub fn as_str(&self) -> &str
         ensures { result.now ≡ self.now }
     {
         self.text.as_str()
     }
 
+    /// A text that equals this one, in memory of its own.
     pub fn copy(&self, alloc: Global) -> Result<Text, AllocError>
         ensures { IfOk result (λ t. t ≡ self.now) }
     {

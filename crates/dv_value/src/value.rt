@@ -8,7 +8,7 @@ use crate::items::Items;
 use crate::text::Text;
 use std::alloc::{AllocError, Global};
 
-/// What a Deferred can be fired with.
+/// What a Deferred can be fired with, and what its callbacks give.
 #[derive(Debug, Drop)]
 pub enum Value {
     Null,
@@ -27,11 +27,7 @@ impl Value {
     {
         match self {
             Value::Fault(_) => true,
-            Value::Null
-            | Value::Bool(_)
-            | Value::Int(_)
-            | Value::Text(_)
-            | Value::List(_) => false,
+            Value::Null | Value::Bool(_) | Value::Int(_) | Value::Text(_) | Value::List(_) => false,
         }
     }
 
@@ -46,7 +42,10 @@ impl Value {
             Value::Int(n) => Ok(Value::Int(*n)),
             Value::Text(text) => Ok(Value::Text(text.copy(alloc)?)),
             Value::List(values) => Ok(Value::List(copy_all(alloc, values.as_slice())?)),
-            Value::Fault(failure) => Ok(Value::Fault(Boxed::new(alloc, failure.get().copy(alloc)?)?)),
+            Value::Fault(failure) => Ok(Value::Fault(Boxed::new(
+                alloc,
+                failure.get().copy(alloc)?,
+            )?)),
         }
     }
 

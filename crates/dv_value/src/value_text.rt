@@ -9,7 +9,8 @@ use crate::value::Value;
 use json::Writer;
 use std::alloc::{AllocError, Global};
 
-/// Adds a text as a JSON string. After an error, `out` ends anyhow.
+/// Adds a text as a JSON string, between quotes, with what JSON forbids escaped and all else as it is. Where memory is
+/// refused, it is left open what `out` holds.
 #[tactic(auto, using(crate::proofs::Quoted::one_string))]
 pub fn write_string(alloc: Global, out: &mut String, text: &str) -> Result<(), AllocError>
     ensures { OnOk result (string_bytes out.new ≡ string_bytes out.old ++ quoted text.now) }
@@ -22,7 +23,7 @@ pub fn write_string(alloc: Global, out: &mut String, text: &str) -> Result<(), A
     }
 }
 
-/// Adds the compact JSON of a failure. After an error, `out` ends anyhow.
+/// Adds the compact JSON of a failure, its keys in a fixed order. Where memory is refused, it is left open what `out` holds.
 pub fn write_failure_json(
     alloc: Global,
     classes: &Classes,
@@ -49,8 +50,8 @@ pub fn write_failure_json(
     }
 }
 
-/// Adds a failure as the journal shows it: its class, its message, and what is inside. After an error, `out` ends
-/// anyhow.
+/// Adds a failure as the journal shows it: its class, its message as a JSON string, and what is inside. Where memory is
+/// refused, it is left open what `out` holds.
 pub fn write_failure(
     alloc: Global,
     classes: &Classes,
@@ -71,7 +72,7 @@ pub fn write_failure(
     }
 }
 
-/// Adds the compact JSON of a value. After an error, `out` ends anyhow.
+/// Adds the compact JSON of a value, with no space. Where memory is refused, it is left open what `out` holds.
 #[cycle(write_json)]
 pub fn write_json(
     alloc: Global,
@@ -117,8 +118,8 @@ fn write_list(
     Ok(())
 }
 
-/// Adds what an outcome shows of a value: `ok` and its JSON, or `fail` and its failure. After an error, `out` ends
-/// anyhow.
+/// Adds what an outcome shows of a value: `ok` and its JSON, or `fail` and its failure. Where memory is refused, it is
+/// left open what `out` holds.
 pub fn write_outcome(
     alloc: Global,
     classes: &Classes,
@@ -128,11 +129,7 @@ pub fn write_outcome(
     ensures { OnOk result (string_bytes out.new ≡ string_bytes out.old ++ outcome classes.now value.now) }
 {
     match value {
-        Value::Null
-        | Value::Bool(_)
-        | Value::Int(_)
-        | Value::Text(_)
-        | Value::List(_) => {
+        Value::Null | Value::Bool(_) | Value::Int(_) | Value::Text(_) | Value::List(_) => {
             write!(out, "ok ")?;
             write_json(alloc, classes, out, value)
         }
@@ -146,7 +143,7 @@ pub fn write_outcome(
 impl Value {
     ghost use Rattle.std.specs.Prelude.{IfOk};
 
-    /// The compact JSON of the value.
+    /// The compact JSON of the value, in memory of its own.
     pub fn json(&self, alloc: Global, classes: &Classes) -> Result<Text, AllocError>
         ensures { IfOk result (λ text. text ≡ json classes.now self.now) }
     {
@@ -155,7 +152,7 @@ impl Value {
         Ok(Text::from_string(out))
     }
 
-    /// What an outcome shows of the value.
+    /// What an outcome shows of the value, in memory of its own.
     pub fn outcome(&self, alloc: Global, classes: &Classes) -> Result<Text, AllocError>
         ensures { IfOk result (λ text. text ≡ outcome classes.now self.now) }
     {

@@ -1,4 +1,4 @@
-use Rattle.dv_engine.proofs.WorldLemmas.{passed_took, run_took}
+use Rattle.dv_engine.proofs.WorldLemmas.{run_took}
 use Rattle.dv_engine.proofs.perform.settle.Goals as goal
 
 pub pairs-smaller : goal.pairs-smaller

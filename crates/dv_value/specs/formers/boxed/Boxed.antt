@@ -51,9 +51,9 @@ module _ (A B : RattleType) (h : A.Denot → B.Denot) where
   pub the_places : Alike A B h → Alike (boxed.the_row A) (boxed.the_row B) ((the_former this).map A.Denot B.Denot h)
   the_places alike =
       view_places field this view (λ X Y k u. refl) (λ X u. refl) A.Denot B.Denot h (boxed.the_row A).coded (boxed.the_row B).coded
-          (invariant A.Denot) (invariant B.Denot) (λ u p q. refl) (λ u p q. refl) (λ u e. tt) (λ u e. tt)
-          (over (inside.the_row A)) (over (inside.the_row B))
-          (struct_places (inside.the_type A) (inside.the_type B) ((λ b. holding b (h b.value)), tt) _ (λ d. refl) refl (laid _ _ _ (box_places alike), tt))
+      (invariant A.Denot) (invariant B.Denot) (λ u p q. refl) (λ u p q. refl) (λ u e. tt) (λ u e. tt)
+      (over (inside.the_row A)) (over (inside.the_row B))
+      (struct_places (inside.the_type A) (inside.the_type B) ((λ b. holding b (h b.value)), tt) _ (λ d. refl) refl (laid _ _ _ (box_places alike), tt))
 
   pub the_codes_placed : Recodes A B h → Recodes (boxed.the_row A) (boxed.the_row B) ((the_former this).map A.Denot B.Denot h)
   the_codes_placed recodes b = recodes b

@@ -1,5 +1,4 @@
 use Rattle.std.proofs.Common.{◌∙◌, ap}
-use Rattle.dv_engine.specs.Names.{Names, with_name}
 use Rattle.dv_engine.proofs.NamesLemmas.{shown, with_name_shown}
 use Rattle.dv_engine.proofs.names.Names.bind.Goals as goal
 

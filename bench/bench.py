@@ -1,0 +1,119 @@
+#!/usr/bin/env python3
+"""Runs the built program on scripts of n, 2n, 4n and 8n, and prints what each costs and how it grows.
+
+    python3 bench/bench.py [--program PATH] [--only NAME] [--instructions]
+
+With --instructions each run goes through valgrind's callgrind, and instructions are counted in place of time: they
+don't depend on the machine. A growth of 1.00 is in proportion to n. There is no bound that a slow machine could miss.
+"""
+import argparse
+import json
+import os
+import re
+import subprocess
+import sys
+import tempfile
+import time
+
+HERE = os.path.dirname(os.path.abspath(__file__))
+PROGRAM = os.path.join(HERE, "..", "crates", "deferreds", "out", "deferreds")
+
+
+def script(events):
+    return json.dumps({"version": 1, "events": events}, separators=(",", ":")).encode()
+
+
+def many_deferreds(n):
+    return script([[word, "d%d" % i] + rest for i in range(n) for word, rest in (("deferred", []), ("callback", [i]))])
+
+
+def one_name_again(n):
+    return script([["deferred", "d"] for _ in range(n)])
+
+
+def long_chain(n):
+    return script([["deferred", "d"]] + [["addCallback", "d", {"end": ["plus", 1]}] for _ in range(n)] + [["callback", "d", 0]])
+
+
+def pairs_that_pass(n):
+    return script([["deferred", "d"]] + [["addErrback", "d", {}] for _ in range(n)] + [["callback", "d", 0]])
+
+
+def long_text(n):
+    return script([["deferred", "d"], ["callback", "d", "x" * (40 * n)]])
+
+
+def long_list(n):
+    return script([["deferred", "d"], ["callback", "d", list(range(n))]])
+
+
+def refused_firings(n):
+    return script([["deferred", "d"], ["callback", "d", 1]] + [["callback", "d", 2] for _ in range(n)])
+
+
+# name, the script of a size, the least size
+BENCHES = [
+    ("many Deferreds", many_deferreds, 1000),
+    ("one name again and again", one_name_again, 2000),
+    ("a chain of callbacks", long_chain, 1100),
+    ("pairs that pass", pairs_that_pass, 2000),
+    ("refused firings", refused_firings, 2000),
+    ("a long text", long_text, 3000),
+    ("a long list", long_list, 7500),
+]
+
+
+def instructions(program, path):
+    with tempfile.TemporaryDirectory() as folder:
+        out = os.path.join(folder, "callgrind.out")
+        with open(path, "rb") as script_file:
+            ran = subprocess.run(
+                ["valgrind", "--tool=callgrind", "--callgrind-out-file=" + out, program],
+                stdin=script_file, stdout=subprocess.PIPE, stderr=subprocess.PIPE, check=False)
+        counted = re.search(rb"Collected : (\d+)", ran.stderr)
+        if not counted:
+            sys.exit("valgrind counted nothing: " + ran.stderr.decode(errors="replace")[-400:])
+        return ran, float(counted.group(1))
+
+
+def seconds(program, path):
+    best = None
+    for _ in range(3):
+        with open(path, "rb") as script_file:
+            start = time.perf_counter()
+            ran = subprocess.run([program], stdin=script_file, stdout=subprocess.PIPE, stderr=subprocess.PIPE, check=False)
+            took = time.perf_counter() - start
+        best = took if best is None else min(best, took)
+    return ran, best
+
+
+def main():
+    parser = argparse.ArgumentParser(description=__doc__.splitlines()[0])
+    parser.add_argument("--program", default=PROGRAM)
+    parser.add_argument("--only", default="")
+    parser.add_argument("--instructions", action="store_true")
+    options = parser.parse_args()
+    if not os.path.exists(options.program):
+        sys.exit("no program at %s: build it by ./deferreds < examples/first.json" % options.program)
+    measure, unit = (instructions, "instructions") if options.instructions else (seconds, "s")
+    print("%-26s %8s %10s %14s %14s %8s" % ("script", "n", "lines", unit, unit + " per n", "growth"))
+    for name, make, least in BENCHES:
+        if options.only not in name:
+            continue
+        before = None
+        for n in (least, 2 * least, 4 * least, 8 * least):
+            with tempfile.NamedTemporaryFile(suffix=".json") as file:
+                file.write(make(n))
+                file.flush()
+                ran, cost = measure(options.program, file.name)
+            if ran.returncode not in (0, 1):
+                sys.exit("%s at %d: status %d, %s" % (name, n, ran.returncode, ran.stderr.decode(errors="replace").strip()))
+            growth = "" if before is None else "%.2f" % (cost / before / 2)
+            shown = "%14d" % cost if options.instructions else "%14.5f" % cost
+            each = "%14.1f" % (cost / n) if options.instructions else "%14.9f" % (cost / n)
+            print("%-26s %8d %10d %s %s %8s" % (name, n, ran.stdout.count(b"\n"), shown, each, growth))
+            before = cost
+
+
+if __name__ == "__main__":
+    main()

@@ -1,0 +1,107 @@
+use crate::error::RunFault;
+use crate::io_source::IoSource;
+use crate::memory_source::MemorySource;
+use crate::run::{Ended, run};
+use dv_journal::io_sink::IoSink;
+use dv_journal::memory_sink::{MemorySink, Trouble};
+use std::io::{self, Read};
+use std::test::Fail;
+
+// a script of 77 bytes, whose text has 23 bytes in two lines
+const SCRIPT: &[u8] =
+    br#"{"version":1,"events":[["deferred","a"],["deferred","b"],["callback","a",1]]}"#;
+
+const TEXT: &[u8] = b"#0 a ok 1\n#1 b unfired\n";
+
+#[test]
+fn a_reader_that_fails_at_any_call_is_a_read_fault(rt: HostRuntime) -> Result<(), Fail> {
+    // 8 calls give the script, and the ninth its end
+    for calls_before in 0..9u64 {
+        let mut source = MemorySource::new(SCRIPT, 10).with_failure(calls_before);
+        let mut sink = MemorySink::new(rt.alloc(), 100, 100)?;
+        assert_eq!(rt;
+            run(rt.alloc(), &mut source, &mut sink),
+            Err(RunFault::ReadFault),
+            "after {calls_before}"
+        );
+        assert!(rt; sink.bytes().is_empty(), "after {calls_before}");
+    }
+    Ok(())
+}
+
+#[test]
+fn a_byte_a_call_gives_the_same_text(rt: HostRuntime) -> Result<(), Fail> {
+    for (read, written) in [(1usize, 1usize), (1, 100), (4096, 1), (7, 3)] {
+        let mut source = MemorySource::new(SCRIPT, read);
+        let mut sink = MemorySink::new(rt.alloc(), 100, written)?;
+        let ended = run(rt.alloc(), &mut source, &mut sink);
+        assert_eq!(rt; ended, Ok(Ended::All), "{read} and {written}");
+        assert_eq!(rt; sink.bytes(), TEXT, "{read} and {written}");
+    }
+    Ok(())
+}
+
+#[test]
+fn a_writer_that_fails_at_any_call_has_a_prefix(rt: HostRuntime) -> Result<(), Fail> {
+    for trouble in [Trouble::Fails, Trouble::TakesNothing] {
+        for calls_before in 0..TEXT.len() {
+            let mut source = MemorySource::new(SCRIPT, 100);
+            let mut sink = MemorySink::new(rt.alloc(), 100, 1)?.with_trouble(
+                calls_before as u64,
+                trouble,
+            );
+            assert_eq!(rt;
+                run(rt.alloc(), &mut source, &mut sink),
+                Err(RunFault::WriteFault),
+                "{trouble:?} after {calls_before}"
+            );
+            assert_eq!(rt;
+                sink.bytes(),
+                &TEXT[..calls_before],
+                "{trouble:?} after {calls_before}"
+            );
+        }
+    }
+    Ok(())
+}
+
+#[test]
+fn a_full_sink_is_a_write_fault_with_a_prefix(rt: HostRuntime) -> Result<(), Fail> {
+    for room in 0..TEXT.len() {
+        let mut source = MemorySource::new(SCRIPT, 100);
+        let mut sink = MemorySink::new(rt.alloc(), room, 100)?;
+        assert_eq!(rt;
+            run(rt.alloc(), &mut source, &mut sink),
+            Err(RunFault::WriteFault),
+            "room for {room}"
+        );
+        assert_eq!(rt; sink.bytes(), &TEXT[..room], "room for {room}");
+    }
+    Ok(())
+}
+
+#[derive(Drop)]
+struct Broken;
+
+impl io::Read for Broken {
+    fn read(&mut self, _: &mut [u8]) -> io::Result<usize> {
+        Err(io::Error::from(io::ErrorKind::BrokenPipe))
+    }
+}
+
+#[test]
+fn a_reader_and_a_writer_of_std_serve_a_run(rt: HostRuntime) -> Result<(), Fail> {
+    let mut text = Vec::new(rt.alloc());
+    let ended = run(
+        rt.alloc(),
+        &mut IoSource::new(SCRIPT),
+        &mut IoSink::new(&mut text),
+    );
+    assert_eq!(rt; ended, Ok(Ended::All));
+    assert_eq!(rt; text.as_slice(), TEXT);
+    let mut broken = IoSource::new(SCRIPT.chain(Broken));
+    let ended = run(rt.alloc(), &mut broken, &mut IoSink::new(&mut text));
+    assert_eq!(rt; ended, Err(RunFault::ReadFault));
+    assert_eq!(rt; text.as_slice(), TEXT);
+    Ok(())
+}

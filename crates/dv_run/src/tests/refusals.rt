@@ -1,0 +1,92 @@
+use crate::error::RunFault;
+use crate::run::Ended;
+use crate::tests::ran;
+use dv_script::error::ScriptFault;
+use std::alloc::{AllocError, Global};
+use std::test::Fail;
+
+static REFUSED: [(&str, &str, ScriptFault); 7] = [
+    ("nothing", "", ScriptFault::NotJson),
+    (
+        "a text that ends too soon",
+        r#"{"version":1"#,
+        ScriptFault::NotJson,
+    ),
+    (
+        "another version",
+        r#"{"version":7,"events":[]}"#,
+        ScriptFault::BadVersion,
+    ),
+    (
+        "an unknown word after a bad name",
+        r#"{"version":1,"events":[["callback","a b",1],["nope"]]}"#,
+        ScriptFault::BadShape,
+    ),
+    (
+        "an unknown word after a Deferred that is made",
+        r#"{"version":1,"events":[["deferred","d"],["nope"]]}"#,
+        ScriptFault::BadShape,
+    ),
+    (
+        "a name with a space",
+        r#"{"version":1,"events":[["callback","a b",1]]}"#,
+        ScriptFault::BadName,
+    ),
+    (
+        "a class that isn't in the table",
+        r#"{"version":1,"events":[["errback","d","Zed",""]]}"#,
+        ScriptFault::BadClass,
+    ),
+];
+
+#[test]
+fn a_refused_script_writes_nothing(rt: HostRuntime) -> Result<(), Fail> {
+    for (name, script, refusal) in &REFUSED {
+        let (ended, sink) = ran(rt.alloc(), script.as_bytes())?;
+        assert_eq!(rt; ended, Err(RunFault::ScriptRefused(*refusal)), "{name}");
+        assert!(rt; sink.bytes().is_empty(), "{name}");
+    }
+    Ok(())
+}
+
+// a script of one Deferred, with spaces behind it up to this many bytes
+fn padded(alloc: Global, len: usize) -> Result<Vec<u8>, AllocError> {
+    let mut bytes = r#"{"version":1,"events":[["deferred","d"]]}"#
+        .as_bytes()
+        .to_vec(alloc)?;
+    bytes.resize(len, b' ')?;
+    Ok(bytes)
+}
+
+#[test]
+fn a_script_of_a_mebibyte_runs_and_one_byte_more_is_refused(rt: HostRuntime) -> Result<(), Fail> {
+    let alloc = rt.alloc();
+    let (ended, sink) = ran(alloc, padded(alloc, 1_048_576)?.as_slice())?;
+    assert_eq!(rt; ended, Ok(Ended::All));
+    assert_eq!(rt; sink.bytes(), b"#0 d unfired\n".as_slice());
+    let (ended, sink) = ran(alloc, padded(alloc, 1_048_577)?.as_slice())?;
+    assert_eq!(rt; ended, Err(RunFault::ScriptRefused(ScriptFault::TooLong)));
+    assert!(rt; sink.bytes().is_empty());
+    Ok(())
+}
+
+// a script of eleven nodes that makes a Deferred and fires it, and as many nodes more as zeros
+fn with_zeros(alloc: Global, zeros: usize) -> Result<Vec<u8>, AllocError> {
+    let mut bytes = r#"{"version":1,"events":[["deferred","d"],["callback","d",[null"#
+        .as_bytes()
+        .to_vec(alloc)?;
+    for _ in 0..zeros {
+        bytes.extend_from_slice(b",0")?;
+    }
+    bytes.extend_from_slice(b"]]]}")?;
+    Ok(bytes)
+}
+
+#[test]
+fn a_script_of_too_many_nodes_is_refused(rt: HostRuntime) -> Result<(), Fail> {
+    let alloc = rt.alloc();
+    let (ended, sink) = ran(alloc, with_zeros(alloc, 65_526)?.as_slice())?;
+    assert_eq!(rt; ended, Err(RunFault::ScriptRefused(ScriptFault::TooMany)));
+    assert!(rt; sink.bytes().is_empty());
+    Ok(())
+}

@@ -1,0 +1,252 @@
+use crate::boxed::Boxed;
+use crate::class_id::ClassId;
+use crate::classes::Classes;
+use crate::deque::Deque;
+use crate::failure::{Failure, Sub};
+use crate::items::Items;
+use crate::text::Text;
+use crate::value::Value;
+use std::alloc::{AllocError, Global};
+use std::process::Abort;
+use std::test::Fail;
+
+/// Each class, with those that it descends from.
+const CLASSES: [(&str, &[&str]); 20] = [
+    ("Exception", &["Exception"]),
+    ("ValueError", &["ValueError", "Exception"]),
+    ("TypeError", &["TypeError", "Exception"]),
+    ("NameError", &["NameError", "Exception"]),
+    ("AssertionError", &["AssertionError", "Exception"]),
+    ("OverflowError", &["OverflowError", "Exception"]),
+    ("RuntimeError", &["RuntimeError", "Exception"]),
+    ("AlreadyCalledError", &["AlreadyCalledError", "Exception"]),
+    ("CancelledError", &["CancelledError", "Exception"]),
+    ("FirstError", &["FirstError", "Exception"]),
+    ("QueueOverflow", &["QueueOverflow", "Exception"]),
+    ("QueueUnderflow", &["QueueUnderflow", "Exception"]),
+    ("SchedulerError", &["SchedulerError", "Exception"]),
+    (
+        "AlreadyCalled",
+        &["AlreadyCalled", "ValueError", "Exception"],
+    ),
+    (
+        "AlreadyCancelled",
+        &["AlreadyCancelled", "ValueError", "Exception"],
+    ),
+    (
+        "TaskFinished",
+        &["TaskFinished", "SchedulerError", "Exception"],
+    ),
+    ("NotPaused", &["NotPaused", "SchedulerError", "Exception"]),
+    (
+        "TaskDone",
+        &["TaskDone", "TaskFinished", "SchedulerError", "Exception"],
+    ),
+    (
+        "TaskStopped",
+        &["TaskStopped", "TaskFinished", "SchedulerError", "Exception"],
+    ),
+    (
+        "TaskFailed",
+        &["TaskFailed", "TaskFinished", "SchedulerError", "Exception"],
+    ),
+];
+
+fn assert_descends(
+    rt: &impl Abort,
+    classes: &Classes,
+    name: &str,
+    above: &[&str],
+) -> Result<(), Fail> {
+    let class = classes.find(name).ok_or("not found")?;
+    assert_eq!(rt; classes.name(class), name);
+    for (other, _) in CLASSES {
+        let from = classes.find(other).ok_or("not found")?;
+        assert_eq!(rt;
+            classes.descends(class, from),
+            above.contains(&other),
+            "{name} from {}",
+            classes.name(from)
+        );
+    }
+    Ok(())
+}
+
+#[test]
+fn each_class_descends_from_those_above_it_alone(rt: HostRuntime) -> Result<(), Fail> {
+    let classes = Classes::builtin(rt.alloc())?;
+    for (name, above) in CLASSES {
+        assert_descends(&rt, &classes, name, above)?;
+    }
+    for (class, name) in [
+        (ClassId::EXCEPTION, "Exception"),
+        (ClassId::VALUE_ERROR, "ValueError"),
+        (ClassId::TYPE_ERROR, "TypeError"),
+        (ClassId::NAME_ERROR, "NameError"),
+        (ClassId::OVERFLOW_ERROR, "OverflowError"),
+        (ClassId::ALREADY_CALLED_ERROR, "AlreadyCalledError"),
+        (ClassId::SCHEDULER_ERROR, "SchedulerError"),
+        (ClassId::TASK_FINISHED, "TaskFinished"),
+    ] {
+        assert_eq!(rt; classes.name(class), name);
+    }
+    for stranger in ["", "Except", "Exceptions", "valueError", "Mine"] {
+        assert_eq!(rt; classes.find(stranger), None, "{stranger}");
+    }
+    Ok(())
+}
+
+fn text(alloc: Global, text: &str) -> Result<Value, AllocError> {
+    Ok(Value::Text(Text::of(alloc, text)?))
+}
+
+fn pair(alloc: Global, first: Value, second: Value) -> Result<Value, AllocError> {
+    let mut members = Items::new(alloc);
+    members.push(first)?;
+    members.push(second)?;
+    Ok(Value::List(members))
+}
+
+fn failure(alloc: Global, class: ClassId, message: &str) -> Result<Failure, AllocError> {
+    Ok(Failure::new(class, Text::of(alloc, message)?))
+}
+
+fn fault(alloc: Global, failure: Failure) -> Result<Value, AllocError> {
+    Ok(Value::Fault(Boxed::new(alloc, failure)?))
+}
+
+/// How a DeferredList fails whose second child failed.
+fn first_error(alloc: Global, first_error: ClassId) -> Result<Failure, AllocError> {
+    Ok(Failure {
+        class: first_error,
+        message: Text::of(alloc, "")?,
+        sub: Some(Sub {
+            index: 1,
+            failure: Boxed::new(alloc, failure(alloc, ClassId::VALUE_ERROR, "no")?)?,
+        }),
+    })
+}
+
+#[test]
+fn each_value_has_its_size_and_its_texts(rt: HostRuntime) -> Result<(), Fail> {
+    let alloc = rt.alloc();
+    let classes = Classes::builtin(alloc)?;
+    let first_error_class = classes.find("FirstError").ok_or("FirstError")?;
+    let refused = fault(alloc, failure(alloc, ClassId::VALUE_ERROR, "p")?)?;
+    let strange = fault(alloc, failure(alloc, ClassId::new(20), "\"")?)?;
+    let nested = pair(alloc, text(alloc, "a")?, Value::Null)?;
+    let rows = [
+        (Value::Null, 1, "null", "ok null"),
+        (Value::Bool(true), 1, "true", "ok true"),
+        (Value::Bool(false), 1, "false", "ok false"),
+        (Value::Int(0), 1, "0", "ok 0"),
+        (
+            Value::Int(i64::MIN),
+            1,
+            "-9223372036854775808",
+            "ok -9223372036854775808",
+        ),
+        (
+            Value::Int(i64::MAX),
+            1,
+            "9223372036854775807",
+            "ok 9223372036854775807",
+        ),
+        (text(alloc, "")?, 1, r#""""#, r#"ok """#),
+        (
+            text(alloc, r#"a"b\c/"#)?,
+            7,
+            r#""a\"b\\c/""#,
+            r#"ok "a\"b\\c/""#,
+        ),
+        (
+            text(alloc, "\u{8}\u{c}\n\r\t\u{0}\u{1f}\u{7f}")?,
+            9,
+            "\"\\b\\f\\n\\r\\t\\u0000\\u001f\u{7f}\"",
+            "ok \"\\b\\f\\n\\r\\t\\u0000\\u001f\u{7f}\"",
+        ),
+        (text(alloc, "é€😀")?, 10, r#""é€😀""#, r#"ok "é€😀""#),
+        (Value::List(Items::new(alloc)), 1, "[]", "ok []"),
+        (
+            pair(alloc, Value::Int(1), nested)?,
+            6,
+            r#"[1,["a",null]]"#,
+            r#"ok [1,["a",null]]"#,
+        ),
+        (
+            pair(alloc, Value::Bool(false), refused)?,
+            4,
+            r#"[false,{"fail":"ValueError","message":"p"}]"#,
+            r#"ok [false,{"fail":"ValueError","message":"p"}]"#,
+        ),
+        (
+            fault(alloc, failure(alloc, ClassId::VALUE_ERROR, "no")?)?,
+            3,
+            r#"{"fail":"ValueError","message":"no"}"#,
+            r#"fail ValueError "no""#,
+        ),
+        (strange, 2, r#"{"fail":"","message":"\""}"#, r#"fail  "\"""#),
+        (
+            fault(alloc, first_error(alloc, first_error_class)?)?,
+            4,
+            r#"{"fail":"FirstError","index":1,"message":"","sub":{"fail":"ValueError","message":"no"}}"#,
+            r#"fail FirstError "" at 1 of ValueError "no""#,
+        ),
+    ];
+    for (value, size, json, outcome) in &rows {
+        let copy = value.copy(alloc)?;
+        assert_eq!(rt; value.size(), *size, "{json}");
+        assert_eq!(rt; value.json(alloc, &classes)?.as_str(), *json);
+        assert_eq!(rt; copy.outcome(alloc, &classes)?.as_str(), *outcome);
+        assert_eq!(rt; copy.is_fault(), outcome.starts_with("fail "), "{json}");
+    }
+    Ok(())
+}
+
+#[test]
+fn the_first_listed_class_that_fits_is_taken(rt: HostRuntime) -> Result<(), Fail> {
+    let alloc = rt.alloc();
+    let classes = Classes::builtin(alloc)?;
+    let called = classes.find("AlreadyCalled").ok_or("AlreadyCalled")?;
+    let rows = [
+        ([ClassId::TYPE_ERROR, ClassId::NAME_ERROR], None),
+        (
+            [ClassId::TYPE_ERROR, ClassId::VALUE_ERROR],
+            Some(ClassId::VALUE_ERROR),
+        ),
+        (
+            [ClassId::EXCEPTION, ClassId::VALUE_ERROR],
+            Some(ClassId::EXCEPTION),
+        ),
+        ([called, ClassId::EXCEPTION], Some(called)),
+    ];
+    for (listed, taken) in rows {
+        let failure = failure(alloc, called, "no")?;
+        assert_eq!(rt; failure.check(&classes, &listed), taken);
+        match failure.trap(&classes, &listed) {
+            Ok(class) => assert_eq!(rt; Some(class), taken),
+            Err(failure) => {
+                assert_eq!(rt; taken, None);
+                assert_eq!(rt; failure.class, called);
+                assert_eq!(rt; failure.message.as_str(), "no");
+            }
+        }
+    }
+    let failure = failure(alloc, called, "no")?;
+    assert_eq!(rt; failure.check(&classes, &[]), None);
+    Ok(())
+}
+
+#[test]
+fn a_deque_gives_the_items_in_the_order_that_they_came(rt: HostRuntime) -> Result<(), Fail> {
+    let mut deque = Deque::new(rt.alloc());
+    for number in 0..20u8 {
+        deque.push_back(number)?;
+    }
+    for number in 0..20u8 {
+        assert_eq!(rt; deque.front().copied(), Some(number));
+        assert_eq!(rt; deque.pop_front(), Some(number));
+    }
+    assert!(rt; deque.is_empty());
+    Ok(())
+}
