@@ -3,13 +3,6 @@
 
 pub mod action;
 pub mod body;
-pub mod error;
-mod known_classes;
-pub mod laws;
-mod limits;
-mod names;
-mod reading;
+pub mod event;
 pub mod script;
-#[cfg(test)]
-mod tests;
-mod words;
+pub mod work;
