@@ -1,5 +1,7 @@
-ghost use Rattle.std.specs.Prelude.{◌≡◌, [], ◌<◌, ◌^◌, ◌-◌, length, slice_get, IfOk};
+ghost use Rattle.std.specs.Prelude.{◌≡◌, true, [], ◌∷◌, ◌++◌, ◌<◌, ◌^◌, ◌-◌, length, slice_get, IfOk, OnOk, OnErr};
 ghost use Rattle.std.specs.Option.{option_copied};
+ghost use Rattle.dv_journal.specs.Journal.{fits, with_entry};
+ghost use Rattle.dv_journal.specs.declared.entry.Entry.TheVariants.{Add};
 
 use crate::error::StoreFault;
 use crate::record::Record;
@@ -112,7 +114,7 @@ impl<P: Sides + Drop, K: Drop> Store<P, K> {
     /// Adds a pair after the others, and uses none (Twisted: `Deferred.addCallbacks`, which also runs what it can).
     ///
     /// Where it is refused, the pair is dropped.
-    #[tactic(auto, using(crate::proofs::StoreLemmas::pair_taken_back))]
+    #[tactic(auto, using(crate::proofs::StoreLemmas::record_kept))]
     pub fn append(
         &mut self,
         journal: &mut Journal,
@@ -128,11 +130,7 @@ impl<P: Sides + Drop, K: Drop> Store<P, K> {
         if !journal.fits_plain() {
             return Err(Stop::Limit);
         }
-        self.records[place].items.push_back(pair)?;
-        if let Err(stop) = journal.write(Entry::Add(id)) {
-            self.records[place].items.drop_back();
-            return Err(stop);
-        }
+        add(journal, id, &mut self.records[place].items, pair)?;
         Ok(())
     }
 
@@ -236,5 +234,30 @@ fn name_copy(alloc: Global, name: &Option<Text>) -> Result<Option<Text>, AllocEr
     match name {
         None => Ok(None),
         Some(name) => Ok(Some(Text::of(alloc, name.as_str())?)),
+    }
+}
+
+/// Adds a pair after the others, and tells of it.
+#[tactic(auto, using(crate::proofs::StoreLemmas::pair_taken_back))]
+fn add<P: Drop>(
+    journal: &mut Journal,
+    id: DeferredId,
+    pairs: &mut Deque<P>,
+    pair: P,
+) -> Result<(), AllocError>
+    requires room { fits journal.old (Add id) ≡ true }
+    ensures added { OnOk result (pairs.new ≡ pairs.old ++ pair ∷ []) }
+    ensures written { OnOk result (journal.new ≡ with_entry journal.old (Add id)) }
+    ensures kept { OnErr result (pairs.new ≡ pairs.old) }
+    ensures err { OnErr result (journal.new ≡ journal.old) }
+{
+    pairs.push_back(pair)?;
+    match journal.write(Entry::Add(id)) {
+        Ok(()) => Ok(()),
+        Err(Stop::Limit) => unreachable!(),
+        Err(Stop::OutOfMemory) => {
+            pairs.drop_back();
+            Err(AllocError)
+        }
     }
 }
