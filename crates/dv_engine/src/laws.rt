@@ -1,6 +1,5 @@
 //! Laws of whole runs, each a function with an empty body whose clauses are the laws.
 
-ghost use Rattle.dv_engine.specs.Examples.{Examples};
 ghost use Rattle.dv_engine.specs.Laws.{EveryTaskEnds, EachTaskHasOneResult, EveryScriptEnds, EachScriptHasOneMeaning};
 
 /// Every task ends, and in one way.
@@ -13,9 +12,4 @@ pub fn tasks_end()
 pub fn scripts_end()
     ensures ends { EveryScriptEnds }
     ensures one { EachScriptHasOneMeaning }
-{}
-
-/// Small scripts end as Twisted's documents say.
-pub fn examples_end_as_shown()
-    ensures { Examples }
 {}

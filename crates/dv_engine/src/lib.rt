@@ -8,7 +8,6 @@ mod names;
 mod pair;
 mod perform;
 mod performed;
+pub mod performs;
 pub mod report;
-#[cfg(test)]
-mod tests;
 mod world;

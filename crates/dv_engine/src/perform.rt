@@ -13,10 +13,12 @@ use crate::pair::Pair;
 use crate::performed::Performed;
 use crate::world::{World, unbound};
 use dv_journal::deferred_id::DeferredId;
+use dv_journal::entry::Entry;
 use dv_script::action::Action;
 use dv_script::body::Body;
 use dv_store::store::Step;
 use dv_value::classes::Classes;
+use dv_value::text::Text;
 use dv_value::value::Value;
 use std::alloc::{AllocError, Global};
 
@@ -27,12 +29,12 @@ pub fn settle<'s>(alloc: Global, world: &mut World<'s>, id: DeferredId) -> Resul
     ensures { OnOk result (Gives (Settle id) world.old Done world.new) }
 {
     'pairs: loop {
-        match world.step(id) {
+        match world.step(id)? {
             Step::Nothing => return Ok(()),
             Step::Passed => {}
             Step::Run(pair) => {
                 let value = run(alloc, world, id, &pair)?;
-                world.put(id, value);
+                world.put(id, value)?;
             }
         }
     }
@@ -116,8 +118,8 @@ fn add<'s>(
     Ok(Performed::Done)
 }
 
-/// Performs an action. A name that isn't bound raises NameError, and a second firing AlreadyCalledError; either leaves
-/// the world as it was.
+/// Performs an action. A name that isn't bound raises NameError, and a second firing AlreadyCalledError; either changes
+/// no Deferred. An action that isn't performed yet does nothing.
 #[tactic(auto, using(crate::proofs::Rules::action_rules))]
 pub fn act<'s>(
     alloc: Global,
@@ -128,7 +130,7 @@ pub fn act<'s>(
     ensures { IfOk result (λ performed. Gives (Act action.now) world.old performed world.new) }
 {
     match action {
-        Action::Deferred(name) => {
+        Action::Deferred(name, None) => {
             world.make(name.as_str())?;
             Ok(Performed::Done)
         }
@@ -143,5 +145,36 @@ pub fn act<'s>(
         Action::AddCallbacks(name, callback, errback) => {
             add(alloc, world, name.as_str(), Pair::both(callback, errback))
         }
+        Action::Note(text) => {
+            world.tell(Entry::Note(Text::of(alloc, text.as_str())?))?;
+            Ok(Performed::Done)
+        }
+        Action::Deferred(_, Some(_))
+        | Action::Chain(_, _)
+        | Action::Pause(_)
+        | Action::Unpause(_)
+        | Action::Cancel(_)
+        | Action::List(_, _, _)
+        | Action::Gather(_, _, _)
+        | Action::Maybe(_, _)
+        | Action::Lock(_)
+        | Action::Semaphore(_, _)
+        | Action::Acquire(_, _)
+        | Action::Release(_)
+        | Action::RunWith(_, _, _)
+        | Action::Queue(_, _, _)
+        | Action::Put(_, _)
+        | Action::Get(_, _)
+        | Action::Later(_, _, _)
+        | Action::CancelCall(_)
+        | Action::Loop(_, _, _, _, _)
+        | Action::StopLoop(_)
+        | Action::Cooperate(_, _)
+        | Action::WhenDone(_, _)
+        | Action::PauseTask(_)
+        | Action::StopTask(_)
+        | Action::ResumeTask(_)
+        | Action::Inline(_, _)
+        | Action::Thread(_, _, _) => Ok(Performed::Done),
     }
 }
