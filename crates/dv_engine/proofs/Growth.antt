@@ -1,5 +1,5 @@
 -- How many Deferreds a task makes: an action makes one at most, and nothing else makes any.
-use Rattle.std.proofs.Common.{◌≡◌, ℕ, zero, suc, ◌+◌, ◌≤◌, Bool, true, false, cond, List, [], ◌∷◌, length, Option, None, Some, Result, slice_get, slice_set, refl, sym, ap, ◌∙◌, Ok, Err, arith, length-append}
+use Rattle.std.proofs.Common.{◌≡◌, ℕ, zero, suc, ◌+◌, ◌≤◌, Bool, true, false, cond, List, [], ◌∷◌, ◌++◌, length, Option, None, Some, Result, slice_get, slice_set, refl, sym, ap, ◌∙◌, Ok, Err, arith, length-append}
 use Rattle.std.proofs.lemmas.List.{length-set}
 use Rattle.dv_value.specs.Failure.{is_fault}
 use Rattle.dv_value.specs.declared.value.Value.{Value}
@@ -24,7 +24,7 @@ use Rattle.dv_engine.specs.Deed.{Deed, Idle, Write, Make, FireWith, AddTo, deed_
 use Rattle.dv_engine.specs.Meaning.{task_by, meaning, Gives, told_of}
 use Rattle.dv_engine.specs.Names.{number_of}
 use Rattle.dv_engine.specs.Pair.{Bodies, passes, side_for}
-use Rattle.dv_engine.specs.Perform.{settled_by, named_by, fire_by, add_by, do_by}
+use Rattle.dv_engine.specs.Perform.{settled_by, named_by, fire_by, add_by, made, do_by}
 use Rattle.dv_engine.specs.Task.{Task, Settle, Perform, Act, Answer, Meant, ◌>>=◌}
 use Rattle.dv_engine.specs.World.{World, Records, state_of, with_state, after, moved, named as named_after, fired as fired_after, step, put, append, make, fire, tell, value_of, unbound}
 use Rattle.dv_engine.specs.declared.performed.Performed.{Performed}
@@ -50,7 +50,7 @@ either f n true x y p q = p
 either f n false x y p q = q
 
 -- how many Deferreds a call on them leaves
-count : {A : Type 0} → Told A Bodies Body → ℕ
+abbrev count : {A : Type 0} → Told A Bodies Body → ℕ
 count told = length told.1.0
 
 -- a change of one record that is told makes none
@@ -150,6 +150,10 @@ make_makes_one name w =
     let left : count told ≤ length w.records + 1 = either_most count (length w.records + 1) (fits s.1 (entry.New (length s.0) (Some name))) _ _ made (omega arith) in
     either_most (λ (u : World). length u.records) (length w.records + 1) w.stopped _ _ (omega arith) (omega (arith, named_count name told.0 told.1 w, left))
 
+made_makes_one : (name : List ℕ) (canceller : Option Body) (w : World) → length (made name canceller w).records ≤ length w.records + 1
+made_makes_one name None w = make_makes_one name w
+made_makes_one name (Some canceller) w = omega arith
+
 told_makes_none : (p : Performed) (w : World) → length (told_of p w).records ≡ length w.records
 told_makes_none Done w = refl
 told_makes_none (Gave value) w = refl
@@ -206,7 +210,7 @@ module _ (go : Meant) (b : Bounded go) where
   does : (deed : Deed) (w : World) (o : Performed) (u : World) → do_by go deed w ≡ Some (o, u) → Grows 1 w u
   does Idle w o u h = omega (arith, same_answer Done o w u h)
   does (Write e) w o u h = omega (arith, tell_makes_none e w, same_answer Done o (tell e w) u h)
-  does (Make name) w o u h = omega (arith, make_makes_one name w, same_answer Done o (make name w) u h)
+  does (Make name canceller) w o u h = omega (arith, made_makes_one name canceller w, same_answer Done o (made name canceller w) u h)
   does (FireWith name value) w o u h = omega (arith, fires name value w o u h)
   does (AddTo name pair) w o u h = omega (arith, adds name pair w o u h)
 

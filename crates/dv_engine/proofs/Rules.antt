@@ -1,18 +1,21 @@
 -- More depth changes no answer, and the rules by which answers are put together.
-use Rattle.std.proofs.Common.{◌≡◌, ℕ, zero, suc, ◌+◌, List, Option, None, Some, refl, ap, sym, subst, zero-add, suc-add, add_comm}
+use Rattle.std.proofs.Common.{◌≡◌, ℕ, zero, suc, ◌+◌, List, Option, None, Some, refl, ap, sym, subst, ◌∙◌, zero-add, suc-add, add_comm}
 use Rattle.dv_value.specs.declared.value.Value.{Value}
 use Rattle.dv_value.specs.Failure.{is_fault}
 use Rattle.dv_journal.specs.declared.entry.Entry.{Entry}
-use Rattle.dv_script.specs.declared.action.Action.{Action, out-Action}
+use Rattle.dv_journal.specs.declared.entry.Entry.TheVariants as entry
+use Rattle.dv_script.specs.declared.action.Action.{Action, Deferred, Callback, Errback, AddCallback, AddErrback, AddBoth, AddCallbacks, Note, out-Action}
+use Rattle.dv_script.specs.declared.action.Action.TheViews.{outs-Deferred, outs-Callback, outs-Errback, outs-AddCallback, outs-AddErrback, outs-AddBoth, outs-AddCallbacks, outs-Note}
 use Rattle.dv_script.specs.declared.body.Body.{Body}
 use Rattle.dv_store.specs.declared.store.Step.{Step}
 use Rattle.dv_store.specs.declared.store.Step.TheVariants.{Nothing, Passed, Run}
 use Rattle.dv_engine.specs.Callbacks.{run_by, settle_by}
 use Rattle.dv_engine.specs.Deed.{Deed, Idle, Write, Make, FireWith, AddTo, deed_of}
+use Rattle.dv_engine.specs.Ending.{fault}
 use Rattle.dv_engine.specs.Meaning.{task_by, meaning, Gives, Fires, Adds}
 use Rattle.dv_engine.specs.Names.{number_of}
 use Rattle.dv_engine.specs.Pair.{Bodies, side_for}
-use Rattle.dv_engine.specs.Perform.{settled_by, named_by, fire_by, add_by, do_by, act_by}
+use Rattle.dv_engine.specs.Perform.{settled_by, named_by, fire_by, add_by, made, do_by, act_by}
 use Rattle.dv_engine.specs.Settling.{side_gives}
 use Rattle.dv_engine.specs.Task.{Task, Settle, Perform, Act, Answer, Meant, ◌>>=◌}
 use Rattle.dv_engine.specs.World.{World, step, put, append, make, fire, tell, value_of, unbound}
@@ -60,7 +63,7 @@ module _ (f g : Meant) (e : Extends f g) where
   do_extends : (deed : Deed) (w : World) (r : Ended) → do_by f deed w ≡ Some r → do_by g deed w ≡ Some r
   do_extends Idle w r h = h
   do_extends (Write entry) w r h = h
-  do_extends (Make name) w r h = h
+  do_extends (Make name canceller) w r h = h
   do_extends (FireWith name value) w r h = fire_extends name value w r h
   do_extends (AddTo name pair) w r h = add_extends name pair w r h
 
@@ -161,8 +164,8 @@ act_idle {action} {w} h = one_level 0 (Act action) w Done w (rw h refl)
 pub act_write : {action : Action} {entry : Entry} {w u : World} → deed_of (out-Action action) ≡ Write entry → u ≡ tell entry w → Gives (Act action) w Done u
 act_write {action} {entry} {w} {u} h e = one_level 0 (Act action) w Done u (rw (h, e) refl)
 
-pub act_make : {action : Action} {name : List ℕ} {w u : World} → deed_of (out-Action action) ≡ Make name → u ≡ make name w → Gives (Act action) w Done u
-act_make {action} {name} {w} {u} h e = one_level 0 (Act action) w Done u (rw (h, e) refl)
+pub act_make : {action : Action} {name : List ℕ} {canceller : Option Body} {w u : World} → deed_of (out-Action action) ≡ Make name canceller → u ≡ made name canceller w → Gives (Act action) w Done u
+act_make {action} {name} {canceller} {w} {u} h e = one_level 0 (Act action) w Done u (rw (h, e) refl)
 
 pub act_fire : {action : Action} {name : List ℕ} {value : Value} {w : World} {p : Performed} {u : World} → deed_of (out-Action action) ≡ FireWith name value → Fires name value w p u → Gives (Act action) w p u
 act_fire {action} {name} {value} {w} {p} {u} h f = one_level f.depth (Act action) w p u (rw h f.ends)
@@ -170,8 +173,37 @@ act_fire {action} {name} {value} {w} {p} {u} h f = one_level f.depth (Act action
 pub act_add : {action : Action} {name : List ℕ} {pair : Bodies} {w : World} {p : Performed} {u : World} → deed_of (out-Action action) ≡ AddTo name pair → Adds name pair w p u → Gives (Act action) w p u
 act_add {action} {name} {pair} {w} {p} {u} h f = one_level f.depth (Act action) w p u (rw h f.ends)
 
+deed_at : (action made : Action) (deed : Deed) → action ≡ made → deed_of (out-Action made) ≡ deed → deed_of (out-Action action) ≡ deed
+deed_at action made deed h e = ap (λ a. deed_of (out-Action a)) h ∙ e
+
+pub act_deferred : {action : Action} {name : List ℕ} (canceller : Option Body) {w u : World} → action ≡ Deferred name canceller → u ≡ made name canceller w → Gives (Act action) w Done u
+act_deferred {action} {name} canceller h e = act_make (deed_at action (Deferred name canceller) _ h (ap deed_of (outs-Deferred name canceller))) e
+
+pub act_callback : {action : Action} {name : List ℕ} {value : Value} {w : World} {p : Performed} {u : World} → action ≡ Callback name value → Fires name value w p u → Gives (Act action) w p u
+act_callback {action} {name} {value} h f = act_fire (deed_at action (Callback name value) _ h (ap deed_of (outs-Callback name value))) f
+
+pub act_errback : {action : Action} {name : List ℕ} {class : ℕ} {message : List ℕ} {value : Value} {w : World} {p : Performed} {u : World} → action ≡ Errback name class message → value ≡ fault class message
+    → Fires name value w p u → Gives (Act action) w p u
+act_errback {action} {name} {class} {message} h e f = act_fire (deed_at action (Errback name class message) (FireWith name (fault class message)) h (ap deed_of (outs-Errback name class message)) ∙ ap (FireWith name) (sym e)) f
+
+pub act_add_callback : {action : Action} {name : List ℕ} {body : Body} {w : World} {p : Performed} {u : World} → action ≡ AddCallback name body → Adds name (record { callback = Some body; errback = None }) w p u → Gives (Act action) w p u
+act_add_callback {action} {name} {body} h f = act_add (deed_at action (AddCallback name body) _ h (ap deed_of (outs-AddCallback name body))) f
+
+pub act_add_errback : {action : Action} {name : List ℕ} {body : Body} {w : World} {p : Performed} {u : World} → action ≡ AddErrback name body → Adds name (record { callback = None; errback = Some body }) w p u → Gives (Act action) w p u
+act_add_errback {action} {name} {body} h f = act_add (deed_at action (AddErrback name body) _ h (ap deed_of (outs-AddErrback name body))) f
+
+pub act_add_both : {action : Action} {name : List ℕ} {body : Body} {w : World} {p : Performed} {u : World} → action ≡ AddBoth name body → Adds name (record { callback = Some body; errback = Some body }) w p u → Gives (Act action) w p u
+act_add_both {action} {name} {body} h f = act_add (deed_at action (AddBoth name body) _ h (ap deed_of (outs-AddBoth name body))) f
+
+pub act_add_callbacks : {action : Action} {name : List ℕ} {callback errback : Body} {w : World} {p : Performed} {u : World} → action ≡ AddCallbacks name callback errback
+    → Adds name (record { callback = Some callback; errback = Some errback }) w p u → Gives (Act action) w p u
+act_add_callbacks {action} {name} {callback} {errback} h f = act_add (deed_at action (AddCallbacks name callback errback) _ h (ap deed_of (outs-AddCallbacks name callback errback))) f
+
+pub act_note : {action : Action} {text : List ℕ} {w u : World} → action ≡ Note text → u ≡ tell (entry.Note text) w → Gives (Act action) w Done u
+act_note {action} {text} h e = act_write (deed_at action (Note text) _ h (ap deed_of (outs-Note text))) e
+
 pub ruleset settling_rules = (settle_nothing, settle_passed, settle_run)
 
 pub ruleset named_rules = (fires_unbound, fires_settled, fires_refused, adds_unbound, adds_settled)
 
-pub ruleset action_rules = (act_idle, act_write, act_make, act_fire, act_add)
+pub ruleset action_rules = (act_deferred, act_callback, act_errback, act_add_callback, act_add_errback, act_add_both, act_add_callbacks, act_note)

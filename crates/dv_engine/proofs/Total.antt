@@ -15,6 +15,7 @@ use Rattle.dv_engine.specs.Laws.{EveryTaskEnds, EachTaskHasOneResult, EveryScrip
 use Rattle.dv_engine.specs.Meaning.{Gives, Fires, Adds, told_of, Happens, Runs}
 use Rattle.dv_engine.specs.Names.{number_of}
 use Rattle.dv_engine.specs.Pair.{Bodies, side_for}
+use Rattle.dv_engine.specs.Perform.{made}
 use Rattle.dv_engine.specs.Settling.{side_gives}
 use Rattle.dv_engine.specs.Task.{Task, Settle, Perform, Act}
 use Rattle.dv_engine.specs.World.{World, step, put, append, make, fire, tell, value_of, unbound, first_world}
@@ -63,7 +64,7 @@ add_ends name pair w (Some d) h = let r = settle_ends d (append d pair w) in (r.
 deed_ends : (action : Action) (deed : Deed) (w : World) → deed_of (out-Action action) ≡ deed → Ends (Act action) w
 deed_ends action Idle w h = (Done, w, act_idle h)
 deed_ends action (Write entry) w h = (Done, tell entry w, act_write h refl)
-deed_ends action (Make name) w h = (Done, make name w, act_make h refl)
+deed_ends action (Make name canceller) w h = (Done, made name canceller w, act_make h refl)
 deed_ends action (FireWith name value) w h = let r = fire_ends name value w _ refl in (r.0, r.1, act_fire h r.2)
 deed_ends action (AddTo name pair) w h = let r = add_ends name pair w _ refl in (r.0, r.1, act_add h r.2)
 

@@ -11,7 +11,7 @@ use Rattle.dv_journal.specs.Journal.{fits, with_entry}
 use Rattle.dv_journal.specs.declared.entry.Entry.TheVariants as entry
 use Rattle.dv_journal.specs.declared.error.Stop.{Stop}
 use Rattle.dv_journal.specs.declared.error.Stop.TheVariants.{Limit}
-use Rattle.dv_store.specs.Telling.{State}
+use Rattle.dv_store.specs.Telling.{State, Told}
 use Rattle.dv_store.specs.declared.record.Record.{Record}
 use Rattle.dv_store.specs.declared.store.Step.{Step}
 use Rattle.dv_store.specs.declared.store.Step.TheVariants.{Nothing, Passed, Run}
@@ -50,11 +50,14 @@ record_set d value r rs h =
     let changed = callbacks.with_result value r in
     omega (arith, sum_by-set (λ (s : Record Bodies Body). length s.items) rs d changed r (slice_get_within rs d r h), ap (λ (s : Record Bodies Body). length s.items) (get_or_from_slice_get rs d r r h))
 
+either_keeps : (n : ℕ) (b : Bool) (x y : Told Unit Bodies Body) → unused_pairs x.1.0 ≡ n → unused_pairs y.1.0 ≡ n → unused_pairs (cond {A = Told Unit Bodies Body} b x y).1.0 ≡ n
+either_keeps n true x y p q = p
+either_keeps n false x y p q = q
+
 put_found_keeps : (d : ℕ) (value : Value) (o : Option (Record Bodies Body)) (s : State Bodies Body) → slice_get s.0 d ≡ o → unused_pairs (callbacks.put_found d value o s).1.0 ≡ unused_pairs s.0
 put_found_keeps d value None s h = refl
 put_found_keeps d value (Some r) s h =
-    elim (fits s.1 (entry.Set d value)) as (λ b. unused_pairs (cond b (Ok tt, (slice_set s.0 d (callbacks.with_result value r), with_entry s.1 (entry.Set d value))) (Err Limit, s)).1.0 ≡ unused_pairs s.0)
-    [ true ↦ record_set d value r s.0 h | false ↦ refl ]
+    either_keeps (unused_pairs s.0) (fits s.1 (entry.Set d value)) (Ok tt, (slice_set s.0 d (callbacks.with_result value r), with_entry s.1 (entry.Set d value))) (Err Limit, s) (record_set d value r s.0 h) refl
 
 after_keeps : (answer : Result Unit Stop) (s : State Bodies Body) (w : World) → unused_pairs (after answer s w).records ≡ unused_pairs s.0
 after_keeps (Ok done) s w = refl

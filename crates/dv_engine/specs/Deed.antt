@@ -1,18 +1,12 @@
 -- What each action comes to (Twisted: the methods of `Deferred`). An action that isn't performed yet comes to nothing.
-use Rattle.std.specs.Prelude.{ℕ, Bool, true, false, ◌&&◌, List, [], ◌∷◌, Option, None, Some}
-use Rattle.std.specs.List.{list_all}
+use Rattle.std.specs.Prelude.{ℕ, List, Option, None, Some}
 use Rattle.dv_value.specs.declared.value.Value.{Value}
 use Rattle.dv_journal.specs.declared.entry.Entry.{Entry}
 use Rattle.dv_journal.specs.declared.entry.Entry.TheVariants as entry
-use Rattle.dv_script.specs.declared.action.Action.{Action, out-Action}
+use Rattle.dv_script.specs.declared.action.Action.{Action}
 use Rattle.dv_script.specs.declared.action.Action.TheOpen.{Action-F}
-use Rattle.dv_script.specs.declared.body.Body.{Body, out-Body}
-use Rattle.dv_script.specs.declared.body.End.{End}
-use Rattle.dv_script.specs.declared.body.End.TheVariants.{Return, Pass, Plus, Raise, Trap, Wait}
+use Rattle.dv_script.specs.declared.body.Body.{Body}
 use Rattle.dv_script.specs.declared.body.Statement.{Statement}
-use Rattle.dv_script.specs.declared.event.Event.{Event}
-use Rattle.dv_script.specs.declared.event.Event.TheVariants as event
-use Rattle.dv_script.specs.declared.script.Script.{Script}
 use Rattle.dv_engine.specs.Ending.{fault}
 use Rattle.dv_engine.specs.Pair.{Bodies}
 
@@ -20,18 +14,13 @@ use Rattle.dv_engine.specs.Pair.{Bodies}
 pub data Deed : Type 0 where
   Idle : Deed
   Write : (entry : Entry) → Deed
-  Make : (name : List ℕ) → Deed
+  Make : (name : List ℕ) (canceller : Option Body) → Deed
   FireWith : (name : List ℕ) (value : Value) → Deed
   AddTo : (name : List ℕ) (pair : Bodies) → Deed
 
--- a Deferred is made; with a canceller it isn't yet
-abbrev pub make_deed : List ℕ → Option Body → Deed
-make_deed name None = Make name
-make_deed name (Some canceller) = Idle
-
 -- what an action comes to; a pair of `addBoth` has the same body on both sides
 abbrev pub deed_of : Action-F Action Statement Body → Deed
-deed_of (Action-F.Deferred name canceller) = make_deed name canceller
+deed_of (Action-F.Deferred name canceller) = Make name canceller
 deed_of (Action-F.Callback name value) = FireWith name value
 deed_of (Action-F.Errback name class message) = FireWith name (fault class message)
 deed_of (Action-F.AddCallback name body) = AddTo name (record { callback = Some body; errback = None })

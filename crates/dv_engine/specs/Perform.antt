@@ -36,11 +36,16 @@ fire_by go name value w = named_by (number_of name w.names) name w (λ d. settle
 abbrev pub add_by : Meant → List ℕ → Bodies → World → Answer
 add_by go name pair w = named_by (number_of name w.names) name w (λ d. go (Settle d) (append d pair w))
 
+-- a Deferred is made; one with a canceller isn't yet
+abbrev pub made : List ℕ → Option Body → World → World
+made name None w = make name w
+made name (Some canceller) w = w
+
 -- a deed by its rule
 abbrev pub do_by : Meant → Deed → World → Answer
 do_by go Idle w = Some (Done, w)
 do_by go (Write entry) w = Some (Done, tell entry w)
-do_by go (Make name) w = Some (Done, make name w)
+do_by go (Make name canceller) w = Some (Done, made name canceller w)
 do_by go (FireWith name value) w = fire_by go name value w
 do_by go (AddTo name pair) w = add_by go name pair w
 

@@ -38,7 +38,8 @@ performs_side (Some body) = performs_body body
 abbrev pub performs_deed : Deed → Bool
 performs_deed Idle = false
 performs_deed (Write entry) = true
-performs_deed (Make name) = true
+performs_deed (Make name None) = true
+performs_deed (Make name (Some canceller)) = false
 performs_deed (FireWith name value) = true
 performs_deed (AddTo name pair) = performs_side pair.callback && performs_side pair.errback
 

@@ -1,8 +1,11 @@
 ghost use Rattle.std.specs.Prelude.{◌≡◌, ◌<◌, ◌^◌, ◌-◌, length, IfOk, OnOk};
 ghost use Rattle.std.specs.Option.{option_copied};
 ghost use Rattle.dv_value.specs.Failure.{is_fault};
+ghost use Rattle.dv_script.specs.declared.action.Action.{out-Action};
+ghost use Rattle.dv_engine.specs.Deed.{Idle, deed_of};
 ghost use Rattle.dv_engine.specs.Meaning.{Gives, Fires, Adds};
 ghost use Rattle.dv_engine.specs.Pair.{side_for};
+ghost use Rattle.dv_engine.specs.Perform.{made};
 ghost use Rattle.dv_engine.specs.Settling.{side_gives};
 ghost use Rattle.dv_engine.specs.Task.{Settle, Act};
 ghost use Rattle.dv_engine.specs.World.{value_of};
@@ -118,6 +121,21 @@ fn add<'s>(
     Ok(Performed::Done)
 }
 
+/// Makes a Deferred (Twisted: `Deferred`). One with a canceller isn't made yet.
+fn make<'s>(
+    world: &mut World<'s>,
+    name: &str,
+    canceller: &Option<Body>,
+) -> Result<(), AllocError>
+    requires room { length world.old.records < 2 ^ 32 - 1 }
+    ensures { OnOk result (world.new ≡ made name.now canceller.now world.old) }
+{
+    match canceller {
+        None => world.make(name),
+        Some(_) => Ok(()),
+    }
+}
+
 /// Performs an action. A name that isn't bound raises NameError, and a second firing AlreadyCalledError; either changes
 /// no Deferred. An action that isn't performed yet does nothing.
 #[tactic(auto, using(crate::proofs::Rules::action_rules))]
@@ -130,8 +148,8 @@ pub fn act<'s>(
     ensures { IfOk result (λ performed. Gives (Act action.now) world.old performed world.new) }
 {
     match action {
-        Action::Deferred(name, None) => {
-            world.make(name.as_str())?;
+        Action::Deferred(name, canceller) => {
+            make(world, name.as_str(), canceller)?;
             Ok(Performed::Done)
         }
         Action::Callback(name, value) => fire(alloc, world, name.as_str(), value.copy(alloc)?),
@@ -149,8 +167,7 @@ pub fn act<'s>(
             world.tell(Entry::Note(Text::of(alloc, text.as_str())?))?;
             Ok(Performed::Done)
         }
-        Action::Deferred(_, Some(_))
-        | Action::Chain(_, _)
+        Action::Chain(_, _)
         | Action::Pause(_)
         | Action::Unpause(_)
         | Action::Cancel(_)
@@ -175,6 +192,15 @@ pub fn act<'s>(
         | Action::StopTask(_)
         | Action::ResumeTask(_)
         | Action::Inline(_, _)
-        | Action::Thread(_, _, _) => Ok(Performed::Done),
+        | Action::Thread(_, _, _) => Ok(idle(world, action)),
     }
+}
+
+/// What an action comes to that isn't performed yet.
+#[tactic(auto, using(crate::proofs::Rules::act_idle))]
+fn idle<'s>(_world: &World<'s>, _action: &Action) -> Performed
+    requires idle { deed_of (out-Action _action.now) ≡ Idle }
+    ensures { Gives (Act _action.now) _world.now result _world.now }
+{
+    Performed::Done
 }

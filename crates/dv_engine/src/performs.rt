@@ -79,11 +79,22 @@ fn posts_nothing(posts: &Items<Body>) -> bool
     posts.as_slice().is_empty()
 }
 
+fn post_nothing(callers: &[Items<Body>]) -> bool
+    ensures { result ≡ list_all is_empty callers.now }
+{
+    callers.iter().all(posts_nothing)
+}
+
+fn are_performed(events: &[Event]) -> bool
+    ensures { result ≡ list_all performs_event events.now }
+{
+    events.iter().all(performs_event)
+}
+
 /// Whether a script uses only what is performed: its events are actions among those of `Action` that make, fire and
 /// add to Deferreds, and notes; its bodies have no actions and don't wait, and nothing is posted. It takes no memory.
 pub fn performs(script: &Script) -> bool
     ensures { result ≡ performs script.now }
 {
-    script.callers.as_slice().iter().all(posts_nothing)
-        && script.events.as_slice().iter().all(performs_event)
+    post_nothing(script.callers.as_slice()) && are_performed(script.events.as_slice())
 }
