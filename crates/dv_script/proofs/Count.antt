@@ -4,7 +4,6 @@ use Rattle.std.specs.Ordering.{match_ordering}
 use Rattle.std.specs.Cmp.Lexicographic.{slice_cmp}
 use Rattle.serde_json.specs.Data.{Data, null, boolean, number, string, array, object, Items, no_items, item, Members, no_members, member}
 use Rattle.serde_json.specs.Find.{get_member}
-use Rattle.dv_script.specs.declared.event.Event.{Event}
 use Rattle.dv_script.specs.declared.draft.Draft.{Draft}
 use Rattle.dv_script.specs.Forms.{Each, IsList, Key}
 use Rattle.dv_script.specs.Grammar.{IsEvent, IsScript}

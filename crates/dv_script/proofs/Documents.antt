@@ -1,5 +1,5 @@
 -- What documents say.
-use Rattle.std.proofs.Common.{◌≡◌, ℕ, ◌≤◌, ◌<◌, Bool, true, false, List, Option, Some, None, refl, sym, ap, subst, ◌∙◌, ◌⊎◌, inl, inr, arith}
+use Rattle.std.proofs.Common.{◌≡◌, ℕ, Bool, true, false, List, Option, Some, None, refl, sym, ap, subst, ◌∙◌, ◌⊎◌, inl, inr, arith}
 use Rattle.serde_json.specs.Data.{Data}
 use Rattle.serde_json.proofs.Nesting.{depth-read}
 use Rattle.dv_script.specs.declared.script.Script.{Script}

@@ -1,5 +1,5 @@
 -- What is read is in the grammar.
-use Rattle.std.proofs.Common.{◌≡◌, ◌^◌, ℕ, zero, suc, ◌≤◌, ℤ, Bool, true, false, ◌&&◌, nat_le, cond, List, [], ◌∷◌, Option, Some, None, option_and_then, option_map, bytes_eq, refl, sym, ap, ◌∙◌, codes, ◌⊎◌, inl, inr}
+use Rattle.std.proofs.Common.{◌≡◌, ◌^◌, ℕ, zero, suc, ◌≤◌, ℤ, Bool, true, false, ◌&&◌, nat_le, cond, List, [], ◌∷◌, Option, Some, None, option_and_then, bytes_eq, refl, sym, ap, ◌∙◌, codes, ◌⊎◌, inl, inr}
 use Rattle.std.specs.Prelude.{⊤}
 use Rattle.std.proofs.lemmas.Slice.Eq.{bytes_eq-Decides}
 use Rattle.std.proofs.lemmas.Bool.{leb-true}
@@ -18,7 +18,7 @@ use Rattle.dv_script.specs.declared.action.ListFlag.{ListFlag}
 use Rattle.dv_script.specs.declared.action.ListFlag.TheVariants as flag
 use Rattle.dv_script.specs.declared.action.GatherFlag.{GatherFlag}
 use Rattle.dv_script.specs.declared.action.GatherFlag.TheVariants as gather_flag
-use Rattle.dv_script.specs.declared.action.Action.{Action, Deferred, Callback, Errback, AddCallback, AddErrback, AddBoth, AddCallbacks, Chain, Pause, Unpause, Cancel, Note, List as ListOf, Gather, Maybe, Lock, Semaphore, Acquire, Release, RunWith, Queue, Put, Get, Later, CancelCall, Loop, StopLoop, Cooperate, WhenDone, PauseTask, StopTask, ResumeTask, Inline, Thread}
+use Rattle.dv_script.specs.declared.action.Action.{Action, Deferred, Callback, Errback, AddCallback, AddErrback, AddBoth, AddCallbacks, Chain, Pause, Unpause, Cancel, Note, List as ListOf, Gather, Maybe, Lock, Semaphore, Acquire, Release, RunWith, Queue, Put, Get, Later, CancelCall, StopLoop, Cooperate, WhenDone, PauseTask, StopTask, ResumeTask, Inline, Thread}
 use Rattle.dv_script.specs.declared.event.Event.{Event}
 use Rattle.dv_script.specs.declared.event.Event.TheVariants as happens
 use Rattle.dv_script.specs.declared.script.Cooperator.{Cooperator}
@@ -44,7 +44,7 @@ use Rattle.dv_script.specs.Words.{action_word, event_word, end_word, statement_w
 use Rattle.dv_script.specs.Forms.{call, Each, IsList, Field, Key, has_only, IsText, IsInteger, IsNumber, IsClass, IsValue, a_null, a_bool, an_int, a_text, a_list, AreValues, no_values, more_values}
 use Rattle.dv_script.specs.Table.{table_of}
 use Rattle.dv_script.specs.Grammar.{body_keys, cooperator_keys, script_keys, may_leave, plain_cooperator, IsEnd, returns, passes, adds, raises, traps, waits, IsWork, gives, fails, sums, IsListFlag, fires_on_callback, fires_on_errback, consumes_errors, IsGatherFlag, gathers_errors, IsBound, no_bound, a_bound, IsAction, deferred, deferred_with, callback, errback, add_callback, add_errback, add_both, add_callbacks, chain, pause, unpause, cancel, note, list, gather, maybe, lock, semaphore, acquire, release, run_with, queue, put, get, later, cancel_call, loop, stop_loop, cooperate, when_done, pause_task, stop_task, resume_task, inline, thread, AreActions, no_actions, more_actions, IsDo, does_nothing, does, IsBody, body, AreBodies, no_bodies, more_bodies, IsStatement, performs, awaits, tries, leaves, AreStatements, no_statements, more_statements, IsEvent, acts, advances, drains, IsDeclaration, declares, IsCooperator, IsScript}
-use Rattle.dv_script.specs.Shape.{value_at, values_at, each, list_at, text_at, integer_at, number_at, within, bound_at, class_at, list_flag, list_flag_at, gather_flag_named, gather_flag_at, call_at, none, first, if_any, one, one_or_two, two, three, five, one_of, two_of, three_of, fields_at, field, if_there, end_at, end_of, leave_at, work_at, work_of, Readers, action_with, action_by, action_of, deferred_of, object_of, task_of, body_by, statement_by, statement_of, readers, body_at, statement_at, action_at, event_by, event_at, event_of, other_event, declaration_at, cooperator_at, caller_at, table_for, script_at}
+use Rattle.dv_script.specs.Shape.{value_at, values_at, each, list_at, text_at, integer_at, number_at, within, bound_at, class_at, list_flag_at, gather_flag_at, call_at, none, first, if_any, one, one_or_two, two, three, five, one_of, two_of, three_of, fields_at, field, if_there, end_at, end_of, leave_at, work_at, work_of, Readers, action_with, action_by, action_of, deferred_of, object_of, task_of, body_by, statement_by, statement_of, readers, body_at, action_at, event_by, event_at, event_of, other_event, declaration_at, cooperator_at, caller_at, table_for, script_at}
 use Rattle.dv_script.proofs.Steps.{some_injective, bind, mapped, chosen}
 use Rattle.dv_script.proofs.WordsLemmas.{deferred_text, object_text, task_text, action_text, action_word_is, event_text, event_word_is, end_text, end_word_is, statement_text, statement_word_is, work_text, work_word_is}
 

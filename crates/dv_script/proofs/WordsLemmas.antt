@@ -1,5 +1,5 @@
 -- A word that is found is the text that it is found by.
-use Rattle.std.proofs.Common.{◌≡◌, ℕ, Bool, true, cond, List, Option, Some, None, option_map, bytes_eq, refl, sym, ap, ◌∙◌, codes, ◌⊎◌, inl, inr}
+use Rattle.std.proofs.Common.{◌≡◌, ℕ, cond, List, Option, Some, None, bytes_eq, refl, sym, ap, ◌∙◌, codes, inl, inr}
 use Rattle.std.proofs.lemmas.Slice.Eq.{bytes_eq-Decides}
 use Rattle.dv_script.specs.declared.words.DeferredWord.{DeferredWord}
 use Rattle.dv_script.specs.declared.words.DeferredWord.TheVariants as deferred

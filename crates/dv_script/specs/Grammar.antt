@@ -18,10 +18,9 @@ use Rattle.dv_script.specs.declared.action.Action.{Action, Deferred, Callback, E
 use Rattle.dv_script.specs.declared.event.Event.{Event}
 use Rattle.dv_script.specs.declared.event.Event.TheVariants as event
 use Rattle.dv_script.specs.declared.script.Cooperator.{Cooperator}
-use Rattle.dv_script.specs.declared.script.Script.{Script}
 use Rattle.dv_script.specs.declared.draft.Declaration.{Declaration}
 use Rattle.dv_script.specs.declared.draft.Draft.{Draft}
-use Rattle.dv_script.specs.Forms.{call, Each, IsList, Field, Key, has_only, IsText, IsInteger, IsNumber, place_of, IsClass, IsValue}
+use Rattle.dv_script.specs.Forms.{call, IsList, Field, Key, has_only, IsText, IsInteger, IsNumber, IsClass, IsValue}
 use Rattle.dv_script.specs.Table.{table_of, all_declared}
 
 -- the keys of a body

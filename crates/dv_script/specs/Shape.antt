@@ -19,7 +19,6 @@ use Rattle.dv_script.specs.declared.action.Action.{Action, Deferred, Callback, E
 use Rattle.dv_script.specs.declared.event.Event.{Event}
 use Rattle.dv_script.specs.declared.event.Event.TheVariants as happens
 use Rattle.dv_script.specs.declared.script.Cooperator.{Cooperator}
-use Rattle.dv_script.specs.declared.script.Script.{Script}
 use Rattle.dv_script.specs.declared.draft.Declaration.{Declaration}
 use Rattle.dv_script.specs.declared.draft.Draft.{Draft}
 use Rattle.dv_script.specs.declared.words.DeferredWord.{DeferredWord}

@@ -256,7 +256,10 @@ fn a_deque_gives_the_items_in_the_order_that_they_came(rt: HostRuntime) -> Resul
 fn a_class_is_declared_once_and_under_one_that_is_there(rt: HostRuntime) -> Result<(), Fail> {
     let mut classes = Classes::builtin(rt.alloc())?;
     let count = classes.count();
-    assert_eq!(rt; classes.declare("ValueError", "Exception"), Err(ClassFault::Taken));
+    assert_eq!(rt;
+        classes.declare("ValueError", "Exception"),
+        Err(ClassFault::Taken)
+    );
     assert_eq!(rt; classes.declare("ValueError", "B"), Err(ClassFault::Taken));
     assert_eq!(rt; classes.declare("A", "B"), Err(ClassFault::NoParent));
     assert_eq!(rt; classes.declare("A", "A"), Err(ClassFault::NoParent));
