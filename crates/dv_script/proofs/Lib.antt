@@ -1,0 +1,8 @@
+pub mod Answers
+pub mod Complete
+pub mod Count
+pub mod Documents
+pub mod Sound
+pub mod Steps
+pub mod Version
+pub mod WordsLemmas
