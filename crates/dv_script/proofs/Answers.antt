@@ -1,5 +1,5 @@
 -- What the passes answer is what the bytes say.
-use Rattle.std.proofs.Common.{◌≡◌, ℕ, ◌≤◌, List, length, Some, None, Result, Ok, Err, IfOk, IfErr, Bool, true, false, ◌&&◌, refl, sym, ap, arith}
+use Rattle.std.proofs.Common.{◌≡◌, ℕ, ◌≤◌, List, length, Option, Some, None, Result, Ok, Err, IfOk, IfErr, Bool, true, false, ◌&&◌, refl, sym, ap, arith}
 use Rattle.serde_json.specs.Data.{Data}
 use Rattle.std.proofs.lemmas.Bool.{leb-true}
 use Rattle.serde_json.proofs.Nesting.{depth-read}
@@ -7,7 +7,8 @@ use Rattle.dv_script.specs.declared.draft.Draft.{Draft}
 use Rattle.dv_script.specs.declared.script.Script.{Script}
 use Rattle.dv_script.specs.declared.error.ScriptFault.{ScriptFault}
 use Rattle.dv_script.specs.declared.error.ScriptFault.TheVariants.{TooLong, NotJson, BadVersion, BadShape, TooMany, BadName, BadClass, OutOfMemory}
-use Rattle.dv_script.specs.Limits.{most_nodes, nodes}
+use Rattle.dv_script.specs.Forms.{Field, IsNumber}
+use Rattle.dv_script.specs.Limits.{most_nodes, most_limit, nodes}
 use Rattle.dv_script.specs.Refusal.{IsDocument, IsMisshapen, HasShape, Says, Refuses}
 use Rattle.dv_script.specs.Shape.{script_at}
 use Rattle.dv_script.specs.Passes.{JudgedIn, Passes, is_version}
@@ -69,3 +70,14 @@ few bytes (Ok s) h =
     let few_nodes : nodes h.0 ≤ most_nodes = leb-true (nodes h.0) most_nodes (first_of _ _ (first_of _ _ (first_of _ _ (first_of _ _ j.4)))) in
     omega (arith, same, few_events, few_nodes)
 few bytes (Err fault) h = tt
+
+limited_field : (o : Option Data) (n : ℕ) → Field 2000 (IsNumber 0 most_limit) o n → n ≤ most_limit
+limited_field None n h = omega (arith, h)
+limited_field (Some d) n h = h.2
+
+pub limited : (bytes : List ℕ) (r : Result Script ScriptFault) → Passes bytes r → IfOk r (λ s. s.limit ≤ most_limit)
+limited bytes (Ok s) h =
+    let j = h.4 in
+    let same : s.limit ≡ j.0.script.limit = ap (λ (x : Script). x.limit) (sym j.3) in
+    omega (arith, same, limited_field _ j.0.script.limit (sound_script h.0 j.0 j.2).limit)
+limited bytes (Err fault) h = tt

@@ -16,6 +16,10 @@ most_bytes = 2 ^ 20
 abbrev pub most_nodes : ℕ
 most_nodes = 65536
 
+-- the most that a script may let its journal weigh
+abbrev pub most_limit : ℕ
+most_limit = 200000
+
 -- the most callers of a script
 abbrev pub most_callers : ℕ
 most_callers = 8
