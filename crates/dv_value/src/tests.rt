@@ -291,3 +291,18 @@ fn a_refused_declaration_prints_its_number_and_its_name(rt: HostRuntime) -> Resu
     }
     Ok(())
 }
+
+#[test]
+fn what_is_dropped_at_the_back_came_last(rt: HostRuntime) -> Result<(), Fail> {
+    let mut deque = Deque::new(rt.alloc());
+    deque.drop_back();
+    assert!(rt; deque.is_empty(), "none");
+    for number in 0..3u8 {
+        deque.push_back(number)?;
+    }
+    deque.drop_back();
+    assert_eq!(rt; deque.pop_front(), Some(0));
+    assert_eq!(rt; deque.pop_front(), Some(1));
+    assert!(rt; deque.is_empty(), "two");
+    Ok(())
+}
