@@ -122,6 +122,7 @@ depth-get_member key (member k c ms) d e = elim (picked (slice_cmp nat_cmp key k
 
 mutual
   unfolding action_by action_of deferred_of object_of task_of call_at none first if_any one one_or_two two three five readers body_by fields_at statement_by statement_of leave_at
+
   complete_action : (table : List Class) {d : Data} {a : Action} (n : ℕ) → IsAction table d a → depth d ≤ n → action_at table n d ≡ Some a
   complete_action table n (deferred name) h = refl
   complete_action table n (deferred_with name d canceller g) h = rw (complete_body table n g (omega (arith, h))) refl
@@ -171,8 +172,9 @@ mutual
   complete_body table zero (body ms xs e only g l) h = absurd (omega (arith, h))
   complete_body table (suc n) (body ms xs e only g l) h =
       rw only (rw (
-      complete_do table n (get_member (codes "do") ms) g (λ d k. let below : depth d ≤ members_depth ms = depth-get_member (codes "do") ms d k in omega (arith, h, below)),
-      complete_field Pass e (IsEnd table) (end_at table) (complete_end table) (get_member (codes "end") ms) l) refl)
+        complete_do table n (get_member (codes "do") ms) g (λ d k. let below : depth d ≤ members_depth ms = depth-get_member (codes "do") ms d k in omega (arith, h, below)),
+        complete_field Pass e (IsEnd table) (end_at table) (complete_end table) (get_member (codes "end") ms) l,
+      ) refl)
 
   complete_bodies : (table : List Class) {ds : Items} {xs : List Body} (n : ℕ) → AreBodies table ds xs → items_depth ds ≤ n → each (body_at table n) ds ≡ Some xs
   complete_bodies table n no_bodies h = refl
@@ -226,8 +228,9 @@ complete_cooperator : (d : Data) (c : Cooperator) → IsCooperator d c → coope
 unfolding cooperator_at fields_at
 complete_cooperator d c h =
     rw h.whole (rw h.only (rw (
-    complete_key c.units (IsNumber 1 1000) (number_at 1 1000) (complete_number 1 1000) (get_member (codes "units") h.members) h.units,
-    complete_key c.delay (IsNumber 1 (10 ^ 12)) (number_at 1 (10 ^ 12)) (complete_number 1 (10 ^ 12)) (get_member (codes "delay") h.members) h.delay) refl))
+      complete_key c.units (IsNumber 1 1000) (number_at 1 1000) (complete_number 1 1000) (get_member (codes "units") h.members) h.units,
+      complete_key c.delay (IsNumber 1 (10 ^ 12)) (number_at 1 (10 ^ 12)) (complete_number 1 (10 ^ 12)) (get_member (codes "delay") h.members) h.delay,
+    ) refl))
 
 complete_callers : (table : List Class) (ms : Members) (callers : List (List Body)) → members_depth ms ≤ max_depth
     → (o : Option Data) → ((d : Data) → o ≡ Some d → depth d ≤ max_depth) → Field [] (IsList (IsList (IsBody table))) o callers
@@ -254,13 +257,15 @@ unfolding script_at fields_at table_for
 complete_script d draft deep h =
     let inside : suc (members_depth h.members) ≤ max_depth = rw h.whole at deep in
     let within : (key : List ℕ) (e : Data) → get_member key h.members ≡ Some e → depth e ≤ max_depth =
-      (λ key e is. let below : depth e ≤ members_depth h.members = depth-get_member key h.members e is in omega (arith, inside, below)) in
+    (λ key e is. let below : depth e ≤ members_depth h.members = depth-get_member key h.members e is in omega (arith, inside, below)) in
     let callers : field [] (list_at (caller_at (table_of draft.declared))) (get_member (codes "callers") h.members) ≡ Some draft.script.callers =
-      complete_callers (table_of draft.declared) h.members draft.script.callers (omega (arith, inside)) (get_member (codes "callers") h.members) (within (codes "callers")) (rw h.table at h.callers) in
+    complete_callers (table_of draft.declared) h.members draft.script.callers (omega (arith, inside)) (get_member (codes "callers") h.members) (within (codes "callers")) (rw h.table at h.callers) in
     let events : option_and_then (list_at (event_at (table_of draft.declared))) (get_member (codes "events") h.members) ≡ Some draft.script.events =
-      complete_events (table_of draft.declared) draft.script.events (get_member (codes "events") h.members) (within (codes "events")) (rw h.table at h.events) in
+    complete_events (table_of draft.declared) draft.script.events (get_member (codes "events") h.members) (within (codes "events")) (rw h.table at h.events) in
     rw h.whole (rw h.only (rw (
-    complete_field [] draft.declared (IsList IsDeclaration) (list_at declaration_at) (complete_list IsDeclaration declaration_at complete_declaration) (get_member (codes "classes") h.members) h.declared,
-    complete_field 2000 draft.script.limit (IsNumber 0 200000) (number_at 0 200000) (complete_number 0 200000) (get_member (codes "limit") h.members) h.limit,
-    complete_field plain_cooperator draft.script.cooperator IsCooperator cooperator_at complete_cooperator (get_member (codes "cooperator") h.members) h.cooperator,
-    callers, events) (ap Some (same_draft draft _ _ h.table h.all_declared))))
+      complete_field [] draft.declared (IsList IsDeclaration) (list_at declaration_at) (complete_list IsDeclaration declaration_at complete_declaration) (get_member (codes "classes") h.members) h.declared,
+      complete_field 2000 draft.script.limit (IsNumber 0 200000) (number_at 0 200000) (complete_number 0 200000) (get_member (codes "limit") h.members) h.limit,
+      complete_field plain_cooperator draft.script.cooperator IsCooperator cooperator_at complete_cooperator (get_member (codes "cooperator") h.members) h.cooperator,
+      callers,
+      events,
+    ) (ap Some (same_draft draft _ _ h.table h.all_declared))))

@@ -154,8 +154,8 @@ both false b e = cc
 within_is : (low high n m : ℕ) → within low high n ≡ Some m → (n ≡ m) × (low ≤ m) × (m ≤ high)
 within_is low high n m e = elim (chosen (nat_le low n && nat_le n high) (Some n) None (Some m) e) [
   | inl h ↦
-    let bounds = both (nat_le low n) (nat_le n high) h.0 in
-    (some_injective h.1, rw (← some_injective h.1) (leb-true low n bounds.0), rw (← some_injective h.1) (leb-true n high bounds.1))
+      let bounds = both (nat_le low n) (nat_le n high) h.0 in
+      (some_injective h.1, rw (← some_injective h.1) (leb-true low n bounds.0), rw (← some_injective h.1) (leb-true n high bounds.1))
   | inr h ↦ cc
 ]
 

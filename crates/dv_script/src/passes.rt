@@ -46,8 +46,7 @@ fn are_named(draft: &Draft) -> bool
 fn are_known(draft: &Draft) -> bool
     ensures { result ≡ are_known draft.now }
 {
-    draft.all_declared
-        && suits_script(Wanted::Classes(draft.script.classes.count()), &draft.script)
+    draft.all_declared && suits_script(Wanted::Classes(draft.script.classes.count()), &draft.script)
 }
 
 /// The script that a JSON value is, or the least refusal.

@@ -3,7 +3,6 @@
 pub mod action;
 pub mod body;
 pub mod cooperator;
-
 pub mod end;
 pub mod event;
 pub mod leaf;

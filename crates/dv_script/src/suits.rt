@@ -230,6 +230,5 @@ fn suit_callers(wanted: Wanted, callers: &[Items<Body>]) -> bool
 pub fn suits_script(wanted: Wanted, script: &Script) -> bool
     ensures { result ≡ suits_script wanted script.now }
 {
-    suit_events(wanted, script.events.as_slice())
-        && suit_callers(wanted, script.callers.as_slice())
+    suit_events(wanted, script.events.as_slice()) && suit_callers(wanted, script.callers.as_slice())
 }

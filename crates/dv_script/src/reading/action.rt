@@ -6,7 +6,10 @@ ghost use Rattle.dv_script.specs.Shape.{action_at, action_of, deferred_of, objec
 use crate::action::Action;
 use crate::body::Body;
 use crate::reading::body::{bodies, body};
-use crate::reading::leaf::{array, boolean, bound, call, class, five, gather_flags_in, list_flags_in, number, one, one_or_two, small, text, texts_in, three, two};
+use crate::reading::leaf::{
+    array, boolean, bound, call, class, five, gather_flags_in, list_flags_in, number, one,
+    one_or_two, small, text, texts_in, three, two,
+};
 use crate::reading::statement::statements;
 use crate::reading::stop::Stop;
 use crate::reading::value::value;

@@ -8,10 +8,10 @@ use crate::draft::Draft;
 use crate::event::Event;
 use crate::reading::body::bodies;
 use crate::reading::cooperator::cooperator_or_plain;
-use crate::reading::table::{declarations, table};
 use crate::reading::event::events;
 use crate::reading::leaf::{array, fields, number};
 use crate::reading::stop::Stop;
+use crate::reading::table::{declarations, table};
 use crate::script::Script;
 use dv_value::classes::Classes;
 use dv_value::items::Items;
@@ -40,11 +40,7 @@ fn callers(
     }
 }
 
-fn each_caller(
-    alloc: Global,
-    classes: &Classes,
-    items: &[Json],
-) -> Result<Items<Items<Body>>, Stop>
+fn each_caller(alloc: Global, classes: &Classes, items: &[Json]) -> Result<Items<Items<Body>>, Stop>
     ensures { Reads result (each (caller_at classes.now) (items_view items.now)) }
 {
     let mut callers = Items::new(alloc);
@@ -60,11 +56,7 @@ fn caller(alloc: Global, classes: &Classes, json: &Json) -> Result<Items<Body>, 
     Ok(bodies(alloc, classes, 127, array(json)?)?)
 }
 
-fn all_events(
-    alloc: Global,
-    classes: &Classes,
-    json: Option<&Json>,
-) -> Result<Items<Event>, Stop>
+fn all_events(alloc: Global, classes: &Classes, json: Option<&Json>) -> Result<Items<Event>, Stop>
     ensures { Reads result (option_and_then (list_at (event_at classes.now)) (option_map (λ d. view d.now) json.entry)) }
 {
     match json {

@@ -24,7 +24,11 @@ fn are_answered(
 ) -> Result<(), Fail> {
     for action in actions {
         for script in &scripts_of(alloc, action)? {
-            assert_eq!(rt; refusal(alloc, script.as_str().as_bytes()), expected, "{script}");
+            assert_eq!(rt;
+                refusal(alloc, script.as_str().as_bytes()),
+                expected,
+                "{script}"
+            );
         }
     }
     Ok(())
@@ -68,22 +72,10 @@ static READ: [(&str, &str); 35] = [
         r#"["chain","a","b"]"#,
         r#"Chain(Text { text: "a" }, Text { text: "b" })"#,
     ),
-    (
-        r#"["pause","a"]"#,
-        r#"Pause(Text { text: "a" })"#,
-    ),
-    (
-        r#"["unpause","a"]"#,
-        r#"Unpause(Text { text: "a" })"#,
-    ),
-    (
-        r#"["cancel","a"]"#,
-        r#"Cancel(Text { text: "a" })"#,
-    ),
-    (
-        r#"["note","no"]"#,
-        r#"Note(Text { text: "no" })"#,
-    ),
+    (r#"["pause","a"]"#, r#"Pause(Text { text: "a" })"#),
+    (r#"["unpause","a"]"#, r#"Unpause(Text { text: "a" })"#),
+    (r#"["cancel","a"]"#, r#"Cancel(Text { text: "a" })"#),
+    (r#"["note","no"]"#, r#"Note(Text { text: "no" })"#),
     (
         r#"["list","a",["x","y"],["consumeErrors","fireOnOneErrback","fireOnOneCallback","consumeErrors"]]"#,
         r#"List(Text { text: "a" }, Items { items: [Text { text: "x" }, Text { text: "y" }] }, Items { items: [ConsumeErrors, FireOnOneErrback, FireOnOneCallback, ConsumeErrors] })"#,
@@ -96,10 +88,7 @@ static READ: [(&str, &str); 35] = [
         r#"["maybe","a",{"do":[["pause","p"]],"end":["plus",-2]}]"#,
         r#"Maybe(Text { text: "a" }, Body { actions: Items { items: [Pause(Text { text: "p" })] }, end: Plus(-2) })"#,
     ),
-    (
-        r#"["lock","a"]"#,
-        r#"Lock(Text { text: "a" })"#,
-    ),
+    (r#"["lock","a"]"#, r#"Lock(Text { text: "a" })"#),
     (
         r#"["semaphore","a",65536]"#,
         r#"Semaphore(Text { text: "a" }, 65536)"#,
@@ -108,10 +97,7 @@ static READ: [(&str, &str); 35] = [
         r#"["acquire","a","b"]"#,
         r#"Acquire(Text { text: "a" }, Text { text: "b" })"#,
     ),
-    (
-        r#"["release","a"]"#,
-        r#"Release(Text { text: "a" })"#,
-    ),
+    (r#"["release","a"]"#, r#"Release(Text { text: "a" })"#),
     (
         r#"["runWith","a","b",{"do":[["pause","p"]],"end":["plus",-2]}]"#,
         r#"RunWith(Text { text: "a" }, Text { text: "b" }, Body { actions: Items { items: [Pause(Text { text: "p" })] }, end: Plus(-2) })"#,
@@ -132,18 +118,12 @@ static READ: [(&str, &str); 35] = [
         r#"["later","a",1000000000000,{"do":[["pause","p"]],"end":["plus",-2]}]"#,
         r#"Later(Text { text: "a" }, 1000000000000, Body { actions: Items { items: [Pause(Text { text: "p" })] }, end: Plus(-2) })"#,
     ),
-    (
-        r#"["cancelCall","a"]"#,
-        r#"CancelCall(Text { text: "a" })"#,
-    ),
+    (r#"["cancelCall","a"]"#, r#"CancelCall(Text { text: "a" })"#),
     (
         r#"["loop","a","b",1000000000000,true,{"do":[["pause","p"]],"end":["plus",-2]}]"#,
         r#"Loop(Text { text: "a" }, Text { text: "b" }, 1000000000000, true, Body { actions: Items { items: [Pause(Text { text: "p" })] }, end: Plus(-2) })"#,
     ),
-    (
-        r#"["stopLoop","a"]"#,
-        r#"StopLoop(Text { text: "a" })"#,
-    ),
+    (r#"["stopLoop","a"]"#, r#"StopLoop(Text { text: "a" })"#),
     (
         r#"["cooperate","a",[{},{"end":["wait","w"]}]]"#,
         r#"Cooperate(Text { text: "a" }, Items { items: [Body { actions: Items { items: [] }, end: Pass }, Body { actions: Items { items: [] }, end: Wait(Text { text: "w" }) }] })"#,
@@ -152,18 +132,9 @@ static READ: [(&str, &str); 35] = [
         r#"["whenDone","a","b"]"#,
         r#"WhenDone(Text { text: "a" }, Text { text: "b" })"#,
     ),
-    (
-        r#"["pauseTask","a"]"#,
-        r#"PauseTask(Text { text: "a" })"#,
-    ),
-    (
-        r#"["stopTask","a"]"#,
-        r#"StopTask(Text { text: "a" })"#,
-    ),
-    (
-        r#"["resumeTask","a"]"#,
-        r#"ResumeTask(Text { text: "a" })"#,
-    ),
+    (r#"["pauseTask","a"]"#, r#"PauseTask(Text { text: "a" })"#),
+    (r#"["stopTask","a"]"#, r#"StopTask(Text { text: "a" })"#),
+    (r#"["resumeTask","a"]"#, r#"ResumeTask(Text { text: "a" })"#),
     (
         r#"["inline","a",[["do",["cancel","@"]],["await","x"],["try",[["end",["pass"]]],["TypeError"],[]]]]"#,
         r#"Inline(Text { text: "a" }, Items { items: [Do(Cancel(Text { text: "@" })), Await(Text { text: "x" }), Try(Items { items: [End(Pass)] }, Items { items: [ClassId { place: 2 }] }, Items { items: [] })] })"#,
@@ -200,7 +171,10 @@ fn actions_are_read_as_they_are_written(rt: HostRuntime) -> Result<(), Fail> {
 
 static EVENTS: [(&str, &str); 6] = [
     (r#"["advance",0]"#, "Advance(0)"),
-    (r#"["advance",1000000000000000]"#, "Advance(1000000000000000)"),
+    (
+        r#"["advance",1000000000000000]"#,
+        "Advance(1000000000000000)",
+    ),
     (r#"["drain",0]"#, "Drain(0)"),
     (r#"["drain",2048]"#, "Drain(2048)"),
     (
@@ -228,7 +202,11 @@ fn the_clock_and_the_posts_are_moved_by_events_alone(rt: HostRuntime) -> Result<
         let [alone, in_body, in_inline, in_post] = scripts_of(alloc, event)?;
         assert_eq!(rt; refusal(alloc, alone.as_str().as_bytes()), None);
         for script in [in_body, in_inline, in_post] {
-            assert_eq!(rt; refusal(alloc, script.as_str().as_bytes()), Some(BadShape), "{script}");
+            assert_eq!(rt;
+                refusal(alloc, script.as_str().as_bytes()),
+                Some(BadShape),
+                "{script}"
+            );
         }
     }
     Ok(())
@@ -453,7 +431,9 @@ static OF_OBJECTS: [&str; 96] = [
 ];
 
 #[test]
-fn actions_of_lists_locks_and_queues_of_another_shape_are_refused(rt: HostRuntime) -> Result<(), Fail> {
+fn actions_of_lists_locks_and_queues_of_another_shape_are_refused(
+    rt: HostRuntime,
+) -> Result<(), Fail> {
     are_answered(&rt, rt.alloc(), &OF_OBJECTS, Some(BadShape))
 }
 
@@ -536,7 +516,9 @@ static OF_CALLS: [&str; 74] = [
 ];
 
 #[test]
-fn actions_of_calls_loops_and_tasks_of_another_shape_are_refused(rt: HostRuntime) -> Result<(), Fail> {
+fn actions_of_calls_loops_and_tasks_of_another_shape_are_refused(
+    rt: HostRuntime,
+) -> Result<(), Fail> {
     are_answered(&rt, rt.alloc(), &OF_CALLS, Some(BadShape))
 }
 

@@ -133,8 +133,18 @@ fn with_many(
 fn a_script_has_21844_advances_at_most(rt: HostRuntime) -> Result<(), Fail> {
     let alloc = rt.alloc();
     for (count, expected) in [(21_844, None), (21_845, Some(TooMany))] {
-        let script = with_many(alloc, r#"{"version":1,"events":["#, r#"["advance",0]"#, count, "]}")?;
-        assert_eq!(rt; refusal(alloc, script.as_str().as_bytes()), expected, "{count}");
+        let script = with_many(
+            alloc,
+            r#"{"version":1,"events":["#,
+            r#"["advance",0]"#,
+            count,
+            "]}",
+        )?;
+        assert_eq!(rt;
+            refusal(alloc, script.as_str().as_bytes()),
+            expected,
+            "{count}"
+        );
     }
     Ok(())
 }
@@ -149,8 +159,18 @@ fn a_script_has_8_callers_of_256_posts_at_most(rt: HostRuntime) -> Result<(), Fa
         (9, "[]", Some(TooMany)),
         (1, more.as_str(), Some(TooMany)),
     ] {
-        let script = with_many(alloc, r#"{"version":1,"events":[],"callers":["#, posts, callers, "]}")?;
-        assert_eq!(rt; refusal(alloc, script.as_str().as_bytes()), expected, "{callers}");
+        let script = with_many(
+            alloc,
+            r#"{"version":1,"events":[],"callers":["#,
+            posts,
+            callers,
+            "]}",
+        )?;
+        assert_eq!(rt;
+            refusal(alloc, script.as_str().as_bytes()),
+            expected,
+            "{callers}"
+        );
     }
     Ok(())
 }
@@ -164,7 +184,10 @@ fn with_classes(alloc: Global, count: u32, class: &str) -> Result<String, AllocE
         }
         write!(&mut script, r#"["C{k}","Exception"]"#)?;
     }
-    write!(&mut script, r#"],"events":[["errback","d","{class}",""]]}}"#)?;
+    write!(
+        &mut script,
+        r#"],"events":[["errback","d","{class}",""]]}}"#
+    )?;
     Ok(script)
 }
 
@@ -178,7 +201,11 @@ fn a_script_declares_256_classes_at_most(rt: HostRuntime) -> Result<(), Fail> {
         (257, "Zed", Some(TooMany)),
     ] {
         let script = with_classes(alloc, count, class)?;
-        assert_eq!(rt; refusal(alloc, script.as_str().as_bytes()), expected, "{count} {class}");
+        assert_eq!(rt;
+            refusal(alloc, script.as_str().as_bytes()),
+            expected,
+            "{count} {class}"
+        );
     }
     Ok(())
 }
@@ -187,10 +214,22 @@ fn a_script_declares_256_classes_at_most(rt: HostRuntime) -> Result<(), Fail> {
 fn a_script_advances_the_clock_by_10_to_the_15_at_most(rt: HostRuntime) {
     let alloc = rt.alloc();
     for (script, expected) in [
-        (r#"{"version":1,"events":[["advance",1000000000000000]]}"#, None),
-        (r#"{"version":1,"events":[["advance",1000000000000000],["advance",0]]}"#, None),
-        (r#"{"version":1,"events":[["advance",1000000000000000],["advance",1]]}"#, Some(TooMany)),
-        (r#"{"version":1,"events":[["advance",1],["deferred","d"],["advance",1000000000000000]]}"#, Some(TooMany)),
+        (
+            r#"{"version":1,"events":[["advance",1000000000000000]]}"#,
+            None,
+        ),
+        (
+            r#"{"version":1,"events":[["advance",1000000000000000],["advance",0]]}"#,
+            None,
+        ),
+        (
+            r#"{"version":1,"events":[["advance",1000000000000000],["advance",1]]}"#,
+            Some(TooMany),
+        ),
+        (
+            r#"{"version":1,"events":[["advance",1],["deferred","d"],["advance",1000000000000000]]}"#,
+            Some(TooMany),
+        ),
     ] {
         assert_eq!(rt; refusal(alloc, script.as_bytes()), expected, "{script}");
     }
@@ -215,7 +254,11 @@ fn bodies_nest_as_deep_as_json_does(rt: HostRuntime) -> Result<(), Fail> {
     let alloc = rt.alloc();
     for (count, expected) in [(0, None), (1, None), (41, None), (42, Some(NotJson))] {
         let script = with_bodies(alloc, count)?;
-        assert_eq!(rt; refusal(alloc, script.as_str().as_bytes()), expected, "{count}");
+        assert_eq!(rt;
+            refusal(alloc, script.as_str().as_bytes()),
+            expected,
+            "{count}"
+        );
     }
     Ok(())
 }

@@ -17,10 +17,7 @@ fn are_answered(
 }
 
 static ACCEPTED: [(&str, &str); 37] = [
-    (
-        "no events",
-        r#"{"version":1,"events":[]}"#,
-    ),
+    ("no events", r#"{"version":1,"events":[]}"#),
     (
         "the keys the other way round",
         r#"{"events":[],"version":1}"#,
@@ -109,22 +106,13 @@ static ACCEPTED: [(&str, &str); 37] = [
         "each key",
         r#"{"version":1,"events":[],"limit":1,"classes":[["A","Exception"]],"cooperator":{"delay":2,"units":3},"callers":[[{}]]}"#,
     ),
-    (
-        "a limit of 0",
-        r#"{"version":1,"limit":0,"events":[]}"#,
-    ),
+    ("a limit of 0", r#"{"version":1,"limit":0,"events":[]}"#),
     (
         "a limit of 200,000",
         r#"{"version":1,"limit":200000,"events":[]}"#,
     ),
-    (
-        "no classes",
-        r#"{"version":1,"classes":[],"events":[]}"#,
-    ),
-    (
-        "no callers",
-        r#"{"version":1,"callers":[],"events":[]}"#,
-    ),
+    ("no classes", r#"{"version":1,"classes":[],"events":[]}"#),
+    ("no callers", r#"{"version":1,"callers":[],"events":[]}"#),
     (
         "eight callers",
         r#"{"version":1,"callers":[[],[],[],[],[],[],[],[]],"events":[]}"#,
@@ -173,30 +161,12 @@ fn scripts_of_the_grammar_are_read(rt: HostRuntime) {
 }
 
 static NOT_JSON: [(&str, &str); 9] = [
-    (
-        "nothing",
-        r#""#,
-    ),
-    (
-        "a text that ends too soon",
-        r#"{"version":1,"#,
-    ),
-    (
-        "two values",
-        r#"{"version":1,"events":[]} 1"#,
-    ),
-    (
-        "a comma too many",
-        r#"{"version":1,"events":[],}"#,
-    ),
-    (
-        "no string for a key",
-        r#"{version:1,"events":[]}"#,
-    ),
-    (
-        "a leading zero",
-        r#"{"version":01,"events":[]}"#,
-    ),
+    ("nothing", r#""#),
+    ("a text that ends too soon", r#"{"version":1,"#),
+    ("two values", r#"{"version":1,"events":[]} 1"#),
+    ("a comma too many", r#"{"version":1,"events":[],}"#),
+    ("no string for a key", r#"{version:1,"events":[]}"#),
+    ("a leading zero", r#"{"version":01,"events":[]}"#),
     (
         "a number past the floats",
         r#"{"version":1,"events":[["callback","d",1e400]]}"#,
@@ -217,82 +187,28 @@ fn what_is_no_json_is_refused(rt: HostRuntime) {
 }
 
 static BAD_VERSION: [(&str, &str); 20] = [
-    (
-        "an array",
-        r#"[]"#,
-    ),
-    (
-        "a number",
-        r#"1"#,
-    ),
-    (
-        "a text",
-        r#""version""#,
-    ),
-    (
-        "null",
-        r#"null"#,
-    ),
-    (
-        "no key",
-        r#"{}"#,
-    ),
-    (
-        "no version",
-        r#"{"events":[]}"#,
-    ),
-    (
-        "another key",
-        r#"{"Version":1,"events":[]}"#,
-    ),
-    (
-        "version 7",
-        r#"{"version":7,"events":[]}"#,
-    ),
-    (
-        "version 2",
-        r#"{"version":2,"events":[]}"#,
-    ),
-    (
-        "version 0",
-        r#"{"version":0,"events":[]}"#,
-    ),
-    (
-        "version -1",
-        r#"{"version":-1,"events":[]}"#,
-    ),
-    (
-        "version -0",
-        r#"{"version":-0,"events":[]}"#,
-    ),
-    (
-        "version 1.0",
-        r#"{"version":1.0,"events":[]}"#,
-    ),
-    (
-        "version 1e0",
-        r#"{"version":1e0,"events":[]}"#,
-    ),
+    ("an array", r#"[]"#),
+    ("a number", r#"1"#),
+    ("a text", r#""version""#),
+    ("null", r#"null"#),
+    ("no key", r#"{}"#),
+    ("no version", r#"{"events":[]}"#),
+    ("another key", r#"{"Version":1,"events":[]}"#),
+    ("version 7", r#"{"version":7,"events":[]}"#),
+    ("version 2", r#"{"version":2,"events":[]}"#),
+    ("version 0", r#"{"version":0,"events":[]}"#),
+    ("version -1", r#"{"version":-1,"events":[]}"#),
+    ("version -0", r#"{"version":-0,"events":[]}"#),
+    ("version 1.0", r#"{"version":1.0,"events":[]}"#),
+    ("version 1e0", r#"{"version":1e0,"events":[]}"#),
     (
         "version 2 to the 64 and 1",
         r#"{"version":18446744073709551617,"events":[]}"#,
     ),
-    (
-        "a version in quotes",
-        r#"{"version":"1","events":[]}"#,
-    ),
-    (
-        "a version in an array",
-        r#"{"version":[1],"events":[]}"#,
-    ),
-    (
-        "true for a version",
-        r#"{"version":true,"events":[]}"#,
-    ),
-    (
-        "null for a version",
-        r#"{"version":null,"events":[]}"#,
-    ),
+    ("a version in quotes", r#"{"version":"1","events":[]}"#),
+    ("a version in an array", r#"{"version":[1],"events":[]}"#),
+    ("true for a version", r#"{"version":true,"events":[]}"#),
+    ("null for a version", r#"{"version":null,"events":[]}"#),
     (
         "a version that is given twice, first well",
         r#"{"version":1,"version":7,"events":[]}"#,
@@ -305,26 +221,11 @@ fn another_version_is_refused(rt: HostRuntime) {
 }
 
 static BAD_SCRIPT: [(&str, &str); 67] = [
-    (
-        "no events",
-        r#"{"version":1}"#,
-    ),
-    (
-        "a key in capitals",
-        r#"{"version":1,"Events":[]}"#,
-    ),
-    (
-        "a key of no letter",
-        r#"{"version":1,"events":[],"":1}"#,
-    ),
-    (
-        "events in an object",
-        r#"{"version":1,"events":{}}"#,
-    ),
-    (
-        "null for events",
-        r#"{"version":1,"events":null}"#,
-    ),
+    ("no events", r#"{"version":1}"#),
+    ("a key in capitals", r#"{"version":1,"Events":[]}"#),
+    ("a key of no letter", r#"{"version":1,"events":[],"":1}"#),
+    ("events in an object", r#"{"version":1,"events":{}}"#),
+    ("null for events", r#"{"version":1,"events":null}"#),
     (
         "an event that is an object",
         r#"{"version":1,"events":[{}]}"#,
@@ -333,10 +234,7 @@ static BAD_SCRIPT: [(&str, &str); 67] = [
         "an event that is a text",
         r#"{"version":1,"events":["deferred"]}"#,
     ),
-    (
-        "an event of no word",
-        r#"{"version":1,"events":[[]]}"#,
-    ),
+    ("an event of no word", r#"{"version":1,"events":[[]]}"#),
     (
         "an event whose word is a number",
         r#"{"version":1,"events":[[1,"d"]]}"#,
@@ -353,50 +251,23 @@ static BAD_SCRIPT: [(&str, &str); 67] = [
         "a word in capitals",
         r#"{"version":1,"events":[["Deferred","d"]]}"#,
     ),
-    (
-        "the word of an end",
-        r#"{"version":1,"events":[["pass"]]}"#,
-    ),
+    ("the word of an end", r#"{"version":1,"events":[["pass"]]}"#),
     (
         "an event of no word after a good one",
         r#"{"version":1,"events":[["deferred","d"],[]]}"#,
     ),
-    (
-        "limit of -1",
-        r#"{"version":1,"limit":-1,"events":[]}"#,
-    ),
+    ("limit of -1", r#"{"version":1,"limit":-1,"events":[]}"#),
     (
         "limit of 200001",
         r#"{"version":1,"limit":200001,"events":[]}"#,
     ),
-    (
-        "limit of 1.0",
-        r#"{"version":1,"limit":1.0,"events":[]}"#,
-    ),
-    (
-        "limit of '1'",
-        r#"{"version":1,"limit":"1","events":[]}"#,
-    ),
-    (
-        "limit of null",
-        r#"{"version":1,"limit":null,"events":[]}"#,
-    ),
-    (
-        "limit of []",
-        r#"{"version":1,"limit":[],"events":[]}"#,
-    ),
-    (
-        "limit of 1e2",
-        r#"{"version":1,"limit":1e2,"events":[]}"#,
-    ),
-    (
-        "limit of -0",
-        r#"{"version":1,"limit":-0,"events":[]}"#,
-    ),
-    (
-        "classes of {}",
-        r#"{"version":1,"classes":{},"events":[]}"#,
-    ),
+    ("limit of 1.0", r#"{"version":1,"limit":1.0,"events":[]}"#),
+    ("limit of '1'", r#"{"version":1,"limit":"1","events":[]}"#),
+    ("limit of null", r#"{"version":1,"limit":null,"events":[]}"#),
+    ("limit of []", r#"{"version":1,"limit":[],"events":[]}"#),
+    ("limit of 1e2", r#"{"version":1,"limit":1e2,"events":[]}"#),
+    ("limit of -0", r#"{"version":1,"limit":-0,"events":[]}"#),
+    ("classes of {}", r#"{"version":1,"classes":{},"events":[]}"#),
     (
         "classes of null",
         r#"{"version":1,"classes":null,"events":[]}"#,
@@ -481,10 +352,7 @@ static BAD_SCRIPT: [(&str, &str); 67] = [
         "callers of null",
         r#"{"version":1,"callers":null,"events":[]}"#,
     ),
-    (
-        "callers of {}",
-        r#"{"version":1,"callers":{},"events":[]}"#,
-    ),
+    ("callers of {}", r#"{"version":1,"callers":{},"events":[]}"#),
     (
         "callers of [{}]",
         r#"{"version":1,"callers":[{}],"events":[]}"#,
@@ -509,10 +377,7 @@ static BAD_SCRIPT: [(&str, &str); 67] = [
         "callers of [1]",
         r#"{"version":1,"callers":[1],"events":[]}"#,
     ),
-    (
-        "['advance']",
-        r#"{"version":1,"events":[["advance"]]}"#,
-    ),
+    ("['advance']", r#"{"version":1,"events":[["advance"]]}"#),
     (
         "['advance',-1]",
         r#"{"version":1,"events":[["advance",-1]]}"#,
@@ -533,14 +398,8 @@ static BAD_SCRIPT: [(&str, &str); 67] = [
         "['advance','1']",
         r#"{"version":1,"events":[["advance","1"]]}"#,
     ),
-    (
-        "['drain']",
-        r#"{"version":1,"events":[["drain"]]}"#,
-    ),
-    (
-        "['drain',-1]",
-        r#"{"version":1,"events":[["drain",-1]]}"#,
-    ),
+    ("['drain']", r#"{"version":1,"events":[["drain"]]}"#),
+    ("['drain',-1]", r#"{"version":1,"events":[["drain",-1]]}"#),
     (
         "['drain',2049]",
         r#"{"version":1,"events":[["drain",2049]]}"#,
@@ -549,10 +408,7 @@ static BAD_SCRIPT: [(&str, &str); 67] = [
         "['drain',null]",
         r#"{"version":1,"events":[["drain",null]]}"#,
     ),
-    (
-        "['drain',1,1]",
-        r#"{"version":1,"events":[["drain",1,1]]}"#,
-    ),
+    ("['drain',1,1]", r#"{"version":1,"events":[["drain",1,1]]}"#),
     (
         "['addTimeout','d',1]",
         r#"{"version":1,"events":[["addTimeout","d",1]]}"#,
@@ -561,18 +417,12 @@ static BAD_SCRIPT: [(&str, &str); 67] = [
         "['do',['lock','l']]",
         r#"{"version":1,"events":[["do",["lock","l"]]]}"#,
     ),
-    (
-        "['await','d']",
-        r#"{"version":1,"events":[["await","d"]]}"#,
-    ),
+    ("['await','d']", r#"{"version":1,"events":[["await","d"]]}"#),
     (
         "['end',['pass']]",
         r#"{"version":1,"events":[["end",["pass"]]]}"#,
     ),
-    (
-        "['sum',1]",
-        r#"{"version":1,"events":[["sum",1]]}"#,
-    ),
+    ("['sum',1]", r#"{"version":1,"events":[["sum",1]]}"#),
 ];
 
 #[test]
@@ -589,22 +439,10 @@ static BAD_VALUES: [(&str, &str); 10] = [
         "an object in an array",
         r#"{"version":1,"events":[["callback","d",[1,{}]]]}"#,
     ),
-    (
-        "1.5",
-        r#"{"version":1,"events":[["callback","d",1.5]]}"#,
-    ),
-    (
-        "1.0",
-        r#"{"version":1,"events":[["callback","d",1.0]]}"#,
-    ),
-    (
-        "1e2",
-        r#"{"version":1,"events":[["callback","d",1e2]]}"#,
-    ),
-    (
-        "-0",
-        r#"{"version":1,"events":[["callback","d",-0]]}"#,
-    ),
+    ("1.5", r#"{"version":1,"events":[["callback","d",1.5]]}"#),
+    ("1.0", r#"{"version":1,"events":[["callback","d",1.0]]}"#),
+    ("1e2", r#"{"version":1,"events":[["callback","d",1e2]]}"#),
+    ("-0", r#"{"version":1,"events":[["callback","d",-0]]}"#),
     (
         "past the largest integer",
         r#"{"version":1,"events":[["callback","d",9223372036854775808]]}"#,
@@ -981,11 +819,7 @@ fn unknown_classes_are_refused(rt: HostRuntime) {
 }
 
 static SEVERAL: [(&str, &str, ScriptFault); 16] = [
-    (
-        "no JSON before a bad version",
-        r#"{"version":7,"#,
-        NotJson,
-    ),
+    ("no JSON before a bad version", r#"{"version":7,"#, NotJson),
     (
         "a bad version before a bad shape",
         r#"{"version":7,"limits":5}"#,

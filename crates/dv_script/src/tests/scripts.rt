@@ -23,7 +23,8 @@ fn what_a_script_leaves_out_has_its_default(rt: HostRuntime) -> Result<(), Fail>
 
 #[test]
 fn each_key_of_a_script_is_read(rt: HostRuntime) -> Result<(), Fail> {
-    let text = r#"{"events":[["drain",3]],"callers":[[{},{"end":["plus",1]}],[]],"cooperator":{"units":4,"delay":5},"classes":[["A","ValueError"],["B","A"]],"limit":6,"version":1}"#;
+    let text =
+        r#"{"events":[["drain",3]],"callers":[[{},{"end":["plus",1]}],[]],"cooperator":{"units":4,"delay":5},"classes":[["A","ValueError"],["B","A"]],"limit":6,"version":1}"#;
     let script = match Script::read(rt.alloc(), text.as_bytes()) {
         Ok(script) => script,
         Err(_) => return Err("refused".into()),
@@ -36,7 +37,10 @@ fn each_key_of_a_script_is_read(rt: HostRuntime) -> Result<(), Fail> {
     assert!(rt; script.classes.descends(b, ClassId::VALUE_ERROR));
     let mut posts = String::new(rt.alloc());
     write!(&mut posts, "{:?}", script.callers)?;
-    assert_eq!(rt; posts.as_str(), "Items { items: [Items { items: [Body { actions: Items { items: [] }, end: Pass }, Body { actions: Items { items: [] }, end: Plus(1) }] }, Items { items: [] }] }");
+    assert_eq!(rt;
+        posts.as_str(),
+        "Items { items: [Items { items: [Body { actions: Items { items: [] }, end: Pass }, Body { actions: Items { items: [] }, end: Plus(1) }] }, Items { items: [] }] }"
+    );
     Ok(())
 }
 
