@@ -252,28 +252,42 @@ fn a_deque_gives_the_items_in_the_order_that_they_came(rt: HostRuntime) -> Resul
     Ok(())
 }
 
+/// Declares a class in a table that has room for one.
+fn declare(classes: &mut Classes, name: &str, parent: &str) -> Result<ClassId, ClassFault> {
+    if classes.count() == u32::MAX {
+        return Err(ClassFault::OutOfMemory);
+    }
+    classes.declare(name, parent)
+}
+
 #[test]
 fn a_class_is_declared_once_and_under_one_that_is_there(rt: HostRuntime) -> Result<(), Fail> {
     let mut classes = Classes::builtin(rt.alloc())?;
     let count = classes.count();
     assert_eq!(rt;
-        classes.declare("ValueError", "Exception"),
+        declare(&mut classes, "ValueError", "Exception"),
         Err(ClassFault::Taken)
     );
-    assert_eq!(rt; classes.declare("ValueError", "B"), Err(ClassFault::Taken));
-    assert_eq!(rt; classes.declare("A", "B"), Err(ClassFault::NoParent));
-    assert_eq!(rt; classes.declare("A", "A"), Err(ClassFault::NoParent));
+    assert_eq!(rt;
+        declare(&mut classes, "ValueError", "B"),
+        Err(ClassFault::Taken)
+    );
+    assert_eq!(rt; declare(&mut classes, "A", "B"), Err(ClassFault::NoParent));
+    assert_eq!(rt; declare(&mut classes, "A", "A"), Err(ClassFault::NoParent));
     assert_eq!(rt; classes.count(), count);
     assert_eq!(rt; classes.find("A"), None);
     let a = ClassId::new(count);
-    assert_eq!(rt; classes.declare("A", "ValueError"), Ok(a));
-    assert_eq!(rt; classes.declare("A", "Exception"), Err(ClassFault::Taken));
+    assert_eq!(rt; declare(&mut classes, "A", "ValueError"), Ok(a));
+    assert_eq!(rt;
+        declare(&mut classes, "A", "Exception"),
+        Err(ClassFault::Taken)
+    );
     assert_eq!(rt; classes.find("A"), Some(a));
     assert_eq!(rt; classes.name(a), "A");
     assert!(rt; classes.descends(a, ClassId::VALUE_ERROR));
     assert!(rt; !classes.descends(a, ClassId::TYPE_ERROR));
-    let b = ClassId::new(count + 1);
-    assert_eq!(rt; classes.declare("B", "A"), Ok(b));
+    let b = ClassId::new(count.saturating_add(1));
+    assert_eq!(rt; declare(&mut classes, "B", "A"), Ok(b));
     assert!(rt; classes.descends(b, a));
     Ok(())
 }
