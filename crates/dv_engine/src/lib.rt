@@ -10,4 +10,6 @@ mod perform;
 mod performed;
 pub mod performs;
 pub mod report;
+#[cfg(test)]
+mod tests;
 mod world;
