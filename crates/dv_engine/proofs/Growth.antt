@@ -1,9 +1,9 @@
 -- How many Deferreds a task makes: an action makes one at most, and nothing else makes any.
-use Rattle.std.proofs.Common.{◌≡◌, ℕ, zero, suc, ◌+◌, ◌≤◌, Bool, true, false, cond, List, [], ◌∷◌, ◌++◌, length, Option, None, Some, Result, slice_get, slice_set, refl, sym, ap, ◌∙◌, Ok, Err, arith, length-append}
+use Rattle.std.proofs.Common.{◌≡◌, ℕ, zero, suc, ◌+◌, ◌≤◌, Bool, true, false, cond, List, [], ◌∷◌, ◌++◌, length, Option, None, Some, Result, slice_get, slice_set, refl, ap, ◌∙◌, Ok, Err, arith, length-append}
 use Rattle.std.proofs.lemmas.List.{length-set}
 use Rattle.dv_value.specs.Failure.{is_fault}
 use Rattle.dv_value.specs.declared.value.Value.{Value}
-use Rattle.dv_journal.specs.Journal.{fits, with_entry}
+use Rattle.dv_journal.specs.Journal.{fits}
 use Rattle.dv_journal.specs.declared.entry.Entry.{Entry}
 use Rattle.dv_journal.specs.declared.entry.Entry.TheVariants as entry
 use Rattle.dv_journal.specs.declared.error.Stop.{Stop}
@@ -13,7 +13,7 @@ use Rattle.dv_store.specs.Callbacks as callbacks
 use Rattle.dv_store.specs.Fire as firing
 use Rattle.dv_store.specs.Record as record_of
 use Rattle.dv_store.specs.Record.{with_pair, new_record}
-use Rattle.dv_store.specs.Telling.{State, Told, untold, telling}
+use Rattle.dv_store.specs.Telling.{State, Told, telling}
 use Rattle.dv_store.specs.declared.error.StoreFault.{StoreFault}
 use Rattle.dv_store.specs.declared.error.StoreFault.TheVariants.{AlreadyCalled, Limit, OutOfMemory}
 use Rattle.dv_store.specs.declared.record.Record.{Record}
@@ -26,7 +26,7 @@ use Rattle.dv_engine.specs.Names.{number_of}
 use Rattle.dv_engine.specs.Pair.{Bodies, passes, side_for}
 use Rattle.dv_engine.specs.Perform.{settled_by, named_by, fire_by, add_by, made, do_by}
 use Rattle.dv_engine.specs.Task.{Task, Settle, Perform, Act, Answer, Meant, ◌>>=◌}
-use Rattle.dv_engine.specs.World.{World, Records, state_of, with_state, after, moved, named as named_after, fired as fired_after, step, put, append, make, fire, tell, value_of, unbound}
+use Rattle.dv_engine.specs.World.{World, state_of, after, moved, named as named_after, fired as fired_after, step, put, append, make, fire, tell, value_of, unbound}
 use Rattle.dv_engine.specs.declared.performed.Performed.{Performed}
 use Rattle.dv_engine.specs.declared.performed.Performed.TheVariants.{Done, Gave, Raised}
 

@@ -15,10 +15,10 @@ use Rattle.dv_engine.specs.Ending.{fault}
 use Rattle.dv_engine.specs.Meaning.{task_by, meaning, Gives, Fires, Adds}
 use Rattle.dv_engine.specs.Names.{number_of}
 use Rattle.dv_engine.specs.Pair.{Bodies, side_for}
-use Rattle.dv_engine.specs.Perform.{settled_by, named_by, fire_by, add_by, made, do_by, act_by}
+use Rattle.dv_engine.specs.Perform.{settled_by, named_by, fire_by, add_by, made, do_by}
 use Rattle.dv_engine.specs.Settling.{side_gives}
 use Rattle.dv_engine.specs.Task.{Task, Settle, Perform, Act, Answer, Meant, ◌>>=◌}
-use Rattle.dv_engine.specs.World.{World, step, put, append, make, fire, tell, value_of, unbound}
+use Rattle.dv_engine.specs.World.{World, step, put, append, fire, tell, value_of, unbound}
 use Rattle.dv_engine.specs.declared.performed.Performed.{Performed}
 use Rattle.dv_engine.specs.declared.performed.Performed.TheVariants.{Done, Gave, Raised}
 

@@ -18,7 +18,7 @@ use Rattle.dv_engine.specs.Pair.{Bodies, side_for}
 use Rattle.dv_engine.specs.Perform.{made}
 use Rattle.dv_engine.specs.Settling.{side_gives}
 use Rattle.dv_engine.specs.Task.{Task, Settle, Perform, Act}
-use Rattle.dv_engine.specs.World.{World, step, put, append, make, fire, tell, value_of, unbound, first_world}
+use Rattle.dv_engine.specs.World.{World, step, put, append, fire, tell, value_of, unbound, first_world}
 use Rattle.dv_engine.specs.declared.performed.Performed.{Performed}
 use Rattle.dv_engine.specs.declared.performed.Performed.TheVariants.{Done, Gave, Raised}
 

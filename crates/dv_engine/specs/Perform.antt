@@ -1,7 +1,6 @@
 -- Performing bodies and actions.
 use Rattle.std.specs.Prelude.{ℕ, List, Option, None, Some}
 use Rattle.dv_value.specs.declared.value.Value.{Value}
-use Rattle.dv_journal.specs.declared.entry.Entry.{Entry}
 use Rattle.dv_script.specs.declared.action.Action.{Action, out-Action}
 use Rattle.dv_script.specs.declared.body.Body.{Body, out-Body}
 use Rattle.dv_engine.specs.Deed.{Deed, Idle, Write, Make, FireWith, AddTo, deed_of}

@@ -1,5 +1,5 @@
 -- Which scripts are performed: those that use only what has its rule here.
-use Rattle.std.specs.Prelude.{ℕ, Bool, true, false, ◌&&◌, List, [], ◌∷◌, Option, None, Some}
+use Rattle.std.specs.Prelude.{Bool, true, false, ◌&&◌, List, [], ◌∷◌, Option, None, Some}
 use Rattle.std.specs.List.{list_all}
 use Rattle.dv_script.specs.declared.action.Action.{Action, out-Action}
 use Rattle.dv_script.specs.declared.body.Body.{Body, out-Body}
@@ -9,7 +9,6 @@ use Rattle.dv_script.specs.declared.event.Event.{Event}
 use Rattle.dv_script.specs.declared.event.Event.TheVariants as event
 use Rattle.dv_script.specs.declared.script.Script.{Script}
 use Rattle.dv_engine.specs.Deed.{Deed, Idle, Write, Make, FireWith, AddTo, deed_of}
-use Rattle.dv_engine.specs.Pair.{Bodies}
 
 -- whether there is nothing in a list
 abbrev pub is_empty : {X : Type 0} → List X → Bool

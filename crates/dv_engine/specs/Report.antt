@@ -1,5 +1,5 @@
 -- What a run has told, and what it has made of each Deferred.
-use Rattle.std.specs.Prelude.{◌≡◌, if◌then◌else◌, Bool, List, map}
+use Rattle.std.specs.Prelude.{◌≡◌, if◌then◌else◌, List, map}
 use Rattle.dv_script.specs.declared.body.Body.{Body}
 use Rattle.dv_script.specs.declared.script.Script.{Script}
 use Rattle.dv_store.specs.declared.record.Record.{Record}

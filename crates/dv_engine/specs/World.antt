@@ -1,5 +1,5 @@
 -- The world of a run: its Deferreds, their names, the classes of failures and the journal, and one step of each kind.
-use Rattle.std.specs.Prelude.{ℕ, Bool, true, false, if◌then◌else◌, List, [], ◌∷◌, ◌++◌, Option, None, Some, Result, Ok, Err, slice_get}
+use Rattle.std.specs.Prelude.{ℕ, Bool, true, false, if◌then◌else◌, List, [], None, Some, Result, Ok, Err, slice_get}
 use Rattle.std.specs.Option.{option_map_or}
 use Rattle.dv_value.specs.Builtin.{name_error, already_called_error}
 use Rattle.dv_value.specs.Failure.{plain_failure}

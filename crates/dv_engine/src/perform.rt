@@ -122,11 +122,7 @@ fn add<'s>(
 }
 
 /// Makes a Deferred (Twisted: `Deferred`). One with a canceller isn't made yet.
-fn make<'s>(
-    world: &mut World<'s>,
-    name: &str,
-    canceller: &Option<Body>,
-) -> Result<(), AllocError>
+fn make<'s>(world: &mut World<'s>, name: &str, canceller: &Option<Body>) -> Result<(), AllocError>
     requires room { length world.old.records < 2 ^ 32 - 1 }
     ensures { OnOk result (world.new ≡ made name.now canceller.now world.old) }
 {

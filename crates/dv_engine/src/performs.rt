@@ -33,7 +33,8 @@ fn performs_action(action: &Action) -> bool
         | Action::Note(_) => true,
         Action::AddCallback(_, body) | Action::AddErrback(_, body) => performs_body(body),
         Action::AddBoth(_, body) => performs_body(body),
-        Action::AddCallbacks(_, callback, errback) => performs_body(callback) && performs_body(errback),
+        Action::AddCallbacks(_, callback, errback) => performs_body(callback)
+            && performs_body(errback),
         Action::Deferred(_, Some(_))
         | Action::Chain(_, _)
         | Action::Pause(_)

@@ -51,9 +51,5 @@ pub fn run<R: Source, W: Sink>(
 fn ended_by(stopped: bool) -> Ended
     ensures { result ≡ ended_by stopped }
 {
-    if stopped {
-        Ended::Stopped
-    } else {
-        Ended::All
-    }
+    if stopped { Ended::Stopped } else { Ended::All }
 }

@@ -39,9 +39,9 @@ module _ {P K : Type 0} (passes_at : P → Bool → Bool) (id : ℕ) (s : State 
       elim (passes_at pair (is_fault r.value)) as (λ b. Balances (cond b (untold Passed (slice_set s.0 id passed, s.1)) (telling (entry.Run id) (Run pair) (slice_set s.0 id run) s))) [
         | true ↦ omega (arith, unused_pairs-set s.0 id r passed found, count)
         | false ↦ elim (fits s.1 (entry.Run id)) as (λ b. Balances (cond b (Ok (Run pair), (slice_set s.0 id run, with_entry s.1 (entry.Run id))) (Err Limit, s))) [
-            | true ↦ omega (arith, unused_pairs-set s.0 id r run found, count)
-            | false ↦ stopped-balances
-          ]
+          | true ↦ omega (arith, unused_pairs-set s.0 id r run found, count)
+          | false ↦ stopped-balances
+        ]
       ]
 
   use_first-balances : (r : Record P K) (pairs : List P) → slice_get s.0 id ≡ Some r → r.items ≡ pairs →

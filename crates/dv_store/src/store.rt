@@ -115,12 +115,7 @@ impl<P: Sides + Drop, K: Drop> Store<P, K> {
     ///
     /// Where it is refused, the pair is dropped.
     #[tactic(auto, using(crate::proofs::StoreLemmas::record_kept))]
-    pub fn append(
-        &mut self,
-        journal: &mut Journal,
-        id: DeferredId,
-        pair: P,
-    ) -> Result<(), Stop>
+    pub fn append(&mut self, journal: &mut Journal, id: DeferredId, pair: P) -> Result<(), Stop>
         ensures { UnlessMemory result (self.old, journal.old) (self.new, journal.new) (append id pair (self.old, journal.old)) }
     {
         let place = id.number() as usize;
@@ -195,12 +190,7 @@ impl<P: Sides + Drop, K: Drop> Store<P, K> {
     /// Ends the running side of a Deferred with what it gave, a plain result or a failure, which becomes the value.
     ///
     /// Where it is refused, the side runs on, and what it gave is dropped.
-    pub fn put(
-        &mut self,
-        journal: &mut Journal,
-        id: DeferredId,
-        value: Value,
-    ) -> Result<(), Stop>
+    pub fn put(&mut self, journal: &mut Journal, id: DeferredId, value: Value) -> Result<(), Stop>
         ensures { UnlessMemory result (self.old, journal.old) (self.new, journal.new) (put id value (self.old, journal.old)) }
     {
         let place = id.number() as usize;

@@ -91,7 +91,11 @@ static UNPERFORMED: [&str; 34] = [
 fn a_script_of_what_is_not_performed_yet_has_a_bad_shape(rt: HostRuntime) -> Result<(), Fail> {
     for script in &UNPERFORMED {
         let (ended, sink) = ran(rt.alloc(), script.as_bytes())?;
-        assert_eq!(rt; ended, Err(RunFault::ScriptRefused(ScriptFault::BadShape)), "{script}");
+        assert_eq!(rt;
+            ended,
+            Err(RunFault::ScriptRefused(ScriptFault::BadShape)),
+            "{script}"
+        );
         assert!(rt; sink.bytes().is_empty(), "{script}");
     }
     Ok(())

@@ -1,7 +1,7 @@
 use Rattle.std.proofs.Common.{rules, ◌++◌}
 use Rattle.dv_journal.specs.Line.{text_of}
 use Rattle.dv_journal.specs.Sink.{AppendsPrefix}
-use Rattle.dv_run.specs.Output.{output, report_text}
+use Rattle.dv_run.specs.Output.{output}
 use Rattle.dv_run.proofs.OutputLemmas.{first_then_prefix}
 use Rattle.dv_run.proofs.output.print_report.Goals as goal
 
