@@ -180,6 +180,7 @@ fn a_sink_that_fills_up_in_the_second_piece_keeps_a_prefix(rt: HostRuntime) -> R
         journal.print(&classes, &mut sink),
         Err(PrintFault::WriteFault)
     );
-    assert!(rt; sink.bytes() == &text.as_bytes()[..5_000]);
+    assert_eq!(rt; sink.bytes().len(), 5_000);
+    assert!(rt; text.as_bytes().starts_with(sink.bytes()));
     Ok(())
 }
