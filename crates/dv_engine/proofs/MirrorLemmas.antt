@@ -395,7 +395,7 @@ happens n (m.Notes text) s u h = (performed.Done, m.world_of u, act_note refl (s
 
 -- a script
 abbrev events_of : List m.Doing → List Event
-events_of doings = map (λ doing. event.Action (m.action_of doing)) doings
+events_of doings = map (λ action. event.Action action) (map m.action_of doings)
 
 first_then : (n : ℕ) (doing : m.Doing) (doings : List m.Doing) (s u : m.Small) (o : Option m.Small)
     → ((v : m.Small) → m.played n doings v ≡ Some u → Runs (events_of doings) (m.world_of v) (m.world_of u)) → m.done n doing s ≡ o → m.then_played (m.played n doings) o ≡ Some u
