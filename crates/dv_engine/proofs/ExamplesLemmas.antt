@@ -1,8 +1,8 @@
 -- The examples are computed: each as a run of a small world, whose script is the example's.
-use Rattle.std.proofs.Common.{◌≡◌, ℕ, ℤ, pos, Bool, true, false, List, [], ◌∷◌, map, Option, None, Some, refl, ap, codes}
+use Rattle.std.proofs.Common.{◌≡◌, ℕ, pos, Bool, false, List, [], ◌∷◌, map, Option, None, Some, refl, ap, codes}
 use Rattle.dv_value.specs.Builtin.{builtin, exception, value_error, type_error}
 use Rattle.dv_journal.specs.declared.entry.Entry.{Entry}
-use Rattle.dv_engine.proofs.Mirror.{Plain, Number, Words, Finish, Gives, Same, More, Raises, Catches, Doing, Makes, Calls, Fails, AddsCallback, AddsErrback, AddsBoth, AddsCallbacks, Notes, Small, action_of, world_of, played}
+use Rattle.dv_engine.proofs.Mirror.{Number, Words, Gives, Same, More, Raises, Catches, Doing, Makes, Calls, Fails, AddsCallback, AddsErrback, AddsBoth, AddsCallbacks, Notes, Small, action_of, world_of, played}
 use Rattle.dv_engine.proofs.MirrorLemmas.{runs}
 use Rattle.dv_engine.specs.Examples.{Ends, Examples, d, e, stranger}
 use Rattle.dv_engine.specs.Report.{outcomes_of}

@@ -1,5 +1,5 @@
 -- Small worlds whose runs compute. Values are numbers, texts and plain failures, bodies are ends alone, and an entry shows what it weighs.
-use Rattle.std.proofs.Common.{◌≡◌, ℕ, zero, suc, ℤ, pos, ◌+◌, ◌+ℤ◌, Bool, true, false, not, ◌&&◌, cond, if◌then◌else◌, nat_le, List, [], ◌∷◌, ◌++◌, map, length, Option, None, Some, is_none, option_map, slice_get, slice_set, codes}
+use Rattle.std.proofs.Common.{ℕ, zero, suc, ℤ, ◌+◌, ◌+ℤ◌, Bool, true, false, not, ◌&&◌, if◌then◌else◌, nat_le, List, [], ◌∷◌, ◌++◌, map, length, Option, None, Some, is_none, option_map, slice_get, slice_set, codes}
 use Rattle.dv_value.specs.Builtin.{name_error, type_error, overflow_error, already_called_error}
 use Rattle.dv_value.specs.Classes.{check}
 use Rattle.dv_value.specs.Failure.{plain_failure}

@@ -1,10 +1,10 @@
 -- What a small world computes is what the world of it means.
-use Rattle.std.proofs.Common.{◌≡◌, ℕ, zero, suc, ℤ, ◌+◌, ◌+ℤ◌, Bool, true, false, not, ◌&&◌, cond, nat_le, List, [], ◌∷◌, ◌++◌, map, length, Option, None, Some, Result, Ok, Err, is_none, option_map, slice_get, slice_set, refl, ap, sym, subst, ◌∙◌, codes}
+use Rattle.std.proofs.Common.{◌≡◌, ℕ, zero, suc, ℤ, ◌+◌, ◌+ℤ◌, Bool, true, false, not, ◌&&◌, cond, List, [], ◌∷◌, ◌++◌, map, length, Option, None, Some, Ok, Err, is_none, option_map, slice_get, slice_set, refl, ap, sym, subst, ◌∙◌, codes}
 use Rattle.std.proofs.lemmas.List.{map-append, map-set, length-map}
 use Rattle.std.proofs.lemmas.Option.{slice_get-map}
 use Rattle.std.specs.Option.{option_map_or}
 use denote.Hole.Carrier.{out}
-use Rattle.dv_value.specs.Builtin.{name_error, type_error, overflow_error, already_called_error}
+use Rattle.dv_value.specs.Builtin.{name_error, overflow_error, already_called_error}
 use Rattle.dv_value.specs.Classes.{check}
 use Rattle.dv_value.specs.Failure.{is_fault, class_of, plain_failure}
 use Rattle.dv_value.specs.Size.{size}
@@ -15,28 +15,27 @@ use Rattle.dv_value.specs.declared.value.Value.{Value, Null}
 use Rattle.dv_journal.specs.Entry.{weight_of}
 use Rattle.dv_journal.specs.Journal.{fits, total_weight}
 use Rattle.dv_journal.specs.declared.error.Stop.TheVariants.{Limit}
-use Rattle.dv_script.specs.declared.action.Action.{Action, out-Action, Deferred, Callback, Errback, AddCallback, AddErrback, AddBoth, AddCallbacks, Note}
-use Rattle.dv_script.specs.declared.body.Body.{Body, out-Body}
+use Rattle.dv_script.specs.declared.body.Body.{Body}
 use Rattle.dv_script.specs.declared.action.Action.TheViews.{out-roll-Body}
 use Rattle.dv_script.specs.declared.event.Event.{Event}
 use Rattle.dv_script.specs.declared.event.Event.TheVariants as event
 use Rattle.dv_store.specs.Callbacks as callbacks
 use Rattle.dv_store.specs.Fire as firing
 use Rattle.dv_store.specs.Record as records
-use Rattle.dv_store.specs.Telling.{State, Told, telling}
+use Rattle.dv_store.specs.Telling.{Told, telling}
 use Rattle.dv_store.specs.declared.error.StoreFault.TheVariants as store_fault
 use Rattle.dv_store.specs.declared.record.Record.{Record}
 use Rattle.dv_store.specs.declared.store.Step.{Step}
 use Rattle.dv_store.specs.declared.store.Step.TheVariants as move
 use Rattle.dv_engine.proofs.Mirror as m
 use Rattle.dv_engine.proofs.Rules.{settle_nothing, settle_passed, settle_run, fires_unbound, fires_settled, fires_refused, adds_unbound, adds_settled, act_deferred, act_callback, act_errback, act_add_callback, act_add_errback, act_add_both, act_add_callbacks, act_note}
-use Rattle.dv_engine.proofs.SizeLemmas.{size_null, size_int, size_text, size_plain_failure, size_fault}
+use Rattle.dv_value.proofs.SizeLemmas.{size_null, size_int, size_text, size_plain_failure, size_fault}
 use Rattle.dv_engine.specs.Ending as ending
 use Rattle.dv_engine.specs.Meaning.{Gives, Fires, Adds, told_of, Happens, Runs}
 use Rattle.dv_engine.specs.Names.{number_of, with_name}
 use Rattle.dv_engine.specs.Pair.{Bodies, passes, side_for}
 use Rattle.dv_engine.specs.Settling.{side_gives}
-use Rattle.dv_engine.specs.Task.{Settle, Act}
+use Rattle.dv_engine.specs.Task.{Settle}
 use Rattle.dv_engine.specs.World.{World, state_of, after, moved as moved_after, named as named_after, fired as fired_after, step, put, append, make, fire, tell, value_of, unbound}
 use Rattle.dv_engine.specs.declared.performed.Performed.{Performed}
 use Rattle.dv_engine.specs.declared.performed.Performed.TheVariants as performed

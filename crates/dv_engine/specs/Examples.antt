@@ -1,5 +1,5 @@
 -- Small scripts, with what they tell and what they make of their Deferreds (Twisted: the Deferred Reference, "Callbacks", "Errbacks" and "Handling either callback or errback").
-use Rattle.std.specs.Prelude.{ℕ, pos, ◌≡◌, Bool, true, false, List, [], ◌∷◌, Option, None, Some, map, codes}
+use Rattle.std.specs.Prelude.{ℕ, pos, ◌≡◌, Bool, true, false, List, [], ◌∷◌, None, Some, map, codes}
 use Rattle.dv_value.specs.Builtin.{builtin, exception, value_error, type_error, name_error, overflow_error, already_called_error}
 use Rattle.dv_value.specs.Failure.{plain_failure}
 use Rattle.dv_value.specs.declared.value.Value.{Value, Int, Text}
