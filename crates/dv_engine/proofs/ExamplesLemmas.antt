@@ -2,7 +2,7 @@
 use Rattle.std.proofs.Common.{◌≡◌, ℕ, pos, Bool, false, List, [], ◌∷◌, map, Option, None, Some, refl, ap, codes}
 use Rattle.dv_value.specs.Builtin.{builtin, exception, value_error, type_error}
 use Rattle.dv_journal.specs.declared.entry.Entry.{Entry}
-use Rattle.dv_engine.proofs.Mirror.{Number, Words, Gives, Same, More, Raises, Catches, Doing, Makes, Calls, Fails, AddsCallback, AddsErrback, AddsBoth, AddsCallbacks, Notes, Small, action_of, world_of, played}
+use Rattle.dv_engine.proofs.Mirror.{Blank, Number, Words, Gives, Same, More, Raises, Catches, Doing, Makes, Calls, Fails, AddsCallback, AddsErrback, AddsBoth, AddsCallbacks, Notes, Small, action_of, world_of, played}
 use Rattle.dv_engine.proofs.MirrorLemmas.{runs}
 use Rattle.dv_engine.specs.Examples.{Ends, Examples, d, e, stranger}
 use Rattle.dv_engine.specs.Report.{outcomes_of}
@@ -46,8 +46,10 @@ examples = record {
   a_second_firing_is_refused = ends (Makes d ∷ Calls d (Number (pos 1)) ∷ Calls d (Number (pos 2)) ∷ Fails d value_error (codes "boom") ∷ []) refl;
   a_sum_past_64_bits_fails = ends (Makes d ∷ AddsCallback d (More (pos 1)) ∷ Calls d (Number (pos 9223372036854775807)) ∷ []) refl;
   nothing_is_added_to_a_text = ends (Makes d ∷ AddsCallback d (More (pos 1)) ∷ Calls d (Words (codes "1")) ∷ []) refl;
+  nothing_is_added_to_null = ends (Makes d ∷ AddsCallback d (More (pos 1)) ∷ Calls d Blank ∷ []) refl;
   nothing_is_added_to_a_failure = ends (Makes d ∷ AddsErrback d (More (pos 1)) ∷ Fails d value_error (codes "boom") ∷ []) refl;
   a_value_is_not_trapped = ends (Makes d ∷ AddsCallback d (Catches (exception ∷ []) (Number (pos 0))) ∷ Calls d (Number (pos 1)) ∷ []) refl;
+  a_value_that_is_passed_stays_as_it_is = ends (Makes d ∷ AddsCallback d Same ∷ Calls d (Number (pos 1)) ∷ []) refl;
   a_failure_that_is_passed_stays_one = ends (Makes d ∷ AddsErrback d Same ∷ Fails d value_error (codes "boom") ∷ []) refl;
   an_addition_of_both_takes_values_and_failures = ends (Makes d ∷ Makes e ∷ AddsBoth d (Gives (Number (pos 5))) ∷ AddsBoth e (Gives (Number (pos 6))) ∷ Calls d (Number (pos 1)) ∷ Fails e value_error (codes "boom") ∷ []) refl;
   a_pair_runs_the_side_for_its_value = ends (Makes d ∷ Makes e ∷ AddsCallbacks d (Gives (Number (pos 5))) (Gives (Number (pos 6))) ∷ AddsCallbacks e (Gives (Number (pos 5))) (Gives (Number (pos 6))) ∷ Calls d (Number (pos 1)) ∷ Fails e value_error (codes "boom") ∷ []) refl;

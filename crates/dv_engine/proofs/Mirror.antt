@@ -26,18 +26,21 @@ pub data Plain : Type 0 where
   Words : (text : List ℕ) → Plain
   Failed : (class : ℕ) (message : List ℕ) → Plain
 
+-- the value that it stands for
 abbrev pub value_of_plain : Plain → Value
 value_of_plain Blank = Null
 value_of_plain (Number n) = Int n
 value_of_plain (Words text) = Text text
 value_of_plain (Failed class message) = fault class message
 
+-- how much an entry weighs more for showing it
 abbrev pub plain_size : Plain → ℕ
 plain_size Blank = 1
 plain_size (Number n) = 1
 plain_size (Words text) = 1 + length text
 plain_size (Failed class message) = 1 + length message + 0
 
+-- whether it stands for a failure
 abbrev pub has_failed : Plain → Bool
 has_failed Blank = false
 has_failed (Number n) = false
@@ -52,6 +55,7 @@ pub data Finish : Type 0 where
   Raises : (class : ℕ) (message : List ℕ) → Finish
   Catches : (listed : List ℕ) (plain : Plain) → Finish
 
+-- the end that it stands for, and the body
 abbrev pub end_of : Finish → End
 end_of (Gives plain) = Return (value_of_plain plain)
 end_of Same = Pass
@@ -62,9 +66,11 @@ end_of (Catches listed plain) = Trap listed (value_of_plain plain)
 abbrev pub body_of : Finish → Body
 body_of finish = roll-Body (record { actions = []; end = end_of finish })
 
+-- a sum of 64 bits, or an OverflowError
 abbrev pub sum_of : ℤ → Plain
 sum_of n = if fits n then Number n else Failed overflow_error (codes "plus")
 
+-- what each end gives for an input
 abbrev pub more : ℤ → Plain → Plain
 more n Blank = Failed type_error (codes "plus")
 more n (Number m) = sum_of (m +ℤ n)
@@ -93,9 +99,11 @@ pub record Sides : Type 0 where
   pub callback : Option Finish
   pub errback : Option Finish
 
+-- the pair that they stand for
 abbrev pub bodies_of : Sides → Bodies
 bodies_of sides = record { callback = option_map body_of sides.callback; errback = option_map body_of sides.errback }
 
+-- the side for a value or a failure, and what it gives
 abbrev pub side_at : Sides → Bool → Option Finish
 side_at sides failed = if failed then sides.errback else sides.callback
 
@@ -111,6 +119,7 @@ pub record Kept : Type 0 where
   pub sides : List Sides
   pub running : Bool
 
+-- the record that it stands for
 abbrev pub record_of : Kept → Record Bodies Body
 record_of kept = record { name = kept.name; fired = kept.fired; value = value_of_plain kept.plain; items = map bodies_of kept.sides; running = kept.running; canceller = None }
 
@@ -125,6 +134,7 @@ pub data Mark : Type 0 where
   Noted : (text : List ℕ) → Mark
   Escaped : (class : ℕ) (message : List ℕ) → Mark
 
+-- the entry that it stands for
 abbrev pub entry_of : Mark → Entry
 entry_of (Made d name) = entry.New d name
 entry_of (Added d) = entry.Add d
@@ -135,6 +145,7 @@ entry_of (Became d plain) = entry.Set d (value_of_plain plain)
 entry_of (Noted text) = entry.Note text
 entry_of (Escaped class message) = entry.Unhandled (plain_failure class message)
 
+-- how much it counts against the limit
 abbrev pub mark_weight : Mark → ℕ
 mark_weight (Made d name) = 1
 mark_weight (Added d) = 1
@@ -158,9 +169,11 @@ pub record Small : Type 0 where
   pub limit : ℕ
   pub stopped : Bool
 
+-- the world that it stands for
 abbrev pub world_of : Small → World
 world_of s = record { classes = s.classes; names = s.names; records = map record_of s.kept; journal = record { entries = map entry_of s.marks; limit = s.limit }; stopped = s.stopped }
 
+-- whether the marks stay within the limit with this one
 abbrev pub has_room : Mark → Small → Bool
 has_room mark s = nat_le (marks_weigh s.marks + mark_weight mark) s.limit
 
@@ -174,6 +187,7 @@ with_end s = record s { stopped = true }
 abbrev pub marked : Mark → List Kept → Small → Small
 marked mark changed s = if has_room mark s then with_mark mark changed s else with_end s
 
+-- the value of what was found; null where nothing was
 abbrev pub plain_at : Option Kept → Plain
 plain_at None = Blank
 plain_at (Some kept) = kept.plain
@@ -184,11 +198,13 @@ pub data Move : Type 0 where
   Passes : Move
   Runs : (sides : Sides) → Move
 
+-- the move that it stands for
 abbrev pub move_of : Move → Step Bodies
 move_of Stays = move.Nothing
 move_of Passes = move.Passed
 move_of (Runs sides) = move.Run (bodies_of sides)
 
+-- a pair without a side for the value passes it on; else its side runs, where that can be told
 abbrev pub use_sides : ℕ → Kept → Sides → List Sides → Small → Move × Small
 use_sides d kept sides rest s =
     if is_none (side_at sides (has_failed kept.plain))
@@ -273,6 +289,7 @@ pub data Doing : Type 0 where
   AddsCallbacks : (name : List ℕ) (callback errback : Finish) → Doing
   Notes : (text : List ℕ) → Doing
 
+-- the action that it stands for
 abbrev pub action_of : Doing → Action
 action_of (Makes name) = Deferred name None
 action_of (Calls name plain) = Callback name (value_of_plain plain)
@@ -283,6 +300,7 @@ action_of (AddsBoth name finish) = AddBoth name (body_of finish)
 action_of (AddsCallbacks name callback errback) = AddCallbacks name (body_of callback) (body_of errback)
 action_of (Notes text) = Note text
 
+-- a failure leaves an event
 abbrev pub escaped : ℕ → List ℕ → Small → Small
 escaped class message s = told (Escaped class message) s
 
@@ -291,6 +309,7 @@ abbrev pub fired_and_settled : ℕ → ℕ → Bool → Small → Option Small
 fired_and_settled n d true s = Some (escaped already_called_error [] s)
 fired_and_settled n d false s = settled n d s
 
+-- a Deferred is looked up by its name before anything else
 abbrev pub called : ℕ → List ℕ → Plain → Option ℕ → Small → Option Small
 called n name plain None s = Some (escaped name_error name s)
 called n name plain (Some d) s = fired_and_settled n d (fired d plain s).0 (fired d plain s).1
@@ -299,6 +318,7 @@ abbrev pub added : ℕ → List ℕ → Sides → Option ℕ → Small → Optio
 added n name sides None s = Some (escaped name_error name s)
 added n name sides (Some d) s = settled n d (appended d sides s)
 
+-- what each does
 abbrev pub done : ℕ → Doing → Small → Option Small
 done n (Makes name) s = Some (made name s)
 done n (Calls name plain) s = called n name plain (number_of name s.names) s

@@ -316,6 +316,7 @@ step_is d s =
     (ap (λ o. moving_gives (callbacks.step_found passes d o (state_of (m.world_of s))) s) (kept_at s d) ∙ step_found_is d (slice_get s.kept d) s)
     ∙ of_cond moving_of s.stopped (m.Stays, s) (m.move_at d (slice_get s.kept d) s)
 
+-- the value at a place
 value_at : (o : Option m.Kept) → m.value_of_plain (m.plain_at o) ≡ option_map_or (λ (r : Record Bodies Body). r.value) (option_map m.record_of o) Null
 value_at None = refl
 value_at (Some kept) = refl

@@ -2,7 +2,7 @@
 use Rattle.std.specs.Prelude.{ℕ, pos, ◌≡◌, Bool, true, false, List, [], ◌∷◌, None, Some, map, codes}
 use Rattle.dv_value.specs.Builtin.{builtin, exception, value_error, type_error, name_error, overflow_error, already_called_error}
 use Rattle.dv_value.specs.Failure.{plain_failure}
-use Rattle.dv_value.specs.declared.value.Value.{Value, Int, Text}
+use Rattle.dv_value.specs.declared.value.Value.{Value, Null, Int, Text}
 use Rattle.dv_journal.specs.declared.entry.Entry.{Entry}
 use Rattle.dv_journal.specs.declared.entry.Entry.TheVariants as entry
 use Rattle.dv_script.specs.declared.action.Action.{Action, Deferred, Callback, Errback, AddCallback, AddErrback, AddBoth, AddCallbacks, Note}
@@ -163,6 +163,10 @@ pub record Examples : Type 0 where
       LeadsTo (deferred d ∷ AddCallback d (plus 1) ∷ Callback d (Text (codes "1")) ∷ [])
       (made 0 d ∷ added 0 ∷ fired 0 (Text (codes "1")) ∷ runs 0 ∷ becomes 0 (fault type_error (codes "plus")) ∷ [])
       (has_failed d type_error (codes "plus") ∷ [])
+  pub nothing_is_added_to_null :
+      LeadsTo (deferred d ∷ AddCallback d (plus 1) ∷ Callback d Null ∷ [])
+      (made 0 d ∷ added 0 ∷ fired 0 Null ∷ runs 0 ∷ becomes 0 (fault type_error (codes "plus")) ∷ [])
+      (has_failed d type_error (codes "plus") ∷ [])
   pub nothing_is_added_to_a_failure :
       LeadsTo (deferred d ∷ AddErrback d (plus 1) ∷ fail d ∷ [])
       (made 0 d ∷ added 0 ∷ fired 0 boom ∷ runs 0 ∷ becomes 0 (fault type_error (codes "plus")) ∷ [])
@@ -171,6 +175,10 @@ pub record Examples : Type 0 where
       LeadsTo (deferred d ∷ AddCallback d (traps exception 0) ∷ fire d 1 ∷ [])
       (made 0 d ∷ added 0 ∷ fired 0 (number 1) ∷ runs 0 ∷ becomes 0 (fault type_error (codes "trap")) ∷ [])
       (has_failed d type_error (codes "trap") ∷ [])
+  pub a_value_that_is_passed_stays_as_it_is :
+      LeadsTo (deferred d ∷ AddCallback d passes ∷ fire d 1 ∷ [])
+      (made 0 d ∷ added 0 ∷ fired 0 (number 1) ∷ runs 0 ∷ becomes 0 (number 1) ∷ [])
+      (has d 1 ∷ [])
   pub a_failure_that_is_passed_stays_one :
       LeadsTo (deferred d ∷ AddErrback d passes ∷ fail d ∷ [])
       (made 0 d ∷ added 0 ∷ fired 0 boom ∷ runs 0 ∷ becomes 0 boom ∷ [])
