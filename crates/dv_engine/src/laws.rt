@@ -1,5 +1,6 @@
 //! Laws of whole runs, each a function with an empty body whose clauses are the laws.
 
+ghost use Rattle.dv_engine.specs.Examples.{Examples};
 ghost use Rattle.dv_engine.specs.Laws.{EveryTaskEnds, EachTaskHasOneResult, EveryScriptEnds, EachScriptHasOneMeaning};
 
 /// Every task ends, and in one way.
@@ -12,4 +13,9 @@ pub fn tasks_end()
 pub fn scripts_end()
     ensures ends { EveryScriptEnds }
     ensures one { EachScriptHasOneMeaning }
+{}
+
+/// Small scripts tell and end as Twisted's documents say; with a small limit they stop at the first entry that doesn't fit.
+pub fn examples_end_as_shown()
+    ensures { Examples }
 {}
