@@ -20,7 +20,7 @@ PROGRAM = os.path.join(HERE, "..", "crates", "deferreds", "out", "deferreds")
 
 
 def script(events):
-    return json.dumps({"version": 1, "events": events}, separators=(",", ":")).encode()
+    return json.dumps({"version": 1, "limit": 200000, "events": events}, separators=(",", ":")).encode()
 
 
 def many_deferreds(n):
@@ -51,6 +51,21 @@ def refused_firings(n):
     return script([["deferred", "d"], ["callback", "d", 1]] + [["callback", "d", 2] for _ in range(n)])
 
 
+def many_notes(n):
+    return script([["note", "n%d" % i] for i in range(n)])
+
+
+def long_notes(n):
+    return script([["note", "x" * 1000] for _ in range(n)])
+
+
+def deep_nesting(n):
+    value = []
+    for _ in range(100):
+        value = [value]
+    return script([event for _ in range(n) for event in (["deferred", "d"], ["callback", "d", value])])
+
+
 # name, the script of a size, the least size
 BENCHES = [
     ("many Deferreds", many_deferreds, 1000),
@@ -58,7 +73,10 @@ BENCHES = [
     ("a chain of callbacks", long_chain, 1100),
     ("pairs that pass", pairs_that_pass, 2000),
     ("refused firings", refused_firings, 2000),
-    ("a long text", long_text, 3000),
+    ("many notes", many_notes, 2600),
+    ("long notes", long_notes, 24),
+    ("deep nesting", deep_nesting, 70),
+    ("a long text", long_text, 600),
     ("a long list", long_list, 7500),
 ]
 

@@ -1,24 +1,32 @@
 -- How many Deferreds a task makes: an action makes one at most, and nothing else makes any.
-use Rattle.std.proofs.Common.{◌≡◌, ℕ, zero, suc, ◌+◌, ◌≤◌, Bool, true, false, cond, List, [], ◌∷◌, length, Option, None, Some, slice_get, refl, ap, arith, length-append}
+use Rattle.std.proofs.Common.{◌≡◌, ℕ, zero, suc, ◌+◌, ◌≤◌, Bool, true, false, cond, List, [], ◌∷◌, ◌++◌, length, Option, None, Some, Result, slice_get, slice_set, refl, ap, ◌∙◌, Ok, Err, arith, length-append}
 use Rattle.std.proofs.lemmas.List.{length-set}
 use Rattle.dv_value.specs.Failure.{is_fault}
 use Rattle.dv_value.specs.declared.value.Value.{Value}
-use Rattle.dv_script.specs.declared.action.Action.{Action}
-use Rattle.dv_script.specs.declared.action.Action.TheVariants.{Deferred, Callback, Errback, AddCallback, AddErrback, AddBoth, AddCallbacks}
+use Rattle.dv_journal.specs.Journal.{fits}
+use Rattle.dv_journal.specs.declared.entry.Entry.{Entry}
+use Rattle.dv_journal.specs.declared.entry.Entry.TheVariants as entry
+use Rattle.dv_journal.specs.declared.error.Stop.{Stop}
+use Rattle.dv_script.specs.declared.action.Action.{Action, out-Action}
 use Rattle.dv_script.specs.declared.body.Body.{Body}
 use Rattle.dv_store.specs.Callbacks as callbacks
 use Rattle.dv_store.specs.Fire as firing
-use Rattle.dv_store.specs.Record.{changing_found, with_pair, new_record}
+use Rattle.dv_store.specs.Record as record_of
+use Rattle.dv_store.specs.Record.{with_pair, new_record}
+use Rattle.dv_store.specs.Telling.{State, Told, telling}
+use Rattle.dv_store.specs.declared.error.StoreFault.{StoreFault}
+use Rattle.dv_store.specs.declared.error.StoreFault.TheVariants.{AlreadyCalled, Limit, OutOfMemory}
 use Rattle.dv_store.specs.declared.record.Record.{Record}
 use Rattle.dv_store.specs.declared.store.Step.{Step}
 use Rattle.dv_store.specs.declared.store.Step.TheVariants.{Nothing, Passed, Run}
 use Rattle.dv_engine.specs.Callbacks.{place, run_by, settle_by}
-use Rattle.dv_engine.specs.Meaning.{task_by, meaning, Gives}
+use Rattle.dv_engine.specs.Deed.{Deed, Idle, Write, Make, FireWith, AddTo, deed_of}
+use Rattle.dv_engine.specs.Meaning.{task_by, meaning, Gives, told_of}
 use Rattle.dv_engine.specs.Names.{number_of}
 use Rattle.dv_engine.specs.Pair.{Bodies, passes, side_for}
-use Rattle.dv_engine.specs.Perform.{settled_by, named_by, fire_by, add_by, act_by}
+use Rattle.dv_engine.specs.Perform.{settled_by, named_by, fire_by, add_by, made, do_by}
 use Rattle.dv_engine.specs.Task.{Task, Settle, Perform, Act, Answer, Meant, ◌>>=◌}
-use Rattle.dv_engine.specs.World.{World, Records, step, put, append, make, fire, is_fired, value_of, unbound}
+use Rattle.dv_engine.specs.World.{World, state_of, after, moved, named as named_after, fired as fired_after, step, put, append, make, fire, tell, value_of, unbound}
 use Rattle.dv_engine.specs.declared.performed.Performed.{Performed}
 use Rattle.dv_engine.specs.declared.performed.Performed.TheVariants.{Done, Gave, Raised}
 
@@ -37,48 +45,119 @@ same_answer p o w u h =
     let e : x ≡ y = cc in
     ap (λ (r : Ended). length r.1.records) e
 
--- a change of one record makes none
-changed : (d : ℕ) (change : Record Bodies Body → Record Bodies Body) (o : Option (Record Bodies Body)) (rs : Records) → length (changing_found d change o rs) ≡ length rs
-changed d change None rs = refl
-changed d change (Some r) rs = length-set rs d (change r)
-
 either : {A : Type 0} (f : A → ℕ) (n : ℕ) (b : Bool) (x y : A) → f x ≡ n → f y ≡ n → f (cond b x y) ≡ n
 either f n true x y p q = p
 either f n false x y p q = q
 
-used : (d : ℕ) (r : Record Bodies Body) (pairs : List Bodies) (rs : Records) → length (callbacks.use_first passes d r pairs rs).1 ≡ length rs
-used d r [] rs = refl
-used d r (pair ∷ rest) rs =
-    either (λ (s : callbacks.Stepped Bodies Body). length s.1) (length rs) (passes pair (is_fault r.value)) _ _
-    (length-set rs d (record r { items = rest })) (length-set rs d (record r { items = rest; running = true }))
+-- how many Deferreds a call on them leaves
+abbrev count : {A : Type 0} → Told A Bodies Body → ℕ
+count told = length told.1.0
 
-stepped : (d : ℕ) (o : Option (Record Bodies Body)) (rs : Records) → length (callbacks.step_found passes d o rs).1 ≡ length rs
-stepped d None rs = refl
-stepped d (Some r) rs = either (λ (s : callbacks.Stepped Bodies Body). length s.1) (length rs) (callbacks.is_ready r) _ _ (used d r r.items rs) refl
+-- a change of one record that is told makes none
+told_change : {A : Type 0} (e : Entry) (answer : A) (d : ℕ) (r : Record Bodies Body) (s : State Bodies Body) → count (telling e answer (slice_set s.0 d r) s) ≡ length s.0
+told_change e answer d r s = either count (length s.0) (fits s.1 e) _ _ (length-set s.0 d r) refl
+
+-- what a call leaves is what the world has
+after_count : (answer : Result Unit Stop) (s : State Bodies Body) (w : World) → length (after answer s w).records ≡ length s.0
+after_count (Ok done) s w = refl
+after_count (Err stop) s w = refl
+
+moved_count : (move : Result (Step Bodies) Stop) (s : State Bodies Body) (w : World) → length (moved move s w).1.records ≡ length s.0
+moved_count (Ok move) s w = refl
+moved_count (Err stop) s w = refl
+
+named_count : (name : List ℕ) (answer : Result ℕ Stop) (s : State Bodies Body) (w : World) → length (named_after name answer s w).records ≡ length s.0
+named_count name (Ok d) s w = refl
+named_count name (Err stop) s w = refl
+
+fired_count : (answer : Result Unit StoreFault) (s : State Bodies Body) (w : World) → length (fired_after answer s w).1.records ≡ length s.0
+fired_count (Ok done) s w = refl
+fired_count (Err AlreadyCalled) s w = refl
+fired_count (Err Limit) s w = refl
+fired_count (Err OutOfMemory) s w = refl
+
+used : (d : ℕ) (r : Record Bodies Body) (pairs : List Bodies) (s : State Bodies Body) → count (callbacks.use_first passes d r pairs s) ≡ length s.0
+used d r [] s = refl
+used d r (pair ∷ rest) s =
+    either count (length s.0) (passes pair (is_fault r.value)) _ _
+    (length-set s.0 d (record r { items = rest })) (told_change (entry.Run d) (Run pair) d (record r { items = rest; running = true }) s)
+
+stepped : (d : ℕ) (o : Option (Record Bodies Body)) (s : State Bodies Body) → count (callbacks.step_found passes d o s) ≡ length s.0
+stepped d None s = refl
+stepped d (Some r) s = either count (length s.0) (callbacks.is_ready r) _ _ (used d r r.items s) refl
+
+store_step : (d : ℕ) (s : State Bodies Body) → count (callbacks.step passes d s) ≡ length s.0
+unfolding callbacks.step
+store_step d s = stepped d (slice_get s.0 d) s
 
 step_makes_none : (d : ℕ) (w : World) → length (step d w).1.records ≡ length w.records
-unfolding step callbacks.step
-step_makes_none d w = stepped d (slice_get w.records d) w.records
+unfolding step
+step_makes_none d w =
+    let told = callbacks.step passes d (state_of w) in
+    either (λ (p : Step Bodies × World). length p.1.records) (length w.records) w.stopped _ _ refl (moved_count told.0 told.1 w ∙ store_step d (state_of w))
+
+put_found : (d : ℕ) (value : Value) (o : Option (Record Bodies Body)) (s : State Bodies Body) → count (callbacks.put_found d value o s) ≡ length s.0
+put_found d value None s = refl
+put_found d value (Some r) s = told_change (entry.Set d value) tt d (callbacks.with_result value r) s
 
 put_makes_none : (d : ℕ) (value : Value) (w : World) → length (put d value w).records ≡ length w.records
 unfolding put
-put_makes_none d value w = changed d (callbacks.with_result value) (slice_get w.records d) w.records
+put_makes_none d value w =
+    let told = callbacks.put d value (state_of w) in
+    either (λ (u : World). length u.records) (length w.records) w.stopped _ _ refl (after_count told.0 told.1 w ∙ put_found d value (slice_get w.records d) (state_of w))
+
+append_found : (d : ℕ) (pair : Bodies) (o : Option (Record Bodies Body)) (s : State Bodies Body) → count (record_of.append_found d pair o s) ≡ length s.0
+append_found d pair None s = refl
+append_found d pair (Some r) s = told_change (entry.Add d) tt d (with_pair pair r) s
 
 append_makes_none : (d : ℕ) (pair : Bodies) (w : World) → length (append d pair w).records ≡ length w.records
 unfolding append
-append_makes_none d pair w = changed d (with_pair pair) (slice_get w.records d) w.records
+append_makes_none d pair w =
+    let told = record_of.append d pair (state_of w) in
+    either (λ (u : World). length u.records) (length w.records) w.stopped _ _ refl (after_count told.0 told.1 w ∙ append_found d pair (slice_get w.records d) (state_of w))
 
-fired : (d : ℕ) (value : Value) (o : Option (Record Bodies Body)) (rs : Records) → length (firing.fire_found d value o rs).1 ≡ length rs
-fired d value None rs = refl
-fired d value (Some r) rs = either (λ (s : firing.Fired Bodies Body). length s.1) (length rs) r.fired _ _ refl (length-set rs d (firing.with_firing value r))
+fire_found : (d : ℕ) (value : Value) (o : Option (Record Bodies Body)) (s : State Bodies Body) → length (firing.fire_found d value o s).1.0 ≡ length s.0
+fire_found d value None s = refl
+fire_found d value (Some r) s =
+    let left = λ (t : firing.Fired Bodies Body). length t.1.0 in
+    either left (length s.0) r.fired _ _
+    (either left (length s.0) (fits s.1 (entry.Refuse d)) _ _ refl refl)
+    (either left (length s.0) (fits s.1 (entry.Fire d value)) _ _ (length-set s.0 d (firing.with_firing value r)) refl)
 
 fire_makes_none : (d : ℕ) (value : Value) (w : World) → length (fire d value w).1.records ≡ length w.records
 unfolding fire
-fire_makes_none d value w = either (λ (p : Ended). length p.1.records) (length w.records) (is_fired d w) _ _ refl (fired d value (slice_get w.records d) w.records)
+fire_makes_none d value w =
+    let told = firing.fire d value (state_of w) in
+    either (λ (p : Ended). length p.1.records) (length w.records) w.stopped _ _ refl (fired_count told.0 told.1 w ∙ fire_found d value (slice_get w.records d) (state_of w))
 
-make_makes_one : (name : List ℕ) (w : World) → length (make name w).records ≡ length w.records + 1
+tell_makes_none : (e : Entry) (w : World) → length (tell e w).records ≡ length w.records
+unfolding tell
+tell_makes_none e w =
+    let left = λ (u : World). length u.records in
+    either left (length w.records) w.stopped _ _ refl (either left (length w.records) (fits w.journal e) _ _ refl refl)
+
+-- at most one more
+either_most : {A : Type 0} (f : A → ℕ) (n : ℕ) (b : Bool) (x y : A) → f x ≤ n → f y ≤ n → f (cond b x y) ≤ n
+either_most f n true x y p q = p
+either_most f n false x y p q = q
+
+make_makes_one : (name : List ℕ) (w : World) → length (make name w).records ≤ length w.records + 1
 unfolding make
-make_makes_one name w = length-append w.records (new_record (Some name) None ∷ [])
+make_makes_one name w =
+    let s = state_of w in
+    let told = record_of.make (Some name) None s in
+    let made : length (s.0 ++ new_record {P = Bodies} {K = Body} (Some name) None ∷ []) ≤ length w.records + 1 = omega (arith, length-append w.records (new_record {P = Bodies} {K = Body} (Some name) None ∷ [])) in
+    let left : count told ≤ length w.records + 1 = either_most count (length w.records + 1) (fits s.1 (entry.New (length s.0) (Some name))) _ _ made (omega arith) in
+    either_most (λ (u : World). length u.records) (length w.records + 1) w.stopped _ _ (omega arith) (omega (arith, named_count name told.0 told.1 w, left))
+
+made_makes_one : (name : List ℕ) (canceller : Option Body) (w : World) → length (made name canceller w).records ≤ length w.records + 1
+made_makes_one name None w = make_makes_one name w
+made_makes_one name (Some canceller) w = omega arith
+
+told_makes_none : (p : Performed) (w : World) → length (told_of p w).records ≡ length w.records
+told_makes_none Done w = refl
+told_makes_none (Gave value) w = refl
+told_makes_none (Raised failure) w = tell_makes_none (entry.Unhandled failure) w
 
 place_makes_none : (d : ℕ) (p : Performed) (w : World) → length (place d p w).records ≡ length w.records
 place_makes_none d Done w = refl
@@ -128,19 +207,17 @@ module _ (go : Meant) (b : Bounded go) where
   adds name pair w o u h =
       named (number_of name w.names) name w _ o u (λ d k. omega (arith, append_makes_none d pair w, b.at (Settle d) (append d pair w) o u k)) h
 
-  acts : (action : Action) (w : World) (o : Performed) (u : World) → act_by go action w ≡ Some (o, u) → Grows 1 w u
-  acts (Deferred name) w o u h = omega (arith, make_makes_one name w, same_answer Done o (make name w) u h)
-  acts (Callback name value) w o u h = omega (arith, fires name value w o u h)
-  acts (Errback name class message) w o u h = omega (arith, fires name _ w o u h)
-  acts (AddCallback name body) w o u h = omega (arith, adds name _ w o u h)
-  acts (AddErrback name body) w o u h = omega (arith, adds name _ w o u h)
-  acts (AddBoth name body) w o u h = omega (arith, adds name _ w o u h)
-  acts (AddCallbacks name callback errback) w o u h = omega (arith, adds name _ w o u h)
+  does : (deed : Deed) (w : World) (o : Performed) (u : World) → do_by go deed w ≡ Some (o, u) → Grows 1 w u
+  does Idle w o u h = omega (arith, same_answer Done o w u h)
+  does (Write e) w o u h = omega (arith, tell_makes_none e w, same_answer Done o (tell e w) u h)
+  does (Make name canceller) w o u h = omega (arith, made_makes_one name canceller w, same_answer Done o (made name canceller w) u h)
+  does (FireWith name value) w o u h = omega (arith, fires name value w o u h)
+  does (AddTo name pair) w o u h = omega (arith, adds name pair w o u h)
 
   tasks : (t : Task) (w : World) (o : Performed) (u : World) → task_by go t w ≡ Some (o, u) → Grows (most t) w u
   tasks (Settle d) w o u h = omega (arith, step_makes_none d w, settles d (step d w).0 (step d w).1 o u h)
   tasks (Perform body input) w o u h = omega (arith, same_answer _ o w u h)
-  tasks (Act action) w o u h = acts action w o u h
+  tasks (Act action) w o u h = does (deed_of (out-Action action)) w o u h
 
 bounded : (n : ℕ) → Bounded (meaning n)
 unfolding meaning
@@ -150,3 +227,7 @@ bounded (suc n) = record { at = tasks (meaning n) (bounded n) }
 -- an action makes one Deferred at most
 pub act_makes_one : {action : Action} {w : World} {o : Performed} {u : World} → Gives (Act action) w o u → length u.records ≤ length w.records + 1
 act_makes_one {action} {w} {o} {u} g = (bounded g.depth).at (Act action) w o u g.ends
+
+-- and telling of what it came to makes none
+pub told_act_makes_one : {action : Action} {w : World} {o : Performed} {u v : World} → Gives (Act action) w o u → v ≡ told_of o u → length v.records ≤ length w.records + 1
+told_act_makes_one {action} {w} {o} {u} {v} g e = omega (arith, act_makes_one g, told_makes_none o u, ap (λ (x : World). length x.records) e)

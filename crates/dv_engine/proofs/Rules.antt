@@ -1,21 +1,24 @@
 -- More depth changes no answer, and the rules by which answers are put together.
-use Rattle.std.proofs.Common.{◌≡◌, ℕ, zero, suc, ◌+◌, List, Option, None, Some, refl, ap, sym, subst, zero-add, suc-add, add_comm}
+use Rattle.std.proofs.Common.{◌≡◌, ℕ, zero, suc, ◌+◌, List, Option, None, Some, refl, ap, sym, subst, ◌∙◌, zero-add, suc-add, add_comm}
 use Rattle.dv_value.specs.declared.value.Value.{Value}
 use Rattle.dv_value.specs.Failure.{is_fault}
-use Rattle.dv_script.specs.declared.action.Action.{Action}
-use Rattle.dv_script.specs.declared.action.Action.TheVariants.{Deferred, Callback, Errback, AddCallback, AddErrback, AddBoth, AddCallbacks}
+use Rattle.dv_journal.specs.declared.entry.Entry.{Entry}
+use Rattle.dv_journal.specs.declared.entry.Entry.TheVariants as entry
+use Rattle.dv_script.specs.declared.action.Action.{Action, Deferred, Callback, Errback, AddCallback, AddErrback, AddBoth, AddCallbacks, Note, out-Action}
+use Rattle.dv_script.specs.declared.action.Action.TheViews.{outs-Deferred, outs-Callback, outs-Errback, outs-AddCallback, outs-AddErrback, outs-AddBoth, outs-AddCallbacks, outs-Note}
 use Rattle.dv_script.specs.declared.body.Body.{Body}
 use Rattle.dv_store.specs.declared.store.Step.{Step}
 use Rattle.dv_store.specs.declared.store.Step.TheVariants.{Nothing, Passed, Run}
 use Rattle.dv_engine.specs.Callbacks.{run_by, settle_by}
+use Rattle.dv_engine.specs.Deed.{Deed, Idle, Write, Make, FireWith, AddTo, deed_of}
 use Rattle.dv_engine.specs.Ending.{fault}
 use Rattle.dv_engine.specs.Meaning.{task_by, meaning, Gives, Fires, Adds}
 use Rattle.dv_engine.specs.Names.{number_of}
 use Rattle.dv_engine.specs.Pair.{Bodies, side_for}
-use Rattle.dv_engine.specs.Perform.{settled_by, named_by, fire_by, add_by, act_by}
+use Rattle.dv_engine.specs.Perform.{settled_by, named_by, fire_by, add_by, made, do_by}
 use Rattle.dv_engine.specs.Settling.{side_gives}
 use Rattle.dv_engine.specs.Task.{Task, Settle, Perform, Act, Answer, Meant, ◌>>=◌}
-use Rattle.dv_engine.specs.World.{World, step, put, append, make, fire, value_of, unbound}
+use Rattle.dv_engine.specs.World.{World, step, put, append, fire, tell, value_of, unbound}
 use Rattle.dv_engine.specs.declared.performed.Performed.{Performed}
 use Rattle.dv_engine.specs.declared.performed.Performed.TheVariants.{Done, Gave, Raised}
 
@@ -57,19 +60,17 @@ module _ (f g : Meant) (e : Extends f g) where
   add_extends : (name : List ℕ) (pair : Bodies) (w : World) (r : Ended) → add_by f name pair w ≡ Some r → add_by g name pair w ≡ Some r
   add_extends name pair w r h = named_extends (number_of name w.names) name w _ _ r (λ d. e.at (Settle d) (append d pair w) r) h
 
-  act_extends : (action : Action) (w : World) (r : Ended) → act_by f action w ≡ Some r → act_by g action w ≡ Some r
-  act_extends (Deferred name) w r h = h
-  act_extends (Callback name value) w r h = fire_extends name value w r h
-  act_extends (Errback name class message) w r h = fire_extends name _ w r h
-  act_extends (AddCallback name body) w r h = add_extends name _ w r h
-  act_extends (AddErrback name body) w r h = add_extends name _ w r h
-  act_extends (AddBoth name body) w r h = add_extends name _ w r h
-  act_extends (AddCallbacks name callback errback) w r h = add_extends name _ w r h
+  do_extends : (deed : Deed) (w : World) (r : Ended) → do_by f deed w ≡ Some r → do_by g deed w ≡ Some r
+  do_extends Idle w r h = h
+  do_extends (Write entry) w r h = h
+  do_extends (Make name canceller) w r h = h
+  do_extends (FireWith name value) w r h = fire_extends name value w r h
+  do_extends (AddTo name pair) w r h = add_extends name pair w r h
 
   task_extends : (t : Task) (w : World) (r : Ended) → task_by f t w ≡ Some r → task_by g t w ≡ Some r
   task_extends (Settle d) w r h = settle_extends d _ _ r h
   task_extends (Perform body input) w r h = h
-  task_extends (Act action) w r h = act_extends action w r h
+  task_extends (Act action) w r h = do_extends (deed_of (out-Action action)) w r h
 
   pub task_by_extends : Extends (task_by f) (task_by g)
   task_by_extends = record { at = task_extends }
@@ -157,31 +158,52 @@ pub adds_settled : {name : List ℕ} {pair : Bodies} {d : ℕ} {w w1 : World} {p
 adds_settled {name} {pair} {d} {w} {w1} {p} {u} h e g = record { depth = g.depth; ends = rw h (subst (λ x. meaning g.depth (Settle d) x ≡ Some (p, u)) e g.ends) }
 
 -- performing an action
-pub act_deferred : {action : Action} {name : List ℕ} {w u : World} → action ≡ Deferred name → u ≡ make name w → Gives (Act action) w Done u
-act_deferred {action} {name} {w} {u} h e = one_level 0 (Act action) w Done u (rw (h, e) refl)
+pub act_idle : {action : Action} {w : World} → deed_of (out-Action action) ≡ Idle → Gives (Act action) w Done w
+act_idle {action} {w} h = one_level 0 (Act action) w Done w (rw h refl)
+
+pub act_write : {action : Action} {entry : Entry} {w u : World} → deed_of (out-Action action) ≡ Write entry → u ≡ tell entry w → Gives (Act action) w Done u
+act_write {action} {entry} {w} {u} h e = one_level 0 (Act action) w Done u (rw (h, e) refl)
+
+pub act_make : {action : Action} {name : List ℕ} {canceller : Option Body} {w u : World} → deed_of (out-Action action) ≡ Make name canceller → u ≡ made name canceller w → Gives (Act action) w Done u
+act_make {action} {name} {canceller} {w} {u} h e = one_level 0 (Act action) w Done u (rw (h, e) refl)
+
+pub act_fire : {action : Action} {name : List ℕ} {value : Value} {w : World} {p : Performed} {u : World} → deed_of (out-Action action) ≡ FireWith name value → Fires name value w p u → Gives (Act action) w p u
+act_fire {action} {name} {value} {w} {p} {u} h f = one_level f.depth (Act action) w p u (rw h f.ends)
+
+pub act_add : {action : Action} {name : List ℕ} {pair : Bodies} {w : World} {p : Performed} {u : World} → deed_of (out-Action action) ≡ AddTo name pair → Adds name pair w p u → Gives (Act action) w p u
+act_add {action} {name} {pair} {w} {p} {u} h f = one_level f.depth (Act action) w p u (rw h f.ends)
+
+deed_at : (action made : Action) (deed : Deed) → action ≡ made → deed_of (out-Action made) ≡ deed → deed_of (out-Action action) ≡ deed
+deed_at action made deed h e = ap (λ a. deed_of (out-Action a)) h ∙ e
+
+pub act_deferred : {action : Action} {name : List ℕ} (canceller : Option Body) {w u : World} → action ≡ Deferred name canceller → u ≡ made name canceller w → Gives (Act action) w Done u
+act_deferred {action} {name} canceller h e = act_make (deed_at action (Deferred name canceller) _ h (ap deed_of (outs-Deferred name canceller))) e
 
 pub act_callback : {action : Action} {name : List ℕ} {value : Value} {w : World} {p : Performed} {u : World} → action ≡ Callback name value → Fires name value w p u → Gives (Act action) w p u
-act_callback {action} {name} {value} {w} {p} {u} h f = one_level f.depth (Act action) w p u (rw h f.ends)
+act_callback {action} {name} {value} h f = act_fire (deed_at action (Callback name value) _ h (ap deed_of (outs-Callback name value))) f
 
 pub act_errback : {action : Action} {name : List ℕ} {class : ℕ} {message : List ℕ} {value : Value} {w : World} {p : Performed} {u : World} → action ≡ Errback name class message → value ≡ fault class message
     → Fires name value w p u → Gives (Act action) w p u
-act_errback {action} {name} {class} {message} {value} {w} {p} {u} h e f = one_level f.depth (Act action) w p u (rw (h, ← e) f.ends)
+act_errback {action} {name} {class} {message} h e f = act_fire (deed_at action (Errback name class message) (FireWith name (fault class message)) h (ap deed_of (outs-Errback name class message)) ∙ ap (FireWith name) (sym e)) f
 
 pub act_add_callback : {action : Action} {name : List ℕ} {body : Body} {w : World} {p : Performed} {u : World} → action ≡ AddCallback name body → Adds name (record { callback = Some body; errback = None }) w p u → Gives (Act action) w p u
-act_add_callback {action} {name} {body} {w} {p} {u} h f = one_level f.depth (Act action) w p u (rw h f.ends)
+act_add_callback {action} {name} {body} h f = act_add (deed_at action (AddCallback name body) _ h (ap deed_of (outs-AddCallback name body))) f
 
 pub act_add_errback : {action : Action} {name : List ℕ} {body : Body} {w : World} {p : Performed} {u : World} → action ≡ AddErrback name body → Adds name (record { callback = None; errback = Some body }) w p u → Gives (Act action) w p u
-act_add_errback {action} {name} {body} {w} {p} {u} h f = one_level f.depth (Act action) w p u (rw h f.ends)
+act_add_errback {action} {name} {body} h f = act_add (deed_at action (AddErrback name body) _ h (ap deed_of (outs-AddErrback name body))) f
 
 pub act_add_both : {action : Action} {name : List ℕ} {body : Body} {w : World} {p : Performed} {u : World} → action ≡ AddBoth name body → Adds name (record { callback = Some body; errback = Some body }) w p u → Gives (Act action) w p u
-act_add_both {action} {name} {body} {w} {p} {u} h f = one_level f.depth (Act action) w p u (rw h f.ends)
+act_add_both {action} {name} {body} h f = act_add (deed_at action (AddBoth name body) _ h (ap deed_of (outs-AddBoth name body))) f
 
-pub act_add_callbacks : {action : Action} {name : List ℕ} {callback errback : Body} {w : World} {p : Performed} {u : World} → action ≡ AddCallbacks name callback errback → Adds name (record { callback = Some callback; errback = Some errback }) w p u
-    → Gives (Act action) w p u
-act_add_callbacks {action} {name} {callback} {errback} {w} {p} {u} h f = one_level f.depth (Act action) w p u (rw h f.ends)
+pub act_add_callbacks : {action : Action} {name : List ℕ} {callback errback : Body} {w : World} {p : Performed} {u : World} → action ≡ AddCallbacks name callback errback
+    → Adds name (record { callback = Some callback; errback = Some errback }) w p u → Gives (Act action) w p u
+act_add_callbacks {action} {name} {callback} {errback} h f = act_add (deed_at action (AddCallbacks name callback errback) _ h (ap deed_of (outs-AddCallbacks name callback errback))) f
+
+pub act_note : {action : Action} {text : List ℕ} {w u : World} → action ≡ Note text → u ≡ tell (entry.Note text) w → Gives (Act action) w Done u
+act_note {action} {text} h e = act_write (deed_at action (Note text) _ h (ap deed_of (outs-Note text))) e
 
 pub ruleset settling_rules = (settle_nothing, settle_passed, settle_run)
 
 pub ruleset named_rules = (fires_unbound, fires_settled, fires_refused, adds_unbound, adds_settled)
 
-pub ruleset action_rules = (act_deferred, act_callback, act_errback, act_add_callback, act_add_errback, act_add_both, act_add_callbacks)
+pub ruleset action_rules = (act_deferred, act_callback, act_errback, act_add_callback, act_add_errback, act_add_both, act_add_callbacks, act_note)

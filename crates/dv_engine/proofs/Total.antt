@@ -2,20 +2,23 @@
 use Rattle.std.proofs.Common.{◌≡◌, ℕ, zero, suc, ◌<◌, List, [], ◌∷◌, Option, None, Some, refl, sym, subst, ◌∙◌, arith}
 use Rattle.dv_value.specs.Failure.{is_fault}
 use Rattle.dv_value.specs.declared.value.Value.{Value}
-use Rattle.dv_script.specs.declared.action.Action.{Action}
-use Rattle.dv_script.specs.declared.action.Action.TheVariants.{Deferred, Callback, Errback, AddCallback, AddErrback, AddBoth, AddCallbacks}
+use Rattle.dv_script.specs.declared.action.Action.{Action, out-Action}
+use Rattle.dv_script.specs.declared.event.Event.{Event}
+use Rattle.dv_script.specs.declared.event.Event.TheVariants as event
 use Rattle.dv_store.specs.Laws.{unused_pairs}
 use Rattle.dv_store.specs.declared.store.Step.{Step}
 use Rattle.dv_store.specs.declared.store.Step.TheVariants.{Nothing, Passed, Run}
-use Rattle.dv_engine.proofs.Rules.{gives_one, one_level, settle_nothing, settle_passed, settle_run, fires_unbound, fires_settled, fires_refused, adds_unbound, adds_settled, act_deferred, act_callback, act_errback, act_add_callback, act_add_errback, act_add_both, act_add_callbacks}
+use Rattle.dv_engine.proofs.Rules.{gives_one, one_level, settle_nothing, settle_passed, settle_run, fires_unbound, fires_settled, fires_refused, adds_unbound, adds_settled, act_idle, act_write, act_make, act_fire, act_add}
 use Rattle.dv_engine.proofs.WorldLemmas.{passed_took, run_took}
+use Rattle.dv_engine.specs.Deed.{Deed, Idle, Write, Make, FireWith, AddTo, deed_of}
 use Rattle.dv_engine.specs.Laws.{EveryTaskEnds, EachTaskHasOneResult, EveryScriptEnds, EachScriptHasOneMeaning}
-use Rattle.dv_engine.specs.Meaning.{Gives, Fires, Adds, Runs}
+use Rattle.dv_engine.specs.Meaning.{Gives, Fires, Adds, told_of, Happens, Runs}
 use Rattle.dv_engine.specs.Names.{number_of}
 use Rattle.dv_engine.specs.Pair.{Bodies, side_for}
+use Rattle.dv_engine.specs.Perform.{made}
 use Rattle.dv_engine.specs.Settling.{side_gives}
 use Rattle.dv_engine.specs.Task.{Task, Settle, Perform, Act}
-use Rattle.dv_engine.specs.World.{World, step, put, append, make, fire, value_of, unbound, first_world}
+use Rattle.dv_engine.specs.World.{World, step, put, append, fire, tell, value_of, unbound, first_world}
 use Rattle.dv_engine.specs.declared.performed.Performed.{Performed}
 use Rattle.dv_engine.specs.declared.performed.Performed.TheVariants.{Done, Gave, Raised}
 
@@ -58,14 +61,15 @@ add_ends : (name : List ℕ) (pair : Bodies) (w : World) (o : Option ℕ) → nu
 add_ends name pair w None h = (unbound name, w, adds_unbound h refl)
 add_ends name pair w (Some d) h = let r = settle_ends d (append d pair w) in (r.0, r.1, adds_settled h refl r.2)
 
+deed_ends : (action : Action) (deed : Deed) (w : World) → deed_of (out-Action action) ≡ deed → Ends (Act action) w
+deed_ends action Idle w h = (Done, w, act_idle h)
+deed_ends action (Write entry) w h = (Done, tell entry w, act_write h refl)
+deed_ends action (Make name canceller) w h = (Done, made name canceller w, act_make h refl)
+deed_ends action (FireWith name value) w h = let r = fire_ends name value w _ refl in (r.0, r.1, act_fire h r.2)
+deed_ends action (AddTo name pair) w h = let r = add_ends name pair w _ refl in (r.0, r.1, act_add h r.2)
+
 act_ends : (action : Action) (w : World) → Ends (Act action) w
-act_ends (Deferred name) w = (Done, make name w, act_deferred refl refl)
-act_ends (Callback name value) w = let r = fire_ends name value w _ refl in (r.0, r.1, act_callback refl r.2)
-act_ends (Errback name class message) w = let r = fire_ends name _ w _ refl in (r.0, r.1, act_errback refl refl r.2)
-act_ends (AddCallback name body) w = let r = add_ends name _ w _ refl in (r.0, r.1, act_add_callback refl r.2)
-act_ends (AddErrback name body) w = let r = add_ends name _ w _ refl in (r.0, r.1, act_add_errback refl r.2)
-act_ends (AddBoth name body) w = let r = add_ends name _ w _ refl in (r.0, r.1, act_add_both refl r.2)
-act_ends (AddCallbacks name callback errback) w = let r = add_ends name _ w _ refl in (r.0, r.1, act_add_callbacks refl r.2)
+act_ends action w = deed_ends action _ w refl
 
 pub every_task_ends : EveryTaskEnds
 every_task_ends (Settle d) w = settle_ends d w
@@ -75,21 +79,34 @@ every_task_ends (Act action) w = act_ends action w
 pub each_task_has_one_result : EachTaskHasOneResult
 each_task_has_one_result t w o p u v g h = gives_one g h
 
-runs_end : (events : List Action) (w : World) → (u : World) × Runs events w u
-runs_end [] w = (w, refl)
-runs_end (action ∷ events) w =
-    let first = act_ends action w in
-    let rest = runs_end events first.1 in
-    (rest.0, (first.0, first.1, first.2, rest.1))
+happens_end : (event : Event) (w : World) → (u : World) × Happens event w u
+happens_end (event.Action action) w = let r = act_ends action w in (told_of r.0 r.1, (r.0, r.1, r.2, refl))
+happens_end (event.Advance ticks) w = (w, refl)
+happens_end (event.Drain most) w = (w, refl)
 
-runs_one : (events : List Action) (w u v : World) → Runs events w u → Runs events w v → u ≡ v
-runs_one [] w u v r s = r ∙ sym s
-runs_one (action ∷ events) w u v r s =
+happens_one : (event : Event) (w u v : World) → Happens event w u → Happens event w v → u ≡ v
+happens_one (event.Action action) w u v r s =
     let same = gives_one r.2 s.2 in
-    runs_one events s.1 u v (subst (λ x. Runs events x u) same.1 r.3) s.3
+    let ended : told_of r.0 r.1 ≡ told_of s.0 s.1 = cc in
+    r.3 ∙ ended ∙ sym s.3
+happens_one (event.Advance ticks) w u v r s = r ∙ sym s
+happens_one (event.Drain most) w u v r s = r ∙ sym s
+
+runs_end : (events : List Event) (w : World) → (u : World) × Runs events w u
+runs_end [] w = (w, refl)
+runs_end (event ∷ events) w =
+    let first = happens_end event w in
+    let rest = runs_end events first.0 in
+    (rest.0, (first.0, first.1, rest.1))
+
+runs_one : (events : List Event) (w u v : World) → Runs events w u → Runs events w v → u ≡ v
+runs_one [] w u v r s = r ∙ sym s
+runs_one (event ∷ events) w u v r s =
+    let same = happens_one event w r.0 s.0 r.1 s.1 in
+    runs_one events s.0 u v (subst (λ x. Runs events x u) same r.2) s.2
 
 pub every_script_ends : EveryScriptEnds
-every_script_ends script = runs_end script.events (first_world script.classes)
+every_script_ends script = runs_end script.events (first_world script.classes script.limit)
 
 pub each_script_has_one_meaning : EachScriptHasOneMeaning
-each_script_has_one_meaning script u v r s = runs_one script.events (first_world script.classes) u v r s
+each_script_has_one_meaning script u v r s = runs_one script.events (first_world script.classes script.limit) u v r s

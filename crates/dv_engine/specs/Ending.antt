@@ -7,7 +7,7 @@ use Rattle.dv_value.specs.declared.classes.Class.{Class}
 use Rattle.dv_value.specs.declared.value.Value.{Value, Int, Fault, out-Value}
 use Rattle.dv_value.specs.declared.value.Value.TheOpen.{Value-F}
 use Rattle.dv_script.specs.declared.body.End.{End}
-use Rattle.dv_script.specs.declared.body.End.TheVariants.{Return, Pass, Plus, Raise, Trap}
+use Rattle.dv_script.specs.declared.body.End.TheVariants.{Return, Pass, Plus, Raise, Trap, Wait}
 
 -- a failure of a class, with a message
 abbrev pub fault : ℕ → List ℕ → Value
@@ -45,10 +45,11 @@ trap_of table listed value input (Value-F.Int n) = fault type_error (codes "trap
 trap_of table listed value input (Value-F.Text t) = fault type_error (codes "trap")
 trap_of table listed value input (Value-F.List vs) = fault type_error (codes "trap")
 
--- what an end gives for an input
+-- what an end gives for an input; `wait` isn't performed yet, and passes it on
 abbrev pub end_gives : List Class → End → Value → Value
 end_gives table (Return value) input = value
 end_gives table Pass input = input
 end_gives table (Plus n) input = plus_to n (out-Value input)
 end_gives table (Raise class message) input = fault class message
 end_gives table (Trap listed value) input = trap_of table listed value input (out-Value input)
+end_gives table (Wait name) input = input

@@ -1,14 +1,17 @@
 -- What tasks, events and scripts do: the rules tied together, as a recursion whose depth has a bound.
 use Rattle.std.specs.Prelude.{ℕ, zero, suc, ◌≡◌, List, [], ◌∷◌, None, Some}
 use Rattle.dv_value.specs.declared.value.Value.{Value}
-use Rattle.dv_script.specs.declared.action.Action.{Action}
+use Rattle.dv_journal.specs.declared.entry.Entry.TheVariants.{Unhandled}
+use Rattle.dv_script.specs.declared.event.Event.{Event}
+use Rattle.dv_script.specs.declared.event.Event.TheVariants as event
 use Rattle.dv_script.specs.declared.script.Script.{Script}
 use Rattle.dv_engine.specs.Callbacks.{settle_by}
 use Rattle.dv_engine.specs.Pair.{Bodies}
 use Rattle.dv_engine.specs.Perform.{perform_by, act_by, fire_by, add_by}
 use Rattle.dv_engine.specs.Task.{Task, Settle, Perform, Act, Answer, Meant}
-use Rattle.dv_engine.specs.World.{World, step, first_world}
+use Rattle.dv_engine.specs.World.{World, step, tell, first_world}
 use Rattle.dv_engine.specs.declared.performed.Performed.{Performed}
+use Rattle.dv_engine.specs.declared.performed.Performed.TheVariants.{Done, Gave, Raised}
 
 -- each task by its rule, over the meaning of the tasks that the rule names
 abbrev pub task_by : Meant → Task → World → Answer
@@ -36,11 +39,23 @@ pub record Adds (name : List ℕ) (pair : Bodies) (w : World) (performed : Perfo
   pub depth : ℕ
   pub ends : add_by (meaning depth) name pair w ≡ Some (performed, after)
 
--- events are performed in order, whatever the ones before came to
-abbrev pub Runs : List Action → World → World → Type 0
+-- what an event comes to is told where a failure leaves it, and the run goes on
+abbrev pub told_of : Performed → World → World
+told_of Done w = w
+told_of (Gave value) w = w
+told_of (Raised failure) w = tell (Unhandled failure) w
+
+-- an action is performed, and what it comes to is told; nothing else happens yet
+abbrev pub Happens : Event → World → World → Type 0
+Happens (event.Action action) w after = (performed : Performed) × (next : World) × Gives (Act action) w performed next × (after ≡ told_of performed next)
+Happens (event.Advance ticks) w after = after ≡ w
+Happens (event.Drain most) w after = after ≡ w
+
+-- events happen in order
+abbrev pub Runs : List Event → World → World → Type 0
 Runs [] w after = after ≡ w
-Runs (action ∷ actions) w after = (performed : Performed) × (next : World) × Gives (Act action) w performed next × Runs actions next after
+Runs (event ∷ events) w after = (next : World) × Happens event w next × Runs events next after
 
 -- a script leads from a world in which nothing is made to the world at its end
 abbrev pub Means : Script → World → Type 0
-Means script after = Runs script.events (first_world script.classes) after
+Means script after = Runs script.events (first_world script.classes script.limit) after

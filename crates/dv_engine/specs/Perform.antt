@@ -1,20 +1,20 @@
 -- Performing bodies and actions.
 use Rattle.std.specs.Prelude.{ℕ, List, Option, None, Some}
 use Rattle.dv_value.specs.declared.value.Value.{Value}
-use Rattle.dv_script.specs.declared.action.Action.{Action}
-use Rattle.dv_script.specs.declared.action.Action.TheVariants.{Deferred, Callback, Errback, AddCallback, AddErrback, AddBoth, AddCallbacks}
-use Rattle.dv_script.specs.declared.body.Body.{Body}
-use Rattle.dv_engine.specs.Ending.{end_gives, fault}
+use Rattle.dv_script.specs.declared.action.Action.{Action, out-Action}
+use Rattle.dv_script.specs.declared.body.Body.{Body, out-Body}
+use Rattle.dv_engine.specs.Deed.{Deed, Idle, Write, Make, FireWith, AddTo, deed_of}
+use Rattle.dv_engine.specs.Ending.{end_gives}
 use Rattle.dv_engine.specs.Names.{number_of}
 use Rattle.dv_engine.specs.Pair.{Bodies}
 use Rattle.dv_engine.specs.Task.{Settle, Answer, Meant}
-use Rattle.dv_engine.specs.World.{World, make, fire, append, unbound}
+use Rattle.dv_engine.specs.World.{World, make, fire, append, tell, unbound}
 use Rattle.dv_engine.specs.declared.performed.Performed.{Performed}
 use Rattle.dv_engine.specs.declared.performed.Performed.TheVariants.{Done, Gave, Raised}
 
 -- a body gives what its end gives for the input
 abbrev pub perform_by : Meant → Body → Value → World → Answer
-perform_by go body input w = Some (Gave (end_gives w.classes body.end input), w)
+perform_by go body input w = Some (Gave (end_gives w.classes (out-Body body).end input), w)
 
 -- d is settled, where what came before is done
 abbrev pub settled_by : Meant → ℕ → Performed → World → Answer
@@ -35,12 +35,19 @@ fire_by go name value w = named_by (number_of name w.names) name w (λ d. settle
 abbrev pub add_by : Meant → List ℕ → Bodies → World → Answer
 add_by go name pair w = named_by (number_of name w.names) name w (λ d. go (Settle d) (append d pair w))
 
--- each action by its rule; a pair of `addBoth` has the same body on both sides
+-- a Deferred is made; one with a canceller isn't yet
+abbrev pub made : List ℕ → Option Body → World → World
+made name None w = make name w
+made name (Some canceller) w = w
+
+-- a deed by its rule
+abbrev pub do_by : Meant → Deed → World → Answer
+do_by go Idle w = Some (Done, w)
+do_by go (Write entry) w = Some (Done, tell entry w)
+do_by go (Make name canceller) w = Some (Done, made name canceller w)
+do_by go (FireWith name value) w = fire_by go name value w
+do_by go (AddTo name pair) w = add_by go name pair w
+
+-- an action is its deed
 abbrev pub act_by : Meant → Action → World → Answer
-act_by go (Deferred name) w = Some (Done, make name w)
-act_by go (Callback name value) w = fire_by go name value w
-act_by go (Errback name class message) w = fire_by go name (fault class message) w
-act_by go (AddCallback name body) w = add_by go name (record { callback = Some body; errback = None }) w
-act_by go (AddErrback name body) w = add_by go name (record { callback = None; errback = Some body }) w
-act_by go (AddBoth name body) w = add_by go name (record { callback = Some body; errback = Some body }) w
-act_by go (AddCallbacks name callback errback) w = add_by go name (record { callback = Some callback; errback = Some errback }) w
+act_by go action w = do_by go (deed_of (out-Action action)) w

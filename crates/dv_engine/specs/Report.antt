@@ -1,4 +1,4 @@
--- What a run has made of each Deferred.
+-- What a run has told, and what it has made of each Deferred.
 use Rattle.std.specs.Prelude.{◌≡◌, if◌then◌else◌, List, map}
 use Rattle.dv_script.specs.declared.body.Body.{Body}
 use Rattle.dv_script.specs.declared.script.Script.{Script}
@@ -23,8 +23,10 @@ outcome_of r = record { name = r.name; state = state_of r }
 abbrev pub outcomes_of : World → List Outcome
 outcomes_of w = map outcome_of w.records
 
--- the report of a script tells the outcomes of the world that the script leads to
+-- the report of a script tells of the world that the script leads to
 pub record Reports (script : Script) (report : Report) : Type 0 where
   pub world : World
   pub means : Means script world
+  pub journal : report.journal ≡ world.journal
   pub outcomes : report.outcomes ≡ outcomes_of world
+  pub stopped : report.stopped ≡ world.stopped

@@ -21,7 +21,7 @@ pub fn fault(alloc: Global, class: ClassId, message: &str) -> Result<Value, Allo
     Ok(Value::Fault(Boxed::new(alloc, Failure::new(class, message))?))
 }
 
-/// What an end gives for an input.
+/// What an end gives for an input. `Wait` isn't performed yet, and passes it on.
 pub fn end_gives(
     alloc: Global,
     classes: &Classes,
@@ -36,6 +36,7 @@ pub fn end_gives(
         End::Plus(n) => plus(alloc, *n, input),
         End::Raise(class, message) => fault(alloc, *class, message.as_str()),
         End::Trap(listed, value) => trap(alloc, classes, listed.as_slice(), value, input),
+        End::Wait(_) => input.copy(alloc),
     }
 }
 

@@ -15,7 +15,7 @@ pub fn scripts_end()
     ensures one { EachScriptHasOneMeaning }
 {}
 
-/// Small scripts end as Twisted's documents say.
+/// Small scripts tell and end as Twisted's documents say; with a small limit they stop at the first entry that doesn't fit.
 pub fn examples_end_as_shown()
     ensures { Examples }
 {}

@@ -8,6 +8,7 @@ mod names;
 mod pair;
 mod perform;
 mod performed;
+pub mod performs;
 pub mod report;
 #[cfg(test)]
 mod tests;

@@ -1,8 +1,11 @@
 ghost use Rattle.std.specs.Prelude.{◌≡◌, ◌<◌, ◌^◌, ◌-◌, length, IfOk, OnOk};
 ghost use Rattle.std.specs.Option.{option_copied};
 ghost use Rattle.dv_value.specs.Failure.{is_fault};
+ghost use Rattle.dv_script.specs.declared.action.Action.{out-Action};
+ghost use Rattle.dv_engine.specs.Deed.{Idle, deed_of};
 ghost use Rattle.dv_engine.specs.Meaning.{Gives, Fires, Adds};
 ghost use Rattle.dv_engine.specs.Pair.{side_for};
+ghost use Rattle.dv_engine.specs.Perform.{made};
 ghost use Rattle.dv_engine.specs.Settling.{side_gives};
 ghost use Rattle.dv_engine.specs.Task.{Settle, Act};
 ghost use Rattle.dv_engine.specs.World.{value_of};
@@ -13,10 +16,12 @@ use crate::pair::Pair;
 use crate::performed::Performed;
 use crate::world::{World, unbound};
 use dv_journal::deferred_id::DeferredId;
+use dv_journal::entry::Entry;
 use dv_script::action::Action;
 use dv_script::body::Body;
 use dv_store::store::Step;
 use dv_value::classes::Classes;
+use dv_value::text::Text;
 use dv_value::value::Value;
 use std::alloc::{AllocError, Global};
 
@@ -27,12 +32,12 @@ pub fn settle<'s>(alloc: Global, world: &mut World<'s>, id: DeferredId) -> Resul
     ensures { OnOk result (Gives (Settle id) world.old Done world.new) }
 {
     'pairs: loop {
-        match world.step(id) {
+        match world.step(id)? {
             Step::Nothing => return Ok(()),
             Step::Passed => {}
             Step::Run(pair) => {
                 let value = run(alloc, world, id, &pair)?;
-                world.put(id, value);
+                world.put(id, value)?;
             }
         }
     }
@@ -116,8 +121,19 @@ fn add<'s>(
     Ok(Performed::Done)
 }
 
-/// Performs an action. A name that isn't bound raises NameError, and a second firing AlreadyCalledError; either leaves
-/// the world as it was.
+/// Makes a Deferred (Twisted: `Deferred`). One with a canceller isn't made yet.
+fn make<'s>(world: &mut World<'s>, name: &str, canceller: &Option<Body>) -> Result<(), AllocError>
+    requires room { length world.old.records < 2 ^ 32 - 1 }
+    ensures { OnOk result (world.new ≡ made name.now canceller.now world.old) }
+{
+    match canceller {
+        None => world.make(name),
+        Some(_) => Ok(()),
+    }
+}
+
+/// Performs an action. A name that isn't bound raises NameError, and a second firing AlreadyCalledError; either changes
+/// no Deferred. An action that isn't performed yet does nothing.
 #[tactic(auto, using(crate::proofs::Rules::action_rules))]
 pub fn act<'s>(
     alloc: Global,
@@ -128,8 +144,8 @@ pub fn act<'s>(
     ensures { IfOk result (λ performed. Gives (Act action.now) world.old performed world.new) }
 {
     match action {
-        Action::Deferred(name) => {
-            world.make(name.as_str())?;
+        Action::Deferred(name, canceller) => {
+            make(world, name.as_str(), canceller)?;
             Ok(Performed::Done)
         }
         Action::Callback(name, value) => fire(alloc, world, name.as_str(), value.copy(alloc)?),
@@ -143,5 +159,44 @@ pub fn act<'s>(
         Action::AddCallbacks(name, callback, errback) => {
             add(alloc, world, name.as_str(), Pair::both(callback, errback))
         }
+        Action::Note(text) => {
+            world.tell(Entry::Note(Text::of(alloc, text.as_str())?))?;
+            Ok(Performed::Done)
+        }
+        Action::Chain(_, _)
+        | Action::Pause(_)
+        | Action::Unpause(_)
+        | Action::Cancel(_)
+        | Action::List(_, _, _)
+        | Action::Gather(_, _, _)
+        | Action::Maybe(_, _)
+        | Action::Lock(_)
+        | Action::Semaphore(_, _)
+        | Action::Acquire(_, _)
+        | Action::Release(_)
+        | Action::RunWith(_, _, _)
+        | Action::Queue(_, _, _)
+        | Action::Put(_, _)
+        | Action::Get(_, _)
+        | Action::Later(_, _, _)
+        | Action::CancelCall(_)
+        | Action::Loop(_, _, _, _, _)
+        | Action::StopLoop(_)
+        | Action::Cooperate(_, _)
+        | Action::WhenDone(_, _)
+        | Action::PauseTask(_)
+        | Action::StopTask(_)
+        | Action::ResumeTask(_)
+        | Action::Inline(_, _)
+        | Action::Thread(_, _, _) => Ok(idle(world, action)),
     }
+}
+
+/// What an action comes to that isn't performed yet.
+#[tactic(auto, using(crate::proofs::Rules::act_idle))]
+fn idle<'s>(_world: &World<'s>, _action: &Action) -> Performed
+    requires idle { deed_of (out-Action _action.now) ≡ Idle }
+    ensures { Gives (Act _action.now) _world.now result _world.now }
+{
+    Performed::Done
 }

@@ -1,3 +1,4 @@
+use dv_journal::journal::Journal;
 use dv_value::items::Items;
 use dv_value::text::Text;
 use dv_value::value::Value;
@@ -23,6 +24,10 @@ pub struct Outcome {
 /// What a run has come to.
 #[derive(Debug, Drop)]
 pub struct Report {
+    /// Everything that happened, in order.
+    pub journal: Journal,
     /// The outcomes of all Deferreds, in order of making.
     pub outcomes: Items<Outcome>,
+    /// Whether an entry didn't fit into the journal, so that the run stopped there.
+    pub stopped: bool,
 }

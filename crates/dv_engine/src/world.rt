@@ -8,6 +8,9 @@ use crate::names::Names;
 use crate::pair::{Pair, Side};
 use crate::performed::Performed;
 use dv_journal::deferred_id::DeferredId;
+use dv_journal::entry::Entry;
+use dv_journal::error::Stop;
+use dv_journal::journal::Journal;
 use dv_store::error::StoreFault;
 use dv_store::record::Record;
 use dv_store::store::{Step, Store};
@@ -19,42 +22,49 @@ use dv_value::value::Value;
 use std::alloc::{AllocError, Global};
 use std::marker::Model;
 
-/// The world of a run: its Deferreds, their names and the classes of failures.
+/// The world of a run: its Deferreds, their names, the classes of failures and the journal. Once an entry doesn't fit
+/// into the journal the run has stopped: from then on nothing changes.
 #[derive(Drop)]
 pub struct World<'s> {
     alloc: Global,
     classes: &'s Classes,
     names: Names,
     store: Store<Pair<'s>, Side<'s>>,
+    journal: Journal,
+    stopped: bool,
 }
 
 impl<'s> Model for World<'s> {
     ghost use Rattle.dv_engine.specs.World.{World as Seen};
     ghost use Rattle.dv_script.specs.contracts.body.Body as body_contract;
     ghost use Rattle.dv_value.specs.contracts.classes.Class as class_contract;
+    ghost use Rattle.dv_value.specs.contracts.failure.Failure as failure_contract;
     ghost use Rattle.dv_value.specs.contracts.value.Value as value_contract;
     ghost use Rattle.std.specs.Coded.{codes};
 
     ghost Value = { Seen };
 
-    ghost coded = { Prim.hlevel (codes, body_contract.the_row.coded, class_contract.the_row.coded, value_contract.the_row.coded) };
+    ghost coded = { Prim.hlevel (codes, body_contract.the_row.coded, class_contract.the_row.coded, failure_contract.the_row.coded, value_contract.the_row.coded) };
 
-    ghost view = { λ w. record { classes = w.classes.now; names = w.names; records = w.store } };
+    ghost view = { λ w. record { classes = w.classes.now; names = w.names; records = w.store; journal = w.journal; stopped = w.stopped } };
 }
 
 impl<'s> World<'s> {
     ghost use Rattle.dv_engine.specs.Names.{number_of};
-    ghost use Rattle.dv_engine.specs.World.{first_world, value_of, step, put, append, make, fire};
+    ghost use Rattle.dv_engine.specs.World.{first_world, value_of, step, put, append, make, fire, tell};
 
-    /// A world in which nothing is made.
-    pub fn new(alloc: Global, classes: &'s Classes) -> World<'s>
-        ensures { result ≡ first_world classes.now }
+    /// A world in which nothing is made, and whose journal takes so much weight.
+    pub fn new(alloc: Global, classes: &'s Classes, limit: u64) -> World<'s>
+        requires { limit < 2 ^ 32 }
+        ensures { result ≡ first_world classes.now limit }
     {
         World {
             alloc,
             classes,
             names: Names::new(alloc),
             store: Store::new(alloc),
+            journal: Journal::new(alloc, limit),
+            stopped: false,
         }
     }
 
@@ -81,18 +91,38 @@ impl<'s> World<'s> {
 
     /// The first move of settling a Deferred.
     #[tactic(auto, unfolding(crate::specs::World::step))]
-    pub fn step(&mut self, id: DeferredId) -> Step<Pair<'s>>
-        ensures { (result, self.new) ≡ step id self.old }
+    pub fn step(&mut self, id: DeferredId) -> Result<Step<Pair<'s>>, AllocError>
+        ensures { IfOk result (λ move. (move, self.new) ≡ step id self.old) }
     {
-        self.store.step(id)
+        if self.stopped {
+            return Ok(Step::Nothing);
+        }
+        match self.store.step(&mut self.journal, id) {
+            Ok(move_made) => Ok(move_made),
+            Err(Stop::Limit) => {
+                self.stopped = true;
+                Ok(Step::Nothing)
+            }
+            Err(Stop::OutOfMemory) => Err(AllocError),
+        }
     }
 
     /// What a side gave becomes the value of its Deferred.
     #[tactic(auto, unfolding(crate::specs::World::put))]
-    pub fn put(&mut self, id: DeferredId, value: Value)
-        ensures { self.new ≡ put id value self.old }
+    pub fn put(&mut self, id: DeferredId, value: Value) -> Result<(), AllocError>
+        ensures { OnOk result (self.new ≡ put id value self.old) }
     {
-        self.store.put(id, value);
+        if self.stopped {
+            return Ok(());
+        }
+        match self.store.put(&mut self.journal, id, value) {
+            Ok(()) => Ok(()),
+            Err(Stop::Limit) => {
+                self.stopped = true;
+                Ok(())
+            }
+            Err(Stop::OutOfMemory) => Err(AllocError),
+        }
     }
 
     /// Adds a pair, and doesn't settle.
@@ -100,10 +130,16 @@ impl<'s> World<'s> {
     pub fn append(&mut self, id: DeferredId, pair: Pair<'s>) -> Result<(), AllocError>
         ensures { OnOk result (self.new ≡ append id pair.entry self.old) }
     {
-        match self.store.append(id, pair) {
+        if self.stopped {
+            return Ok(());
+        }
+        match self.store.append(&mut self.journal, id, pair) {
             Ok(()) => Ok(()),
-            Err(StoreFault::AlreadyCalled) => unreachable!(),
-            Err(StoreFault::OutOfMemory) => Err(AllocError),
+            Err(Stop::Limit) => {
+                self.stopped = true;
+                Ok(())
+            }
+            Err(Stop::OutOfMemory) => Err(AllocError),
         }
     }
 
@@ -113,11 +149,17 @@ impl<'s> World<'s> {
         requires { length self.old.records < 2 ^ 32 - 1 }
         ensures { OnOk result (self.new ≡ make name.now self.old) }
     {
+        if self.stopped {
+            return Ok(());
+        }
         let shown = Text::of(self.alloc, name)?;
-        match self.store.make(Some(shown), None) {
+        match self.store.make(&mut self.journal, Some(shown), None) {
             Ok(id) => self.names.bind(name, id),
-            Err(StoreFault::AlreadyCalled) => unreachable!(),
-            Err(StoreFault::OutOfMemory) => Err(AllocError),
+            Err(Stop::Limit) => {
+                self.stopped = true;
+                Ok(())
+            }
+            Err(Stop::OutOfMemory) => Err(AllocError),
         }
     }
 
@@ -126,18 +168,45 @@ impl<'s> World<'s> {
     pub fn fire(&mut self, id: DeferredId, value: Value) -> Result<Performed, AllocError>
         ensures { IfOk result (λ performed. (performed, self.new) ≡ fire id value self.old) }
     {
-        match self.store.fire(id, value) {
+        if self.stopped {
+            return Ok(Performed::Done);
+        }
+        match self.store.fire(&mut self.journal, id, value) {
             Ok(()) => Ok(Performed::Done),
             Err(StoreFault::AlreadyCalled) => raised(self.alloc, ClassId::ALREADY_CALLED_ERROR, ""),
-            Err(StoreFault::OutOfMemory) => unreachable!(),
+            Err(StoreFault::Limit) => {
+                self.stopped = true;
+                Ok(Performed::Done)
+            }
+            Err(StoreFault::OutOfMemory) => Err(AllocError),
         }
     }
 
-    /// All records, in order of making.
-    pub fn into_records(self) -> Vec<Record<Pair<'s>, Side<'s>>>
-        ensures { result.items ≡ self.entry.records }
+    /// Writes an entry that tells of no Deferred's change.
+    #[tactic(auto, unfolding(crate::specs::World::tell))]
+    pub fn tell(&mut self, entry: Entry) -> Result<(), AllocError>
+        ensures { OnOk result (self.new ≡ tell entry self.old) }
     {
-        self.store.into_records()
+        if self.stopped {
+            return Ok(());
+        }
+        match self.journal.write(entry) {
+            Ok(()) => Ok(()),
+            Err(Stop::Limit) => {
+                self.stopped = true;
+                Ok(())
+            }
+            Err(Stop::OutOfMemory) => Err(AllocError),
+        }
+    }
+
+    /// Its journal, whether it has stopped, and all records in order of making.
+    pub fn into_parts(self) -> (Journal, bool, Vec<Record<Pair<'s>, Side<'s>>>)
+        ensures journal { result.0 ≡ self.entry.journal }
+        ensures stopped { result.1 ≡ self.entry.stopped }
+        ensures records { result.2.items ≡ self.entry.records }
+    {
+        (self.journal, self.stopped, self.store.into_records())
     }
 }
 

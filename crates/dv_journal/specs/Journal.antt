@@ -1,5 +1,5 @@
 -- What a journal holds, and which entries still fit.
-use Rattle.std.specs.Prelude.{ℕ, ◌+◌, ◌<◌, ◌≤◌, List, [], ◌∷◌, ◌++◌, map, sum}
+use Rattle.std.specs.Prelude.{ℕ, ◌+◌, Bool, nat_le, List, [], ◌∷◌, ◌++◌}
 use Rattle.dv_journal.specs.declared.entry.Entry.{Entry}
 use Rattle.dv_journal.specs.Entry.{weight_of}
 
@@ -14,15 +14,16 @@ empty limit = record { entries = []; limit = limit }
 
 -- what the entries weigh together
 abbrev pub total_weight : List Entry → ℕ
-total_weight entries = sum (map weight_of entries)
+total_weight [] = 0
+total_weight (entry ∷ entries) = weight_of entry + total_weight entries
 
--- with this entry the journal stays within its limit
-abbrev pub Fits : Written → Entry → Type 0
-Fits journal entry = total_weight journal.entries + weight_of entry ≤ journal.limit
+-- whether there is room for so much more weight
+abbrev pub has_room : Written → ℕ → Bool
+has_room journal weight = nat_le (total_weight journal.entries + weight) journal.limit
 
--- with this entry it would pass its limit
-abbrev pub PassesLimit : Written → Entry → Type 0
-PassesLimit journal entry = journal.limit < total_weight journal.entries + weight_of entry
+-- whether the journal stays within its limit with this entry
+abbrev pub fits : Written → Entry → Bool
+fits journal entry = has_room journal (weight_of entry)
 
 -- the entry is added at the end
 abbrev pub with_entry : Written → Entry → Written

@@ -1,7 +1,8 @@
-ghost use Rattle.std.specs.Prelude.{◌≡◌, ◌<◌, ◌^◌, ◌↔◌, IsTrue, OnOk, OnErr, IsErrOf};
+ghost use Rattle.std.specs.Prelude.{◌≡◌, ◌<◌, ◌+◌, ◌^◌, ◌↔◌, false, OnOk, OnErr, IsErrOf};
+ghost use Rattle.dv_value.specs.Size.{size};
 ghost use Rattle.std.specs.Io.KnownBytes.{Appends};
 ghost use Rattle.dv_journal.specs.Sink.{HasFailed, AppendsPrefix};
-ghost use Rattle.dv_journal.specs.Journal.{empty, total_weight, Fits, PassesLimit, with_entry};
+ghost use Rattle.dv_journal.specs.Journal.{empty, total_weight, has_room, fits, with_entry};
 ghost use Rattle.dv_journal.specs.Line.{text_of};
 
 use crate::entry::Entry;
@@ -10,6 +11,7 @@ use crate::line::write_line;
 use crate::sink::{Sink, write_all};
 use dv_value::classes::Classes;
 use dv_value::items::Items;
+use dv_value::value::Value;
 use std::alloc::Global;
 use std::marker::Model;
 
@@ -76,18 +78,33 @@ impl Journal {
         self.entries.as_slice()
     }
 
+    /// Whether the journal stays within its limit with an entry whose line shows no value, failure or text.
+    pub fn fits_plain(&self) -> bool
+        ensures { result ≡ has_room self.now 1 }
+    {
+        1 <= self.limit - self.weight
+    }
+
+    /// Whether the journal stays within its limit with an entry whose line shows this value.
+    pub fn fits_value(&self, value: &Value) -> bool
+        ensures { result ≡ has_room self.now (1 + size value.now) }
+    {
+        value.size() < self.limit - self.weight
+    }
+
     /// Whether the journal stays within its limit with this entry.
     pub fn fits(&self, entry: &Entry) -> bool
-        ensures { IsTrue result ↔ Fits self.now entry.now }
+        ensures { result ≡ fits self.now entry.now }
     {
         entry.weight() <= self.limit - self.weight
     }
 
     /// Adds an entry at the end. One that would pass the limit isn't written, whatever memory there is; an entry that
     /// isn't written is dropped.
+    #[tactic(auto, using(crate::proofs::WeightLemmas::total_weight_push))]
     pub fn write(&mut self, entry: Entry) -> Result<(), Stop>
         ensures ok { OnOk result (self.new ≡ with_entry self.old entry) }
-        ensures limit { IsErrOf result Stop.Limit ↔ PassesLimit self.old entry }
+        ensures limit { IsErrOf result Stop.Limit ↔ (fits self.old entry ≡ false) }
         ensures err { OnErr result (self.new ≡ self.old) }
     {
         let weight = entry.weight();

@@ -5,7 +5,7 @@ use Rattle.dv_script.specs.declared.error.ScriptFault.TheVariants as script
 use Rattle.dv_run.specs.declared.error.RunFault.{RunFault}
 use Rattle.dv_run.specs.declared.error.RunFault.TheVariants.{ScriptRefused, OutOfMemory, ReadFault, WriteFault}
 use Rattle.dv_run.specs.declared.run.Ended.{Ended}
-use Rattle.dv_run.specs.declared.run.Ended.TheVariants.{All}
+use Rattle.dv_run.specs.declared.run.Ended.TheVariants.{All, Stopped}
 
 abbrev pub fault_status : RunFault → ℕ
 fault_status (ScriptRefused fault) = 2
@@ -16,6 +16,7 @@ fault_status WriteFault = 4
 -- the exit status
 abbrev pub status : Result Ended RunFault → ℕ
 status (Ok All) = 0
+status (Ok Stopped) = 1
 status (Err fault) = fault_status fault
 
 -- each refusal by its number and its name
@@ -38,4 +39,5 @@ fault_text WriteFault = codes "write failed"
 -- what goes to standard error, as a line where it isn't empty
 abbrev pub error_text : Result Ended RunFault → List ℕ
 error_text (Ok All) = []
+error_text (Ok Stopped) = []
 error_text (Err fault) = fault_text fault

@@ -3,7 +3,9 @@ use Rattle.std.specs.Prelude.{ℕ, suc, List, [], ◌∷◌, ◌++◌, Option, N
 use Rattle.std.specs.Fmt.{decimal}
 use Rattle.dv_value.specs.ValueText.{outcome}
 use Rattle.dv_value.specs.declared.classes.Class.{Class}
+use Rattle.dv_journal.specs.Line.{text_of}
 use Rattle.dv_engine.specs.declared.report.Outcome.{Outcome}
+use Rattle.dv_engine.specs.declared.report.Report.{Report}
 use Rattle.dv_engine.specs.declared.report.State.{State}
 use Rattle.dv_engine.specs.declared.report.State.TheVariants.{Unfired, Fired}
 
@@ -28,3 +30,7 @@ lines_from table number (o ∷ outcomes) = outcome_line table number o ++ lines_
 -- a line for each Deferred, in order of making
 abbrev pub output : List Class → List Outcome → List ℕ
 output table outcomes = lines_from table 0 outcomes
+
+-- the journal, and then the outcomes
+abbrev pub report_text : List Class → Report → List ℕ
+report_text table report = text_of table report.journal.entries ++ output table report.outcomes

@@ -7,7 +7,7 @@ use dv_script::error::ScriptFault;
 
 /// The exit status of a run, and what goes to standard error: a line of this text, or nothing where it is empty.
 ///
-/// The status is 0 where all events were performed, 2 where the script is refused, 3 for want of memory, and 4 where
+/// The status is 0 where all events were performed, 1 where the run stopped at the limit of its journal, 2 where the script is refused, 3 for want of memory, and 4 where
 /// the reader or the writer failed.
 pub fn exit_of(ended: &Result<Ended, RunFault>) -> (u8, &'static str)
     ensures status { result.0 ≡ status ended.now }
@@ -15,6 +15,7 @@ pub fn exit_of(ended: &Result<Ended, RunFault>) -> (u8, &'static str)
 {
     match ended {
         Ok(Ended::All) => (0, ""),
+        Ok(Ended::Stopped) => (1, ""),
         Err(fault) => (fault_status(*fault), fault_text(*fault)),
     }
 }

@@ -1,9 +1,9 @@
 ghost use Rattle.std.specs.Prelude.{◌≡◌, ◌++◌, OnOk, OnErr, IsErrOf, string_bytes};
 ghost use Rattle.std.specs.Io.KnownBytes.{Appends};
 ghost use Rattle.dv_journal.specs.Sink.{HasFailed, AppendsPrefix};
-ghost use Rattle.dv_run.specs.Output.{name_text, state_text, outcome_line, output};
+ghost use Rattle.dv_run.specs.Output.{name_text, state_text, outcome_line, output, report_text};
 
-use dv_engine::report::{Outcome, State};
+use dv_engine::report::{Outcome, Report, State};
 use dv_journal::error::PrintFault;
 use dv_journal::sink::{Sink, write_all};
 use dv_value::classes::Classes;
@@ -50,7 +50,7 @@ fn write_line(
 
 /// Writes a line for each outcome, with one buffer for all lines. Where it gives up, what was written is a prefix of
 /// the text.
-pub fn print_outcomes<W: Sink>(
+fn print_outcomes<W: Sink>(
     alloc: Global,
     classes: &Classes,
     outcomes: &[Outcome],
@@ -67,5 +67,23 @@ pub fn print_outcomes<W: Sink>(
         write_line(alloc, classes, &mut line, number, &outcomes[number])?;
         write_all(sink, line.as_bytes())?;
     }
+    Ok(())
+}
+
+/// Writes the journal, and then a line for each outcome. Where it gives up, what was written is a prefix of the text.
+#[tactic(auto, using(crate::proofs::OutputLemmas::both_parts))]
+pub fn print_report<W: Sink>(
+    alloc: Global,
+    classes: &Classes,
+    report: &Report,
+    sink: &mut W,
+) -> Result<(), PrintFault>
+    ensures ok { OnOk result (Appends (W.taken sink.old) (W.taken sink.new) (report_text classes.now report.now)) }
+    ensures kept { OnOk result (W.failures sink.new ≡ W.failures sink.old) }
+    ensures err { OnErr result (AppendsPrefix (W.taken sink.old) (W.taken sink.new) (report_text classes.now report.now)) }
+    ensures cause { IsErrOf result PrintFault.WriteFault → HasFailed (W.failures sink.old) (W.failures sink.new) }
+{
+    report.journal.print(classes, sink)?;
+    print_outcomes(alloc, classes, report.outcomes.as_slice(), sink)?;
     Ok(())
 }

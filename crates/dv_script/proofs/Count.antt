@@ -1,13 +1,14 @@
 -- A script has no more events than nodes.
-use Rattle.std.proofs.Common.{◌≡◌, ℕ, ◌+◌, ◌≤◌, List, [], ◌∷◌, length, Option, Some, Ordering, Less, Equal, Greater, nat_cmp, ◌⊎◌, inl, inr, ap, arith, codes}
+use Rattle.std.proofs.Common.{◌≡◌, ℕ, ◌+◌, ◌≤◌, List, [], ◌∷◌, length, Option, Some, None, Ordering, Less, Equal, Greater, nat_cmp, ◌⊎◌, inl, inr, refl, ap, arith, codes}
 use Rattle.std.specs.Ordering.{match_ordering}
 use Rattle.std.specs.Cmp.Lexicographic.{slice_cmp}
 use Rattle.serde_json.specs.Data.{Data, null, boolean, number, string, array, object, Items, no_items, item, Members, no_members, member}
 use Rattle.serde_json.specs.Find.{get_member}
-use Rattle.dv_script.specs.declared.script.Script.{Script}
-use Rattle.dv_script.specs.Grammar.{Each, IsAction, IsScript}
+use Rattle.dv_script.specs.declared.draft.Draft.{Draft}
+use Rattle.dv_script.specs.Forms.{Each, IsList, Key}
+use Rattle.dv_script.specs.Grammar.{IsEvent, IsScript}
 use Rattle.dv_script.specs.Limits.{nodes, item_nodes, member_nodes}
-use Rattle.dv_script.proofs.Sound.{some_injective}
+use Rattle.dv_script.proofs.Steps.{some_injective}
 
 picked : (o : Ordering) (rest : Option Data) (e d : Data) → match_ordering o rest (Some e) rest ≡ Some d → (rest ≡ Some d) ⊎ (e ≡ d)
 picked Less rest e d h = inl h
@@ -38,11 +39,22 @@ length-Each Is no_items (x ∷ xs) h = absurd h
 length-Each Is (item d ds) [] h = absurd h
 length-Each Is (item d ds) (x ∷ xs) h = omega (arith, some_nodes d, length-Each Is ds xs h.1)
 
+-- a list is no longer than the nodes of the value that it stands for
+length-IsList : {X : Type 0} (Is : Data → X → Type 0) (d : Data) (xs : List X) → IsList Is d xs → length xs ≤ nodes d
+length-IsList Is d xs h =
+    let few : length xs ≤ item_nodes h.0 = length-Each Is h.0 xs h.2 in
+    let whole : nodes d ≡ 1 + item_nodes h.0 = ap nodes h.1 in
+    omega (arith, few, whole)
+
+length-Key : {X : Type 0} (Is : Data → X → Type 0) (key : List ℕ) (ms : Members) (o : Option Data) (xs : List X) → get_member key ms ≡ o → Key (IsList Is) o xs
+    → length xs ≤ member_nodes ms
+length-Key Is key ms None xs e h = absurd h
+length-Key Is key ms (Some d) xs e h = omega (arith, length-IsList Is d xs h, member_nodes-get key ms d e)
+
 -- a script has no more events than its value has nodes
-pub events_few : (d : Data) (s : Script) → IsScript d s → length s.events ≤ nodes d
-events_few d s h =
-    let few : length s.events ≤ item_nodes h.events.0 = length-Each (IsAction s.classes) h.events.0 s.events h.events.2 in
-    let listed : nodes h.list ≤ member_nodes h.members = member_nodes-get (codes "events") h.members h.list h.needed in
-    let inside : nodes h.list ≡ 1 + item_nodes h.events.0 = ap nodes h.events.1 in
+pub events_few : (d : Data) (draft : Draft) → IsScript d draft → length draft.script.events ≤ nodes d
+events_few d draft h =
+    let few : length draft.script.events ≤ member_nodes h.members =
+    length-Key (IsEvent draft.script.classes) (codes "events") h.members (get_member (codes "events") h.members) draft.script.events refl h.events in
     let whole : nodes d ≡ 1 + member_nodes h.members = ap nodes h.whole in
-    omega (arith, few, listed, inside, whole)
+    omega (arith, few, whole)

@@ -1,6 +1,8 @@
+pub mod Forms
+pub mod Table
 pub mod Grammar
 pub mod Names
-pub mod KnownClasses
+pub mod Suits
 pub mod Limits
 pub mod Refusal
 pub mod Laws

@@ -1,8 +1,6 @@
 -- The form of the names of a script.
 use Rattle.std.specs.Prelude.{ℕ, Bool, ◌&&◌, ◌||◌, nat_le, nat_eq, List, length, bytes_eq, codes}
 use Rattle.std.specs.List.{list_all}
-use Rattle.dv_script.specs.declared.action.Action.{Action}
-use Rattle.dv_script.specs.declared.action.Action.TheVariants.{Deferred, Callback, Errback, AddCallback, AddErrback, AddBoth, AddCallbacks}
 
 -- from the first bound to the second
 abbrev pub is_within : ℕ → ℕ → ℕ → Bool
@@ -19,13 +17,3 @@ is_name name = is_within 1 32 (length name) && list_all is_letter name
 -- where a Deferred that is there is named, `@` is a name too
 unfoldable pub names_one : List ℕ → Bool
 names_one name = bytes_eq name (codes "@") || is_name name
-
--- whether each name of the action has its form: `deferred` makes the one that it names, the others find theirs
-abbrev pub is_named : Action → Bool
-is_named (Deferred name) = is_name name
-is_named (Callback name v) = names_one name
-is_named (Errback name class text) = names_one name
-is_named (AddCallback name side) = names_one name
-is_named (AddErrback name side) = names_one name
-is_named (AddBoth name side) = names_one name
-is_named (AddCallbacks name callback errback) = names_one name

@@ -8,7 +8,8 @@ use Rattle.dv_script.specs.declared.error.ScriptFault.{ScriptFault}
 use Rattle.dv_script.specs.declared.error.ScriptFault.TheVariants.{TooLong, NotJson, BadVersion, BadShape, TooMany, BadName, BadClass, OutOfMemory}
 use Rattle.dv_script.specs.declared.reading.stop.Stop.{Stop}
 use Rattle.dv_script.specs.declared.reading.stop.Stop.TheVariants as stop
-use Rattle.dv_script.specs.Limits.{most_bytes, most_nodes, nodes}
+use Rattle.dv_script.specs.declared.draft.Draft.{Draft}
+use Rattle.dv_script.specs.Limits.{most_bytes, is_small}
 use Rattle.dv_script.specs.Refusal.{are_named, are_known}
 use Rattle.dv_script.specs.Shape.{script_at}
 
@@ -28,14 +29,19 @@ is_version d = is_one (option_and_then as_u64 (option_and_then as_number (get (c
 
 -- what the passes find of a JSON value
 abbrev pub Judged : Data → Result Script ScriptFault → Type 0
-Judged d (Ok s) = (is_version d ≡ true) × (script_at d ≡ Some s) × (nodes d ≤ most_nodes) × (are_named s ≡ true) × (are_known s ≡ true)
+Judged d (Ok s) =
+    (draft : Draft) × (is_version d ≡ true) × (script_at d ≡ Some draft) × (draft.script ≡ s)
+    × (is_small d draft ≡ true) × (are_named draft ≡ true) × (are_known draft ≡ true)
 Judged d (Err TooLong) = ⊥
 Judged d (Err NotJson) = ⊥
 Judged d (Err BadVersion) = is_version d ≡ false
 Judged d (Err BadShape) = (is_version d ≡ true) × (script_at d ≡ None)
-Judged d (Err TooMany) = (s : Script) × (is_version d ≡ true) × (script_at d ≡ Some s) × (most_nodes < nodes d)
-Judged d (Err BadName) = (s : Script) × (is_version d ≡ true) × (script_at d ≡ Some s) × (nodes d ≤ most_nodes) × (are_named s ≡ false)
-Judged d (Err BadClass) = (s : Script) × (is_version d ≡ true) × (script_at d ≡ Some s) × (nodes d ≤ most_nodes) × (are_named s ≡ true) × (are_known s ≡ false)
+Judged d (Err TooMany) = (draft : Draft) × (is_version d ≡ true) × (script_at d ≡ Some draft) × (is_small d draft ≡ false)
+Judged d (Err BadName) =
+    (draft : Draft) × (is_version d ≡ true) × (script_at d ≡ Some draft) × (is_small d draft ≡ true) × (are_named draft ≡ false)
+Judged d (Err BadClass) =
+    (draft : Draft) × (is_version d ≡ true) × (script_at d ≡ Some draft) × (is_small d draft ≡ true) × (are_named draft ≡ true)
+    × (are_known draft ≡ false)
 Judged d (Err OutOfMemory) = ⊤
 
 -- what they find of the value that the bytes are

@@ -1,16 +1,19 @@
 -- What the bytes of a script say, and when they are refused: by the condition of the least number that holds.
-use Rattle.std.specs.Prelude.{◌≡◌, ◌≤◌, ◌<◌, ℕ, Bool, true, false, List, length, Some, None, IsUtf8, codes, ⊤}
+use Rattle.std.specs.Prelude.{◌≡◌, ◌≤◌, ◌<◌, ℕ, Bool, true, false, ◌&&◌, List, length, Some, None, IsUtf8, codes, ⊤}
 use Rattle.std.specs.List.{list_all}
 use Rattle.serde_json.specs.Data.{Data, number, unsigned}
 use Rattle.serde_json.specs.Find.{get}
 use Rattle.serde_json.specs.Read.{read}
 use Rattle.dv_script.specs.declared.script.Script.{Script}
+use Rattle.dv_script.specs.declared.draft.Declaration.{Declaration}
+use Rattle.dv_script.specs.declared.draft.Draft.{Draft}
 use Rattle.dv_script.specs.declared.error.ScriptFault.{ScriptFault}
 use Rattle.dv_script.specs.declared.error.ScriptFault.TheVariants.{TooLong, NotJson, BadVersion, BadShape, TooMany, BadName, BadClass, OutOfMemory}
+use Rattle.dv_script.specs.declared.suits.Wanted.TheVariants.{Names, Classes}
 use Rattle.dv_script.specs.Grammar.{IsScript}
-use Rattle.dv_script.specs.Names.{is_named}
-use Rattle.dv_script.specs.KnownClasses.{knows_action}
-use Rattle.dv_script.specs.Limits.{most_bytes, most_nodes, nodes}
+use Rattle.dv_script.specs.Names.{is_name}
+use Rattle.dv_script.specs.Suits.{suits_script}
+use Rattle.dv_script.specs.Limits.{most_bytes, is_small}
 
 -- the bytes are the JSON text of this value, and not too long
 pub record IsDocument (bytes : List ℕ) (d : Data) : Type 0 where
@@ -24,29 +27,35 @@ HasVersion d = get (codes "version") d ≡ Some (number (unsigned 1))
 
 -- no script has this shape
 abbrev pub IsMisshapen : Data → Type 0
-IsMisshapen d = (script : Script) → ¬ IsScript d script
+IsMisshapen d = (draft : Draft) → ¬ IsScript d draft
 
 -- the bytes are a document of this value, which has its version and the shape of this script
-pub record HasShape (bytes : List ℕ) (d : Data) (script : Script) : Type 0 where
+pub record HasShape (bytes : List ℕ) (d : Data) (draft : Draft) : Type 0 where
   pub document : IsDocument bytes d
   pub version : HasVersion d
-  pub shape : IsScript d script
+  pub shape : IsScript d draft
+
+-- the name of a class that is declared has its form
+abbrev pub is_named : Declaration → Bool
+is_named c = is_name c.name
 
 -- each name of the script has its form
-abbrev pub are_named : Script → Bool
-are_named script = list_all is_named script.events
+abbrev pub are_named : Draft → Bool
+are_named draft = list_all is_named draft.declared && suits_script Names draft.script
 
--- each class that the script uses is in its table
-abbrev pub are_known : Script → Bool
-are_known script = list_all (knows_action (length script.classes)) script.events
+-- each class of the script may be declared, and each that it uses is in its table
+abbrev pub are_known : Draft → Bool
+are_known draft = draft.all_declared && suits_script (Classes (length draft.script.classes)) draft.script
 
--- the bytes say this script: they have its shape, few enough nodes, good names and known classes
+-- the bytes say this script: they have its shape, it is small enough, its names are good and its classes are known
 pub record Says (bytes : List ℕ) (script : Script) : Type 0 where
   pub json : Data
-  pub shape : HasShape bytes json script
-  pub few : nodes json ≤ most_nodes
-  pub named : are_named script ≡ true
-  pub known : are_known script ≡ true
+  pub draft : Draft
+  pub same : draft.script ≡ script
+  pub shape : HasShape bytes json draft
+  pub small : is_small json draft ≡ true
+  pub named : are_named draft ≡ true
+  pub known : are_known draft ≡ true
 
 -- why the bytes are refused, each reason where none before it holds; want of memory may come at any time
 abbrev pub Refuses : ScriptFault → List ℕ → Type 0
@@ -54,7 +63,7 @@ Refuses TooLong bytes = most_bytes < length bytes
 Refuses NotJson bytes = (length bytes ≤ most_bytes) × (IsUtf8 bytes → read bytes ≡ None)
 Refuses BadVersion bytes = (d : Data) × IsDocument bytes d × (HasVersion d → ⊥)
 Refuses BadShape bytes = (d : Data) × IsDocument bytes d × HasVersion d × IsMisshapen d
-Refuses TooMany bytes = (d : Data) × (script : Script) × HasShape bytes d script × (most_nodes < nodes d)
-Refuses BadName bytes = (d : Data) × (script : Script) × HasShape bytes d script × (nodes d ≤ most_nodes) × (are_named script ≡ false)
-Refuses BadClass bytes = (d : Data) × (script : Script) × HasShape bytes d script × (nodes d ≤ most_nodes) × (are_named script ≡ true) × (are_known script ≡ false)
+Refuses TooMany bytes = (d : Data) × (draft : Draft) × HasShape bytes d draft × (is_small d draft ≡ false)
+Refuses BadName bytes = (d : Data) × (draft : Draft) × HasShape bytes d draft × (is_small d draft ≡ true) × (are_named draft ≡ false)
+Refuses BadClass bytes = (d : Data) × (draft : Draft) × HasShape bytes d draft × (is_small d draft ≡ true) × (are_named draft ≡ true) × (are_known draft ≡ false)
 Refuses OutOfMemory bytes = ⊤

@@ -1,13 +1,34 @@
-use crate::body::Body;
+use crate::body::{Body, Statement};
+use crate::work::Work;
 use dv_value::class_id::ClassId;
+use dv_value::items::Items;
 use dv_value::text::Text;
 use dv_value::value::Value;
 
-/// What a script does to a Deferred, which it names first.
+/// How a DeferredList is fired, and what its children's failures become.
+#[derive(Clone, Copy, Debug, Drop)]
+pub enum ListFlag {
+    /// It is fired by the first child that succeeds (Twisted: `fireOnOneCallback`).
+    FireOnOneCallback,
+    /// It is fired by the first child that fails (Twisted: `fireOnOneErrback`).
+    FireOnOneErrback,
+    /// A child that failed goes on with null (Twisted: `consumeErrors`).
+    ConsumeErrors,
+}
+
+/// What the failures of the children of a `gatherResults` become.
+#[derive(Clone, Copy, Debug, Drop)]
+pub enum GatherFlag {
+    /// A child that failed goes on with null (Twisted: `consumeErrors`).
+    ConsumeErrors,
+}
+
+/// What a script does. The names that it makes come first, then those that it looks up.
+#[cycle(script)]
 #[derive(Debug, Drop)]
 pub enum Action {
-    /// Makes the Deferred (Twisted: `Deferred()`).
-    Deferred(Text),
+    /// Makes the Deferred, with a canceller where there is one (Twisted: `Deferred(canceller)`).
+    Deferred(Text, Option<Body>),
     /// Fires it with the value (Twisted: `Deferred.callback`).
     Callback(Text, Value),
     /// Fires it with a failure of this class and message (Twisted: `Deferred.errback`).
@@ -20,4 +41,60 @@ pub enum Action {
     AddBoth(Text, Body),
     /// Adds a pair of a callback and an errback (Twisted: `Deferred.addCallbacks`).
     AddCallbacks(Text, Body, Body),
+    /// Adds a pair to the first that fires the second (Twisted: `Deferred.chainDeferred`).
+    Chain(Text, Text),
+    /// Pauses it once more (Twisted: `Deferred.pause`).
+    Pause(Text),
+    /// Pauses it once less (Twisted: `Deferred.unpause`).
+    Unpause(Text),
+    /// Cancels it (Twisted: `Deferred.cancel`).
+    Cancel(Text),
+    /// Writes the text to the journal.
+    Note(Text),
+    /// Makes a DeferredList of the children (Twisted: `DeferredList`).
+    List(Text, Items<Text>, Items<ListFlag>),
+    /// Makes the Deferred of the children's results (Twisted: `gatherResults`).
+    Gather(Text, Items<Text>, Items<GatherFlag>),
+    /// Makes a Deferred of what the body gives (Twisted: `maybeDeferred`).
+    Maybe(Text, Body),
+    /// Makes a lock (Twisted: `DeferredLock`).
+    Lock(Text),
+    /// Makes a semaphore of this many tokens, from 1 to 65,536 (Twisted: `DeferredSemaphore`).
+    Semaphore(Text, u32),
+    /// Makes the Deferred that is fired when a token of the lock or semaphore is given (Twisted: `acquire`).
+    Acquire(Text, Text),
+    /// Gives a token of the lock or semaphore back (Twisted: `release`).
+    Release(Text),
+    /// Makes the Deferred of what the body gives while it has a token of the lock or semaphore (Twisted: `run`).
+    RunWith(Text, Text, Body),
+    /// Makes a queue with this size and backlog, each no bound or from 0 to 65,536 (Twisted: `DeferredQueue`).
+    Queue(Text, Option<u32>, Option<u32>),
+    /// Puts the value into the queue (Twisted: `DeferredQueue.put`).
+    Put(Text, Value),
+    /// Makes the Deferred that is fired with a value of the queue, which is named second (Twisted: `DeferredQueue.get`).
+    Get(Text, Text),
+    /// Performs the body after so many ticks of the clock, at most 10^12 (Twisted: `callLater`).
+    Later(Text, u64, Body),
+    /// Cancels the delayed call (Twisted: `DelayedCall.cancel`).
+    CancelCall(Text),
+    /// Makes a loop and, named second, its Deferred; it performs the body each so many ticks, from 1 to 10^12, and at
+    /// once where that is said (Twisted: `LoopingCall.start`).
+    Loop(Text, Text, u64, bool, Body),
+    /// Stops the loop (Twisted: `LoopingCall.stop`).
+    StopLoop(Text),
+    /// Makes a task of the bodies (Twisted: `cooperate`).
+    Cooperate(Text, Items<Body>),
+    /// Makes the Deferred that is fired when the task, named second, ends (Twisted: `CooperativeTask.whenDone`).
+    WhenDone(Text, Text),
+    /// Pauses the task once more (Twisted: `CooperativeTask.pause`).
+    PauseTask(Text),
+    /// Stops the task (Twisted: `CooperativeTask.stop`).
+    StopTask(Text),
+    /// Pauses the task once less (Twisted: `CooperativeTask.resume`).
+    ResumeTask(Text),
+    /// Makes the Deferred of an inline body, and starts the body (Twisted: `inlineCallbacks`).
+    Inline(Text, Items<Statement>),
+    /// Makes the Deferred of a work that a thread does, which is fired after so many ticks, at most 10^12 (Twisted:
+    /// `deferToThread`).
+    Thread(Text, u64, Work),
 }

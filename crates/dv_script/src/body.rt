@@ -1,3 +1,4 @@
+use crate::action::Action;
 use dv_value::class_id::ClassId;
 use dv_value::items::Items;
 use dv_value::text::Text;
@@ -16,10 +17,29 @@ pub enum End {
     Raise(ClassId, Text),
     /// The value, where the input is a failure of one of these classes (Twisted: `Failure.trap`).
     Trap(Items<ClassId>, Value),
+    /// The Deferred of this name.
+    Wait(Text),
+}
+
+/// What an inline body does, one after the other (Twisted: the lines of a function under `inlineCallbacks`).
+#[cycle(script)]
+#[derive(Debug, Drop)]
+pub enum Statement {
+    /// Performs the action. What it raises is thrown here.
+    Do(Action),
+    /// Waits for the Deferred of this name. Its value becomes the present one, its failure is thrown here.
+    Await(Text),
+    /// The first statements, and where these classes are thrown there, the second ones.
+    Try(Items<Statement>, Items<ClassId>, Items<Statement>),
+    /// Leaves the inline body, whose input is the present value: `Return`, `Pass`, `Plus` or `Raise`.
+    End(End),
 }
 
 /// What a callback, an errback or a canceller does.
+#[cycle(script)]
 #[derive(Debug, Drop)]
 pub struct Body {
+    /// What it performs first, in order. The first that raises ends it with that failure.
+    pub actions: Items<Action>,
     pub end: End,
 }

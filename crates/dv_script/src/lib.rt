@@ -3,13 +3,17 @@
 
 pub mod action;
 pub mod body;
+mod draft;
 pub mod error;
-mod known_classes;
+pub mod event;
 pub mod laws;
 mod limits;
 mod names;
+mod passes;
 mod reading;
 pub mod script;
+mod suits;
 #[cfg(test)]
 mod tests;
 mod words;
+pub mod work;

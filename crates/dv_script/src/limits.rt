@@ -1,7 +1,12 @@
-ghost use Rattle.std.specs.Prelude.{◌≡◌, ◌^◌, ◌-◌, min};
+ghost use Rattle.std.specs.Prelude.{◌≡◌, ◌^◌, ◌-◌, min, nat_le};
+ghost use Rattle.std.specs.List.{list_all};
 ghost use Rattle.serde_json.specs.View.{view, items_view, members_view};
-ghost use Rattle.dv_script.specs.Limits.{nodes, item_nodes, member_nodes};
+ghost use Rattle.dv_script.specs.Limits.{nodes, item_nodes, member_nodes, most_nodes, most_ticks, ticks_of, ticks_in, are_few, is_small};
 
+use crate::body::Body;
+use crate::draft::Draft;
+use crate::event::Event;
+use dv_value::items::Items;
 use serde_json::{Map, Value as Json};
 
 /// The most bytes of a script.
@@ -10,9 +15,21 @@ pub const MOST_BYTES: usize = 1_048_576;
 /// The most nodes of a script.
 pub const MOST_NODES: u64 = 65_536;
 
+/// The most classes that a script declares.
+pub const MOST_CLASSES: usize = 256;
+
+/// The most callers of a script.
+pub const MOST_CALLERS: usize = 8;
+
+/// The most posts of a caller.
+pub const MOST_POSTS: usize = 256;
+
+/// The most ticks by which a script advances the clock in all.
+pub const MOST_TICKS: u64 = 1_000_000_000_000_000;
+
 /// How many nodes the value has, to the last number of 64 bits.
 #[cycle(nodes)]
-pub fn nodes(json: &Json) -> u64
+fn nodes(json: &Json) -> u64
     ensures { result ≡ min (nodes (view json.now)) (2 ^ 64 - 1) }
 {
     match json {
@@ -42,4 +59,60 @@ fn member_nodes(members: &Map<String, Json>) -> u64
         count = count.saturating_add(nodes(json));
     }
     count
+}
+
+fn has_few_nodes(json: &Json) -> bool
+    ensures { result ≡ nat_le (nodes (view json.now)) most_nodes }
+{
+    nodes(json) <= MOST_NODES
+}
+
+fn ticks_of(event: &Event) -> u64
+    ensures { result ≡ ticks_of event.now }
+{
+    match event {
+        Event::Action(_) => 0,
+        Event::Advance(n) => *n,
+        Event::Drain(_) => 0,
+    }
+}
+
+/// By how many ticks the events advance the clock, to the last number of 64 bits.
+fn ticks_in(events: &[Event]) -> u64
+    ensures { result ≡ min (ticks_in events.now) (2 ^ 64 - 1) }
+{
+    let mut total = 0u64;
+    for event in events {
+        total = total.saturating_add(ticks_of(event));
+    }
+    total
+}
+
+fn has_few_ticks(events: &[Event]) -> bool
+    ensures { result ≡ nat_le (ticks_in events.now) most_ticks }
+{
+    ticks_in(events) <= MOST_TICKS
+}
+
+fn are_few(posts: &Items<Body>) -> bool
+    ensures { result ≡ are_few posts.now }
+{
+    posts.as_slice().len() <= MOST_POSTS
+}
+
+fn all_are_few(callers: &[Items<Body>]) -> bool
+    ensures { result ≡ list_all are_few callers.now }
+{
+    callers.iter().all(are_few)
+}
+
+/// Whether a script of this JSON value has few enough nodes, classes, callers, posts and ticks.
+pub fn is_small(json: &Json, draft: &Draft) -> bool
+    ensures { result ≡ is_small (view json.now) draft.now }
+{
+    has_few_nodes(json)
+        && draft.declared.as_slice().len() <= MOST_CLASSES
+        && draft.script.callers.as_slice().len() <= MOST_CALLERS
+        && all_are_few(draft.script.callers.as_slice())
+        && has_few_ticks(draft.script.events.as_slice())
 }

@@ -1,8 +1,6 @@
 ghost use Rattle.std.specs.Prelude.{◌≡◌};
 ghost use Rattle.std.specs.List.{list_all};
-ghost use Rattle.dv_script.specs.Names.{is_letter, is_name, names_one, is_named};
-
-use crate::action::Action;
+ghost use Rattle.dv_script.specs.Names.{is_letter, is_name, names_one};
 
 fn is_letter(byte: u8) -> bool
     ensures { result ≡ is_letter byte }
@@ -12,7 +10,7 @@ fn is_letter(byte: u8) -> bool
 
 /// Whether a name has 1 to 32 letters, digits and `_`.
 #[tactic(auto, unfolding(crate::specs::Names::is_name))]
-fn is_name(name: &str) -> bool
+pub fn is_name(name: &str) -> bool
     ensures { result ≡ is_name name.now }
 {
     1 <= name.len() && name.len() <= 32 && are_letters(name.as_bytes())
@@ -26,29 +24,8 @@ fn are_letters(bytes: &[u8]) -> bool
 
 /// Whether a name may be that of a Deferred that is there.
 #[tactic(auto, unfolding(crate::specs::Names::names_one))]
-fn names_one(name: &str) -> bool
+pub fn names_one(name: &str) -> bool
     ensures { result ≡ names_one name.now }
 {
     name == "@" || is_name(name)
-}
-
-fn is_named(action: &Action) -> bool
-    ensures { result ≡ is_named action.now }
-{
-    match action {
-        Action::Deferred(name) => is_name(name.as_str()),
-        Action::Callback(name, _) => names_one(name.as_str()),
-        Action::Errback(name, _, _) => names_one(name.as_str()),
-        Action::AddCallback(name, _) => names_one(name.as_str()),
-        Action::AddErrback(name, _) => names_one(name.as_str()),
-        Action::AddBoth(name, _) => names_one(name.as_str()),
-        Action::AddCallbacks(name, _, _) => names_one(name.as_str()),
-    }
-}
-
-/// Whether each name of the actions has its form.
-pub fn are_named(actions: &[Action]) -> bool
-    ensures { result ≡ list_all is_named actions.now }
-{
-    actions.iter().all(is_named)
 }

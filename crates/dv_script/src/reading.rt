@@ -2,8 +2,13 @@
 
 pub mod action;
 pub mod body;
+pub mod cooperator;
 pub mod end;
+pub mod event;
 pub mod leaf;
 pub mod script;
+pub mod statement;
 pub mod stop;
+pub mod table;
 pub mod value;
+pub mod work;

@@ -1,6 +1,7 @@
 mod actions;
 mod limits;
 mod refusals;
+mod scripts;
 
 use crate::error::ScriptFault;
 use crate::script::Script;

@@ -1,9 +1,9 @@
 ghost use Rattle.std.specs.Prelude.{◌≡◌};
-ghost use Rattle.dv_script.specs.Words.{action_word, end_word};
+ghost use Rattle.dv_script.specs.Words.{deferred_word, object_word, task_word, action_word, event_word, end_word, statement_word, work_word};
 
-/// The first word of an action.
+/// The first word of an action on Deferreds alone.
 #[derive(Clone, Copy, Drop)]
-pub enum ActionWord {
+pub enum DeferredWord {
     Deferred,
     Callback,
     Errback,
@@ -11,6 +11,58 @@ pub enum ActionWord {
     AddErrback,
     AddBoth,
     AddCallbacks,
+    Chain,
+    Pause,
+    Unpause,
+    Cancel,
+}
+
+/// The first word of an action on lists, locks, semaphores and queues, or of a note.
+#[derive(Clone, Copy, Drop)]
+pub enum ObjectWord {
+    Note,
+    List,
+    Gather,
+    Maybe,
+    Lock,
+    Semaphore,
+    Acquire,
+    Release,
+    RunWith,
+    Queue,
+    Put,
+    Get,
+}
+
+/// The first word of an action on delayed calls, loops, tasks, inline bodies and threads.
+#[derive(Clone, Copy, Drop)]
+pub enum TaskWord {
+    Later,
+    CancelCall,
+    Loop,
+    StopLoop,
+    Cooperate,
+    WhenDone,
+    PauseTask,
+    StopTask,
+    ResumeTask,
+    Inline,
+    Thread,
+}
+
+/// The first word of an action.
+#[derive(Clone, Copy, Drop)]
+pub enum ActionWord {
+    OfDeferred(DeferredWord),
+    OfObject(ObjectWord),
+    OfTask(TaskWord),
+}
+
+/// The first word of an event that is no action.
+#[derive(Clone, Copy, Drop)]
+pub enum EventWord {
+    Advance,
+    Drain,
 }
 
 /// The first word of an end.
@@ -21,20 +73,114 @@ pub enum EndWord {
     Plus,
     Raise,
     Trap,
+    Wait,
+}
+
+/// The first word of a statement.
+#[derive(Clone, Copy, Drop)]
+pub enum StatementWord {
+    Do,
+    Await,
+    Try,
+    End,
+}
+
+/// The first word of a work.
+#[derive(Clone, Copy, Drop)]
+pub enum WorkWord {
+    Value,
+    Raise,
+    Sum,
+}
+
+impl DeferredWord {
+    pub fn named(text: &str) -> Option<DeferredWord>
+        ensures { result ≡ deferred_word text.now }
+    {
+        match text {
+            "deferred" => Some(DeferredWord::Deferred),
+            "callback" => Some(DeferredWord::Callback),
+            "errback" => Some(DeferredWord::Errback),
+            "addCallback" => Some(DeferredWord::AddCallback),
+            "addErrback" => Some(DeferredWord::AddErrback),
+            "addBoth" => Some(DeferredWord::AddBoth),
+            "addCallbacks" => Some(DeferredWord::AddCallbacks),
+            "chain" => Some(DeferredWord::Chain),
+            "pause" => Some(DeferredWord::Pause),
+            "unpause" => Some(DeferredWord::Unpause),
+            "cancel" => Some(DeferredWord::Cancel),
+            _ => None,
+        }
+    }
+}
+
+impl ObjectWord {
+    pub fn named(text: &str) -> Option<ObjectWord>
+        ensures { result ≡ object_word text.now }
+    {
+        match text {
+            "note" => Some(ObjectWord::Note),
+            "list" => Some(ObjectWord::List),
+            "gather" => Some(ObjectWord::Gather),
+            "maybe" => Some(ObjectWord::Maybe),
+            "lock" => Some(ObjectWord::Lock),
+            "semaphore" => Some(ObjectWord::Semaphore),
+            "acquire" => Some(ObjectWord::Acquire),
+            "release" => Some(ObjectWord::Release),
+            "runWith" => Some(ObjectWord::RunWith),
+            "queue" => Some(ObjectWord::Queue),
+            "put" => Some(ObjectWord::Put),
+            "get" => Some(ObjectWord::Get),
+            _ => None,
+        }
+    }
+}
+
+impl TaskWord {
+    pub fn named(text: &str) -> Option<TaskWord>
+        ensures { result ≡ task_word text.now }
+    {
+        match text {
+            "later" => Some(TaskWord::Later),
+            "cancelCall" => Some(TaskWord::CancelCall),
+            "loop" => Some(TaskWord::Loop),
+            "stopLoop" => Some(TaskWord::StopLoop),
+            "cooperate" => Some(TaskWord::Cooperate),
+            "whenDone" => Some(TaskWord::WhenDone),
+            "pauseTask" => Some(TaskWord::PauseTask),
+            "stopTask" => Some(TaskWord::StopTask),
+            "resumeTask" => Some(TaskWord::ResumeTask),
+            "inline" => Some(TaskWord::Inline),
+            "thread" => Some(TaskWord::Thread),
+            _ => None,
+        }
+    }
 }
 
 impl ActionWord {
     pub fn named(text: &str) -> Option<ActionWord>
         ensures { result ≡ action_word text.now }
     {
+        if let Some(word) = DeferredWord::named(text) {
+            return Some(ActionWord::OfDeferred(word));
+        }
+        if let Some(word) = ObjectWord::named(text) {
+            return Some(ActionWord::OfObject(word));
+        }
+        match TaskWord::named(text) {
+            Some(word) => Some(ActionWord::OfTask(word)),
+            None => None,
+        }
+    }
+}
+
+impl EventWord {
+    pub fn named(text: &str) -> Option<EventWord>
+        ensures { result ≡ event_word text.now }
+    {
         match text {
-            "deferred" => Some(ActionWord::Deferred),
-            "callback" => Some(ActionWord::Callback),
-            "errback" => Some(ActionWord::Errback),
-            "addCallback" => Some(ActionWord::AddCallback),
-            "addErrback" => Some(ActionWord::AddErrback),
-            "addBoth" => Some(ActionWord::AddBoth),
-            "addCallbacks" => Some(ActionWord::AddCallbacks),
+            "advance" => Some(EventWord::Advance),
+            "drain" => Some(EventWord::Drain),
             _ => None,
         }
     }
@@ -50,6 +196,34 @@ impl EndWord {
             "plus" => Some(EndWord::Plus),
             "raise" => Some(EndWord::Raise),
             "trap" => Some(EndWord::Trap),
+            "wait" => Some(EndWord::Wait),
+            _ => None,
+        }
+    }
+}
+
+impl StatementWord {
+    pub fn named(text: &str) -> Option<StatementWord>
+        ensures { result ≡ statement_word text.now }
+    {
+        match text {
+            "do" => Some(StatementWord::Do),
+            "await" => Some(StatementWord::Await),
+            "try" => Some(StatementWord::Try),
+            "end" => Some(StatementWord::End),
+            _ => None,
+        }
+    }
+}
+
+impl WorkWord {
+    pub fn named(text: &str) -> Option<WorkWord>
+        ensures { result ≡ work_word text.now }
+    {
+        match text {
+            "value" => Some(WorkWord::Value),
+            "raise" => Some(WorkWord::Raise),
+            "sum" => Some(WorkWord::Sum),
             _ => None,
         }
     }

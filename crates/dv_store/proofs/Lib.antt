@@ -1,1 +1,2 @@
 pub mod CallbacksLemmas
+pub mod StoreLemmas

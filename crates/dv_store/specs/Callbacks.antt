@@ -2,45 +2,51 @@
 use Rattle.std.specs.Prelude.{ℕ, Bool, true, false, not, ◌&&◌, if◌then◌else◌, List, [], ◌∷◌, Option, Some, None, slice_get, slice_set}
 use Rattle.dv_value.specs.Failure.{is_fault}
 use Rattle.dv_value.specs.declared.value.Value.{Value}
-use Rattle.dv_store.specs.Record.{changing}
+use Rattle.dv_journal.specs.declared.entry.Entry.TheVariants as entry
+use Rattle.dv_store.specs.Telling.{State, Told, untold, telling}
 use Rattle.dv_store.specs.declared.record.Record.{Record}
 use Rattle.dv_store.specs.declared.store.Step.{Step}
 use Rattle.dv_store.specs.declared.store.Step.TheVariants.{Nothing, Passed, Run}
 
--- what a step did, and the records after it
+-- what a step did, and what it leaves
 abbrev pub Stepped : Type 0 → Type 0 → Type 0
-Stepped P K = Step P × List (Record P K)
+Stepped P K = Told (Step P) P K
 
 -- a Deferred is ready once it is fired, while no side of it runs
 abbrev pub is_ready : {P K : Type 0} → Record P K → Bool
 is_ready r = r.fired && not r.running
 
 module _ {P K : Type 0} (passes_at : P → Bool → Bool) where
-  -- a pair without a side for the value passes it on; else its side runs
-  abbrev pub use_pair : ℕ → Record P K → P → List P → List (Record P K) → Stepped P K
-  use_pair id r pair rest rs =
+  -- a pair without a side for the value passes it on, which isn't told; else its side runs
+  abbrev pub use_pair : ℕ → Record P K → P → List P → State P K → Stepped P K
+  use_pair id r pair rest s =
       if passes_at pair (is_fault r.value)
-      then (Passed, slice_set rs id (record r { items = rest }))
-      else (Run pair, slice_set rs id (record r { items = rest; running = true }))
+      then untold Passed (slice_set s.0 id (record r { items = rest }), s.1)
+      else telling (entry.Run id) (Run pair) (slice_set s.0 id (record r { items = rest; running = true })) s
 
   -- pairs are used in the order in which they were added, each once
-  abbrev pub use_first : ℕ → Record P K → List P → List (Record P K) → Stepped P K
-  use_first id r [] rs = (Nothing, rs)
-  use_first id r (pair ∷ rest) rs = use_pair id r pair rest rs
+  abbrev pub use_first : ℕ → Record P K → List P → State P K → Stepped P K
+  use_first id r [] s = untold Nothing s
+  use_first id r (pair ∷ rest) s = use_pair id r pair rest s
 
-  -- only a ready Deferred uses a pair; an id of no record changes none
-  abbrev pub step_found : ℕ → Option (Record P K) → List (Record P K) → Stepped P K
-  step_found id None rs = (Nothing, rs)
-  step_found id (Some r) rs = if is_ready r then use_first id r r.items rs else (Nothing, rs)
+  -- only a ready Deferred uses a pair; an id of no record changes nothing
+  abbrev pub step_found : ℕ → Option (Record P K) → State P K → Stepped P K
+  step_found id None s = untold Nothing s
+  step_found id (Some r) s = if is_ready r then use_first id r r.items s else untold Nothing s
 
   -- one step of a Deferred
-  unfoldable pub step : ℕ → List (Record P K) → Stepped P K
-  step id rs = step_found id (slice_get rs id) rs
+  unfoldable pub step : ℕ → State P K → Stepped P K
+  step id s = step_found id (slice_get s.0 id) s
 
 -- what a side gave is the value, and no side runs
 abbrev pub with_result : {P K : Type 0} → Value → Record P K → Record P K
 with_result value r = record r { value = value; running = false }
 
--- the records after a side of a Deferred has ended
-abbrev pub put : {P K : Type 0} → ℕ → Value → List (Record P K) → List (Record P K)
-put id value rs = changing id (with_result value) rs
+-- a side of the Deferred that is found has ended; an id of no record changes nothing
+abbrev pub put_found : {P K : Type 0} → ℕ → Value → Option (Record P K) → State P K → Told Unit P K
+put_found id value None s = untold tt s
+put_found id value (Some r) s = telling (entry.Set id value) tt (slice_set s.0 id (with_result value r)) s
+
+-- a side of a Deferred has ended with this
+abbrev pub put : {P K : Type 0} → ℕ → Value → State P K → Told Unit P K
+put id value s = put_found id value (slice_get s.0 id) s

@@ -1,5 +1,5 @@
+pub mod Telling
 pub mod Record
 pub mod Fire
 pub mod Callbacks
-pub mod Refusals
 pub mod Laws

@@ -1,21 +1,39 @@
-ghost use Rattle.dv_store.specs.declared.error.StoreFault.TheVariants.{OutOfMemory};
-ghost use Rattle.std.specs.Prelude.{◌≡◌};
-
+use dv_journal::error::Stop;
 use std::alloc::AllocError;
 use thiserror::Error;
 
-/// Why a change of a Deferred is refused.
+/// Why a Deferred isn't fired.
 #[derive(Clone, Copy, Debug, PartialEq, Eq, Error)]
 pub enum StoreFault {
-    /// The Deferred is fired already (Twisted: `AlreadyCalledError`).
+    /// It is fired already (Twisted: `AlreadyCalledError`).
     #[error("already called")]
     AlreadyCalled,
+    /// What the journal would tell of it would pass the journal's limit.
+    #[error("journal limit reached")]
+    Limit,
     #[error("out of memory")]
     OutOfMemory,
 }
 
+impl From<Stop> for StoreFault {
+    ghost use Rattle.std.specs.Prelude.{◌≡◌};
+    ghost use Rattle.dv_store.specs.Fire.{fault_of};
+
+    ghost from_gives = { λ stop fault. fault ≡ fault_of stop };
+
+    fn from(stop: Stop) -> StoreFault {
+        match stop {
+            Stop::Limit => StoreFault::Limit,
+            Stop::OutOfMemory => StoreFault::OutOfMemory,
+        }
+    }
+}
+
 impl From<AllocError> for StoreFault {
-    ghost from_gives = { λ _ e. e ≡ OutOfMemory };
+    ghost use Rattle.std.specs.Prelude.{◌≡◌};
+    ghost use Rattle.dv_store.specs.declared.error.StoreFault.TheVariants.{OutOfMemory};
+
+    ghost from_gives = { λ _ fault. fault ≡ OutOfMemory };
 
     fn from(_error: AllocError) -> StoreFault {
         StoreFault::OutOfMemory

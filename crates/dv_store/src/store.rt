@@ -1,14 +1,19 @@
-ghost use Rattle.std.specs.Prelude.{◌≡◌, ◌++◌, ◌∷◌, [], ◌<◌, ◌^◌, ◌-◌, length, slice_get, OnOk, OnErr, IfOk, IfErr};
+ghost use Rattle.std.specs.Prelude.{◌≡◌, true, [], ◌∷◌, ◌++◌, ◌<◌, ◌^◌, ◌-◌, length, slice_get, IfOk, OnOk, OnErr};
 ghost use Rattle.std.specs.Option.{option_copied};
+ghost use Rattle.dv_journal.specs.Journal.{fits, with_entry};
+ghost use Rattle.dv_journal.specs.declared.entry.Entry.TheVariants.{Add};
 
 use crate::error::StoreFault;
 use crate::record::Record;
 use crate::sides::Sides;
 use dv_journal::deferred_id::DeferredId;
+use dv_journal::entry::Entry;
+use dv_journal::error::Stop;
+use dv_journal::journal::Journal;
 use dv_value::deque::Deque;
 use dv_value::text::Text;
 use dv_value::value::Value;
-use std::alloc::Global;
+use std::alloc::{AllocError, Global};
 use std::marker::Model;
 
 /// What one step of a Deferred did.
@@ -25,7 +30,7 @@ pub enum Step<P> {
 /// The records of all Deferreds, in order of making.
 ///
 /// An id that isn't of this store means nothing to it: no call changes anything for it, `record` answers None, `step`
-/// answers Nothing, and `append` and `fire` answer Ok.
+/// answers Nothing, and `append`, `fire` and `put` answer Ok.
 #[derive(Debug, Drop)]
 pub struct Store<P, K> {
     alloc: Global,
@@ -46,10 +51,10 @@ impl<P, K> Model for Store<P, K> {
 }
 
 impl<P: Sides + Drop, K: Drop> Store<P, K> {
-    ghost use Rattle.dv_store.specs.Record.{new_record, append};
-    ghost use Rattle.dv_store.specs.Fire.{fire};
+    ghost use Rattle.dv_store.specs.Record.{make, append};
+    ghost use Rattle.dv_store.specs.Fire.{fire, FiresUnlessMemory};
     ghost use Rattle.dv_store.specs.Callbacks.{step, put};
-    ghost use Rattle.dv_store.specs.Refusals.{RefusesMake, RefusesAppend};
+    ghost use Rattle.dv_store.specs.Telling.{UnlessMemory};
 
     /// No records. It takes no memory before the first Deferred is made.
     pub fn new(alloc: Global) -> Store<P, K>
@@ -77,20 +82,23 @@ impl<P: Sides + Drop, K: Drop> Store<P, K> {
 
     /// Makes an unfired Deferred without pairs, and gives it the next number (Twisted: `Deferred`).
     ///
-    /// Where memory is refused, its name and its canceller are dropped.
+    /// Where it is refused, its name and its canceller are dropped.
     pub fn make(
         &mut self,
+        journal: &mut Journal,
         name: Option<Text>,
         canceller: Option<K>,
-    ) -> Result<DeferredId, StoreFault>
+    ) -> Result<DeferredId, Stop>
         requires room { length self.old < 2 ^ 32 - 1 }
-        ensures id { IfOk result (λ id. id ≡ length self.old) }
-        ensures ok { OnOk result (self.new ≡ self.old ++ new_record name canceller ∷ []) }
-        ensures err { OnErr result (self.new ≡ self.old) }
-        ensures cause { IfErr result RefusesMake }
+        ensures { UnlessMemory result (self.old, journal.old) (self.new, journal.new) (make name canceller (self.old, journal.old)) }
     {
+        if !journal.fits_plain() {
+            return Err(Stop::Limit);
+        }
         let id = DeferredId::new(self.len() as u32);
+        let shown = name_copy(self.alloc, &name)?;
         self.records.try_reserve(1)?;
+        journal.write(Entry::New(id, shown))?;
         let record = Record {
             name,
             fired: false,
@@ -105,31 +113,46 @@ impl<P: Sides + Drop, K: Drop> Store<P, K> {
 
     /// Adds a pair after the others, and uses none (Twisted: `Deferred.addCallbacks`, which also runs what it can).
     ///
-    /// Where memory is refused, the pair is dropped.
-    pub fn append(&mut self, id: DeferredId, pair: P) -> Result<(), StoreFault>
-        ensures ok { OnOk result (self.new ≡ append id pair self.old) }
-        ensures err { OnErr result (self.new ≡ self.old) }
-        ensures cause { IfErr result RefusesAppend }
+    /// Where it is refused, the pair is dropped.
+    #[tactic(auto, using(crate::proofs::StoreLemmas::record_kept))]
+    pub fn append(&mut self, journal: &mut Journal, id: DeferredId, pair: P) -> Result<(), Stop>
+        ensures { UnlessMemory result (self.old, journal.old) (self.new, journal.new) (append id pair (self.old, journal.old)) }
     {
-        let Some(record) = self.records.get_mut(id.number() as usize) else {
+        let place = id.number() as usize;
+        if place >= self.records.len() {
             return Ok(());
-        };
-        record.items.push_back(pair)?;
+        }
+        if !journal.fits_plain() {
+            return Err(Stop::Limit);
+        }
+        add(journal, id, &mut self.records[place].items, pair)?;
         Ok(())
     }
 
     /// Fires a Deferred, with a failure too, and uses no pair (Twisted: `Deferred.callback` and `Deferred.errback`, which
-    /// also run what they can). A Deferred that is fired already keeps its value, and the new one is dropped.
-    pub fn fire(&mut self, id: DeferredId, value: Value) -> Result<(), StoreFault>
-        ensures { (result, self.new) ≡ fire id value self.old }
+    /// also run what they can). A Deferred that is fired already keeps its value: `refuse` is written, and the new value
+    /// is dropped.
+    pub fn fire(
+        &mut self,
+        journal: &mut Journal,
+        id: DeferredId,
+        value: Value,
+    ) -> Result<(), StoreFault>
+        ensures { FiresUnlessMemory result (self.old, journal.old) (self.new, journal.new) (fire id value (self.old, journal.old)) }
     {
         let place = id.number() as usize;
         let Some(record) = self.records.get(place) else {
             return Ok(());
         };
         if record.fired {
+            journal.write(Entry::Refuse(id))?;
             return Err(StoreFault::AlreadyCalled);
         }
+        if !journal.fits_value(&value) {
+            return Err(StoreFault::Limit);
+        }
+        let shown = value.copy(self.alloc)?;
+        journal.write(Entry::Fire(id, shown))?;
         let record = &mut self.records[place];
         record.fired = true;
         record.value = value;
@@ -138,38 +161,51 @@ impl<P: Sides + Drop, K: Drop> Store<P, K> {
 
     /// Uses the first unused pair of a Deferred, where it is fired and no side of it runs.
     ///
-    /// After `Run` the side is the caller's to run, on the record's value, and `put` ends it.
+    /// After `Run` the side is the caller's to run, on the record's value, and `put` ends it. Where it is refused, the
+    /// pair isn't used.
     #[tactic(auto, unfolding(crate::specs::Callbacks::step))]
-    pub fn step(&mut self, id: DeferredId) -> Step<P>
-        ensures { (result, self.new) ≡ step P.passes_at id self.old }
+    pub fn step(&mut self, journal: &mut Journal, id: DeferredId) -> Result<Step<P>, Stop>
+        ensures { UnlessMemory result (self.old, journal.old) (self.new, journal.new) (step P.passes_at id (self.old, journal.old)) }
     {
         let place = id.number() as usize;
         let Some(record) = self.records.get(place) else {
-            return Step::Nothing;
+            return Ok(Step::Nothing);
         };
         if !record.fired || record.running {
-            return Step::Nothing;
+            return Ok(Step::Nothing);
         }
         let Some(pair) = record.items.front() else {
-            return Step::Nothing;
+            return Ok(Step::Nothing);
         };
         if pair.passes(record.value.is_fault()) {
             let _ = self.records[place].items.pop_front();
-            return Step::Passed;
+            return Ok(Step::Passed);
         }
+        journal.write(Entry::Run(id))?;
         let record = &mut self.records[place];
         record.running = true;
-        Step::Run(record.items.pop_front().unwrap())
+        Ok(Step::Run(record.items.pop_front().unwrap()))
     }
 
     /// Ends the running side of a Deferred with what it gave, a plain result or a failure, which becomes the value.
-    pub fn put(&mut self, id: DeferredId, value: Value)
-        ensures { self.new ≡ put id value self.old }
+    ///
+    /// Where it is refused, the side runs on, and what it gave is dropped.
+    pub fn put(&mut self, journal: &mut Journal, id: DeferredId, value: Value) -> Result<(), Stop>
+        ensures { UnlessMemory result (self.old, journal.old) (self.new, journal.new) (put id value (self.old, journal.old)) }
     {
-        if let Some(record) = self.records.get_mut(id.number() as usize) {
-            record.value = value;
-            record.running = false;
+        let place = id.number() as usize;
+        if place >= self.records.len() {
+            return Ok(());
         }
+        if !journal.fits_value(&value) {
+            return Err(Stop::Limit);
+        }
+        let shown = value.copy(self.alloc)?;
+        journal.write(Entry::Set(id, shown))?;
+        let record = &mut self.records[place];
+        record.value = value;
+        record.running = false;
+        Ok(())
     }
 
     /// All records, in order of making, with their values moved.
@@ -178,5 +214,40 @@ impl<P: Sides + Drop, K: Drop> Store<P, K> {
     {
         let Store { alloc: _, records } = self;
         records
+    }
+}
+
+/// A name of its own for the journal.
+fn name_copy(alloc: Global, name: &Option<Text>) -> Result<Option<Text>, AllocError>
+    ensures { IfOk result (λ copy. copy ≡ name.now) }
+{
+    match name {
+        None => Ok(None),
+        Some(name) => Ok(Some(Text::of(alloc, name.as_str())?)),
+    }
+}
+
+/// Adds a pair after the others, and tells of it.
+#[tactic(auto, using(crate::proofs::StoreLemmas::pair_taken_back))]
+fn add<P: Drop>(
+    journal: &mut Journal,
+    id: DeferredId,
+    pairs: &mut Deque<P>,
+    pair: P,
+) -> Result<(), AllocError>
+    requires room { fits journal.old (Add id) ≡ true }
+    ensures added { OnOk result (pairs.new ≡ pairs.old ++ pair ∷ []) }
+    ensures written { OnOk result (journal.new ≡ with_entry journal.old (Add id)) }
+    ensures kept { OnErr result (pairs.new ≡ pairs.old) }
+    ensures err { OnErr result (journal.new ≡ journal.old) }
+{
+    pairs.push_back(pair)?;
+    match journal.write(Entry::Add(id)) {
+        Ok(()) => Ok(()),
+        Err(Stop::Limit) => unreachable!(),
+        Err(Stop::OutOfMemory) => {
+            pairs.drop_back();
+            Err(AllocError)
+        }
     }
 }

@@ -1,8 +1,9 @@
-ghost use Rattle.std.specs.Prelude.{◌≡◌, ◌++◌, ◌+◌, ◌≤◌, ◌<◌, ◌^◌, length, map, nat_eq, IfOk, OnOk, IfSome};
+ghost use Rattle.std.specs.Prelude.{◌≡◌, ◌++◌, ◌+◌, ◌≤◌, ◌<◌, ◌^◌, length, map, nat_eq, IfOk, OnOk, OnErr, IfSome};
 ghost use Rattle.dv_value.specs.Classes.{find_class};
 ghost use Rattle.std.specs.List.{list_any};
 ghost use Rattle.dv_value.specs.Builtin.{children_of};
 
+use crate::class_fault::ClassFault;
 use crate::class_id::ClassId;
 use crate::text::Text;
 use std::alloc::{AllocError, Global};
@@ -18,6 +19,7 @@ pub struct Class {
 /// The table of classes, which contracts see as the list of them. A class is known by its place in it.
 #[derive(Debug, Drop)]
 pub struct Classes {
+    alloc: Global,
     classes: Vec<Class>,
 }
 
@@ -36,6 +38,7 @@ impl Classes {
     ghost use Rattle.std.specs.Prelude.{[], Some, None};
     ghost use Rattle.dv_value.specs.Classes.{name_of, parent_of, path_within, descends};
     ghost use Rattle.dv_value.specs.Builtin.{children_of, builtin};
+    ghost use Rattle.dv_value.specs.Declaring.{with_class, AnswersDeclare};
 
     /// The classes that every script has, each after its parent.
     #[tactic(auto, unfolding(crate::specs::Builtin::builtin))]
@@ -81,7 +84,28 @@ impl Classes {
             Some(ClassId::TASK_FINISHED),
             &["TaskDone", "TaskStopped", "TaskFailed"],
         )?;
-        Ok(Classes { classes })
+        Ok(Classes { alloc, classes })
+    }
+
+    /// Adds a class at the end of the table, under the class of its parent's name. After a refusal the table is as it was.
+    pub fn declare(&mut self, name: &str, parent: &str) -> Result<ClassId, ClassFault>
+        requires room { length self.old + 1 < 2 ^ 32 }
+        ensures answer { AnswersDeclare self.old name.now parent.now result }
+        ensures declared { OnOk result (self.new ≡ with_class self.old name.now parent.now) }
+        ensures kept { OnErr result (self.new ≡ self.old) }
+    {
+        if self.find(name).is_some() {
+            return Err(ClassFault::Taken);
+        }
+        let Some(above) = self.find(parent) else {
+            return Err(ClassFault::NoParent);
+        };
+        let class = child_of(self.alloc, Some(above), name)?;
+        let id = ClassId::new(self.count());
+        match self.classes.push(class) {
+            Ok(()) => Ok(id),
+            Err(_) => Err(ClassFault::OutOfMemory),
+        }
     }
 
     /// The first class of this name, byte for byte, if there is one.

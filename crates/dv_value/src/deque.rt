@@ -1,4 +1,4 @@
-ghost use Rattle.std.specs.Prelude.{◌≡◌, ◌↔◌, [], ◌∷◌, ◌++◌, OnOk, OnErr, IsTrue, drop, slice_get};
+ghost use Rattle.std.specs.Prelude.{◌≡◌, ◌↔◌, [], ◌∷◌, ◌++◌, ◌-◌, OnOk, OnErr, IsTrue, length, take, drop, slice_get};
 ghost use Rattle.std.specs.Option.{option_copied};
 
 use std::alloc::{AllocError, Global};
@@ -56,6 +56,13 @@ impl<T> Deque<T> {
 }
 
 impl<T: Drop> Deque<T> {
+    /// Drops the item that was pushed last, if there is one.
+    pub fn drop_back(&mut self)
+        ensures { self.new ≡ take (length self.old - 1) self.old }
+    {
+        let _ = self.items.pop_back();
+    }
+
     /// Adds an item at the end. Where memory is refused, the item is dropped and the others stay.
     pub fn push_back(&mut self, item: T) -> Result<(), AllocError>
         ensures ok { OnOk result (self.new ≡ self.old ++ item ∷ []) }

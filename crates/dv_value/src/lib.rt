@@ -2,6 +2,7 @@
 #![tactic(auto)]
 
 pub mod boxed;
+pub mod class_fault;
 pub mod class_id;
 pub mod classes;
 pub mod deque;

@@ -1,4 +1,5 @@
 use crate::boxed::Boxed;
+use crate::class_fault::ClassFault;
 use crate::class_id::ClassId;
 use crate::classes::Classes;
 use crate::deque::Deque;
@@ -248,5 +249,74 @@ fn a_deque_gives_the_items_in_the_order_that_they_came(rt: HostRuntime) -> Resul
         assert_eq!(rt; deque.pop_front(), Some(number));
     }
     assert!(rt; deque.is_empty());
+    Ok(())
+}
+
+/// Declares a class in a table that has room for one.
+fn declare(classes: &mut Classes, name: &str, parent: &str) -> Result<ClassId, ClassFault> {
+    if classes.count() == u32::MAX {
+        return Err(ClassFault::OutOfMemory);
+    }
+    classes.declare(name, parent)
+}
+
+#[test]
+fn a_class_is_declared_once_and_under_one_that_is_there(rt: HostRuntime) -> Result<(), Fail> {
+    let mut classes = Classes::builtin(rt.alloc())?;
+    let count = classes.count();
+    assert_eq!(rt;
+        declare(&mut classes, "ValueError", "Exception"),
+        Err(ClassFault::Taken)
+    );
+    assert_eq!(rt;
+        declare(&mut classes, "ValueError", "B"),
+        Err(ClassFault::Taken)
+    );
+    assert_eq!(rt; declare(&mut classes, "A", "B"), Err(ClassFault::NoParent));
+    assert_eq!(rt; declare(&mut classes, "A", "A"), Err(ClassFault::NoParent));
+    assert_eq!(rt; classes.count(), count);
+    assert_eq!(rt; classes.find("A"), None);
+    let a = ClassId::new(count);
+    assert_eq!(rt; declare(&mut classes, "A", "ValueError"), Ok(a));
+    assert_eq!(rt;
+        declare(&mut classes, "A", "Exception"),
+        Err(ClassFault::Taken)
+    );
+    assert_eq!(rt; classes.find("A"), Some(a));
+    assert_eq!(rt; classes.name(a), "A");
+    assert!(rt; classes.descends(a, ClassId::VALUE_ERROR));
+    assert!(rt; !classes.descends(a, ClassId::TYPE_ERROR));
+    let b = ClassId::new(count.saturating_add(1));
+    assert_eq!(rt; declare(&mut classes, "B", "A"), Ok(b));
+    assert!(rt; classes.descends(b, a));
+    Ok(())
+}
+
+#[test]
+fn a_refused_declaration_prints_its_number_and_its_name(rt: HostRuntime) -> Result<(), Fail> {
+    for (fault, expected) in [
+        (ClassFault::Taken, "1 Taken"),
+        (ClassFault::NoParent, "2 NoParent"),
+        (ClassFault::OutOfMemory, "3 OutOfMemory"),
+    ] {
+        let mut text = String::new(rt.alloc());
+        write!(&mut text, "{fault}")?;
+        assert_eq!(rt; text.as_str(), expected);
+    }
+    Ok(())
+}
+
+#[test]
+fn what_is_dropped_at_the_back_came_last(rt: HostRuntime) -> Result<(), Fail> {
+    let mut deque = Deque::new(rt.alloc());
+    deque.drop_back();
+    assert!(rt; deque.is_empty(), "none");
+    for number in 0..3u8 {
+        deque.push_back(number)?;
+    }
+    deque.drop_back();
+    assert_eq!(rt; deque.pop_front(), Some(0));
+    assert_eq!(rt; deque.pop_front(), Some(1));
+    assert!(rt; deque.is_empty(), "two");
     Ok(())
 }

@@ -3,8 +3,9 @@ use crate::exit::exit_of;
 use crate::run::Ended;
 use dv_script::error::ScriptFault;
 
-static EXITS: [(Result<Ended, RunFault>, u8, &str); 11] = [
+static EXITS: [(Result<Ended, RunFault>, u8, &str); 12] = [
     (Ok(Ended::All), 0, ""),
+    (Ok(Ended::Stopped), 1, ""),
     (
         Err(RunFault::ScriptRefused(ScriptFault::TooLong)),
         2,

@@ -7,11 +7,11 @@ use dv_journal::memory_sink::{MemorySink, Trouble};
 use std::io::{self, Read};
 use std::test::Fail;
 
-// a script of 77 bytes, whose text has 23 bytes in two lines
+// a script of 77 bytes, whose text has 54 bytes in five lines
 const SCRIPT: &[u8] =
     br#"{"version":1,"events":[["deferred","a"],["deferred","b"],["callback","a",1]]}"#;
 
-const TEXT: &[u8] = b"#0 a ok 1\n#1 b unfired\n";
+const TEXT: &[u8] = b"new #0 a\nnew #1 b\nfire #0 ok 1\n#0 a ok 1\n#1 b unfired\n";
 
 #[test]
 fn a_reader_that_fails_at_any_call_is_a_read_fault(rt: HostRuntime) -> Result<(), Fail> {

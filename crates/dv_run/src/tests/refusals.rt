@@ -49,6 +49,58 @@ fn a_refused_script_writes_nothing(rt: HostRuntime) -> Result<(), Fail> {
     Ok(())
 }
 
+// a script for each action, event, body and key that isn't performed yet
+static UNPERFORMED: [&str; 34] = [
+    r#"{"version":1,"events":[["deferred","d",{}]]}"#,
+    r#"{"version":1,"events":[["chain","a","b"]]}"#,
+    r#"{"version":1,"events":[["pause","d"]]}"#,
+    r#"{"version":1,"events":[["unpause","d"]]}"#,
+    r#"{"version":1,"events":[["cancel","d"]]}"#,
+    r#"{"version":1,"events":[["list","d",[],[]]]}"#,
+    r#"{"version":1,"events":[["gather","d",[],[]]]}"#,
+    r#"{"version":1,"events":[["maybe","d",{}]]}"#,
+    r#"{"version":1,"events":[["lock","l"]]}"#,
+    r#"{"version":1,"events":[["semaphore","l",1]]}"#,
+    r#"{"version":1,"events":[["acquire","d","l"]]}"#,
+    r#"{"version":1,"events":[["release","l"]]}"#,
+    r#"{"version":1,"events":[["runWith","d","l",{}]]}"#,
+    r#"{"version":1,"events":[["queue","q",null,0]]}"#,
+    r#"{"version":1,"events":[["put","q",1]]}"#,
+    r#"{"version":1,"events":[["get","d","q"]]}"#,
+    r#"{"version":1,"events":[["later","c",0,{}]]}"#,
+    r#"{"version":1,"events":[["cancelCall","c"]]}"#,
+    r#"{"version":1,"events":[["loop","p","d",1,true,{}]]}"#,
+    r#"{"version":1,"events":[["stopLoop","p"]]}"#,
+    r#"{"version":1,"events":[["cooperate","t",[]]]}"#,
+    r#"{"version":1,"events":[["whenDone","d","t"]]}"#,
+    r#"{"version":1,"events":[["pauseTask","t"]]}"#,
+    r#"{"version":1,"events":[["stopTask","t"]]}"#,
+    r#"{"version":1,"events":[["resumeTask","t"]]}"#,
+    r#"{"version":1,"events":[["inline","d",[]]]}"#,
+    r#"{"version":1,"events":[["thread","d",0,["sum",1]]]}"#,
+    r#"{"version":1,"events":[["advance",0]]}"#,
+    r#"{"version":1,"events":[["drain",0]]}"#,
+    r#"{"version":1,"events":[["addCallback","d",{"do":[["note","x"]]}]]}"#,
+    r#"{"version":1,"events":[["addErrback","d",{"end":["wait","d"]}]]}"#,
+    r#"{"version":1,"events":[["addBoth","d",{"do":[["note","x"]]}]]}"#,
+    r#"{"version":1,"events":[["deferred","d"],["addCallbacks","d",{},{"end":["wait","@"]}]]}"#,
+    r#"{"version":1,"callers":[[],[{}]],"events":[]}"#,
+];
+
+#[test]
+fn a_script_of_what_is_not_performed_yet_has_a_bad_shape(rt: HostRuntime) -> Result<(), Fail> {
+    for script in &UNPERFORMED {
+        let (ended, sink) = ran(rt.alloc(), script.as_bytes())?;
+        assert_eq!(rt;
+            ended,
+            Err(RunFault::ScriptRefused(ScriptFault::BadShape)),
+            "{script}"
+        );
+        assert!(rt; sink.bytes().is_empty(), "{script}");
+    }
+    Ok(())
+}
+
 // a script of one Deferred, with spaces behind it up to this many bytes
 fn padded(alloc: Global, len: usize) -> Result<Vec<u8>, AllocError> {
     let mut bytes = r#"{"version":1,"events":[["deferred","d"]]}"#
@@ -63,7 +115,7 @@ fn a_script_of_a_mebibyte_runs_and_one_byte_more_is_refused(rt: HostRuntime) -> 
     let alloc = rt.alloc();
     let (ended, sink) = ran(alloc, padded(alloc, 1_048_576)?.as_slice())?;
     assert_eq!(rt; ended, Ok(Ended::All));
-    assert_eq!(rt; sink.bytes(), b"#0 d unfired\n".as_slice());
+    assert_eq!(rt; sink.bytes(), b"new #0 d\n#0 d unfired\n".as_slice());
     let (ended, sink) = ran(alloc, padded(alloc, 1_048_577)?.as_slice())?;
     assert_eq!(rt; ended, Err(RunFault::ScriptRefused(ScriptFault::TooLong)));
     assert!(rt; sink.bytes().is_empty());

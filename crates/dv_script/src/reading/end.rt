@@ -1,6 +1,8 @@
+ghost use Rattle.std.specs.Prelude.{◌≡◌};
 ghost use Rattle.serde_json.specs.View.{view, items_view};
 ghost use Rattle.dv_script.specs.Answer.{Reads};
-ghost use Rattle.dv_script.specs.Shape.{end_at, end_of};
+ghost use Rattle.dv_script.specs.Grammar.{may_leave};
+ghost use Rattle.dv_script.specs.Shape.{end_at, end_of, leave_at};
 
 use crate::body::End;
 use crate::reading::leaf::{call, class, classes_in, integer, none, one, text, two};
@@ -44,5 +46,28 @@ fn end_of(alloc: Global, classes: &Classes, word: EndWord, arguments: &[Json]) -
             let listed = classes_in(alloc, classes, names)?;
             Ok(End::Trap(listed, value(alloc, json)?))
         }
+        EndWord::Wait => Ok(End::Wait(text(alloc, one(arguments)?)?)),
+    }
+}
+
+fn may_leave(end: &End) -> bool
+    ensures { result ≡ may_leave end.now }
+{
+    match end {
+        End::Return(_) | End::Pass | End::Plus(_) | End::Raise(_, _) => true,
+        End::Trap(_, _) | End::Wait(_) => false,
+    }
+}
+
+/// How an inline body ends.
+#[tactic(auto, unfolding(crate::specs::Shape::leave_at))]
+pub fn leave(alloc: Global, classes: &Classes, json: &Json) -> Result<End, Stop>
+    ensures { Reads result (leave_at classes.now (view json.now)) }
+{
+    let end = end(alloc, classes, json)?;
+    if may_leave(&end) {
+        Ok(end)
+    } else {
+        Err(Stop::BadShape)
     }
 }

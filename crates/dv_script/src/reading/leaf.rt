@@ -1,11 +1,12 @@
-ghost use Rattle.std.specs.Prelude.{◌≡◌, map, bytes_eq};
+ghost use Rattle.std.specs.Prelude.{◌≡◌, map, option_map, bytes_eq};
 ghost use Rattle.std.specs.List.{list_any};
 ghost use Rattle.serde_json.specs.View.{view, items_view, members_view};
-ghost use Rattle.serde_json.specs.Find.{as_array};
-ghost use Rattle.dv_script.specs.Grammar.{has_only};
+ghost use Rattle.serde_json.specs.Find.{as_array, as_bool};
+ghost use Rattle.dv_script.specs.Forms.{has_only};
 ghost use Rattle.dv_script.specs.Answer.{Reads, Gives};
-ghost use Rattle.dv_script.specs.Shape.{text_at, integer_at, class_at, list_at, each, call_at, none, first, one, two, three, fields_at};
+ghost use Rattle.dv_script.specs.Shape.{text_at, integer_at, number_at, bound_at, class_at, list_flag, list_flag_at, gather_flag_named, gather_flag_at, list_at, each, call_at, none, first, if_any, one, one_or_two, two, three, five, fields_at};
 
+use crate::action::{GatherFlag, ListFlag};
 use crate::reading::stop::Stop;
 use dv_value::class_id::ClassId;
 use dv_value::classes::Classes;
@@ -31,6 +32,55 @@ pub fn integer(json: &Json) -> Result<i64, Stop>
     match json.as_i64() {
         Some(n) => Ok(n),
         None => Err(Stop::BadShape),
+    }
+}
+
+/// An integer from `low` to `high`.
+pub fn number(json: &Json, low: u64, high: u64) -> Result<u64, Stop>
+    ensures { Reads result (number_at low high (view json.now)) }
+{
+    match json.as_u64() {
+        Some(n) => if low <= n && n <= high {
+            Ok(n)
+        } else {
+            Err(Stop::BadShape)
+        },
+        None => Err(Stop::BadShape),
+    }
+}
+
+/// An integer from `low` to `high`, which are of 32 bits.
+pub fn small(json: &Json, low: u32, high: u32) -> Result<u32, Stop>
+    ensures { Reads result (number_at low high (view json.now)) }
+{
+    match json.as_u64() {
+        Some(n) => if u64::from(low) <= n && n <= u64::from(high) {
+            Ok(n as u32)
+        } else {
+            Err(Stop::BadShape)
+        },
+        None => Err(Stop::BadShape),
+    }
+}
+
+/// A boolean.
+pub fn boolean(json: &Json) -> Result<bool, Stop>
+    ensures { Reads result (as_bool (view json.now)) }
+{
+    match json.as_bool() {
+        Some(b) => Ok(b),
+        None => Err(Stop::BadShape),
+    }
+}
+
+/// A bound of a queue, or none.
+pub fn bound(json: &Json) -> Result<Option<u32>, Stop>
+    ensures { Reads result (bound_at (view json.now)) }
+{
+    match json {
+        Json::Null => Ok(None),
+        Json::Number(_) => Ok(Some(small(json, 0, 65_536)?)),
+        Json::Bool(_) | Json::String(_) | Json::Array(_) | Json::Object(_) => Err(Stop::BadShape),
     }
 }
 
@@ -62,6 +112,101 @@ fn each_class(alloc: Global, classes: &Classes, items: &[Json]) -> Result<Items<
         listed.push(class(classes, item)?)?;
     }
     Ok(listed)
+}
+
+/// An array of texts.
+pub fn texts_in(alloc: Global, json: &Json) -> Result<Items<Text>, Stop>
+    ensures { Reads result (list_at text_at (view json.now)) }
+{
+    Ok(each_text(alloc, array(json)?)?)
+}
+
+fn each_text(alloc: Global, items: &[Json]) -> Result<Items<Text>, Stop>
+    ensures { Reads result (each text_at (items_view items.now)) }
+{
+    let mut texts = Items::new(alloc);
+    for item in items {
+        texts.push(text(alloc, item)?)?;
+    }
+    Ok(texts)
+}
+
+fn list_flag_named(word: &str) -> Option<ListFlag>
+    ensures { result ≡ list_flag word.now }
+{
+    match word {
+        "fireOnOneCallback" => Some(ListFlag::FireOnOneCallback),
+        "fireOnOneErrback" => Some(ListFlag::FireOnOneErrback),
+        "consumeErrors" => Some(ListFlag::ConsumeErrors),
+        _ => None,
+    }
+}
+
+fn list_flag(json: &Json) -> Result<ListFlag, Stop>
+    ensures { Reads result (list_flag_at (view json.now)) }
+{
+    let Json::String(word) = json else {
+        return Err(Stop::BadShape);
+    };
+    match list_flag_named(word.as_str()) {
+        Some(flag) => Ok(flag),
+        None => Err(Stop::BadShape),
+    }
+}
+
+/// An array of flags of a list.
+pub fn list_flags_in(alloc: Global, json: &Json) -> Result<Items<ListFlag>, Stop>
+    ensures { Reads result (list_at list_flag_at (view json.now)) }
+{
+    Ok(each_list_flag(alloc, array(json)?)?)
+}
+
+fn each_list_flag(alloc: Global, items: &[Json]) -> Result<Items<ListFlag>, Stop>
+    ensures { Reads result (each list_flag_at (items_view items.now)) }
+{
+    let mut flags = Items::new(alloc);
+    for item in items {
+        flags.push(list_flag(item)?)?;
+    }
+    Ok(flags)
+}
+
+fn gather_flag_named(word: &str) -> Option<GatherFlag>
+    ensures { result ≡ gather_flag_named word.now }
+{
+    match word {
+        "consumeErrors" => Some(GatherFlag::ConsumeErrors),
+        _ => None,
+    }
+}
+
+fn gather_flag(json: &Json) -> Result<GatherFlag, Stop>
+    ensures { Reads result (gather_flag_at (view json.now)) }
+{
+    let Json::String(word) = json else {
+        return Err(Stop::BadShape);
+    };
+    match gather_flag_named(word.as_str()) {
+        Some(flag) => Ok(flag),
+        None => Err(Stop::BadShape),
+    }
+}
+
+/// An array of flags of what is gathered.
+pub fn gather_flags_in(alloc: Global, json: &Json) -> Result<Items<GatherFlag>, Stop>
+    ensures { Reads result (list_at gather_flag_at (view json.now)) }
+{
+    Ok(each_gather_flag(alloc, array(json)?)?)
+}
+
+fn each_gather_flag(alloc: Global, items: &[Json]) -> Result<Items<GatherFlag>, Stop>
+    ensures { Reads result (each gather_flag_at (items_view items.now)) }
+{
+    let mut flags = Items::new(alloc);
+    for item in items {
+        flags.push(gather_flag(item)?)?;
+    }
+    Ok(flags)
 }
 
 /// The items of an array.
@@ -111,6 +256,20 @@ fn first(items: &[Json]) -> Result<(&Json, &[Json]), Stop>
     }
 }
 
+/// An argument, or none.
+#[tactic(auto, unfolding(crate::specs::Shape::if_any))]
+fn if_any(items: &[Json]) -> Result<Option<&Json>, Stop>
+    ensures { Gives (λ o. option_map (λ json. view json.now) o) result (if_any (items_view items.now)) }
+{
+    match items.split_first() {
+        None => Ok(None),
+        Some((json, rest)) => {
+            none(rest)?;
+            Ok(Some(json))
+        }
+    }
+}
+
 /// One argument.
 #[tactic(auto, unfolding(crate::specs::Shape::one))]
 pub fn one(items: &[Json]) -> Result<&Json, Stop>
@@ -119,6 +278,16 @@ pub fn one(items: &[Json]) -> Result<&Json, Stop>
     let (json, rest) = first(items)?;
     none(rest)?;
     Ok(json)
+}
+
+/// One argument or two.
+#[tactic(auto, unfolding(crate::specs::Shape::one_or_two))]
+pub fn one_or_two(items: &[Json]) -> Result<(&Json, Option<&Json>), Stop>
+    ensures { Gives (λ p. (view p.0.now, option_map (λ json. view json.now) p.1)) result (one_or_two (items_view items.now)) }
+{
+    let (json, rest) = first(items)?;
+    let last = if_any(rest)?;
+    Ok((json, last))
 }
 
 /// Two arguments.
@@ -141,6 +310,17 @@ pub fn three(items: &[Json]) -> Result<(&Json, &Json, &Json), Stop>
     Ok((json, next, last))
 }
 
+/// Five arguments.
+#[tactic(auto, unfolding(crate::specs::Shape::five))]
+pub fn five(items: &[Json]) -> Result<(&Json, &Json, &Json, &Json, &Json), Stop>
+    ensures { Gives (λ p. (view p.0.now, view p.1.now, view p.2.now, view p.3.now, view p.4.now)) result (five (items_view items.now)) }
+{
+    let (json, rest) = first(items)?;
+    let (second, rest) = first(rest)?;
+    let (third, fourth, last) = three(rest)?;
+    Ok((json, second, third, fourth, last))
+}
+
 /// An object with no other keys than these.
 #[tactic(auto, unfolding(crate::specs::Shape::fields_at))]
 pub fn fields(json: &Json, keys: &[&str]) -> Result<(), Stop>
@@ -156,7 +336,7 @@ pub fn fields(json: &Json, keys: &[&str]) -> Result<(), Stop>
     }
 }
 
-#[tactic(auto, unfolding(crate::specs::Grammar::has_only))]
+#[tactic(auto, unfolding(crate::specs::Forms::has_only))]
 fn has_only(members: &Map<String, Json>, keys: &[&str]) -> bool
     ensures { result ≡ has_only (map (λ k. k.now) keys.now) (members_view members.now.entries) }
 {

@@ -1,91 +1,101 @@
-ghost use Rattle.std.specs.Prelude.{◌≡◌};
-ghost use Rattle.dv_value.specs.Builtin.{builtin};
+ghost use Rattle.std.specs.Prelude.{[], option_map, option_and_then};
 ghost use Rattle.serde_json.specs.View.{view, items_view};
 ghost use Rattle.dv_script.specs.Answer.{Reads};
-ghost use Rattle.dv_script.specs.Shape.{action_at, each, script_at};
-ghost use Rattle.dv_script.specs.Passes.{is_version, Judged, Passes};
+ghost use Rattle.dv_script.specs.Shape.{caller_at, event_at, each, field, list_at, number_at, script_at};
 
-use crate::action::Action;
-use crate::error::ScriptFault;
-use crate::known_classes::are_known;
-use crate::limits::{MOST_BYTES, MOST_NODES, nodes};
-use crate::names::are_named;
-use crate::reading::action::action;
-use crate::reading::leaf::{array, fields};
+use crate::body::Body;
+use crate::draft::Draft;
+use crate::event::Event;
+use crate::reading::body::bodies;
+use crate::reading::cooperator::cooperator_or_plain;
+use crate::reading::event::events;
+use crate::reading::leaf::{array, fields, number};
 use crate::reading::stop::Stop;
+use crate::reading::table::{declarations, table};
 use crate::script::Script;
 use dv_value::classes::Classes;
 use dv_value::items::Items;
 use serde_json::Value as Json;
 use std::alloc::Global;
 
-fn actions(alloc: Global, classes: &Classes, items: &[Json]) -> Result<Items<Action>, Stop>
-    ensures { Reads result (each (action_at classes.now) (items_view items.now)) }
+fn limit(json: Option<&Json>) -> Result<u64, Stop>
+    ensures { Reads result (field 2000 (number_at 0 200000) (option_map (λ d. view d.now) json.entry)) }
 {
-    let mut actions = Items::new(alloc);
-    for item in items {
-        actions.push(action(alloc, classes, item)?)?;
+    match json {
+        None => Ok(2_000),
+        Some(json) => Ok(number(json, 0, 200_000)?),
     }
-    Ok(actions)
+}
+
+fn callers(
+    alloc: Global,
+    classes: &Classes,
+    json: Option<&Json>,
+) -> Result<Items<Items<Body>>, Stop>
+    ensures { Reads result (field [] (list_at (caller_at classes.now)) (option_map (λ d. view d.now) json.entry)) }
+{
+    match json {
+        None => Ok(Items::new(alloc)),
+        Some(json) => Ok(each_caller(alloc, classes, array(json)?)?),
+    }
+}
+
+fn each_caller(alloc: Global, classes: &Classes, items: &[Json]) -> Result<Items<Items<Body>>, Stop>
+    ensures { Reads result (each (caller_at classes.now) (items_view items.now)) }
+{
+    let mut callers = Items::new(alloc);
+    for item in items {
+        callers.push(caller(alloc, classes, item)?)?;
+    }
+    Ok(callers)
+}
+
+fn caller(alloc: Global, classes: &Classes, json: &Json) -> Result<Items<Body>, Stop>
+    ensures { Reads result (caller_at classes.now (view json.now)) }
+{
+    Ok(bodies(alloc, classes, 127, array(json)?)?)
+}
+
+fn all_events(alloc: Global, classes: &Classes, json: Option<&Json>) -> Result<Items<Event>, Stop>
+    ensures { Reads result (option_and_then (list_at (event_at classes.now)) (option_map (λ d. view d.now) json.entry)) }
+{
+    match json {
+        None => Err(Stop::BadShape),
+        Some(json) => Ok(events(alloc, classes, array(json)?)?),
+    }
 }
 
 /// A script by its shape alone.
 #[tactic(auto, unfolding(crate::specs::Shape::script_at))]
-fn shape(alloc: Global, json: &Json) -> Result<Script, Stop>
+pub fn shape(alloc: Global, json: &Json) -> Result<Draft, Stop>
     ensures { Reads result (script_at (view json.now)) }
 {
-    fields(json, &["version", "events"])?;
-    let Some(list) = json.get("events") else {
-        return Err(Stop::BadShape);
-    };
-    let items = array(list)?;
-    let classes = Classes::builtin(alloc)?;
-    let events = actions(alloc, &classes, items)?;
-    Ok(Script { classes, events })
-}
-
-fn is_version(json: &Json) -> bool
-    ensures { result ≡ is_version (view json.now) }
-{
-    match json.get("version") {
-        Some(version) => version.as_u64() == Some(1),
-        None => false,
-    }
-}
-
-/// The script that a JSON value is, or the least refusal.
-fn judge(alloc: Global, json: &Json) -> Result<Script, ScriptFault>
-    ensures { Judged (view json.now) result }
-{
-    if !is_version(json) {
-        return Err(ScriptFault::BadVersion);
-    }
-    let script = shape(alloc, json)?;
-    if nodes(json) > MOST_NODES {
-        return Err(ScriptFault::TooMany);
-    }
-    if !are_named(script.events.as_slice()) {
-        return Err(ScriptFault::BadName);
-    }
-    if !are_known(&script.classes, script.events.as_slice()) {
-        return Err(ScriptFault::BadClass);
-    }
-    Ok(script)
-}
-
-/// The script that the bytes say, or the least refusal.
-pub fn passed(alloc: Global, bytes: &[u8]) -> Result<Script, ScriptFault>
-    ensures { Passes bytes.now result }
-{
-    if bytes.len() > MOST_BYTES {
-        return Err(ScriptFault::TooLong);
-    }
-    match Json::from_slice(alloc, bytes) {
-        Ok(json) => judge(alloc, &json),
-        Err(error) => if error.is_memory() {
-            Err(ScriptFault::OutOfMemory)
-        } else {
-            Err(ScriptFault::NotJson)
+    fields(
+        json,
+        &[
+            "version",
+            "events",
+            "limit",
+            "classes",
+            "cooperator",
+            "callers",
+        ],
+    )?;
+    let declared = declarations(alloc, json.get("classes"))?;
+    let limit = limit(json.get("limit"))?;
+    let cooperator = cooperator_or_plain(json.get("cooperator"))?;
+    let (classes, all_declared) = table(alloc, declared.as_slice())?;
+    let callers = callers(alloc, &classes, json.get("callers"))?;
+    let events = all_events(alloc, &classes, json.get("events"))?;
+    Ok(Draft {
+        declared,
+        all_declared,
+        script: Script {
+            classes,
+            limit,
+            cooperator,
+            callers,
+            events,
         },
-    }
+    })
 }

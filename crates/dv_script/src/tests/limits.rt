@@ -1,4 +1,4 @@
-use crate::error::ScriptFault::{BadShape, BadVersion, NotJson, TooLong, TooMany};
+use crate::error::ScriptFault::{BadClass, BadShape, BadVersion, NotJson, TooLong, TooMany};
 use crate::tests::refusal;
 use std::alloc::{AllocError, Global};
 use std::test::Fail;
@@ -108,4 +108,157 @@ fn arrays_nest_127_deep_at_most(rt: HostRuntime) -> Result<(), Fail> {
 fn bytes_that_are_no_utf8_are_no_json(rt: HostRuntime) {
     let bytes = b"{\"version\":1,\"events\":[[\"errback\",\"d\",\"ValueError\",\"\xff\"]]}";
     assert_eq!(rt; refusal(rt.alloc(), bytes), Some(NotJson));
+}
+
+/// The script of `before`, then so many of `item` with commas between them, then `after`.
+fn with_many(
+    alloc: Global,
+    before: &str,
+    item: &str,
+    count: usize,
+    after: &str,
+) -> Result<String, AllocError> {
+    let mut script = String::from_str(alloc, before)?;
+    for k in 0..count {
+        if k > 0 {
+            script.push_str(",")?;
+        }
+        script.push_str(item)?;
+    }
+    script.push_str(after)?;
+    Ok(script)
+}
+
+#[test]
+fn a_script_has_21844_advances_at_most(rt: HostRuntime) -> Result<(), Fail> {
+    let alloc = rt.alloc();
+    for (count, expected) in [(21_844, None), (21_845, Some(TooMany))] {
+        let script = with_many(
+            alloc,
+            r#"{"version":1,"events":["#,
+            r#"["advance",0]"#,
+            count,
+            "]}",
+        )?;
+        assert_eq!(rt;
+            refusal(alloc, script.as_str().as_bytes()),
+            expected,
+            "{count}"
+        );
+    }
+    Ok(())
+}
+
+#[test]
+fn a_script_has_8_callers_of_256_posts_at_most(rt: HostRuntime) -> Result<(), Fail> {
+    let alloc = rt.alloc();
+    let full = with_many(alloc, "[", "{}", 256, "]")?;
+    let more = with_many(alloc, "[", "{}", 257, "]")?;
+    for (callers, posts, expected) in [
+        (8, full.as_str(), None),
+        (9, "[]", Some(TooMany)),
+        (1, more.as_str(), Some(TooMany)),
+    ] {
+        let script = with_many(
+            alloc,
+            r#"{"version":1,"events":[],"callers":["#,
+            posts,
+            callers,
+            "]}",
+        )?;
+        assert_eq!(rt;
+            refusal(alloc, script.as_str().as_bytes()),
+            expected,
+            "{callers}"
+        );
+    }
+    Ok(())
+}
+
+/// A script that declares so many classes, and then uses one.
+fn with_classes(alloc: Global, count: u32, class: &str) -> Result<String, AllocError> {
+    let mut script = String::from_str(alloc, r#"{"version":1,"classes":["#)?;
+    for k in 0..count {
+        if k > 0 {
+            script.push_str(",")?;
+        }
+        write!(&mut script, r#"["C{k}","Exception"]"#)?;
+    }
+    write!(
+        &mut script,
+        r#"],"events":[["errback","d","{class}",""]]}}"#
+    )?;
+    Ok(script)
+}
+
+#[test]
+fn a_script_declares_256_classes_at_most(rt: HostRuntime) -> Result<(), Fail> {
+    let alloc = rt.alloc();
+    for (count, class, expected) in [
+        (256, "C255", None),
+        (256, "C256", Some(BadClass)),
+        (257, "C0", Some(TooMany)),
+        (257, "Zed", Some(TooMany)),
+    ] {
+        let script = with_classes(alloc, count, class)?;
+        assert_eq!(rt;
+            refusal(alloc, script.as_str().as_bytes()),
+            expected,
+            "{count} {class}"
+        );
+    }
+    Ok(())
+}
+
+#[test]
+fn a_script_advances_the_clock_by_10_to_the_15_at_most(rt: HostRuntime) {
+    let alloc = rt.alloc();
+    for (script, expected) in [
+        (
+            r#"{"version":1,"events":[["advance",1000000000000000]]}"#,
+            None,
+        ),
+        (
+            r#"{"version":1,"events":[["advance",1000000000000000],["advance",0]]}"#,
+            None,
+        ),
+        (
+            r#"{"version":1,"events":[["advance",1000000000000000],["advance",1]]}"#,
+            Some(TooMany),
+        ),
+        (
+            r#"{"version":1,"events":[["advance",1],["deferred","d"],["advance",1000000000000000]]}"#,
+            Some(TooMany),
+        ),
+    ] {
+        assert_eq!(rt; refusal(alloc, script.as_bytes()), expected, "{script}");
+    }
+}
+
+/// A script of one body in which so many lie, each in the one before: four levels of nesting round the innermost, and
+/// three for each.
+fn with_bodies(alloc: Global, count: usize) -> Result<String, AllocError> {
+    let mut script = String::from_str(alloc, r#"{"version":1,"events":[["maybe","m",{"#)?;
+    for _ in 0..count {
+        script.push_str(r#""do":[["maybe","m",{"#)?;
+    }
+    for _ in 0..count {
+        script.push_str("}]]")?;
+    }
+    script.push_str("}]]}")?;
+    Ok(script)
+}
+
+#[test]
+fn bodies_nest_as_deep_as_json_does(rt: HostRuntime) -> Result<(), Fail> {
+    let alloc = rt.alloc();
+    for (count, expected) in [(0, None), (1, None), (41, None), (42, Some(NotJson))] {
+        let script = with_bodies(alloc, count)?;
+        assert_eq!(rt;
+            refusal(alloc, script.as_str().as_bytes()),
+            expected,
+            "{count}"
+        );
+    }
+    Ok(())
 }

@@ -1,5 +1,5 @@
 use crate::error::ScriptFault;
-use crate::error::ScriptFault::{BadClass, BadName, BadShape, BadVersion, NotJson};
+use crate::error::ScriptFault::{BadClass, BadName, BadShape, BadVersion, NotJson, TooMany};
 use crate::tests::refusal;
 use std::alloc::Global;
 use std::process::Abort;
@@ -16,7 +16,7 @@ fn are_answered(
     }
 }
 
-static ACCEPTED: [(&str, &str); 22] = [
+static ACCEPTED: [(&str, &str); 37] = [
     ("no events", r#"{"version":1,"events":[]}"#),
     (
         "the keys the other way round",
@@ -102,6 +102,57 @@ static ACCEPTED: [(&str, &str); 22] = [
         "an end that is given twice keeps its last value",
         r#"{"version":1,"events":[["addBoth","d",{"end":["wait"],"end":["pass"]}]]}"#,
     ),
+    (
+        "each key",
+        r#"{"version":1,"events":[],"limit":1,"classes":[["A","Exception"]],"cooperator":{"delay":2,"units":3},"callers":[[{}]]}"#,
+    ),
+    ("a limit of 0", r#"{"version":1,"limit":0,"events":[]}"#),
+    (
+        "a limit of 200,000",
+        r#"{"version":1,"limit":200000,"events":[]}"#,
+    ),
+    ("no classes", r#"{"version":1,"classes":[],"events":[]}"#),
+    ("no callers", r#"{"version":1,"callers":[],"events":[]}"#),
+    (
+        "eight callers",
+        r#"{"version":1,"callers":[[],[],[],[],[],[],[],[]],"events":[]}"#,
+    ),
+    (
+        "one step a tick",
+        r#"{"version":1,"cooperator":{"units":1,"delay":1},"events":[]}"#,
+    ),
+    (
+        "a thousand steps a tick, and the longest delay",
+        r#"{"version":1,"cooperator":{"units":1000,"delay":1000000000000},"events":[]}"#,
+    ),
+    (
+        "advances of 10 to the 15 in all",
+        r#"{"version":1,"events":[["advance",999999999999999],["drain",2048],["advance",1]]}"#,
+    ),
+    (
+        "a class that is declared and used",
+        r#"{"version":1,"classes":[["Mine","ValueError"]],"events":[["errback","d","Mine",""]]}"#,
+    ),
+    (
+        "a class under one that is declared before it",
+        r#"{"version":1,"classes":[["A","TaskFailed"],["B","A"]],"events":[["addBoth","d",{"end":["trap",["B","A"],1]}]]}"#,
+    ),
+    (
+        "the keys of the root in another order",
+        r#"{"events":[["errback","d","Mine",""]],"classes":[["Mine","ValueError"]],"version":1}"#,
+    ),
+    (
+        "a class of a name of 32 letters",
+        r#"{"version":1,"classes":[["cccccccccccccccccccccccccccccccc","Exception"]],"events":[]}"#,
+    ),
+    (
+        "`do` that is given twice keeps its last value",
+        r#"{"version":1,"events":[["addBoth","d",{"do":[["nope"]],"do":[]}]]}"#,
+    ),
+    (
+        "a post that uses a declared class",
+        r#"{"version":1,"classes":[["A","Exception"]],"callers":[[{"end":["raise","A",""]}]],"events":[]}"#,
+    ),
 ];
 
 #[test]
@@ -169,12 +220,9 @@ fn another_version_is_refused(rt: HostRuntime) {
     are_answered(&rt, rt.alloc(), &BAD_VERSION, Some(BadVersion));
 }
 
-static BAD_SCRIPT: [(&str, &str); 17] = [
+static BAD_SCRIPT: [(&str, &str); 67] = [
     ("no events", r#"{"version":1}"#),
     ("a key in capitals", r#"{"version":1,"Events":[]}"#),
-    ("a limit", r#"{"version":1,"events":[],"limit":5}"#),
-    ("classes", r#"{"version":1,"events":[],"classes":[]}"#),
-    ("callers", r#"{"version":1,"events":[],"callers":[]}"#),
     ("a key of no letter", r#"{"version":1,"events":[],"":1}"#),
     ("events in an object", r#"{"version":1,"events":{}}"#),
     ("null for events", r#"{"version":1,"events":null}"#),
@@ -208,99 +256,178 @@ static BAD_SCRIPT: [(&str, &str); 17] = [
         "an event of no word after a good one",
         r#"{"version":1,"events":[["deferred","d"],[]]}"#,
     ),
+    ("limit of -1", r#"{"version":1,"limit":-1,"events":[]}"#),
+    (
+        "limit of 200001",
+        r#"{"version":1,"limit":200001,"events":[]}"#,
+    ),
+    ("limit of 1.0", r#"{"version":1,"limit":1.0,"events":[]}"#),
+    ("limit of '1'", r#"{"version":1,"limit":"1","events":[]}"#),
+    ("limit of null", r#"{"version":1,"limit":null,"events":[]}"#),
+    ("limit of []", r#"{"version":1,"limit":[],"events":[]}"#),
+    ("limit of 1e2", r#"{"version":1,"limit":1e2,"events":[]}"#),
+    ("limit of -0", r#"{"version":1,"limit":-0,"events":[]}"#),
+    ("classes of {}", r#"{"version":1,"classes":{},"events":[]}"#),
+    (
+        "classes of null",
+        r#"{"version":1,"classes":null,"events":[]}"#,
+    ),
+    (
+        "classes of ['A','Exception']",
+        r#"{"version":1,"classes":["A","Exception"],"events":[]}"#,
+    ),
+    (
+        "classes of [['A']]",
+        r#"{"version":1,"classes":[["A"]],"events":[]}"#,
+    ),
+    (
+        "classes of [['A','Exception','x']]",
+        r#"{"version":1,"classes":[["A","Exception","x"]],"events":[]}"#,
+    ),
+    (
+        "classes of [[1,'Exception']]",
+        r#"{"version":1,"classes":[[1,"Exception"]],"events":[]}"#,
+    ),
+    (
+        "classes of [['A',1]]",
+        r#"{"version":1,"classes":[["A",1]],"events":[]}"#,
+    ),
+    (
+        "classes of [['A',null]]",
+        r#"{"version":1,"classes":[["A",null]],"events":[]}"#,
+    ),
+    (
+        "classes of [{}]",
+        r#"{"version":1,"classes":[{}],"events":[]}"#,
+    ),
+    (
+        "cooperator of null",
+        r#"{"version":1,"cooperator":null,"events":[]}"#,
+    ),
+    (
+        "cooperator of []",
+        r#"{"version":1,"cooperator":[],"events":[]}"#,
+    ),
+    (
+        "cooperator of {}",
+        r#"{"version":1,"cooperator":{},"events":[]}"#,
+    ),
+    (
+        "cooperator of {'units':1}",
+        r#"{"version":1,"cooperator":{"units":1},"events":[]}"#,
+    ),
+    (
+        "cooperator of {'delay':1}",
+        r#"{"version":1,"cooperator":{"delay":1},"events":[]}"#,
+    ),
+    (
+        "cooperator of {'units':0,'delay':1}",
+        r#"{"version":1,"cooperator":{"units":0,"delay":1},"events":[]}"#,
+    ),
+    (
+        "cooperator of {'units':1001,'delay':1}",
+        r#"{"version":1,"cooperator":{"units":1001,"delay":1},"events":[]}"#,
+    ),
+    (
+        "cooperator of {'units':1,'delay':0}",
+        r#"{"version":1,"cooperator":{"units":1,"delay":0},"events":[]}"#,
+    ),
+    (
+        "cooperator of {'units':1,'delay':1000000000001}",
+        r#"{"version":1,"cooperator":{"units":1,"delay":1000000000001},"events":[]}"#,
+    ),
+    (
+        "cooperator of {'units':1.0,'delay':1}",
+        r#"{"version":1,"cooperator":{"units":1.0,"delay":1},"events":[]}"#,
+    ),
+    (
+        "cooperator of {'units':1,'delay':1,'more':1}",
+        r#"{"version":1,"cooperator":{"units":1,"delay":1,"more":1},"events":[]}"#,
+    ),
+    (
+        "cooperator of {'units':'1','delay':1}",
+        r#"{"version":1,"cooperator":{"units":"1","delay":1},"events":[]}"#,
+    ),
+    (
+        "callers of null",
+        r#"{"version":1,"callers":null,"events":[]}"#,
+    ),
+    ("callers of {}", r#"{"version":1,"callers":{},"events":[]}"#),
+    (
+        "callers of [{}]",
+        r#"{"version":1,"callers":[{}],"events":[]}"#,
+    ),
+    (
+        "callers of [[[]]]",
+        r#"{"version":1,"callers":[[[]]],"events":[]}"#,
+    ),
+    (
+        "callers of [[{'do':[['advance',1]]}]]",
+        r#"{"version":1,"callers":[[{"do":[["advance",1]]}]],"events":[]}"#,
+    ),
+    (
+        "callers of [[{'more':1}]]",
+        r#"{"version":1,"callers":[[{"more":1}]],"events":[]}"#,
+    ),
+    (
+        "callers of [[{'end':['stop']}]]",
+        r#"{"version":1,"callers":[[{"end":["stop"]}]],"events":[]}"#,
+    ),
+    (
+        "callers of [1]",
+        r#"{"version":1,"callers":[1],"events":[]}"#,
+    ),
+    ("['advance']", r#"{"version":1,"events":[["advance"]]}"#),
+    (
+        "['advance',-1]",
+        r#"{"version":1,"events":[["advance",-1]]}"#,
+    ),
+    (
+        "['advance',1000000000000001]",
+        r#"{"version":1,"events":[["advance",1000000000000001]]}"#,
+    ),
+    (
+        "['advance',1.0]",
+        r#"{"version":1,"events":[["advance",1.0]]}"#,
+    ),
+    (
+        "['advance',1,1]",
+        r#"{"version":1,"events":[["advance",1,1]]}"#,
+    ),
+    (
+        "['advance','1']",
+        r#"{"version":1,"events":[["advance","1"]]}"#,
+    ),
+    ("['drain']", r#"{"version":1,"events":[["drain"]]}"#),
+    ("['drain',-1]", r#"{"version":1,"events":[["drain",-1]]}"#),
+    (
+        "['drain',2049]",
+        r#"{"version":1,"events":[["drain",2049]]}"#,
+    ),
+    (
+        "['drain',null]",
+        r#"{"version":1,"events":[["drain",null]]}"#,
+    ),
+    ("['drain',1,1]", r#"{"version":1,"events":[["drain",1,1]]}"#),
+    (
+        "['addTimeout','d',1]",
+        r#"{"version":1,"events":[["addTimeout","d",1]]}"#,
+    ),
+    (
+        "['do',['lock','l']]",
+        r#"{"version":1,"events":[["do",["lock","l"]]]}"#,
+    ),
+    ("['await','d']", r#"{"version":1,"events":[["await","d"]]}"#),
+    (
+        "['end',['pass']]",
+        r#"{"version":1,"events":[["end",["pass"]]]}"#,
+    ),
+    ("['sum',1]", r#"{"version":1,"events":[["sum",1]]}"#),
 ];
 
 #[test]
 fn scripts_of_another_shape_are_refused(rt: HostRuntime) {
     are_answered(&rt, rt.alloc(), &BAD_SCRIPT, Some(BadShape));
-}
-
-static BAD_ACTIONS: [(&str, &str); 20] = [
-    (
-        "deferred of nothing",
-        r#"{"version":1,"events":[["deferred"]]}"#,
-    ),
-    (
-        "deferred of a number",
-        r#"{"version":1,"events":[["deferred",1]]}"#,
-    ),
-    (
-        "deferred with a body",
-        r#"{"version":1,"events":[["deferred","d",{}]]}"#,
-    ),
-    (
-        "callback of no value",
-        r#"{"version":1,"events":[["callback","d"]]}"#,
-    ),
-    (
-        "callback of two values",
-        r#"{"version":1,"events":[["callback","d",1,2]]}"#,
-    ),
-    (
-        "callback of a number",
-        r#"{"version":1,"events":[["callback",1,1]]}"#,
-    ),
-    (
-        "errback of no message",
-        r#"{"version":1,"events":[["errback","d","ValueError"]]}"#,
-    ),
-    (
-        "errback of two messages",
-        r#"{"version":1,"events":[["errback","d","ValueError","x","y"]]}"#,
-    ),
-    (
-        "errback of a number",
-        r#"{"version":1,"events":[["errback",1,"ValueError","x"]]}"#,
-    ),
-    (
-        "errback whose class is a number",
-        r#"{"version":1,"events":[["errback","d",1,"x"]]}"#,
-    ),
-    (
-        "errback whose message is a number",
-        r#"{"version":1,"events":[["errback","d","ValueError",1]]}"#,
-    ),
-    (
-        "addCallback of no body",
-        r#"{"version":1,"events":[["addCallback","d"]]}"#,
-    ),
-    (
-        "addCallback of two bodies",
-        r#"{"version":1,"events":[["addCallback","d",{},{}]]}"#,
-    ),
-    (
-        "addErrback of no body",
-        r#"{"version":1,"events":[["addErrback","d"]]}"#,
-    ),
-    (
-        "addErrback of two bodies",
-        r#"{"version":1,"events":[["addErrback","d",{},{}]]}"#,
-    ),
-    (
-        "addBoth of no body",
-        r#"{"version":1,"events":[["addBoth","d"]]}"#,
-    ),
-    (
-        "addBoth of two bodies",
-        r#"{"version":1,"events":[["addBoth","d",{},{}]]}"#,
-    ),
-    (
-        "addCallbacks of one body",
-        r#"{"version":1,"events":[["addCallbacks","d",{}]]}"#,
-    ),
-    (
-        "addCallbacks of three bodies",
-        r#"{"version":1,"events":[["addCallbacks","d",{},{},{}]]}"#,
-    ),
-    (
-        "addCallbacks of a number",
-        r#"{"version":1,"events":[["addCallbacks",1,{},{}]]}"#,
-    ),
-];
-
-#[test]
-fn actions_of_another_shape_are_refused(rt: HostRuntime) {
-    are_answered(&rt, rt.alloc(), &BAD_ACTIONS, Some(BadShape));
 }
 
 static BAD_VALUES: [(&str, &str); 10] = [
@@ -339,7 +466,7 @@ fn values_of_another_shape_are_refused(rt: HostRuntime) {
     are_answered(&rt, rt.alloc(), &BAD_VALUES, Some(BadShape));
 }
 
-static BAD_BODIES: [(&str, &str); 31] = [
+static BAD_BODIES: [(&str, &str); 36] = [
     (
         "a body that is an array",
         r#"{"version":1,"events":[["addBoth","d",[]]]}"#,
@@ -347,10 +474,6 @@ static BAD_BODIES: [(&str, &str); 31] = [
     (
         "a body that is null",
         r#"{"version":1,"events":[["addBoth","d",null]]}"#,
-    ),
-    (
-        "a body with actions",
-        r#"{"version":1,"events":[["addBoth","d",{"do":[]}]]}"#,
     ),
     (
         "a body with another key",
@@ -375,10 +498,6 @@ static BAD_BODIES: [(&str, &str); 31] = [
     (
         "an unknown end",
         r#"{"version":1,"events":[["addBoth","d",{"end":["stop"]}]]}"#,
-    ),
-    (
-        "an end that waits",
-        r#"{"version":1,"events":[["addBoth","d",{"end":["wait","d"]}]]}"#,
     ),
     (
         "the word of an action",
@@ -464,6 +583,34 @@ static BAD_BODIES: [(&str, &str); 31] = [
         "trap of an object",
         r#"{"version":1,"events":[["addBoth","d",{"end":["trap",["ValueError"],{}]}]]}"#,
     ),
+    (
+        "wait for nothing",
+        r#"{"version":1,"events":[["addBoth","d",{"end":["wait"]}]]}"#,
+    ),
+    (
+        "wait for a number",
+        r#"{"version":1,"events":[["addBoth","d",{"end":["wait",1]}]]}"#,
+    ),
+    (
+        "wait for two",
+        r#"{"version":1,"events":[["addBoth","d",{"end":["wait","d","e"]}]]}"#,
+    ),
+    (
+        "actions in an object",
+        r#"{"version":1,"events":[["addBoth","d",{"do":{}}]]}"#,
+    ),
+    (
+        "null for actions",
+        r#"{"version":1,"events":[["addBoth","d",{"do":null}]]}"#,
+    ),
+    (
+        "an action of no word in a body",
+        r#"{"version":1,"events":[["addBoth","d",{"do":[[]]}]]}"#,
+    ),
+    (
+        "a bad action three bodies deep",
+        r#"{"version":1,"events":[["addBoth","d",{"do":[["maybe","m",{"do":[["maybe","m",{"do":[["nope"]]}]]}]]}]]}"#,
+    ),
 ];
 
 #[test]
@@ -471,7 +618,7 @@ fn bodies_of_another_shape_are_refused(rt: HostRuntime) {
     are_answered(&rt, rt.alloc(), &BAD_BODIES, Some(BadShape));
 }
 
-static BAD_NAMES: [(&str, &str); 20] = [
+static BAD_NAMES: [(&str, &str); 25] = [
     (
         "a name of 33 letters",
         r#"{"version":1,"events":[["deferred","nnnnnnnnnnnnnnnnnnnnnnnnnnnnnnnnn"]]}"#,
@@ -552,6 +699,26 @@ static BAD_NAMES: [(&str, &str); 20] = [
         "the last of three names",
         r#"{"version":1,"events":[["deferred","a"],["deferred","b"],["deferred","c d"]]}"#,
     ),
+    (
+        "a declared class of 33 letters",
+        r#"{"version":1,"classes":[["ccccccccccccccccccccccccccccccccc","Exception"]],"events":[]}"#,
+    ),
+    (
+        "a declared class of no letter",
+        r#"{"version":1,"classes":[["","Exception"]],"events":[]}"#,
+    ),
+    (
+        "a declared class with a space",
+        r#"{"version":1,"classes":[["a b","Exception"]],"events":[]}"#,
+    ),
+    (
+        "`@` for a declared class",
+        r#"{"version":1,"classes":[["@","Exception"]],"events":[]}"#,
+    ),
+    (
+        "a name in a post",
+        r#"{"version":1,"callers":[[],[{},{"do":[["lock","a b"]]}]],"events":[]}"#,
+    ),
 ];
 
 #[test]
@@ -559,7 +726,7 @@ fn names_of_another_form_are_refused(rt: HostRuntime) {
     are_answered(&rt, rt.alloc(), &BAD_NAMES, Some(BadName));
 }
 
-static BAD_CLASSES: [(&str, &str); 11] = [
+static BAD_CLASSES: [(&str, &str); 21] = [
     (
         "an unknown class to fail with",
         r#"{"version":1,"events":[["errback","d","Unknown","x"]]}"#,
@@ -604,6 +771,46 @@ static BAD_CLASSES: [(&str, &str); 11] = [
         "an unknown class in the second of two sides",
         r#"{"version":1,"events":[["addCallbacks","d",{},{"end":["raise","Unknown","x"]}]]}"#,
     ),
+    (
+        "a class that every script has",
+        r#"{"version":1,"classes":[["ValueError","Exception"]],"events":[]}"#,
+    ),
+    (
+        "a class that is declared twice",
+        r#"{"version":1,"classes":[["A","Exception"],["A","ValueError"]],"events":[]}"#,
+    ),
+    (
+        "`TimeoutError`",
+        r#"{"version":1,"classes":[["TimeoutError","Exception"]],"events":[]}"#,
+    ),
+    (
+        "`TimeoutError` for a parent",
+        r#"{"version":1,"classes":[["A","TimeoutError"]],"events":[]}"#,
+    ),
+    (
+        "a parent that nothing declares",
+        r#"{"version":1,"classes":[["A","B"]],"events":[]}"#,
+    ),
+    (
+        "itself for a parent",
+        r#"{"version":1,"classes":[["A","A"]],"events":[]}"#,
+    ),
+    (
+        "a parent that is declared later",
+        r#"{"version":1,"classes":[["A","B"],["B","Exception"]],"events":[]}"#,
+    ),
+    (
+        "a parent in another form than a name",
+        r#"{"version":1,"classes":[["A","a b"]],"events":[]}"#,
+    ),
+    (
+        "an unknown class in a post",
+        r#"{"version":1,"callers":[[{"end":["raise","Zed",""]}]],"events":[]}"#,
+    ),
+    (
+        "the second of two declared classes",
+        r#"{"version":1,"classes":[["A","Exception"],["B","C"]],"events":[]}"#,
+    ),
 ];
 
 #[test]
@@ -611,11 +818,11 @@ fn unknown_classes_are_refused(rt: HostRuntime) {
     are_answered(&rt, rt.alloc(), &BAD_CLASSES, Some(BadClass));
 }
 
-static SEVERAL: [(&str, &str, ScriptFault); 8] = [
+static SEVERAL: [(&str, &str, ScriptFault); 16] = [
     ("no JSON before a bad version", r#"{"version":7,"#, NotJson),
     (
         "a bad version before a bad shape",
-        r#"{"version":7,"limit":5}"#,
+        r#"{"version":7,"limits":5}"#,
         BadVersion,
     ),
     (
@@ -645,8 +852,48 @@ static SEVERAL: [(&str, &str, ScriptFault); 8] = [
     ),
     (
         "a key of the root before a bad name",
-        r#"{"version":1,"events":[["deferred","@"]],"limit":5}"#,
+        r#"{"version":1,"events":[["deferred","@"]],"limits":5}"#,
         BadShape,
+    ),
+    (
+        "a bad shape before too many callers",
+        r#"{"version":1,"callers":[[],[],[],[],[],[],[],[],[]],"events":[["nope"]]}"#,
+        BadShape,
+    ),
+    (
+        "too many callers before a bad name",
+        r#"{"version":1,"callers":[[],[],[],[],[],[],[],[],[]],"events":[["lock","@"]]}"#,
+        TooMany,
+    ),
+    (
+        "too many ticks before an unknown class",
+        r#"{"version":1,"events":[["advance",1000000000000000],["advance",1],["errback","d","Zed",""]]}"#,
+        TooMany,
+    ),
+    (
+        "a bad name before a class that is declared twice",
+        r#"{"version":1,"classes":[["A","Exception"],["A","Exception"]],"events":[["lock","@"]]}"#,
+        BadName,
+    ),
+    (
+        "the name of a declared class before its parent",
+        r#"{"version":1,"classes":[["a b","C"]],"events":[]}"#,
+        BadName,
+    ),
+    (
+        "a bad shape behind a class that may not be declared",
+        r#"{"version":1,"classes":[["A","B"]],"events":[["lock"]]}"#,
+        BadShape,
+    ),
+    (
+        "a bad shape behind a bad name in a body",
+        r#"{"version":1,"events":[["maybe","@",{"do":[["lock","@"]],"end":["stop"]}]]}"#,
+        BadShape,
+    ),
+    (
+        "a bad name behind an unknown class in a post",
+        r#"{"version":1,"callers":[[{"end":["raise","Zed",""]}],[{"end":["wait","a b"]}]],"events":[]}"#,
+        BadName,
     ),
 ];
 

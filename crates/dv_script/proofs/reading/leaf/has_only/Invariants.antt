@@ -1,6 +1,6 @@
 use Rattle.std.proofs.Common.{◌≡◌, map}
 use Rattle.serde_json.specs.View.{members_view}
-use Rattle.dv_script.specs.Grammar.{has_only}
+use Rattle.dv_script.specs.Forms.{has_only}
 use Rattle.dv_script.proofs.reading.leaf.has_only.Given as goal
 
 abbrev pub invariant-loop-key : goal.invariant-loop-key

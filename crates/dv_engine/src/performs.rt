@@ -1,0 +1,101 @@
+ghost use Rattle.std.specs.Prelude.{◌≡◌};
+ghost use Rattle.std.specs.List.{list_all};
+ghost use Rattle.dv_engine.specs.Performs.{is_empty, performs_end, performs_body, performs_action, performs_event, performs};
+
+use dv_script::action::Action;
+use dv_script::body::{Body, End};
+use dv_script::event::Event;
+use dv_script::script::Script;
+use dv_value::items::Items;
+
+fn performs_end(end: &End) -> bool
+    ensures { result ≡ performs_end end.now }
+{
+    match end {
+        End::Return(_) | End::Pass | End::Plus(_) | End::Raise(_, _) | End::Trap(_, _) => true,
+        End::Wait(_) => false,
+    }
+}
+
+fn performs_body(body: &Body) -> bool
+    ensures { result ≡ performs_body body.now }
+{
+    body.actions.as_slice().is_empty() && performs_end(&body.end)
+}
+
+fn performs_action(action: &Action) -> bool
+    ensures { result ≡ performs_action action.now }
+{
+    match action {
+        Action::Deferred(_, None)
+        | Action::Callback(_, _)
+        | Action::Errback(_, _, _)
+        | Action::Note(_) => true,
+        Action::AddCallback(_, body) | Action::AddErrback(_, body) => performs_body(body),
+        Action::AddBoth(_, body) => performs_body(body),
+        Action::AddCallbacks(_, callback, errback) => performs_body(callback)
+            && performs_body(errback),
+        Action::Deferred(_, Some(_))
+        | Action::Chain(_, _)
+        | Action::Pause(_)
+        | Action::Unpause(_)
+        | Action::Cancel(_)
+        | Action::List(_, _, _)
+        | Action::Gather(_, _, _)
+        | Action::Maybe(_, _)
+        | Action::Lock(_)
+        | Action::Semaphore(_, _)
+        | Action::Acquire(_, _)
+        | Action::Release(_)
+        | Action::RunWith(_, _, _)
+        | Action::Queue(_, _, _)
+        | Action::Put(_, _)
+        | Action::Get(_, _)
+        | Action::Later(_, _, _)
+        | Action::CancelCall(_)
+        | Action::Loop(_, _, _, _, _)
+        | Action::StopLoop(_)
+        | Action::Cooperate(_, _)
+        | Action::WhenDone(_, _)
+        | Action::PauseTask(_)
+        | Action::StopTask(_)
+        | Action::ResumeTask(_)
+        | Action::Inline(_, _)
+        | Action::Thread(_, _, _) => false,
+    }
+}
+
+fn performs_event(event: &Event) -> bool
+    ensures { result ≡ performs_event event.now }
+{
+    match event {
+        Event::Action(action) => performs_action(action),
+        Event::Advance(_) | Event::Drain(_) => false,
+    }
+}
+
+fn posts_nothing(posts: &Items<Body>) -> bool
+    ensures { result ≡ is_empty posts.now }
+{
+    posts.as_slice().is_empty()
+}
+
+fn post_nothing(callers: &[Items<Body>]) -> bool
+    ensures { result ≡ list_all is_empty callers.now }
+{
+    callers.iter().all(posts_nothing)
+}
+
+fn are_performed(events: &[Event]) -> bool
+    ensures { result ≡ list_all performs_event events.now }
+{
+    events.iter().all(performs_event)
+}
+
+/// Whether a script uses only what is performed: its events are actions among those of `Action` that make, fire and
+/// add to Deferreds, and notes; its bodies have no actions and don't wait, and nothing is posted. It takes no memory.
+pub fn performs(script: &Script) -> bool
+    ensures { result ≡ performs script.now }
+{
+    post_nothing(script.callers.as_slice()) && are_performed(script.events.as_slice())
+}

@@ -1,0 +1,17 @@
+-- Steps of a reader, taken apart.
+use Rattle.std.proofs.Common.{◌≡◌, Bool, true, false, cond, Option, Some, None, option_and_then, option_map, refl, ◌⊎◌, inl, inr}
+
+pub some_injective : {A : Type 0} {x y : A} → Some x ≡ Some y → x ≡ y
+some_injective h = cc
+
+pub bind : {A B P : Type 0} (o : Option A) (f : A → Option B) (y : B) → option_and_then f o ≡ Some y → ((x : A) → o ≡ Some x → f x ≡ Some y → P) → P
+bind (Some x) f y e k = k x refl e
+bind None f y e k = cc
+
+pub mapped : {A B P : Type 0} (o : Option A) (f : A → B) (y : B) → option_map f o ≡ Some y → ((x : A) → o ≡ Some x → f x ≡ y → P) → P
+mapped (Some x) f y e k = k x refl (some_injective e)
+mapped None f y e k = cc
+
+pub chosen : {A : Type 0} (b : Bool) (x y z : A) → cond b x y ≡ z → ((b ≡ true) × (x ≡ z)) ⊎ (y ≡ z)
+chosen true x y z e = inl (refl, e)
+chosen false x y z e = inr e

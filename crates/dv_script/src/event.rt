@@ -1,0 +1,12 @@
+use crate::action::Action;
+
+/// What happens in a script, one after the other.
+#[derive(Debug, Drop)]
+pub enum Event {
+    /// Performs the action.
+    Action(Action),
+    /// The clock goes on by so many ticks, at most 10^15 (Twisted: `Clock.advance`).
+    Advance(u64),
+    /// Performs so many posts at most, and no more than 2,048.
+    Drain(u32),
+}
