@@ -21,7 +21,7 @@ impl Model for Names {
 }
 
 impl Names {
-    ghost use Rattle.dv_engine.specs.Names.{number_of, with_name};
+    ghost use Rattle.dv_world.specs.Names.{number_of, with_name};
 
     /// No names. It takes no memory before the first is bound.
     pub fn new(alloc: Global) -> Names

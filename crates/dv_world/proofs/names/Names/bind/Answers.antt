@@ -1,6 +1,6 @@
 use Rattle.std.proofs.Common.{◌∙◌, ap}
-use Rattle.dv_engine.proofs.NamesLemmas.{shown, with_name_shown}
-use Rattle.dv_engine.proofs.names.Names.bind.Goals as goal
+use Rattle.dv_world.proofs.NamesLemmas.{shown, with_name_shown}
+use Rattle.dv_world.proofs.names.Names.bind.Goals as goal
 
 pub returns-clause-ok : goal.returns-clause-ok
 returns-clause-ok c =

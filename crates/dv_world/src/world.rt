@@ -1,17 +1,17 @@
-ghost use Rattle.std.specs.Prelude.{◌≡◌, ◌<◌, ◌^◌, ◌-◌, length, slice_get, IfOk, OnOk};
-ghost use Rattle.std.specs.Option.{option_copied};
+ghost use Rattle.std.specs.Prelude.{◌≡◌, ◌<◌, ◌^◌, ◌-◌, length, IfOk, OnOk};
 ghost use Rattle.dv_value.specs.Failure.{plain_failure};
-ghost use Rattle.dv_engine.specs.World.{unbound};
-ghost use Rattle.dv_engine.specs.declared.performed.Performed.TheVariants.{Raised};
+ghost use Rattle.dv_world.specs.World.{unbound};
+ghost use Rattle.dv_world.specs.declared.performed.Performed.TheVariants.{Raised};
 
+use crate::lent::BodyRef;
 use crate::names::Names;
-use crate::pair::{Pair, Side};
+use crate::pair::Pair;
 use crate::performed::Performed;
 use dv_journal::deferred_id::DeferredId;
 use dv_journal::entry::Entry;
 use dv_journal::error::Stop;
 use dv_journal::journal::Journal;
-use dv_store::error::StoreFault;
+use dv_store::error::{StoreFault, UnpauseFault};
 use dv_store::record::Record;
 use dv_store::store::{Step, Store};
 use dv_value::class_id::ClassId;
@@ -29,13 +29,13 @@ pub struct World<'s> {
     alloc: Global,
     classes: &'s Classes,
     names: Names,
-    store: Store<Pair<'s>, Side<'s>>,
+    store: Store<Pair<'s>, BodyRef<'s>>,
     journal: Journal,
     stopped: bool,
 }
 
 impl<'s> Model for World<'s> {
-    ghost use Rattle.dv_engine.specs.World.{World as Seen};
+    ghost use Rattle.dv_world.specs.World.{World as Seen};
     ghost use Rattle.dv_script.specs.contracts.body.Body as body_contract;
     ghost use Rattle.dv_value.specs.contracts.classes.Class as class_contract;
     ghost use Rattle.dv_value.specs.contracts.failure.Failure as failure_contract;
@@ -50,8 +50,8 @@ impl<'s> Model for World<'s> {
 }
 
 impl<'s> World<'s> {
-    ghost use Rattle.dv_engine.specs.Names.{number_of};
-    ghost use Rattle.dv_engine.specs.World.{first_world, value_of, step, put, append, make, fire, tell};
+    ghost use Rattle.dv_store.specs.Pausing.{pauses_of};
+    ghost use Rattle.dv_world.specs.World.{first_world, value_of, deferred_at, step, put, put_deferred, append, make, fire, pause, unpause, tell};
 
     /// A world in which nothing is made, and whose journal takes so much weight.
     pub fn new(alloc: Global, classes: &'s Classes, limit: u64) -> World<'s>
@@ -75,18 +75,25 @@ impl<'s> World<'s> {
         self.classes
     }
 
-    /// The Deferred that a name is bound to.
-    pub fn find(&self, name: &str) -> Option<DeferredId>
-        ensures { result ≡ number_of name.now self.now.names }
+    /// The Deferred that a name stands for; `@` is the one that is given, where one is.
+    pub fn find(&self, itself: Option<DeferredId>, name: &str) -> Option<DeferredId>
+        ensures { result ≡ deferred_at itself name.now self.now }
     {
-        self.names.find(name)
+        if name == "@" {
+            itself
+        } else {
+            self.names.find(name)
+        }
     }
 
-    /// What is kept of a Deferred.
-    pub fn record(&self, id: DeferredId) -> Option<&Record<Pair<'s>, Side<'s>>>
-        ensures { option_copied result ≡ slice_get self.now.records id }
+    /// The value of a Deferred, copied; null where there is none.
+    pub fn value(&self, id: DeferredId) -> Result<Value, AllocError>
+        ensures { IfOk result (λ value. value ≡ value_of id self.now) }
     {
-        self.store.record(id)
+        match self.store.record(id) {
+            None => Ok(Value::Null),
+            Some(record) => Ok(record.value.copy(self.alloc)?),
+        }
     }
 
     /// The first move of settling a Deferred.
@@ -117,6 +124,24 @@ impl<'s> World<'s> {
         }
         match self.store.put(&mut self.journal, id, value) {
             Ok(()) => Ok(()),
+            Err(Stop::Limit) => {
+                self.stopped = true;
+                Ok(())
+            }
+            Err(Stop::OutOfMemory) => Err(AllocError),
+        }
+    }
+
+    /// A side of a Deferred gave another, whose value it takes or waits for.
+    #[tactic(auto, unfolding(crate::specs::World::put_deferred))]
+    pub fn put_deferred(&mut self, id: DeferredId, given: DeferredId) -> Result<(), AllocError>
+        ensures { OnOk result (self.new ≡ put_deferred id given self.old) }
+    {
+        if self.stopped {
+            return Ok(());
+        }
+        match self.store.put_deferred(&mut self.journal, id, given) {
+            Ok(_) => Ok(()),
             Err(Stop::Limit) => {
                 self.stopped = true;
                 Ok(())
@@ -182,6 +207,48 @@ impl<'s> World<'s> {
         }
     }
 
+    /// Pauses a Deferred once more.
+    #[tactic(auto, unfolding(crate::specs::World::pause))]
+    pub fn pause(&mut self, id: DeferredId) -> Result<(), AllocError>
+        requires room { pauses_of id self.old.records < 2 ^ 32 - 1 }
+        ensures { OnOk result (self.new ≡ pause id self.old) }
+    {
+        if self.stopped {
+            return Ok(());
+        }
+        match self.store.pause(&mut self.journal, id) {
+            Ok(()) => Ok(()),
+            Err(Stop::Limit) => {
+                self.stopped = true;
+                Ok(())
+            }
+            Err(Stop::OutOfMemory) => Err(AllocError),
+        }
+    }
+
+    /// Pauses a Deferred once less, and doesn't settle. One that isn't paused raises AssertionError.
+    #[tactic(auto, unfolding(crate::specs::World::unpause))]
+    pub fn unpause(&mut self, id: DeferredId) -> Result<Performed, AllocError>
+        ensures { IfOk result (λ performed. (performed, self.new) ≡ unpause id self.old) }
+    {
+        if self.stopped {
+            return Ok(Performed::Done);
+        }
+        match self.store.unpause(&mut self.journal, id) {
+            Ok(()) => Ok(Performed::Done),
+            Err(UnpauseFault::NotPaused) => raised(
+                self.alloc,
+                ClassId::ASSERTION_ERROR,
+                "not paused",
+            ),
+            Err(UnpauseFault::Limit) => {
+                self.stopped = true;
+                Ok(Performed::Done)
+            }
+            Err(UnpauseFault::OutOfMemory) => Err(AllocError),
+        }
+    }
+
     /// Writes an entry that tells of no Deferred's change.
     #[tactic(auto, unfolding(crate::specs::World::tell))]
     pub fn tell(&mut self, entry: Entry) -> Result<(), AllocError>
@@ -201,7 +268,7 @@ impl<'s> World<'s> {
     }
 
     /// Its journal, whether it has stopped, and all records in order of making.
-    pub fn into_parts(self) -> (Journal, bool, Vec<Record<Pair<'s>, Side<'s>>>)
+    pub fn into_parts(self) -> (Journal, bool, Vec<Record<Pair<'s>, BodyRef<'s>>>)
         ensures journal { result.0 ≡ self.entry.journal }
         ensures stopped { result.1 ≡ self.entry.stopped }
         ensures records { result.2.items ≡ self.entry.records }

@@ -1,3 +1,4 @@
+use dv_journal::deferred_id::DeferredId;
 use dv_value::failure::Failure;
 use dv_value::value::Value;
 
@@ -10,4 +11,6 @@ pub enum Performed {
     Gave(Value),
     /// It raised this, and the rest of it is left out.
     Raised(Failure),
+    /// A body gave this Deferred.
+    Awaits(DeferredId),
 }

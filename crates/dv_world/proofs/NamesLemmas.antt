@@ -10,7 +10,7 @@ use Rattle.std.specs.declared.string.String.{String}
 use Rattle.std.specs.declared.cmp.Ordering.{Ordering}
 use Rattle.std.specs.declared.cmp.Ordering.TheVariants.{Less, Equal, Greater}
 use Rattle.std.proofs.lemmas.Map.Text.{is_eq-slice_cmp}
-use Rattle.dv_engine.specs.Names.{Names, number_of, with_name}
+use Rattle.dv_world.specs.Names.{Names, number_of, with_name}
 
 abbrev Entries : Type 0
 Entries = List (String Global × ℕ)

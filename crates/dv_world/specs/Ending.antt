@@ -8,6 +8,9 @@ use Rattle.dv_value.specs.declared.value.Value.{Value, Int, Fault, out-Value}
 use Rattle.dv_value.specs.declared.value.Value.TheOpen.{Value-F}
 use Rattle.dv_script.specs.declared.body.End.{End}
 use Rattle.dv_script.specs.declared.body.End.TheVariants.{Return, Pass, Plus, Raise, Trap, Wait}
+use Rattle.dv_world.specs.World.{World, deferred_at, unbound}
+use Rattle.dv_world.specs.declared.performed.Performed.{Performed}
+use Rattle.dv_world.specs.declared.performed.Performed.TheVariants.{Gave, Awaits}
 
 -- a failure of a class, with a message
 abbrev pub fault : ℕ → List ℕ → Value
@@ -45,11 +48,16 @@ trap_of table listed value input (Value-F.Int n) = fault type_error (codes "trap
 trap_of table listed value input (Value-F.Text t) = fault type_error (codes "trap")
 trap_of table listed value input (Value-F.List vs) = fault type_error (codes "trap")
 
--- what an end gives for an input; `wait` isn't performed yet, and passes it on
-abbrev pub end_gives : List Class → End → Value → Value
-end_gives table (Return value) input = value
-end_gives table Pass input = input
-end_gives table (Plus n) input = plus_to n (out-Value input)
-end_gives table (Raise class message) input = fault class message
-end_gives table (Trap listed value) input = trap_of table listed value input (out-Value input)
-end_gives table (Wait name) input = input
+-- the Deferred of the name, which is to be bound
+abbrev pub awaited : Option ℕ → List ℕ → Performed
+awaited (Some d) name = Awaits d
+awaited None name = unbound name
+
+-- what an end comes to for an input; `@` stands for the Deferred that is given
+abbrev pub ended : Option ℕ → End → Value → World → Performed
+ended self (Return value) input w = Gave value
+ended self Pass input w = Gave input
+ended self (Plus n) input w = Gave (plus_to n (out-Value input))
+ended self (Raise class message) input w = Gave (fault class message)
+ended self (Trap listed value) input w = Gave (trap_of w.classes listed value input (out-Value input))
+ended self (Wait name) input w = awaited (deferred_at self name w) name

@@ -1,9 +1,12 @@
 ghost use Rattle.std.specs.Prelude.{◌≡◌, ◌+ℤ◌, IfOk};
 ghost use Rattle.dv_value.specs.Classes.{check};
 ghost use Rattle.dv_value.specs.Failure.{class_of};
-ghost use Rattle.dv_engine.specs.Ending.{fault, sum_or_overflow, plus_to, trap_of, trapped_by, end_gives};
+ghost use Rattle.dv_world.specs.Ending.{fault, sum_or_overflow, plus_to, trap_of, trapped_by, ended};
 ghost use Rattle.dv_value.specs.declared.value.Value.{out-Value};
 
+use crate::performed::Performed;
+use crate::world::{World, unbound};
+use dv_journal::deferred_id::DeferredId;
 use dv_script::body::End;
 use dv_value::boxed::Boxed;
 use dv_value::class_id::ClassId;
@@ -21,22 +24,30 @@ pub fn fault(alloc: Global, class: ClassId, message: &str) -> Result<Value, Allo
     Ok(Value::Fault(Boxed::new(alloc, Failure::new(class, message))?))
 }
 
-/// What an end gives for an input. `Wait` isn't performed yet, and passes it on.
-pub fn end_gives(
+/// What an end comes to for an input. The name of a `Wait` is looked up here, `@` as the Deferred that is given, where
+/// one is; one that isn't bound raises NameError.
+pub fn ended<'s>(
     alloc: Global,
-    classes: &Classes,
+    world: &World<'s>,
+    itself: Option<DeferredId>,
     end: &End,
-    input: &Value,
-) -> Result<Value, AllocError>
-    ensures { IfOk result (λ v. v ≡ end_gives classes.now end.now input.now) }
+    input: Value,
+) -> Result<Performed, AllocError>
+    ensures { IfOk result (λ performed. performed ≡ ended itself end.now input world.now) }
 {
     match end {
-        End::Return(value) => value.copy(alloc),
-        End::Pass => input.copy(alloc),
-        End::Plus(n) => plus(alloc, *n, input),
-        End::Raise(class, message) => fault(alloc, *class, message.as_str()),
-        End::Trap(listed, value) => trap(alloc, classes, listed.as_slice(), value, input),
-        End::Wait(_) => input.copy(alloc),
+        End::Return(value) => Ok(Performed::Gave(value.copy(alloc)?)),
+        End::Pass => Ok(Performed::Gave(input)),
+        End::Plus(n) => Ok(Performed::Gave(plus(alloc, *n, &input)?)),
+        End::Raise(class, message) => Ok(Performed::Gave(fault(alloc, *class, message.as_str())?)),
+        End::Trap(listed, value) => {
+            let trapped = trap(alloc, world.classes(), listed.as_slice(), value, input)?;
+            Ok(Performed::Gave(trapped))
+        }
+        End::Wait(name) => match world.find(itself, name.as_str()) {
+            Some(id) => Ok(Performed::Awaits(id)),
+            None => Ok(unbound(alloc, name.as_str())?),
+        },
     }
 }
 
@@ -71,14 +82,14 @@ fn trap(
     classes: &Classes,
     listed: &[ClassId],
     value: &Value,
-    input: &Value,
+    input: Value,
 ) -> Result<Value, AllocError>
-    ensures { IfOk result (λ v. v ≡ trap_of classes.now listed.now value.now input.now (out-Value input.now)) }
+    ensures { IfOk result (λ v. v ≡ trap_of classes.now listed.now value.now input (out-Value input)) }
 {
-    match input {
+    match &input {
         Value::Fault(failure) => match failure.get().check(classes, listed) {
             Some(_) => value.copy(alloc),
-            None => input.copy(alloc),
+            None => Ok(input),
         },
         Value::Null | Value::Bool(_) | Value::Int(_) | Value::Text(_) | Value::List(_) => fault(
             alloc,

@@ -1,7 +1,7 @@
 use Rattle.std.proofs.Common.{◌∙◌, ap, sym}
-use Rattle.dv_engine.specs.Names.{number_of}
-use Rattle.dv_engine.proofs.NamesLemmas.{number_of_shown}
-use Rattle.dv_engine.proofs.names.Names.find.Goals as goal
+use Rattle.dv_world.specs.Names.{number_of}
+use Rattle.dv_world.proofs.NamesLemmas.{number_of_shown}
+use Rattle.dv_world.proofs.names.Names.find.Goals as goal
 
 pub returns : goal.returns
 returns c =
