@@ -258,7 +258,7 @@ fn a_step_that_does_nothing_passes_no_limit(rt: HostRuntime) -> Result<(), Fail>
     world.put_deferred(first, second)?;
     world.pause(second)?;
     world.fire(second, Value::Int(7))?;
-    assert_eq!(rt; world.journal.weight(), WEIGHT + 4);
+    assert_eq!(rt; world.journal.weight(), u64::from(WEIGHT + 4));
     assert!(rt; matches!(world.step(first)?, Step::Nothing), "waiting");
     assert!(rt; matches!(world.step(second)?, Step::Nothing), "paused");
     Ok(())

@@ -88,14 +88,14 @@ fn a_pause_stops_no_side_that_runs(rt: HostRuntime) -> Result<(), Fail> {
 fn pauses_are_counted_each_for_its_own_deferred(rt: HostRuntime) -> Result<(), Fail> {
     let alloc = rt.alloc();
     let mut world = World::new(alloc, 2000)?;
-    let (second, third) = (world.second, world.third);
+    let (first, second, third) = (world.first, world.second, world.third);
     world.pause(second)?;
     world.pause(third)?;
     world.pause(third)?;
-    assert_eq!(rt; pauses_of(&world.store, world.first), 0);
+    assert_eq!(rt; pauses_of(&world.store, first), 0);
     assert_eq!(rt; pauses_of(&world.store, second), 1);
     assert_eq!(rt; pauses_of(&world.store, third), 2);
-    assert_eq!(rt; world.unpause(world.first), Err(UnpauseFault::NotPaused));
+    assert_eq!(rt; world.unpause(first), Err(UnpauseFault::NotPaused));
     Ok(())
 }
 

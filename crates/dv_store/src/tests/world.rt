@@ -9,7 +9,7 @@ use std::alloc::{AllocError, Global};
 use std::test::Fail;
 
 /// What `World::new` took of the journal's limit.
-pub const WEIGHT: u64 = 8;
+pub const WEIGHT: u32 = 8;
 
 /// Three Deferreds without names, and their journal.
 #[derive(Drop)]
@@ -24,8 +24,8 @@ pub struct World {
 
 impl World {
     /// A side of the first Deferred runs, on 1, and the pair of number 2 comes after it. The others are unfired, and have no pairs.
-    pub fn new(alloc: Global, limit: u64) -> Result<World, Fail> {
-        let mut journal = Journal::new(alloc, limit);
+    pub fn new(alloc: Global, limit: u32) -> Result<World, Fail> {
+        let mut journal = Journal::new(alloc, u64::from(limit));
         let mut store: Store<Pair, u8> = Store::new(alloc);
         let first = store.make(&mut journal, None, None)?;
         let second = store.make(&mut journal, None, None)?;
