@@ -1,20 +1,18 @@
 -- The journal tells of each Deferred what the world holds.
-use Rattle.std.proofs.Common.{◌≡◌, ℕ, zero, suc, ◌+◌, ◌-◌, ◌++◌, Bool, true, false, nat_eq, List, [], ◌∷◌, Option, None, Some, refl, sym, ap, ◌∙◌, slice_get, slice_set, cond, length, fold, option_map}
+use Rattle.std.proofs.Common.{◌≡◌, ℕ, zero, suc, ◌++◌, Bool, true, false, nat_eq, List, [], ◌∷◌, Option, None, Some, refl, sym, ap, ◌∙◌, slice_get, slice_set, cond, length, option_map}
 use Rattle.std.proofs.Math.Dec.{eqb-suc-zero, eqb-zero-suc, eqb-suc-suc}
 use Rattle.std.proofs.lemmas.Bool.{eqb-true}
 use Rattle.std.proofs.lemmas.List.Sums.{fold-append}
 use Rattle.std.proofs.lemmas.Option.{none-some}
-use Rattle.dv_value.specs.declared.value.Value.{Value, Null}
-use Rattle.dv_journal.specs.Journal.{with_entry}
+use Rattle.dv_value.specs.declared.value.Value.{Null}
 use Rattle.dv_journal.specs.declared.entry.Entry.{Entry}
 use Rattle.dv_journal.specs.declared.entry.Entry.TheVariants as entry
 use Rattle.dv_script.specs.declared.script.Script.{Script}
-use Rattle.dv_store.specs.Callbacks as callbacks
 use Rattle.dv_store.specs.Chaining as chaining
 use Rattle.dv_store.specs.Record.{with_item, new_record, changed, changing}
 use Rattle.dv_store.specs.declared.record.Item.TheVariants as item
 use Rattle.dv_engine.specs.Meaning.{Means}
-use Rattle.dv_engine.specs.ReadBack.{Shown, with_firing, with_value, with_wait, with_handed, with_pause, without_pause, told_at, told, told_by, outcome_shown, read_back, OutcomesAreToldByTheJournal}
+use Rattle.dv_engine.specs.ReadBack.{Shown, with_firing, with_value, with_wait, with_handed, with_pause, without_pause, told_at, told, told_by, outcome_shown, OutcomesAreToldByTheJournal}
 use Rattle.dv_engine.specs.Report.{outcome_of}
 use Rattle.dv_engine.proofs.Kept.{Both, Kind, Kept, telling_of, every_step}
 use Rattle.dv_engine.proofs.Lasting.{Lasting}
@@ -120,7 +118,7 @@ shown_outcome None = refl
 shown_outcome (Some r) = refl
 
 -- what every step keeps, a run keeps from its beginning
-abbrev RunsKeep : Type 1
+abbrev pub RunsKeep : Type 1
 RunsKeep = (R : World → World → Type 0) → Lasting R → (script : Script) (w : World) → Means script w → R (first_world script.classes script.limit) w
 
 pub journal_tells : RunsKeep → OutcomesAreToldByTheJournal
