@@ -21,21 +21,25 @@ abbrev due : Option Kind → ℕ
 due None = 0
 due (Some r) = cond r.fired 1 0
 
+-- how often n should have been fired
 abbrev due_at : ℕ → Records → ℕ
 due_at n rs = due (slice_get rs n)
 
--- a record that is as fired as before
+-- a record that is as fired as before, by whether it is that of n
 same_due : (b : Bool) (n d : ℕ) (r s : Kind) (l : Records) → nat_eq d n ≡ b → slice_get l d ≡ Some r → s.fired ≡ r.fired → due (cond b (Some s) (slice_get l n)) ≡ due (slice_get l n)
 same_due true n d r s l e h p = rw (← (eqb-true d n e), h, p) refl
 same_due false n d r s l e h p = refl
 
+-- so where it is set
 set_due : (n d : ℕ) (r s : Kind) (l : Records) → slice_get l d ≡ Some r → s.fired ≡ r.fired → due_at n (slice_set l d s) ≡ due_at n l
 set_due n d r s l h p = rw (get_set l d n r s h) (same_due _ n d r s l refl h p)
 
+-- so where there is one
 changed_due : (n d : ℕ) (f : Kind → Kind) (o : Option Kind) (l : Records) → slice_get l d ≡ o → ((r : Kind) → (f r).fired ≡ r.fired) → due_at n (changed d f o l) ≡ due_at n l
 changed_due n d f None l h p = refl
 changed_due n d f (Some r) l h p = set_due n d r (f r) l h (p r)
 
+-- so where it is looked for
 changing_due : (n d : ℕ) (f : Kind → Kind) (l : Records) → ((r : Kind) → (f r).fired ≡ r.fired) → due_at n (changing d f l) ≡ due_at n l
 changing_due n d f l p = changed_due n d f _ l refl p
 
@@ -46,17 +50,14 @@ push_due (suc n) s [] h = refl
 push_due zero s (x ∷ l) h = refl
 push_due (suc n) s (x ∷ l) h = push_due n s l h
 
--- a record that is fired for the first time
+-- a record that is fired for the first time, by whether it is that of n
 fired_due : (b : Bool) (n d : ℕ) (r s : Kind) (l : Records) → nat_eq d n ≡ b → slice_get l d ≡ Some r → r.fired ≡ false → s.fired ≡ true → due (cond b (Some s) (slice_get l n)) ≡ due (slice_get l n) + cond b 1 0
 fired_due true n d r s l e h f g = rw (← (eqb-true d n e), h, f, g) (omega arith)
 fired_due false n d r s l e h f g = omega arith
 
+-- so where it is set
 first_due : (n d : ℕ) (r s : Kind) (l : Records) → slice_get l d ≡ Some r → r.fired ≡ false → s.fired ≡ true → due_at n (slice_set l d s) ≡ due_at n l + cond (nat_eq d n) 1 0
 first_due n d r s l h f g = rw (get_set l d n r s h) (fired_due _ n d r s l refl h f g)
-
--- one that is refused was fired
-refused_due : (n d : ℕ) (r : Kind) (l : Records) → slice_get l d ≡ Some r → r.fired ≡ true → entry.Refuse n ≡ entry.Refuse d → due_at n l ≡ 1
-refused_due n d r l h f q = let e : n ≡ d = cc in rw (e, h, f) refl
 
 -- where x stands in a list with one more item at its end, it stood before, or it is that item
 split_last : {X : Type 0} (P : List X → Type 0) (x last : X) (xs before later : List X) → ((bs ls : List X) → xs ≡ bs ++ x ∷ ls → P bs) → (x ≡ last → P xs) → xs ++ last ∷ [] ≡ before ++ x ∷ later → P before
@@ -69,9 +70,11 @@ split_last P x last (y ∷ xs) (b ∷ bs) later h k q =
     let rest : xs ++ last ∷ [] ≡ bs ++ x ∷ later = cc in
     subst (λ z. P (z ∷ bs)) e (split_last (λ l. P (y ∷ l)) x last xs bs later (λ cs ls r. h (y ∷ cs) ls (ap (λ l. y ∷ l) r)) k rest)
 
+-- one more entry, before which n was fired if it is a further firing
 comes_on : (n : ℕ) (again e : Entry) (entries : List Entry) → ComesFired n again entries → (again ≡ e → firings n entries ≡ 1) → ComesFired n again (entries ++ e ∷ [])
 comes_on n again e entries h k = record { fired = λ before later q. split_last (λ l. firings n l ≡ 1) again e entries before later h.fired k q }
 
+-- no entry stands in an empty journal
 nothing_comes : (n : ℕ) (again : Entry) (before later : List Entry) → [] ≡ before ++ again ∷ later → firings n before ≡ 1
 nothing_comes n again [] later q = absurd cc
 nothing_comes n again (b ∷ bs) later q = absurd cc
@@ -96,6 +99,7 @@ tells n e rs s p refused swallowed = record {
   };
 }
 
+-- each entry counts what it changes
 counts : (n : ℕ) → Kept (Counts n)
 counts n = record {
   stays = λ s. record { goes_on = λ k. k };
@@ -104,7 +108,7 @@ counts n = record {
   news = λ name s x. tells n (entry.New (length s.0) name) _ s (omega (arith, push_due n (new_record name None) s.0 refl)) (λ q. cc) (λ q. cc);
   notes = λ text s x. tells n (entry.Note text) _ s (omega arith) (λ q. cc) (λ q. cc);
   unhandles = λ failure s x. tells n (entry.Unhandled failure) _ s (omega arith) (λ q. cc) (λ q. cc);
-  refuses = λ d r s x h f. tells n (entry.Refuse d) _ s (omega arith) (refused_due n d r s.0 h f) (λ q. cc);
+  refuses = λ d r s x h f. tells n (entry.Refuse d) _ s (omega arith) (λ q. cc) (λ q. cc);
   fires = λ d value r s x h f. tells n (entry.Fire d value) _ s (first_due n d r (with_firing value r) s.0 h f refl) (λ q. cc) (λ q. cc);
   adds = λ d pair r s x h. tells n (entry.Add d) _ s (omega (arith, set_due n d r (with_item (item.Pair pair) r) s.0 h refl)) (λ q. cc) (λ q. cc);
   runs = λ d pair r rest s x h e. tells n (entry.Run d) _ s (omega (arith, set_due n d r (record r { items = rest; running = true }) s.0 h refl)) (λ q. cc) (λ q. cc);
@@ -122,10 +126,12 @@ counts n = record {
   unpauses = λ d r s x h p. tells n (entry.Unpause d) _ s (omega (arith, set_due n d r (with_pauses (r.pauses - 1) r) s.0 h refl)) (λ q. cc) (λ q. cc);
 }
 
+-- it is once or never
 due_once : (o : Option Kind) → due o ≤ 1
 due_once None = omega arith
 due_once (Some r) = elim r.fired as (λ b. ◌≤◌ (cond b 1 0) 1) [ true ↦ omega arith | false ↦ omega arith ]
 
+-- so a run fires each Deferred once at most
 pub fired_once : RunsKeep → EachDeferredIsFiredOnce
 fired_once means_keeps script w m n =
     let kept = means_keeps (λ w u. Counts n (state_of w) (state_of u)) (every_step (Counts n) (counts n)) script w m in

@@ -34,12 +34,13 @@ shown_of r = record { name = r.name; fired = r.fired; value = r.value; waits_for
 abbrev at : ℕ → Records → Option Shown
 at n rs = option_map shown_of (slice_get rs n)
 
--- a record that is set shows its change
+-- a record that is set shows its change, by whether it is that of n
 set_cases : (b : Bool) (n d : ℕ) (f : Shown → Shown) (r s : Kind) (l : Records) → nat_eq d n ≡ b → slice_get l d ≡ Some r → shown_of s ≡ f (shown_of r)
     → option_map shown_of (cond b (Some s) (slice_get l n)) ≡ cond b (option_map f (at n l)) (at n l)
 set_cases true n d f r s l e h p = rw (← (eqb-true d n e), h, p) refl
 set_cases false n d f r s l e h p = refl
 
+-- so where it is set
 set_at : (n d : ℕ) (f : Shown → Shown) (r s : Kind) (l : Records) → slice_get l d ≡ Some r → shown_of s ≡ f (shown_of r) → at n (slice_set l d s) ≡ told_at d n f (at n l)
 set_at n d f r s l h p = rw (get_set l d n r s h) (set_cases _ n d f r s l refl h p)
 
@@ -48,25 +49,30 @@ none_at : (b : Bool) (n d : ℕ) (f : Shown → Shown) (l : Records) → nat_eq 
 none_at true n d f l e h = rw (← (eqb-true d n e), h) refl
 none_at false n d f l e h = refl
 
+-- a record that is changed shows it, where there is one
 changed_at : (n d : ℕ) (g : Kind → Kind) (f : Shown → Shown) (o : Option Kind) (l : Records) → slice_get l d ≡ o → ((r : Kind) → shown_of (g r) ≡ f (shown_of r)) → at n (changed d g o l) ≡ told_at d n f (at n l)
 changed_at n d g f None l h p = none_at _ n d f l refl h
 changed_at n d g f (Some r) l h p = set_at n d f r (g r) l h (p r)
 
+-- so where it is looked for
 changing_at : (n d : ℕ) (g : Kind → Kind) (f : Shown → Shown) (l : Records) → ((r : Kind) → shown_of (g r) ≡ f (shown_of r)) → at n (changing d g l) ≡ told_at d n f (at n l)
 changing_at n d g f l p = changed_at n d g f _ l refl p
 
--- a change of what isn't shown
+-- a change to the same is none
 map_same : (s : Option Shown) → option_map (λ p. p) s ≡ s
 map_same None = refl
 map_same (Some p) = refl
 
+-- nor is it one of n alone
 told_same : (b : Bool) (s : Option Shown) → cond b (option_map (λ p. p) s) s ≡ s
 told_same true s = map_same s
 told_same false s = refl
 
+-- a record that is set to one that shows the same
 set_hidden : (n d : ℕ) (r s : Kind) (l : Records) → slice_get l d ≡ Some r → shown_of s ≡ shown_of r → at n (slice_set l d s) ≡ at n l
 set_hidden n d r s l h p = set_at n d (λ p. p) r s l h p ∙ told_same _ (at n l)
 
+-- a change of what isn't shown
 changing_hidden : (n d : ℕ) (g : Kind → Kind) (l : Records) → ((r : Kind) → shown_of (g r) ≡ shown_of r) → at n (changing d g l) ≡ at n l
 changing_hidden n d g l p = changing_at n d g (λ p. p) l p ∙ told_same _ (at n l)
 
@@ -89,6 +95,7 @@ record Reads (s t : Both) : Type 0 where
 tells : (e : Entry) (rs : Records) (s : Both) → ((n : ℕ) → at n rs ≡ told n (at n s.0) e) → Reads s (telling_of e rs s)
 tells e rs s p = record { goes_on = λ k n. rw (p n, ← (k n)) (fold-append (told n) None s.1.entries (e ∷ [])) }
 
+-- each entry tells its change
 reads : Kept Reads
 reads = record {
   stays = λ s. record { goes_on = λ k. k };
@@ -121,6 +128,7 @@ shown_outcome (Some r) = refl
 abbrev pub RunsKeep : Type 1
 RunsKeep = (R : World → World → Type 0) → Lasting R → (script : Script) (w : World) → Means script w → R (first_world script.classes script.limit) w
 
+-- so the journal of a run tells its outcomes
 pub journal_tells : RunsKeep → OutcomesAreToldByTheJournal
 journal_tells means_keeps script w m n =
     let kept = means_keeps (λ w u. Reads (state_of w) (state_of u)) (every_step Reads reads) script w m in

@@ -37,10 +37,11 @@ with_wait e s = record s { waits_for = Some e }
 abbrev pub with_handed : Value → Shown → Shown
 with_handed value s = record s { value = value; waits_for = None }
 
--- it is paused once more, and once less
+-- it is paused once more
 abbrev pub with_pause : Shown → Shown
 with_pause s = record s { pauses = s.pauses + 1 }
 
+-- it is paused once less
 abbrev pub without_pause : Shown → Shown
 without_pause s = record s { pauses = s.pauses - 1 }
 
