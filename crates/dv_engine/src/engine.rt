@@ -87,7 +87,7 @@ impl<'s> Engine<'s> {
 
     /// Performs the next event, and tells of a failure that leaves it. NotNow after the answer that there was none left;
     /// OutOfMemory where memory is refused, and from then on.
-    #[tactic(auto, using(crate::proofs::EngineLemmas::next_follows, crate::proofs::EngineLemmas::last_means))]
+    #[tactic(auto, using(crate::proofs::EngineLemmas::last_means))]
     pub fn event(&mut self) -> Result<Next, EngineFault>
         ensures { Answers result self.old self.new }
     {

@@ -6,6 +6,7 @@ pub mod engine;
 pub mod error;
 mod events;
 mod frame;
+pub mod laws;
 pub mod performs;
 pub mod report;
 mod runner;

@@ -16,7 +16,7 @@ use std::alloc::{AllocError, Global};
 
 /// Performs an action, in which `@` isn't bound, with all that follows from it. It is one loop over a stack of what is
 /// still to be done, so that no script can exhaust the machine's stack.
-#[tactic(auto, using(crate::proofs::FrameLaws::act_leads))]
+#[tactic(auto, using(crate::proofs::FrameLaws::act_leads, crate::proofs::Turns::begun_bounded))]
 pub fn act<'s>(
     alloc: Global,
     world: &mut World<'s>,
