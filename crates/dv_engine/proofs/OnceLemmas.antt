@@ -13,7 +13,8 @@ use Rattle.dv_store.specs.Record.{with_item, new_record, changed, changing}
 use Rattle.dv_store.specs.declared.record.Item.TheVariants as item
 use Rattle.dv_engine.specs.Once.{firing, firings, ComesFired, EachDeferredIsFiredOnce}
 use Rattle.dv_engine.proofs.Kept.{Both, Kind, Kept, telling_of, every_step}
-use Rattle.dv_engine.proofs.ReadBackLemmas.{RunsKeep, get_set}
+use Rattle.dv_engine.proofs.ReadBackLemmas.{get_set}
+use Rattle.dv_engine.proofs.Total.{means_keeps}
 use Rattle.dv_world.specs.World.{Records, state_of}
 
 -- how often what is found should have been fired
@@ -132,8 +133,8 @@ due_once None = omega arith
 due_once (Some r) = elim r.fired as (λ b. ◌≤◌ (cond b 1 0) 1) [ true ↦ omega arith | false ↦ omega arith ]
 
 -- so a run fires each Deferred once at most
-pub fired_once : RunsKeep → EachDeferredIsFiredOnce
-fired_once means_keeps script w m n =
+pub fired_once : EachDeferredIsFiredOnce
+fired_once script w m n =
     let kept = means_keeps (λ w u. Counts n (state_of w) (state_of u)) (every_step (Counts n) (counts n)) script w m in
     let all = kept.goes_on (record { counted = refl; refused = record { fired = nothing_comes n (entry.Refuse n) }; swallowed = record { fired = nothing_comes n (entry.Swallow n) } }) in
     record { once = omega (arith, all.counted, due_once (slice_get w.records n)); refused = all.refused; swallowed = all.swallowed }
