@@ -1,5 +1,7 @@
 //! Laws of whole runs, each a function with an empty body whose clauses are the laws.
 
+ghost use Rattle.dv_engine.specs.Once.{EachDeferredIsFiredOnce};
+ghost use Rattle.dv_engine.specs.ReadBack.{OutcomesAreToldByTheJournal};
 ghost use Rattle.dv_engine.specs.Laws.{EveryTaskEnds, EachTaskHasOneResult, StoppedWorldsStay, EveryScriptEnds, EachScriptHasOneMeaning};
 
 /// Every task ends, and in one way; in a world that has stopped it changes nothing.
@@ -13,4 +15,10 @@ pub fn tasks_end()
 pub fn scripts_end()
     ensures ends { EveryScriptEnds }
     ensures one { EachScriptHasOneMeaning }
+{}
+
+/// The journal of a run tells what has become of each Deferred, and that each was fired once at most.
+pub fn journals_tell()
+    ensures outcomes { OutcomesAreToldByTheJournal }
+    ensures once { EachDeferredIsFiredOnce }
 {}
