@@ -1,5 +1,5 @@
 -- A run makes no more than it has told.
-use Rattle.std.proofs.Common.{◌≡◌, ℕ, ◌+◌, ◌-◌, ◌≤◌, ◌<◌, ◌^◌, Bool, true, List, [], ◌∷◌, ◌++◌, Option, None, Some, length, slice_set, sum_by, refl, arith, length-append}
+use Rattle.std.proofs.Common.{◌≡◌, ℕ, ◌+◌, ◌-◌, ◌≤◌, ◌<◌, ◌^◌, true, [], ◌∷◌, None, length, slice_set, arith, length-append}
 use Rattle.std.proofs.lemmas.Bool.{leb-true}
 use Rattle.std.proofs.lemmas.List.{length-set}
 use Rattle.std.proofs.lemmas.List.Sums.{sum_by-append}
@@ -49,11 +49,13 @@ fine : Kept StaysFine
 fine = record {
   stays = λ s. record { goes_on = λ b. b };
   joins = λ s t u p q. record { goes_on = λ b. q.goes_on (p.goes_on b) };
-  drops = λ d r pair rest s g e. record { goes_on = λ b. record {
-    told = omega (arith, b.told, length-set s.0 d (record r { items = rest }), tally_set pauses_in s.0 d r (record r { items = rest }) g);
-    within = b.within;
-    limited = b.limited;
-  } };
+  drops = λ d r pair rest s g e. record {
+    goes_on = λ b. record {
+      told = omega (arith, b.told, length-set s.0 d (record r { items = rest }), tally_set pauses_in s.0 d r (record r { items = rest }) g);
+      within = b.within;
+      limited = b.limited;
+    };
+  };
   news = λ name s h. told_fine (entry.New (length s.0) name) _ s h (omega arith) (omega (arith, length-append s.0 (new_record name None ∷ []), sum_by-append pauses_in s.0 (new_record name None ∷ [])));
   notes = λ text s h. told_fine (entry.Note text) s.0 s h (omega arith) (omega arith);
   unhandles = λ failure s h. told_fine (entry.Unhandled failure) s.0 s h (omega arith) (omega arith);

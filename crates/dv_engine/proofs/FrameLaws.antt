@@ -9,8 +9,7 @@ use Rattle.dv_store.specs.declared.store.Step.TheVariants.{Nothing, Passed, Run,
 use Rattle.dv_engine.specs.Acting.{made}
 use Rattle.dv_engine.specs.Deed.{Deed, Idle, NoteOf, Make, FireWith, AddTo, ChainTo, PauseOf, UnpauseOf, deed_of}
 use Rattle.dv_engine.specs.Frames.{Turned, settle_next, side_begun, settled, with_deferred, begun, gone_on, rest_turned, turned, RestLeads, Leads, AllLead}
-use Rattle.dv_engine.specs.Meaning.{meaning, Gives}
-use Rattle.dv_engine.specs.Settling.{place}
+use Rattle.dv_engine.specs.Meaning.{Gives}
 use Rattle.dv_engine.specs.Task.{Settle, Perform, Act}
 use Rattle.dv_engine.specs.declared.frame.Frame.{Frame}
 use Rattle.dv_engine.specs.declared.frame.Frame.TheVariants as frame

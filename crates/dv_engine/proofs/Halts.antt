@@ -1,5 +1,5 @@
 -- Every frame halts: by what a run can still do, and then by what is left of the frame.
-use Rattle.std.proofs.Common.{◌≡◌, ℕ, zero, suc, ◌+◌, ◌<◌, ◌≤◌, List, [], ◌∷◌, Option, None, Some, length, refl, sym, ap, subst, ◌∙◌, arith, zero-add, suc-add}
+use Rattle.std.proofs.Common.{◌≡◌, ℕ, zero, suc, ◌+◌, ◌<◌, ◌≤◌, List, [], ◌∷◌, Option, None, Some, length, refl, ap, ◌∙◌, arith, zero-add, suc-add}
 use Rattle.dv_value.specs.Failure.{is_fault}
 use Rattle.dv_value.specs.declared.value.Value.{Value}
 use Rattle.dv_script.specs.declared.action.Action.{Action, out-Action}
@@ -153,7 +153,7 @@ module _ (n m : ℕ) (k : Lower n m) where
   begun_reaches itself (ChainTo name next) w b q =
       with_reaches (deferred_at itself name w) name w (λ below d. with_deferred (deferred_at itself next w) next w below (λ c. (frame.Settle d ∷ below, Done, append d (chain c) w)))
       (λ d. with_reaches (deferred_at itself next w) next w (λ below c. (frame.Settle d ∷ below, Done, append d (chain c) w))
-          (λ c. reach_then (frame.Settle d) Done w (append d (chain c) w) (append_pays d (chain c) w) (k.same (frame.Settle d) Done (append d (chain c) w) (omega (arith, append_pays d (chain c) w, b)) q)))
+      (λ c. reach_then (frame.Settle d) Done w (append d (chain c) w) (append_pays d (chain c) w) (k.same (frame.Settle d) Done (append d (chain c) w) (omega (arith, append_pays d (chain c) w, b)) q)))
   begun_reaches itself (PauseOf name) w b q =
       with_reaches (deferred_at itself name w) name w (λ below d. (below, Done, pause d w)) (λ d. reach_now Done w (pause d w) (pause_pays d w))
   begun_reaches itself (UnpauseOf name) w b q =

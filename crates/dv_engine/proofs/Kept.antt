@@ -3,7 +3,7 @@ use Rattle.std.proofs.Common.{◌≡◌, ℕ, ◌+◌, ◌-◌, Bool, true, fals
 use Rattle.dv_value.specs.Failure.{is_fault}
 use Rattle.dv_value.specs.declared.failure.Failure.{Failure}
 use Rattle.dv_value.specs.declared.value.Value.{Value, Null}
-use Rattle.dv_journal.specs.Journal.{Written, fits, with_entry}
+use Rattle.dv_journal.specs.Journal.{fits, with_entry}
 use Rattle.dv_journal.specs.declared.entry.Entry.{Entry}
 use Rattle.dv_journal.specs.declared.entry.Entry.TheVariants as entry
 use Rattle.dv_journal.specs.declared.error.Stop.{Stop}
@@ -28,12 +28,11 @@ use Rattle.dv_store.specs.declared.record.Record.{Record}
 use Rattle.dv_store.specs.declared.store.Placed.{Placed}
 use Rattle.dv_store.specs.declared.store.Placed.TheVariants.{Taken, Waits}
 use Rattle.dv_store.specs.declared.store.Step.{Step}
-use Rattle.dv_store.specs.declared.store.Step.TheVariants.{Nothing, Passed, Run, Handed}
+use Rattle.dv_store.specs.declared.store.Step.TheVariants.{Nothing, Run, Handed}
 use Rattle.dv_engine.proofs.Lasting.{Lasting}
 use Rattle.dv_world.specs.Pair.{passes}
 use Rattle.dv_world.specs.World.{World, Records, state_of, after, moved, named, fired, unpaused, step, put, put_deferred, append, make, fire, pause, unpause, tell}
 use Rattle.dv_world.specs.declared.pair.Pair.{Pair}
-use Rattle.dv_world.specs.declared.performed.Performed.{Performed}
 use Rattle.dv_world.specs.declared.performed.Performed.TheVariants.{Done}
 
 -- the Deferreds and the journal

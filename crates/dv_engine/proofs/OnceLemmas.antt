@@ -5,17 +5,20 @@ use Rattle.std.proofs.lemmas.List.Sums.{sum_by_push}
 use Rattle.dv_value.specs.declared.value.Value.{Null}
 use Rattle.dv_journal.specs.declared.entry.Entry.{Entry}
 use Rattle.dv_journal.specs.declared.entry.Entry.TheVariants as entry
+use Rattle.dv_journal.specs.Journal.{Written}
+use Rattle.dv_script.specs.declared.script.Script.{Script}
 use Rattle.dv_store.specs.Callbacks.{with_handed, with_result}
 use Rattle.dv_store.specs.Chaining as chaining
 use Rattle.dv_store.specs.Fire.{with_firing}
 use Rattle.dv_store.specs.Pausing.{with_pauses}
 use Rattle.dv_store.specs.Record.{with_item, new_record, changed, changing}
 use Rattle.dv_store.specs.declared.record.Item.TheVariants as item
-use Rattle.dv_engine.specs.Once.{firing, firings, ComesFired, EachDeferredIsFiredOnce}
+use Rattle.dv_engine.specs.Once.{firing, firings, ComesFired, FiredOnce, EachDeferredIsFiredOnce}
+use Rattle.dv_engine.specs.Meaning.{Means}
 use Rattle.dv_engine.proofs.Kept.{Both, Kind, Kept, telling_of, every_step}
 use Rattle.dv_engine.proofs.ReadBackLemmas.{get_set}
 use Rattle.dv_engine.proofs.Total.{means_keeps}
-use Rattle.dv_world.specs.World.{Records, state_of}
+use Rattle.dv_world.specs.World.{World, Records, state_of}
 
 -- how often what is found should have been fired
 abbrev due : Option Kind → ℕ
@@ -133,8 +136,12 @@ due_once None = omega arith
 due_once (Some r) = elim r.fired as (λ b. ◌≤◌ (cond b 1 0) 1) [ true ↦ omega arith | false ↦ omega arith ]
 
 -- so a run fires each Deferred once at most
-pub fired_once : EachDeferredIsFiredOnce
-fired_once script w m n =
+world_fired_once : (script : Script) (w : World) → Means script w → (n : ℕ) → FiredOnce n w.journal.entries
+world_fired_once script w m n =
     let kept = means_keeps (λ w u. Counts n (state_of w) (state_of u)) (every_step (Counts n) (counts n)) script w m in
     let all = kept.goes_on (record { counted = refl; refused = record { fired = nothing_comes n (entry.Refuse n) }; swallowed = record { fired = nothing_comes n (entry.Swallow n) } }) in
     record { once = omega (arith, all.counted, due_once (slice_get w.records n)); refused = all.refused; swallowed = all.swallowed }
+
+-- and so its report tells
+pub fired_once : EachDeferredIsFiredOnce
+fired_once script report r n = subst (λ (j : Written). FiredOnce n j.entries) (sym r.tells.journal) (world_fired_once script r.world r.means n)

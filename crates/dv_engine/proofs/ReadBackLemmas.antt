@@ -3,18 +3,22 @@ use Rattle.std.proofs.Common.{◌≡◌, ℕ, zero, suc, ◌++◌, Bool, true, f
 use Rattle.std.proofs.Math.Dec.{eqb-suc-zero, eqb-zero-suc, eqb-suc-suc}
 use Rattle.std.proofs.lemmas.Bool.{eqb-true}
 use Rattle.std.proofs.lemmas.List.Sums.{fold-append}
-use Rattle.std.proofs.lemmas.Option.{none-some}
+use Rattle.std.proofs.lemmas.Option.{none-some, slice_get-map}
 use Rattle.dv_value.specs.declared.value.Value.{Null}
 use Rattle.dv_journal.specs.declared.entry.Entry.{Entry}
 use Rattle.dv_journal.specs.declared.entry.Entry.TheVariants as entry
+use Rattle.dv_journal.specs.Journal.{Written}
+use Rattle.dv_script.specs.declared.script.Script.{Script}
 use Rattle.dv_store.specs.Chaining as chaining
 use Rattle.dv_store.specs.Record.{with_item, new_record, changed, changing}
 use Rattle.dv_store.specs.declared.record.Item.TheVariants as item
-use Rattle.dv_engine.specs.ReadBack.{Shown, with_firing, with_value, with_wait, with_handed, with_pause, without_pause, told_at, told, told_by, outcome_shown, OutcomesAreToldByTheJournal}
+use Rattle.dv_engine.specs.ReadBack.{Shown, with_firing, with_value, with_wait, with_handed, with_pause, without_pause, told_at, told, told_by, outcome_shown, read_back, OutcomesAreToldByTheJournal}
+use Rattle.dv_engine.specs.Meaning.{Means}
 use Rattle.dv_engine.specs.Report.{outcome_of}
+use Rattle.dv_engine.specs.declared.report.Outcome.{Outcome}
 use Rattle.dv_engine.proofs.Kept.{Both, Kind, Kept, telling_of, every_step}
 use Rattle.dv_engine.proofs.Total.{means_keeps}
-use Rattle.dv_world.specs.World.{Records, state_of}
+use Rattle.dv_world.specs.World.{World, Records, state_of}
 
 -- what is found after a record was set
 pub get_set : {X : Type 0} (l : List X) (d n : ℕ) (r s : X) → slice_get l d ≡ Some r → slice_get (slice_set l d s) n ≡ cond (nat_eq d n) (Some s) (slice_get l n)
@@ -122,8 +126,16 @@ shown_outcome : (o : Option Kind) → option_map outcome_shown (option_map shown
 shown_outcome None = refl
 shown_outcome (Some r) = refl
 
--- so the journal of a run tells its outcomes
-pub journal_tells : OutcomesAreToldByTheJournal
-journal_tells script w m n =
+-- so the journal of a run tells what its world holds
+world_told : (script : Script) (w : World) → Means script w → (n : ℕ) → read_back n w.journal.entries ≡ option_map outcome_of (slice_get w.records n)
+world_told script w m n =
     let kept = means_keeps (λ w u. Reads (state_of w) (state_of u)) (every_step Reads reads) script w m in
     ap (option_map outcome_shown) (kept.goes_on (λ n. refl) n) ∙ shown_outcome (slice_get w.records n)
+
+-- and that of a report its outcomes
+pub journal_tells : OutcomesAreToldByTheJournal
+journal_tells script report r n =
+    ap (λ (j : Written). read_back n j.entries) r.tells.journal
+    ∙ world_told script r.world r.means n
+    ∙ sym (slice_get-map outcome_of r.world.records n)
+    ∙ ap (λ (os : List Outcome). slice_get os n) (sym r.tells.outcomes)

@@ -1,10 +1,8 @@
 -- The rules by which answers are put together.
-use Rattle.std.proofs.Common.{◌≡◌, ℕ, suc, ◌+◌, List, [], ◌∷◌, Option, None, Some, refl, sym, subst}
+use Rattle.std.proofs.Common.{◌≡◌, ℕ, suc, ◌+◌, List, [], ◌∷◌, Option, Some, refl, subst}
 use Rattle.dv_value.specs.Failure.{is_fault}
-use Rattle.dv_value.specs.declared.failure.Failure.{Failure}
 use Rattle.dv_value.specs.declared.value.Value.{Value}
 use Rattle.dv_script.specs.declared.action.Action.{Action, out-Action}
-use Rattle.dv_script.specs.declared.body.Body.{Body, out-Body}
 use Rattle.dv_script.specs.declared.body.End.{End}
 use Rattle.dv_store.specs.declared.store.Step.{Step}
 use Rattle.dv_store.specs.declared.store.Step.TheVariants.{Nothing, Passed, Run, Handed}
@@ -14,15 +12,14 @@ use Rattle.dv_engine.specs.Meaning.{task_by, meaning, Gives}
 use Rattle.dv_engine.specs.Performing.{rest_by}
 use Rattle.dv_engine.specs.Settling.{place, settled_by, side_by, settle_by}
 use Rattle.dv_engine.specs.Task.{Task, Settle, Perform, Act}
-use Rattle.dv_engine.proofs.Extends.{settled_extends, side_extends, rest_extends, deeper_left, deeper_right}
+use Rattle.dv_engine.proofs.Extends.{side_extends, rest_extends, deeper_left, deeper_right}
 use Rattle.dv_world.specs.Ending.{ended}
 use Rattle.dv_world.specs.Pair.{side_for}
-use Rattle.dv_world.specs.World.{World, step, fire, value_of}
+use Rattle.dv_world.specs.World.{World, step, value_of}
 use Rattle.dv_world.specs.declared.pair.Pair.{Pair}
 use Rattle.dv_world.specs.declared.pair.Side.{Side}
-use Rattle.dv_world.specs.declared.pair.Side.TheVariants as side
 use Rattle.dv_world.specs.declared.performed.Performed.{Performed}
-use Rattle.dv_world.specs.declared.performed.Performed.TheVariants.{Done, Gave, Raised, Awaits}
+use Rattle.dv_world.specs.declared.performed.Performed.TheVariants.{Done}
 
 -- one level, over n
 pub one_level : (n : ℕ) (t : Task) (w : World) (o : Performed) (w1 : World) → task_by (meaning n) t w ≡ Some (o, w1) → Gives t w o w1

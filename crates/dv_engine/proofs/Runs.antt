@@ -1,5 +1,5 @@
 -- What a stack leads to is what it has come to when all of it is done.
-use Rattle.std.proofs.Common.{◌≡◌, ℕ, zero, suc, List, [], ◌∷◌, Option, None, Some, refl, ap}
+use Rattle.std.proofs.Common.{◌≡◌, ℕ, zero, suc, List, [], ◌∷◌, Some, ap}
 use Rattle.dv_engine.specs.Frames.{turned, AllLead}
 use Rattle.dv_engine.specs.declared.frame.Frame.{Frame}
 use Rattle.dv_engine.proofs.FrameLaws.{turned_leads}

@@ -1,5 +1,5 @@
 -- Every task ends, in one way, and what every step keeps, tasks, events and scripts keep.
-use Rattle.std.proofs.Common.{◌≡◌, ℕ, List, [], ◌∷◌, Option, None, Some, refl, sym, subst, ◌∙◌}
+use Rattle.std.proofs.Common.{◌≡◌, ℕ, List, [], ◌∷◌, Option, None, refl, sym, subst, ◌∙◌}
 use Rattle.dv_value.specs.declared.value.Value.{Value}
 use Rattle.dv_script.specs.declared.action.Action.{Action, out-Action}
 use Rattle.dv_script.specs.declared.body.End.{End}
@@ -20,7 +20,7 @@ use Rattle.dv_engine.proofs.Lasting.{Lasting, begun_keeps, run_keeps, told_keeps
 use Rattle.dv_engine.proofs.Runs.{runs_lead}
 use Rattle.dv_world.specs.World.{World, first_world}
 use Rattle.dv_world.specs.declared.performed.Performed.{Performed}
-use Rattle.dv_world.specs.declared.performed.Performed.TheVariants.{Done, Gave, Raised, Awaits}
+use Rattle.dv_world.specs.declared.performed.Performed.TheVariants.{Done}
 
 -- a task ends, and what every step keeps, it keeps
 record EndsKeeping (R : World → World → Type 0) (task : Task) (w : World) : Type 0 where

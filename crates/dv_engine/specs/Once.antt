@@ -3,8 +3,8 @@ use Rattle.std.specs.Prelude.{ℕ, ◌≡◌, ◌≤◌, if◌then◌else◌, na
 use Rattle.dv_journal.specs.declared.entry.Entry.{Entry}
 use Rattle.dv_journal.specs.declared.entry.Entry.TheVariants as entry
 use Rattle.dv_script.specs.declared.script.Script.{Script}
-use Rattle.dv_engine.specs.Meaning.{Means}
-use Rattle.dv_world.specs.World.{World}
+use Rattle.dv_engine.specs.Report.{Reports}
+use Rattle.dv_engine.specs.declared.report.Report.{Report}
 
 -- an entry counts one where it tells that n is fired
 abbrev pub firing : ℕ → Entry → ℕ
@@ -69,6 +69,6 @@ pub record FiredOnce (n : ℕ) (entries : List Entry) : Type 0 where
   pub refused : ComesFired n (entry.Refuse n) entries
   pub swallowed : ComesFired n (entry.Swallow n) entries
 
--- a run fires each Deferred once at most
+-- a run fires each Deferred once at most, by its report
 abbrev pub EachDeferredIsFiredOnce : Type 0
-EachDeferredIsFiredOnce = (script : Script) (w : World) → Means script w → (n : ℕ) → FiredOnce n w.journal.entries
+EachDeferredIsFiredOnce = (script : Script) (report : Report) → Reports script report → (n : ℕ) → FiredOnce n report.journal.entries

@@ -4,10 +4,9 @@ use Rattle.dv_value.specs.declared.value.Value.{Value, Null}
 use Rattle.dv_journal.specs.declared.entry.Entry.{Entry}
 use Rattle.dv_journal.specs.declared.entry.Entry.TheVariants as entry
 use Rattle.dv_script.specs.declared.script.Script.{Script}
-use Rattle.dv_engine.specs.Meaning.{Means}
-use Rattle.dv_engine.specs.Report.{state_of, outcome_of}
+use Rattle.dv_engine.specs.Report.{state_of, Reports}
 use Rattle.dv_engine.specs.declared.report.Outcome.{Outcome}
-use Rattle.dv_world.specs.World.{World}
+use Rattle.dv_engine.specs.declared.report.Report.{Report}
 
 -- what is told of a Deferred: its name at its making, whether it is fired, its value, which one it waits for, and its count of pauses
 pub record Shown : Type 0 where
@@ -110,6 +109,6 @@ outcome_shown s = record { name = s.name; pauses = s.pauses; state = state_of s.
 abbrev pub read_back : ℕ → List Entry → Option Outcome
 read_back n entries = option_map outcome_shown (told_by n entries)
 
--- what a run has made of each Deferred is told by its journal, and of no other does the journal tell
+-- the outcome of each Deferred in a report is told by its journal, and of no other does the journal tell
 abbrev pub OutcomesAreToldByTheJournal : Type 0
-OutcomesAreToldByTheJournal = (script : Script) (w : World) → Means script w → (n : ℕ) → read_back n w.journal.entries ≡ option_map outcome_of (slice_get w.records n)
+OutcomesAreToldByTheJournal = (script : Script) (report : Report) → Reports script report → (n : ℕ) → read_back n report.journal.entries ≡ slice_get report.outcomes n

@@ -1,4 +1,3 @@
-use Rattle.std.proofs.Common.{◌≡◌}
 use Rattle.dv_engine.specs.Bounds.{Bounded}
 use Rattle.dv_engine.specs.Frames.{AllLead}
 use Rattle.dv_engine.proofs.Halts.{turns_of}
