@@ -14,7 +14,7 @@ use Rattle.dv_journal.specs.Journal.{Written, fits, total_weight}
 use Rattle.dv_journal.specs.declared.entry.Entry.{Entry}
 use Rattle.dv_journal.specs.declared.entry.Entry.TheVariants as entry
 use Rattle.dv_journal.specs.declared.error.Stop.{Stop}
-use Rattle.dv_script.specs.declared.action.Action.{Action, out-Action}
+use Rattle.dv_script.specs.declared.action.Action.{out-Action}
 use Rattle.dv_script.specs.declared.action.Action.TheViews.{outs-Deferred, outs-Callback, outs-Errback, outs-AddCallback, outs-AddErrback, outs-AddBoth, outs-AddCallbacks, outs-Chain, outs-Pause, outs-Unpause, outs-Note}
 use Rattle.dv_script.specs.declared.body.Body.{Body}
 use Rattle.dv_script.specs.declared.event.Event.{Event}
@@ -44,15 +44,14 @@ use Rattle.dv_store.specs.declared.store.Step.TheVariants.{Nothing, Passed, Run,
 use Rattle.dv_engine.proofs.FrameLaws.{turned_leads, act_leads}
 use Rattle.dv_engine.proofs.Mirror as m
 use Rattle.dv_engine.specs.Deed.{Deed, FireWith, AddTo, deed_of}
-use Rattle.dv_engine.specs.Frames.{Turned, settle_next, with_deferred, side_begun, settled, begun, gone_on, rest_turned, turned, AllLead}
+use Rattle.dv_engine.specs.Frames.{Turned, settle_next, with_deferred, side_begun, settled, begun, gone_on, turned, AllLead}
 use Rattle.dv_engine.specs.Meaning.{Gives, told_of, Runs}
 use Rattle.dv_engine.specs.Settling.{place}
 use Rattle.dv_engine.specs.Task.{Act}
-use Rattle.dv_engine.specs.declared.frame.Frame.{Frame}
 use Rattle.dv_engine.specs.declared.frame.Frame.TheVariants as frame
 use Rattle.dv_world.specs.Ending.{fault}
-use Rattle.dv_world.specs.Pair.{passes, side_for, chain}
-use Rattle.dv_world.specs.World.{World, state_of, value_of, deferred_at, after, moved, named, fired, unpaused, step, put, put_deferred, append, pause, make, fire, unpause, tell, unbound}
+use Rattle.dv_world.specs.Pair.{passes, side_for}
+use Rattle.dv_world.specs.World.{World, value_of, deferred_at, after, moved, named, fired, unpaused, step, put, put_deferred, append, pause, make, fire, unpause, tell}
 use Rattle.dv_world.specs.declared.pair.Pair.{Pair}
 use Rattle.dv_world.specs.declared.performed.Performed.{Performed}
 use Rattle.dv_world.specs.declared.performed.Performed.TheVariants.{Done, Gave, Raised, Awaits}
