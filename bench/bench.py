@@ -66,11 +66,33 @@ def deep_nesting(n):
     return script([event for _ in range(n) for event in (["deferred", "d"], ["callback", "d", value])])
 
 
+def nested_firings(n):
+    events = [["deferred", "d%d" % i] for i in range(n + 1)]
+    events += [["addCallback", "d%d" % i, {"do": [["callback", "d%d" % (i + 1), 0]]}] for i in range(n)]
+    return script(events + [["callback", "d0", 0]])
+
+
+def chained_deferreds(n):
+    events = [["deferred", "d%d" % i] for i in range(n + 1)]
+    events += [["chain", "d%d" % i, "d%d" % (i + 1)] for i in range(n)]
+    return script(events + [["callback", "d0", 0]])
+
+
+def waits_in_a_row(n):
+    events = [["deferred", "d%d" % i] for i in range(n + 1)]
+    for i in range(n):
+        events += [["addCallback", "d%d" % i, {"end": ["wait", "d%d" % (i + 1)]}], ["callback", "d%d" % i, 0]]
+    return script(events + [["callback", "d%d" % n, 0]])
+
+
 # name, the script of a size, the least size
 BENCHES = [
     ("many Deferreds", many_deferreds, 1000),
     ("one name again and again", one_name_again, 2000),
     ("a chain of callbacks", long_chain, 1100),
+    ("nested firings", nested_firings, 500),
+    ("chained Deferreds", chained_deferreds, 1000),
+    ("waits in a row", waits_in_a_row, 450),
     ("pairs that pass", pairs_that_pass, 2000),
     ("refused firings", refused_firings, 2000),
     ("many notes", many_notes, 2600),

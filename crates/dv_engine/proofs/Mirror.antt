@@ -1,339 +1,460 @@
--- Small worlds whose runs compute. Values are numbers, texts and plain failures, bodies are ends alone, and an entry shows what it weighs.
-use Rattle.std.proofs.Common.{ℕ, zero, suc, ℤ, ◌+◌, ◌+ℤ◌, Bool, true, false, not, ◌&&◌, if◌then◌else◌, nat_le, List, [], ◌∷◌, ◌++◌, map, length, Option, None, Some, is_none, option_map, slice_get, slice_set, codes}
-use Rattle.dv_value.specs.Builtin.{name_error, type_error, overflow_error, already_called_error}
-use Rattle.dv_value.specs.Classes.{check}
-use Rattle.dv_value.specs.Failure.{plain_failure}
+-- Small worlds whose runs compute: the actions of bodies are plain data, and the size of a value is read off its outermost layer.
+use Rattle.std.proofs.Common.{ℕ, zero, suc, ◌+◌, ◌-◌, Bool, true, false, nat_le, nat_eq, is_none, if◌then◌else◌, List, [], ◌∷◌, ◌++◌, map, length, Option, None, Some, option_map, Result, Ok, Err, slice_get, slice_set, codes}
+use Rattle.dv_value.specs.Builtin.{assertion_error, already_called_error}
+use Rattle.dv_value.specs.Failure.{is_fault, plain_failure}
+use Rattle.dv_value.specs.Size.{size, failure_size}
 use Rattle.dv_value.specs.declared.classes.Class.{Class}
-use Rattle.dv_value.specs.declared.value.Value.{Value, Null, Int, Text}
+use Rattle.dv_value.specs.declared.failure.Failure.{Failure, out-Failure}
+use Rattle.dv_value.specs.declared.value.Value.{Value, Null, Fault, out-Value}
+use Rattle.dv_value.specs.declared.value.Value.TheOpen.{Value-F}
+use Rattle.dv_journal.specs.Entry.{weight_of}
+use Rattle.dv_journal.specs.Journal.{Written, empty, with_entry}
 use Rattle.dv_journal.specs.declared.entry.Entry.{Entry}
 use Rattle.dv_journal.specs.declared.entry.Entry.TheVariants as entry
-use Rattle.dv_script.specs.declared.action.Action.{Action, Deferred, Callback, Errback, AddCallback, AddErrback, AddBoth, AddCallbacks, Note}
+use Rattle.dv_journal.specs.declared.error.Stop.{Stop}
+use Rattle.dv_journal.specs.declared.error.Stop.TheVariants as stop
+use Rattle.dv_script.specs.declared.action.Action.{Action, Deferred, Callback, Errback, AddCallback, AddErrback, AddBoth, AddCallbacks, Chain, Pause, Unpause, Note}
 use Rattle.dv_script.specs.declared.body.Body.{Body, roll-Body}
 use Rattle.dv_script.specs.declared.body.End.{End}
-use Rattle.dv_script.specs.declared.body.End.TheVariants.{Return, Pass, Plus, Raise, Trap}
+use Rattle.dv_store.specs.Callbacks.{Stepped, is_ready, with_handed, with_result}
+use Rattle.dv_store.specs.Chaining.{is_pending, waiting, taking}
+use Rattle.dv_store.specs.Fire as firing
+use Rattle.dv_store.specs.Pausing as pausing
+use Rattle.dv_store.specs.Pausing.{with_pauses}
+use Rattle.dv_store.specs.Record.{new_record, with_item, changing}
+use Rattle.dv_store.specs.Telling.{State, Told, untold}
+use Rattle.dv_store.specs.declared.error.StoreFault.{StoreFault}
+use Rattle.dv_store.specs.declared.error.StoreFault.TheVariants as firing_fault
+use Rattle.dv_store.specs.declared.error.UnpauseFault.{UnpauseFault}
+use Rattle.dv_store.specs.declared.error.UnpauseFault.TheVariants as unpause_fault
+use Rattle.dv_store.specs.declared.record.Item.{Item}
+use Rattle.dv_store.specs.declared.record.Item.TheVariants as item
 use Rattle.dv_store.specs.declared.record.Record.{Record}
+use Rattle.dv_store.specs.declared.store.Placed.{Placed}
+use Rattle.dv_store.specs.declared.store.Placed.TheVariants.{Taken, Waits}
 use Rattle.dv_store.specs.declared.store.Step.{Step}
-use Rattle.dv_store.specs.declared.store.Step.TheVariants as move
-use Rattle.dv_engine.specs.Ending.{fault, fits}
-use Rattle.dv_engine.specs.Names.{Names, number_of, with_name}
-use Rattle.dv_engine.specs.Pair.{Bodies}
-use Rattle.dv_engine.specs.World.{World}
+use Rattle.dv_store.specs.declared.store.Step.TheVariants.{Nothing, Passed, Run, Handed}
+use Rattle.dv_engine.specs.declared.frame.Frame.{Frame}
+use Rattle.dv_engine.specs.declared.frame.Frame.TheVariants as frame
+use Rattle.dv_world.specs.Ending.{fault, ended}
+use Rattle.dv_world.specs.Names.{Names, with_name}
+use Rattle.dv_world.specs.World.{World, value_of, deferred_at, unbound}
+use Rattle.dv_world.specs.declared.pair.Pair.{Pair}
+use Rattle.dv_world.specs.declared.pair.Side.{Side}
+use Rattle.dv_world.specs.declared.pair.Side.TheVariants as side
+use Rattle.dv_world.specs.declared.performed.Performed.{Performed}
+use Rattle.dv_world.specs.declared.performed.Performed.TheVariants.{Done, Gave, Raised, Awaits}
 
--- null, a number, a text, or a failure with none inside
-pub data Plain : Type 0 where
-  Blank : Plain
-  Number : (n : ℤ) → Plain
-  Words : (text : List ℕ) → Plain
-  Failed : (class : ℕ) (message : List ℕ) → Plain
+mutual
+  -- what a body does: actions, and then its end
+  pub data Work : Type 0 where
+    Ends : (end : End) → Work
+    First : (doing : Doing) (rest : Work) → Work
 
--- the value that it stands for
-abbrev pub value_of_plain : Plain → Value
-value_of_plain Blank = Null
-value_of_plain (Number n) = Int n
-value_of_plain (Words text) = Text text
-value_of_plain (Failed class message) = fault class message
+  -- an action
+  pub data Doing : Type 0 where
+    Makes : (name : List ℕ) → Doing
+    Calls : (name : List ℕ) (value : Value) → Doing
+    Fails : (name : List ℕ) (class : ℕ) (message : List ℕ) → Doing
+    AddsCallback : (name : List ℕ) (body : Work) → Doing
+    AddsErrback : (name : List ℕ) (body : Work) → Doing
+    AddsBoth : (name : List ℕ) (body : Work) → Doing
+    AddsCallbacks : (name : List ℕ) (callback errback : Work) → Doing
+    Chains : (name next : List ℕ) → Doing
+    Pauses : (name : List ℕ) → Doing
+    Unpauses : (name : List ℕ) → Doing
+    Notes : (text : List ℕ) → Doing
 
--- how much an entry weighs more for showing it
-abbrev pub plain_size : Plain → ℕ
-plain_size Blank = 1
-plain_size (Number n) = 1
-plain_size (Words text) = 1 + length text
-plain_size (Failed class message) = 1 + length message + 0
+-- the end that it comes to
+abbrev pub end_of : Work → End
+end_of (Ends end) = end
+end_of (First doing rest) = end_of rest
 
--- whether it stands for a failure
-abbrev pub has_failed : Plain → Bool
-has_failed Blank = false
-has_failed (Number n) = false
-has_failed (Words text) = false
-has_failed (Failed class message) = true
+-- the actions that it stands for
+abbrev mutual
+  pub actions_of : Work → List Action
+  actions_of (Ends end) = []
+  actions_of (First doing rest) = action_of doing ∷ actions_of rest
 
--- what a body without actions does
-pub data Finish : Type 0 where
-  Gives : (plain : Plain) → Finish
-  Same : Finish
-  More : (n : ℤ) → Finish
-  Raises : (class : ℕ) (message : List ℕ) → Finish
-  Catches : (listed : List ℕ) (plain : Plain) → Finish
+  pub action_of : Doing → Action
+  action_of (Makes name) = Deferred name None
+  action_of (Calls name value) = Callback name value
+  action_of (Fails name class message) = Errback name class message
+  action_of (AddsCallback name body) = AddCallback name (roll-Body (record { actions = actions_of body; end = end_of body }))
+  action_of (AddsErrback name body) = AddErrback name (roll-Body (record { actions = actions_of body; end = end_of body }))
+  action_of (AddsBoth name body) = AddBoth name (roll-Body (record { actions = actions_of body; end = end_of body }))
+  action_of (AddsCallbacks name callback errback) =
+      AddCallbacks name (roll-Body (record { actions = actions_of callback; end = end_of callback })) (roll-Body (record { actions = actions_of errback; end = end_of errback }))
+  action_of (Chains name next) = Chain name next
+  action_of (Pauses name) = Pause name
+  action_of (Unpauses name) = Unpause name
+  action_of (Notes text) = Note text
 
--- the end that it stands for, and the body
-abbrev pub end_of : Finish → End
-end_of (Gives plain) = Return (value_of_plain plain)
-end_of Same = Pass
-end_of (More n) = Plus n
-end_of (Raises class message) = Raise class message
-end_of (Catches listed plain) = Trap listed (value_of_plain plain)
+-- the body that it stands for
+abbrev pub body_of : Work → Body
+body_of work = roll-Body (record { actions = actions_of work; end = end_of work })
 
-abbrev pub body_of : Finish → Body
-body_of finish = roll-Body (record { actions = []; end = end_of finish })
+-- what runs on the value of a Deferred
+pub data Role : Type 0 where
+  Does : (work : Work) → Role
+  Fires : (e : ℕ) → Role
 
--- a sum of 64 bits, or an OverflowError
-abbrev pub sum_of : ℤ → Plain
-sum_of n = if fits n then Number n else Failed overflow_error (codes "plus")
+-- the side that it stands for
+abbrev pub side_of : Role → Side
+side_of (Does work) = side.Body (body_of work)
+side_of (Fires e) = side.Fire e
 
--- what each end gives for an input
-abbrev pub more : ℤ → Plain → Plain
-more n Blank = Failed type_error (codes "plus")
-more n (Number m) = sum_of (m +ℤ n)
-more n (Words text) = Failed type_error (codes "plus")
-more n (Failed class message) = Failed type_error (codes "plus")
-
-abbrev pub caught_by : Option ℕ → Plain → Plain → Plain
-caught_by None plain input = input
-caught_by (Some class) plain input = plain
-
-abbrev pub caught : List Class → List ℕ → Plain → Plain → Plain
-caught table listed plain Blank = Failed type_error (codes "trap")
-caught table listed plain (Number n) = Failed type_error (codes "trap")
-caught table listed plain (Words text) = Failed type_error (codes "trap")
-caught table listed plain (Failed class message) = caught_by (check table class listed) plain (Failed class message)
-
-abbrev pub finished : List Class → Finish → Plain → Plain
-finished table (Gives plain) input = plain
-finished table Same input = input
-finished table (More n) input = more n input
-finished table (Raises class message) input = Failed class message
-finished table (Catches listed plain) input = caught table listed plain input
-
--- the sides of a pair
+-- a pair
 pub record Sides : Type 0 where
-  pub callback : Option Finish
-  pub errback : Option Finish
+  pub callback : Option Role
+  pub errback : Option Role
 
--- the pair that they stand for
-abbrev pub bodies_of : Sides → Bodies
-bodies_of sides = record { callback = option_map body_of sides.callback; errback = option_map body_of sides.errback }
+-- the pair that it stands for
+abbrev pub pair_of : Sides → Pair
+pair_of sides = record { callback = option_map side_of sides.callback; errback = option_map side_of sides.errback }
 
--- the side for a value or a failure, and what it gives
-abbrev pub side_at : Sides → Bool → Option Finish
-side_at sides failed = if failed then sides.errback else sides.callback
+-- the side for a value, which may be missing
+abbrev pub role_for : Sides → Bool → Option Role
+role_for sides failed = if failed then sides.errback else sides.callback
 
-abbrev pub side_gave : List Class → Option Finish → Plain → Plain
-side_gave table None input = input
-side_gave table (Some finish) input = finished table finish input
+abbrev pub lacks : Sides → Bool → Bool
+lacks sides failed = is_none (role_for sides failed)
 
 -- what is kept of a Deferred
-pub record Kept : Type 0 where
-  pub name : Option (List ℕ)
-  pub fired : Bool
-  pub plain : Plain
-  pub sides : List Sides
-  pub running : Bool
+abbrev pub Kept : Type 0
+Kept = Record Sides Body
+
+abbrev pub item_of : Item Sides → Item Pair
+item_of (item.Pair sides) = item.Pair (pair_of sides)
+item_of (item.HandOver c) = item.HandOver c
 
 -- the record that it stands for
-abbrev pub record_of : Kept → Record Bodies Body
-record_of kept = record { name = kept.name; fired = kept.fired; value = value_of_plain kept.plain; items = map bodies_of kept.sides; running = kept.running; canceller = None }
+abbrev pub record_of : Kept → Record Pair Body
+record_of r =
+    record { name = r.name; fired = r.fired; value = r.value; items = map item_of r.items; pauses = r.pauses; waits_for = r.waits_for; running = r.running; canceller = r.canceller }
 
--- an entry
-pub data Mark : Type 0 where
-  Made : (d : ℕ) (name : Option (List ℕ)) → Mark
-  Added : (d : ℕ) → Mark
-  Fired : (d : ℕ) (plain : Plain) → Mark
-  Refused : (d : ℕ) → Mark
-  Ran : (d : ℕ) → Mark
-  Became : (d : ℕ) (plain : Plain) → Mark
-  Noted : (text : List ℕ) → Mark
-  Escaped : (class : ℕ) (message : List ℕ) → Mark
+-- the Deferreds and the journal
+abbrev pub Both : Type 0
+Both = State Sides Body
 
--- the entry that it stands for
-abbrev pub entry_of : Mark → Entry
-entry_of (Made d name) = entry.New d name
-entry_of (Added d) = entry.Add d
-entry_of (Fired d plain) = entry.Fire d (value_of_plain plain)
-entry_of (Refused d) = entry.Refuse d
-entry_of (Ran d) = entry.Run d
-entry_of (Became d plain) = entry.Set d (value_of_plain plain)
-entry_of (Noted text) = entry.Note text
-entry_of (Escaped class message) = entry.Unhandled (plain_failure class message)
-
--- how much it counts against the limit
-abbrev pub mark_weight : Mark → ℕ
-mark_weight (Made d name) = 1
-mark_weight (Added d) = 1
-mark_weight (Fired d plain) = 1 + plain_size plain
-mark_weight (Refused d) = 1
-mark_weight (Ran d) = 1
-mark_weight (Became d plain) = 1 + plain_size plain
-mark_weight (Noted text) = 1 + (1 + length text)
-mark_weight (Escaped class message) = 1 + (1 + length message + 0)
-
-abbrev pub marks_weigh : List Mark → ℕ
-marks_weigh [] = 0
-marks_weigh (mark ∷ marks) = mark_weight mark + marks_weigh marks
+abbrev pub both_of : Both → State Pair Body
+both_of s = (map record_of s.0, s.1)
 
 -- a world
 pub record Small : Type 0 where
   pub classes : List Class
   pub names : Names
   pub kept : List Kept
-  pub marks : List Mark
-  pub limit : ℕ
+  pub journal : Written
   pub stopped : Bool
 
 -- the world that it stands for
 abbrev pub world_of : Small → World
-world_of s = record { classes = s.classes; names = s.names; records = map record_of s.kept; journal = record { entries = map entry_of s.marks; limit = s.limit }; stopped = s.stopped }
+world_of s = record { classes = s.classes; names = s.names; records = map record_of s.kept; journal = s.journal; stopped = s.stopped }
 
--- whether the marks stay within the limit with this one
-abbrev pub has_room : Mark → Small → Bool
-has_room mark s = nat_le (marks_weigh s.marks + mark_weight mark) s.limit
+-- nothing is made and nothing is told at first
+abbrev pub first_small : List Class → ℕ → Small
+first_small classes limit = record { classes = classes; names = []; kept = []; journal = empty limit; stopped = false }
 
--- the mark is written and then the change is made, or the run stops
-abbrev pub with_mark : Mark → List Kept → Small → Small
-with_mark mark changed s = record s { kept = changed; marks = s.marks ++ mark ∷ [] }
+-- the move that a move stands for
+abbrev pub move_of : Step Sides → Step Pair
+move_of Nothing = Nothing
+move_of Passed = Passed
+move_of (Run sides) = Run (pair_of sides)
+move_of (Handed c) = Handed c
 
-abbrev pub with_end : Small → Small
-with_end s = record s { stopped = true }
+-- the size of a failure, which computes where it has none inside
+abbrev pub failure_sized_by : {S : Type 0} → Failure → Option S → ℕ
+failure_sized_by f None = 1 + length (out-Failure f).message + 0
+failure_sized_by f (Some sub) = failure_size f
 
-abbrev pub marked : Mark → List Kept → Small → Small
-marked mark changed s = if has_room mark s then with_mark mark changed s else with_end s
+abbrev pub failure_sized : Failure → ℕ
+failure_sized f = failure_sized_by f (out-Failure f).sub
 
--- the value of what was found; null where nothing was
-abbrev pub plain_at : Option Kept → Plain
-plain_at None = Blank
-plain_at (Some kept) = kept.plain
+-- the size of a value, which computes where it isn't a list
+abbrev pub sized_by : Value → Value-F Value → ℕ
+sized_by v Value-F.Null = 1
+sized_by v (Value-F.Bool b) = 1
+sized_by v (Value-F.Int n) = 1
+sized_by v (Value-F.Text t) = 1 + length t
+sized_by v (Value-F.List vs) = size v
+sized_by v (Value-F.Fault f) = failure_sized f
 
--- the first move of settling
-pub data Move : Type 0 where
-  Stays : Move
-  Passes : Move
-  Runs : (sides : Sides) → Move
+abbrev pub sized : Value → ℕ
+sized v = sized_by v (out-Value v)
 
--- the move that it stands for
-abbrev pub move_of : Move → Step Bodies
-move_of Stays = move.Nothing
-move_of Passes = move.Passed
-move_of (Runs sides) = move.Run (bodies_of sides)
+-- the weight of an entry, by these sizes where it shows a value or a failure of a Deferred
+abbrev pub weighed : Entry → ℕ
+weighed (entry.Fire d value) = 1 + sized value
+weighed (entry.Set d value) = 1 + sized value
+weighed (entry.Take d e value) = 1 + sized value
+weighed (entry.Hand d c value) = 1 + sized value
+weighed (entry.Unhandled failure) = 1 + failure_sized failure
+weighed told = weight_of told
 
--- a pair without a side for the value passes it on; else its side runs, where that can be told
-abbrev pub use_sides : ℕ → Kept → Sides → List Sides → Small → Move × Small
-use_sides d kept sides rest s =
-    if is_none (side_at sides (has_failed kept.plain))
-    then (Passes, record s { kept = slice_set s.kept d (record kept { sides = rest }) })
-    else if has_room (Ran d) s
-    then (Runs sides, with_mark (Ran d) (slice_set s.kept d (record kept { sides = rest; running = true })) s)
-    else (Stays, with_end s)
+abbrev pub all_weighed : List Entry → ℕ
+all_weighed [] = 0
+all_weighed (told ∷ entries) = weighed told + all_weighed entries
 
-abbrev pub use_first : ℕ → Kept → List Sides → Small → Move × Small
-use_first d kept [] s = (Stays, s)
-use_first d kept (sides ∷ rest) s = use_sides d kept sides rest s
+-- whether the journal stays within its limit with this entry
+abbrev pub has_room : Written → Entry → Bool
+has_room journal told = nat_le (all_weighed journal.entries + weighed told) journal.limit
 
-abbrev pub move_at : ℕ → Option Kept → Small → Move × Small
-move_at d None s = (Stays, s)
-move_at d (Some kept) s = if kept.fired && not kept.running then use_first d kept kept.sides s else (Stays, s)
+-- a change that was told is made, or the run stops
+abbrev pub with_both : Both → Small → Small
+with_both b s = record s { kept = b.0; journal = b.1 }
 
-abbrev pub moved : ℕ → Small → Move × Small
-moved d s = if s.stopped then (Stays, s) else move_at d (slice_get s.kept d) s
+abbrev pub with_stop : Small → Small
+with_stop s = record s { stopped = true }
+
+abbrev pub after : {A : Type 0} → Result A Stop → Both → Small → Small
+after (Ok done) b s = with_both b s
+after (Err stop) b s = with_stop (with_both b s)
+
+abbrev pub moved : Result (Step Sides) Stop → Both → Small → Step Sides × Small
+moved (Ok move) b s = (move, with_both b s)
+moved (Err stop) b s = (Nothing, with_stop (with_both b s))
+
+abbrev pub named : List ℕ → Result ℕ Stop → Both → Small → Small
+named name (Ok d) b s = record (with_both b s) { names = with_name name d s.names }
+named name (Err stop) b s = with_stop (with_both b s)
+
+abbrev pub fired : Result Unit StoreFault → Both → Small → Performed × Small
+fired (Ok done) b s = (Done, with_both b s)
+fired (Err firing_fault.AlreadyCalled) b s = (Raised (plain_failure already_called_error []), with_both b s)
+fired (Err firing_fault.Limit) b s = (Done, with_stop (with_both b s))
+fired (Err firing_fault.OutOfMemory) b s = (Done, with_stop (with_both b s))
+
+abbrev pub unpaused : Result Unit UnpauseFault → Both → Small → Performed × Small
+unpaused (Ok done) b s = (Done, with_both b s)
+unpaused (Err unpause_fault.NotPaused) b s = (Raised (plain_failure assertion_error (codes "not paused")), with_both b s)
+unpaused (Err unpause_fault.Limit) b s = (Done, with_stop (with_both b s))
+unpaused (Err unpause_fault.OutOfMemory) b s = (Done, with_stop (with_both b s))
+
+-- the entry is written and then the change is made, or it doesn't fit
+abbrev pub telling : {A : Type 0} → Entry → A → List Kept → Both → Told A Sides Body
+telling told answer changed s = if has_room s.1 told then (Ok answer, (changed, with_entry s.1 told)) else (Err stop.Limit, s)
+
+-- one item is used
+abbrev pub use_pair : ℕ → Kept → Sides → List (Item Sides) → Both → Stepped Sides Body
+use_pair d r sides rest s =
+    if lacks sides (is_fault r.value)
+    then untold Passed (slice_set s.0 d (record r { items = rest }), s.1)
+    else telling (entry.Run d) (Run sides) (slice_set s.0 d (record r { items = rest; running = true })) s
+
+abbrev pub use_item : ℕ → Kept → Item Sides → List (Item Sides) → Both → Stepped Sides Body
+use_item d r (item.Pair sides) rest s = use_pair d r sides rest s
+use_item d r (item.HandOver c) rest s =
+    telling (entry.Hand d c r.value) (Handed c) (changing c (with_handed r.value) (slice_set s.0 d (record r { items = rest; value = Null }))) s
+
+abbrev pub use_first : ℕ → Kept → List (Item Sides) → Both → Stepped Sides Body
+use_first d r [] s = untold Nothing s
+use_first d r (first ∷ rest) s = use_item d r first rest s
+
+abbrev pub step_found : ℕ → Option Kept → Both → Stepped Sides Body
+step_found d None s = untold Nothing s
+step_found d (Some r) s = if is_ready r then use_first d r r.items s else untold Nothing s
+
+abbrev pub step : ℕ → Small → Step Sides × Small
+step d s =
+    if s.stopped then (Nothing, s) else
+    let told = step_found d (slice_get s.kept d) (s.kept, s.journal) in moved told.0 told.1 s
 
 -- what a side gave is put in place
-abbrev pub put_at : ℕ → Plain → Option Kept → Small → Small
-put_at d plain None s = s
-put_at d plain (Some kept) s = marked (Became d plain) (slice_set s.kept d (record kept { plain = plain; running = false })) s
+abbrev pub put_found : ℕ → Value → Option Kept → Both → Told Unit Sides Body
+put_found d value None s = untold tt s
+put_found d value (Some r) s = telling (entry.Set d value) tt (slice_set s.0 d (with_result value r)) s
 
-abbrev pub placed : ℕ → Plain → Small → Small
-placed d plain s = if s.stopped then s else put_at d plain (slice_get s.kept d) s
+abbrev pub put : ℕ → Value → Small → Small
+put d value s =
+    if s.stopped then s else
+    let told = put_found d value (slice_get s.kept d) (s.kept, s.journal) in after told.0 told.1 s
+
+-- a side gave a Deferred
+abbrev pub put_from : ℕ → ℕ → Kept → Both → Told Placed Sides Body
+put_from d e r s =
+    if is_pending d e r
+    then telling (entry.Wait d e) Waits (waiting d e s.0) s
+    else telling (entry.Take d e r.value) Taken (taking d e r.value s.0) s
+
+abbrev pub put_deferred_found : ℕ → ℕ → Option Kept → Option Kept → Both → Told Placed Sides Body
+put_deferred_found d e None given s = untold Waits s
+put_deferred_found d e (Some r) None s = untold Waits s
+put_deferred_found d e (Some r) (Some given) s = put_from d e given s
+
+abbrev pub put_deferred : ℕ → ℕ → Small → Small
+put_deferred d e s =
+    if s.stopped then s else
+    let told = put_deferred_found d e (slice_get s.kept d) (slice_get s.kept e) (s.kept, s.journal) in after told.0 told.1 s
 
 -- a pair is added
-abbrev pub append_at : ℕ → Sides → Option Kept → Small → Small
-append_at d sides None s = s
-append_at d sides (Some kept) s = marked (Added d) (slice_set s.kept d (record kept { sides = kept.sides ++ sides ∷ [] })) s
+abbrev pub append_found : ℕ → Sides → Option Kept → Both → Told Unit Sides Body
+append_found d sides None s = untold tt s
+append_found d sides (Some r) s = telling (entry.Add d) tt (slice_set s.0 d (with_item (item.Pair sides) r)) s
 
-abbrev pub appended : ℕ → Sides → Small → Small
-appended d sides s = if s.stopped then s else append_at d sides (slice_get s.kept d) s
+abbrev pub append : ℕ → Sides → Small → Small
+append d sides s =
+    if s.stopped then s else
+    let told = append_found d sides (slice_get s.kept d) (s.kept, s.journal) in after told.0 told.1 s
+
+-- a Deferred is paused once more
+abbrev pub pause_found : ℕ → Option Kept → Both → Told Unit Sides Body
+pause_found d None s = untold tt s
+pause_found d (Some r) s = telling (entry.Pause d) tt (slice_set s.0 d (with_pauses (r.pauses + 1) r)) s
+
+abbrev pub pause : ℕ → Small → Small
+pause d s =
+    if s.stopped then s else
+    let told = pause_found d (slice_get s.kept d) (s.kept, s.journal) in after told.0 told.1 s
 
 -- a Deferred is made
-abbrev pub unfired : List ℕ → Kept
-unfired name = record { name = Some name; fired = false; plain = Blank; sides = []; running = false }
-
-abbrev pub made : List ℕ → Small → Small
-made name s =
+abbrev pub make : List ℕ → Small → Small
+make name s =
     if s.stopped then s else
-    if has_room (Made (length s.kept) (Some name)) s
-    then record s { kept = s.kept ++ unfired name ∷ []; marks = s.marks ++ Made (length s.kept) (Some name) ∷ []; names = with_name name (length s.kept) s.names }
-    else with_end s
+    let told = telling (entry.New (length s.kept) (Some name)) (length s.kept) (s.kept ++ new_record (Some name) None ∷ []) (s.kept, s.journal) in
+    named name told.0 told.1 s
 
--- a Deferred is fired, and whether it was called already
-abbrev pub fire_at : ℕ → Plain → Option Kept → Small → Bool × Small
-fire_at d plain None s = (false, s)
-fire_at d plain (Some kept) s =
-    if kept.fired
-    then (has_room (Refused d) s, marked (Refused d) s.kept s)
-    else (false, marked (Fired d plain) (slice_set s.kept d (record kept { fired = true; plain = plain })) s)
+-- a Deferred is fired
+abbrev pub firing_told : Entry → Result Unit StoreFault → List Kept → Both → firing.Fired Sides Body
+firing_told told answer changed s = if has_room s.1 told then (answer, (changed, with_entry s.1 told)) else (Err firing_fault.Limit, s)
 
-abbrev pub fired : ℕ → Plain → Small → Bool × Small
-fired d plain s = if s.stopped then (false, s) else fire_at d plain (slice_get s.kept d) s
+abbrev pub fire_found : ℕ → Value → Option Kept → Both → firing.Fired Sides Body
+fire_found d value None s = (Ok tt, s)
+fire_found d value (Some r) s =
+    if r.fired
+    then firing_told (entry.Refuse d) (Err firing_fault.AlreadyCalled) s.0 s
+    else firing_told (entry.Fire d value) (Ok tt) (slice_set s.0 d (firing.with_firing value r)) s
+
+abbrev pub fire : ℕ → Value → Small → Performed × Small
+fire d value s =
+    if s.stopped then (Done, s) else
+    let told = fire_found d value (slice_get s.kept d) (s.kept, s.journal) in fired told.0 told.1 s
+
+-- a Deferred is paused once less
+abbrev pub less_paused : ℕ → Kept → Both → pausing.Unpaused Sides Body
+less_paused d r s =
+    if has_room s.1 (entry.Unpause d)
+    then (Ok tt, (slice_set s.0 d (with_pauses (r.pauses - 1) r), with_entry s.1 (entry.Unpause d)))
+    else (Err unpause_fault.Limit, s)
+
+abbrev pub unpause_found : ℕ → Option Kept → Both → pausing.Unpaused Sides Body
+unpause_found d None s = (Ok tt, s)
+unpause_found d (Some r) s = if nat_eq r.pauses 0 then (Err unpause_fault.NotPaused, s) else less_paused d r s
+
+abbrev pub unpause : ℕ → Small → Performed × Small
+unpause d s =
+    if s.stopped then (Done, s) else
+    let told = unpause_found d (slice_get s.kept d) (s.kept, s.journal) in unpaused told.0 told.1 s
 
 -- an entry of no Deferred's change
-abbrev pub told : Mark → Small → Small
-told mark s = if s.stopped then s else marked mark s.kept s
+abbrev pub tell : Entry → Small → Small
+tell told s =
+    if s.stopped then s else
+    if has_room s.journal told then record s { journal = with_entry s.journal told } else with_stop s
 
--- settling, where its moves are fewer than so many
-abbrev pub settled_by : (Small → Option Small) → ℕ → Move → Small → Option Small
-settled_by go d Stays s = Some s
-settled_by go d Passes s = go s
-settled_by go d (Runs sides) s =
-    let input = plain_at (slice_get s.kept d) in
-    go (placed d (side_gave s.classes (side_at sides (has_failed input)) input) s)
+-- what is still to be done
+pub data Still : Type 0 where
+  Settles : (d : ℕ) → Still
+  Places : (d : ℕ) → Still
+  Rests : (itself : Option ℕ) (work : Work) (input : Value) → Still
 
-abbrev pub settled : ℕ → ℕ → Small → Option Small
-settled zero d s = None
-settled (suc n) d s = settled_by (settled n d) d (moved d s).0 (moved d s).1
+-- the frame that it stands for
+abbrev pub frame_of : Still → Frame
+frame_of (Settles d) = frame.Settle d
+frame_of (Places d) = frame.Place d
+frame_of (Rests itself work input) = frame.Rest (record { itself = itself; actions = actions_of work; end = end_of work; input = input })
 
--- what a script does
-pub data Doing : Type 0 where
-  Makes : (name : List ℕ) → Doing
-  Calls : (name : List ℕ) (plain : Plain) → Doing
-  Fails : (name : List ℕ) (class : ℕ) (message : List ℕ) → Doing
-  AddsCallback : (name : List ℕ) (finish : Finish) → Doing
-  AddsErrback : (name : List ℕ) (finish : Finish) → Doing
-  AddsBoth : (name : List ℕ) (finish : Finish) → Doing
-  AddsCallbacks : (name : List ℕ) (callback errback : Finish) → Doing
-  Notes : (text : List ℕ) → Doing
+-- the stack, what was come to, and the world
+abbrev pub Turn : Type 0
+Turn = List Still × Performed × Small
 
--- the action that it stands for
-abbrev pub action_of : Doing → Action
-action_of (Makes name) = Deferred name None
-action_of (Calls name plain) = Callback name (value_of_plain plain)
-action_of (Fails name class message) = Errback name class message
-action_of (AddsCallback name finish) = AddCallback name (body_of finish)
-action_of (AddsErrback name finish) = AddErrback name (body_of finish)
-action_of (AddsBoth name finish) = AddBoth name (body_of finish)
-action_of (AddsCallbacks name callback errback) = AddCallbacks name (body_of callback) (body_of errback)
-action_of (Notes text) = Note text
+-- the turns of the stack
+abbrev pub settle_next : ℕ → Performed → Small → List Still → Turn
+settle_next d Done s below = (Settles d ∷ below, Done, s)
+settle_next d (Gave value) s below = (below, Gave value, s)
+settle_next d (Raised failure) s below = (below, Raised failure, s)
+settle_next d (Awaits e) s below = (below, Awaits e, s)
 
--- a failure leaves an event
-abbrev pub escaped : ℕ → List ℕ → Small → Small
-escaped class message s = told (Escaped class message) s
+abbrev pub place : ℕ → Performed → Small → Small
+place d Done s = put d Null s
+place d (Gave value) s = put d value s
+place d (Raised failure) s = put d (Fault failure) s
+place d (Awaits e) s = put_deferred d e s
 
--- a second firing is told where it leaves the event
-abbrev pub fired_and_settled : ℕ → ℕ → Bool → Small → Option Small
-fired_and_settled n d true s = Some (escaped already_called_error [] s)
-fired_and_settled n d false s = settled n d s
+abbrev pub side_begun : ℕ → Option Role → Value → Small → List Still → Turn
+side_begun d None input s below = (below, Gave input, s)
+side_begun d (Some (Does work)) input s below = (Rests (Some d) work input ∷ below, Done, s)
+side_begun d (Some (Fires e)) input s below = settle_next e (fire e input s).0 (fire e input s).1 below
 
--- a Deferred is looked up by its name before anything else
-abbrev pub called : ℕ → List ℕ → Plain → Option ℕ → Small → Option Small
-called n name plain None s = Some (escaped name_error name s)
-called n name plain (Some d) s = fired_and_settled n d (fired d plain s).0 (fired d plain s).1
+abbrev pub settled : ℕ → Step Sides → Small → List Still → Turn
+settled d Nothing s below = (below, Done, s)
+settled d Passed s below = (Settles d ∷ below, Done, s)
+settled d (Run sides) s below = let input = value_of d (world_of s) in side_begun d (role_for sides (is_fault input)) input s (Places d ∷ below)
+settled d (Handed c) s below = (Settles c ∷ Settles d ∷ below, Done, s)
 
-abbrev pub added : ℕ → List ℕ → Sides → Option ℕ → Small → Option Small
-added n name sides None s = Some (escaped name_error name s)
-added n name sides (Some d) s = settled n d (appended d sides s)
+abbrev pub with_deferred : Option ℕ → List ℕ → Small → List Still → (ℕ → Turn) → Turn
+with_deferred None name s below next = (below, unbound name, s)
+with_deferred (Some d) name s below next = next d
 
--- what each does
-abbrev pub done : ℕ → Doing → Small → Option Small
-done n (Makes name) s = Some (made name s)
-done n (Calls name plain) s = called n name plain (number_of name s.names) s
-done n (Fails name class message) s = called n name (Failed class message) (number_of name s.names) s
-done n (AddsCallback name finish) s = added n name (record { callback = Some finish; errback = None }) (number_of name s.names) s
-done n (AddsErrback name finish) s = added n name (record { callback = None; errback = Some finish }) (number_of name s.names) s
-done n (AddsBoth name finish) s = added n name (record { callback = Some finish; errback = Some finish }) (number_of name s.names) s
-done n (AddsCallbacks name callback errback) s = added n name (record { callback = Some callback; errback = Some errback }) (number_of name s.names) s
-done n (Notes text) s = Some (told (Noted text) s)
+abbrev pub fires : Option ℕ → List ℕ → Value → Small → List Still → Turn
+fires itself name value s below = with_deferred (deferred_at itself name (world_of s)) name s below (λ d. settle_next d (fire d value s).0 (fire d value s).1 below)
 
--- one after the other
-abbrev pub then_played : (Small → Option Small) → Option Small → Option Small
+abbrev pub adds : Option ℕ → List ℕ → Sides → Small → List Still → Turn
+adds itself name sides s below = with_deferred (deferred_at itself name (world_of s)) name s below (λ d. (Settles d ∷ below, Done, append d sides s))
+
+abbrev pub begun : Option ℕ → Doing → Small → List Still → Turn
+begun itself (Makes name) s below = (below, Done, make name s)
+begun itself (Calls name value) s below = fires itself name value s below
+begun itself (Fails name class message) s below = fires itself name (fault class message) s below
+begun itself (AddsCallback name body) s below = adds itself name (record { callback = Some (Does body); errback = None }) s below
+begun itself (AddsErrback name body) s below = adds itself name (record { callback = None; errback = Some (Does body) }) s below
+begun itself (AddsBoth name body) s below = adds itself name (record { callback = Some (Does body); errback = Some (Does body) }) s below
+begun itself (AddsCallbacks name callback errback) s below = adds itself name (record { callback = Some (Does callback); errback = Some (Does errback) }) s below
+begun itself (Chains name next) s below =
+    with_deferred (deferred_at itself name (world_of s)) name s below
+    (λ d. with_deferred (deferred_at itself next (world_of s)) next s below (λ e. (Settles d ∷ below, Done, append d (record { callback = Some (Fires e); errback = Some (Fires e) }) s)))
+begun itself (Pauses name) s below = with_deferred (deferred_at itself name (world_of s)) name s below (λ d. (below, Done, pause d s))
+begun itself (Unpauses name) s below =
+    with_deferred (deferred_at itself name (world_of s)) name s below (λ d. settle_next d (unpause d s).0 (unpause d s).1 below)
+begun itself (Notes text) s below = (below, Done, tell (entry.Note text) s)
+
+abbrev pub gone_on : Option ℕ → Work → Value → Small → List Still → Turn
+gone_on itself (Ends end) input s below = (below, ended itself end input (world_of s), s)
+gone_on itself (First doing rest) input s below = begun itself doing s (Rests itself rest input ∷ below)
+
+abbrev pub rest_turned : Option ℕ → Work → Value → Performed → Small → List Still → Turn
+rest_turned itself work input Done s below = gone_on itself work input s below
+rest_turned itself work input (Gave value) s below = gone_on itself work input s below
+rest_turned itself work input (Raised failure) s below = (below, Raised failure, s)
+rest_turned itself work input (Awaits e) s below = gone_on itself work input s below
+
+abbrev pub turned : Still → Performed → Small → List Still → Turn
+turned (Settles d) o s below = settled d (step d s).0 (step d s).1 below
+turned (Places d) o s below = (Settles d ∷ below, Done, place d o s)
+turned (Rests itself work input) o s below = rest_turned itself work input o s below
+
+-- what the stack has come to, where that takes so many turns at most
+abbrev pub run : ℕ → List Still → Performed → Small → Option (Performed × Small)
+run n [] o s = Some (o, s)
+run zero (f ∷ below) o s = None
+run (suc n) (f ∷ below) o s = let t = turned f o s below in run n t.0 t.1 t.2
+
+-- what an action of a script came to is told where it is a failure
+abbrev pub told_of : Performed → Small → Small
+told_of Done s = s
+told_of (Gave value) s = s
+told_of (Raised failure) s = tell (entry.Unhandled failure) s
+told_of (Awaits e) s = s
+
+-- an action of a script is performed, in so many turns at most
+abbrev pub acted : ℕ → Doing → Small → Option (Performed × Small)
+acted n doing s = let t = begun None doing s [] in run n t.0 t.1 t.2
+
+-- and then the rest of the script
+abbrev pub then_played : (Small → Option Small) → Option (Performed × Small) → Option Small
 then_played next None = None
-then_played next (Some s) = next s
+then_played next (Some came) = next (told_of came.0 came.1)
 
 abbrev pub played : ℕ → List Doing → Small → Option Small
 played n [] s = Some s
-played n (doing ∷ doings) s = then_played (played n doings) (done n doing s)
+played n (doing ∷ doings) s = then_played (played n doings) (acted n doing s)

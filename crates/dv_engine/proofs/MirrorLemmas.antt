@@ -1,44 +1,95 @@
 -- What a small world computes is what the world of it means.
-use Rattle.std.proofs.Common.{◌≡◌, ℕ, zero, suc, ℤ, ◌+◌, ◌+ℤ◌, Bool, true, false, not, ◌&&◌, cond, List, [], ◌∷◌, ◌++◌, map, length, Option, None, Some, Ok, Err, is_none, option_map, slice_get, slice_set, refl, ap, sym, subst, ◌∙◌, codes}
+use Rattle.std.proofs.Common.{◌≡◌, ℕ, zero, suc, ◌+◌, ◌-◌, Bool, true, false, nat_eq, is_none, List, [], ◌∷◌, ◌++◌, map, length, Option, None, Some, option_map, Result, Ok, Err, cond, slice_get, slice_set, refl, ap, sym, subst, ◌∙◌}
 use Rattle.std.proofs.lemmas.List.{map-append, map-set, length-map}
 use Rattle.std.proofs.lemmas.Option.{slice_get-map}
-use Rattle.std.specs.Option.{option_map_or}
-use denote.Hole.Carrier.{out}
-use Rattle.dv_value.specs.Builtin.{name_error, overflow_error, already_called_error}
-use Rattle.dv_value.specs.Classes.{check}
-use Rattle.dv_value.specs.Failure.{is_fault, class_of, plain_failure}
-use Rattle.dv_value.specs.Size.{size}
-use Rattle.dv_value.specs.declared.classes.Class.{Class}
-use Rattle.dv_value.specs.declared.failure.Failure as failure
-use Rattle.dv_value.specs.declared.value.Value as value
-use Rattle.dv_value.specs.declared.value.Value.{Value, Null}
+use Rattle.dv_value.specs.Failure.{is_fault}
+use Rattle.dv_value.specs.Size.{size, size_step, failure_size, failure_size_step}
+use Rattle.dv_value.specs.declared.failure.Failure.{Failure, out-Failure}
+use Rattle.dv_value.specs.declared.failure.Failure.TheFolds.{fold_out-Failure}
+use Rattle.dv_value.specs.declared.value.Value.{Value, Null, Fault, out-Value}
+use Rattle.dv_value.specs.declared.value.Value.TheFolds.{fold_out-Value}
+use Rattle.dv_value.specs.declared.value.Value.TheOpen.{Value-F}
 use Rattle.dv_journal.specs.Entry.{weight_of}
-use Rattle.dv_journal.specs.Journal.{fits, total_weight}
-use Rattle.dv_journal.specs.declared.error.Stop.TheVariants.{Limit}
+use Rattle.dv_journal.specs.Journal.{Written, fits, total_weight}
+use Rattle.dv_journal.specs.declared.entry.Entry.{Entry}
+use Rattle.dv_journal.specs.declared.entry.Entry.TheVariants as entry
+use Rattle.dv_journal.specs.declared.error.Stop.{Stop}
+use Rattle.dv_script.specs.declared.action.Action.{out-Action}
+use Rattle.dv_script.specs.declared.action.Action.TheViews.{outs-Deferred, outs-Callback, outs-Errback, outs-AddCallback, outs-AddErrback, outs-AddBoth, outs-AddCallbacks, outs-Chain, outs-Pause, outs-Unpause, outs-Note}
 use Rattle.dv_script.specs.declared.body.Body.{Body}
-use Rattle.dv_script.specs.declared.action.Action.TheViews.{out-roll-Body}
 use Rattle.dv_script.specs.declared.event.Event.{Event}
 use Rattle.dv_script.specs.declared.event.Event.TheVariants as event
 use Rattle.dv_store.specs.Callbacks as callbacks
+use Rattle.dv_store.specs.Callbacks.{with_handed, with_result}
+use Rattle.dv_store.specs.Chaining as chaining
+use Rattle.dv_store.specs.Chaining.{with_wait, without_value, waiting, taking}
 use Rattle.dv_store.specs.Fire as firing
+use Rattle.dv_store.specs.Pausing as pausing
+use Rattle.dv_store.specs.Pausing.{with_pauses}
 use Rattle.dv_store.specs.Record as records
-use Rattle.dv_store.specs.Telling.{Told, telling}
-use Rattle.dv_store.specs.declared.error.StoreFault.TheVariants as store_fault
+use Rattle.dv_store.specs.Record.{with_item, changed, changing, new_record}
+use Rattle.dv_store.specs.Telling as tellings
+use Rattle.dv_store.specs.Telling.{State, Told}
+use Rattle.dv_store.specs.declared.error.StoreFault.{StoreFault}
+use Rattle.dv_store.specs.declared.error.StoreFault.TheVariants as firing_fault
+use Rattle.dv_store.specs.declared.error.UnpauseFault.{UnpauseFault}
+use Rattle.dv_store.specs.declared.error.UnpauseFault.TheVariants as unpause_fault
+use Rattle.dv_store.specs.declared.record.Item.{Item}
+use Rattle.dv_store.specs.declared.record.Item.TheVariants as item
 use Rattle.dv_store.specs.declared.record.Record.{Record}
+use Rattle.dv_store.specs.declared.store.Placed.{Placed}
+use Rattle.dv_store.specs.declared.store.Placed.TheVariants.{Taken, Waits}
 use Rattle.dv_store.specs.declared.store.Step.{Step}
-use Rattle.dv_store.specs.declared.store.Step.TheVariants as move
+use Rattle.dv_store.specs.declared.store.Step.TheVariants.{Nothing, Passed, Run, Handed}
+use Rattle.dv_engine.proofs.FrameLaws.{turned_leads, act_leads}
 use Rattle.dv_engine.proofs.Mirror as m
-use Rattle.dv_engine.proofs.Rules.{settle_nothing, settle_passed, settle_run, fires_unbound, fires_settled, fires_refused, adds_unbound, adds_settled, act_deferred, act_callback, act_errback, act_add_callback, act_add_errback, act_add_both, act_add_callbacks, act_note}
-use Rattle.dv_value.proofs.SizeLemmas.{size_null, size_int, size_text, size_plain_failure, size_fault}
-use Rattle.dv_engine.specs.Ending as ending
-use Rattle.dv_engine.specs.Meaning.{Gives, Fires, Adds, told_of, Happens, Runs}
-use Rattle.dv_engine.specs.Names.{number_of, with_name}
-use Rattle.dv_engine.specs.Pair.{Bodies, passes, side_for}
-use Rattle.dv_engine.specs.Settling.{side_gives}
-use Rattle.dv_engine.specs.Task.{Settle}
-use Rattle.dv_engine.specs.World.{World, state_of, after, moved as moved_after, named as named_after, fired as fired_after, step, put, append, make, fire, tell, value_of, unbound}
-use Rattle.dv_engine.specs.declared.performed.Performed.{Performed}
-use Rattle.dv_engine.specs.declared.performed.Performed.TheVariants as performed
+use Rattle.dv_engine.specs.Deed.{Deed, FireWith, AddTo, deed_of}
+use Rattle.dv_engine.specs.Frames.{Turned, settle_next, with_deferred, side_begun, settled, begun, gone_on, turned, AllLead}
+use Rattle.dv_engine.specs.Meaning.{Gives, told_of, Runs}
+use Rattle.dv_engine.specs.Settling.{place}
+use Rattle.dv_engine.specs.Task.{Act}
+use Rattle.dv_engine.specs.declared.frame.Frame.TheVariants as frame
+use Rattle.dv_world.specs.Ending.{fault}
+use Rattle.dv_world.specs.Pair.{passes, side_for}
+use Rattle.dv_world.specs.World.{World, value_of, deferred_at, after, moved, named, fired, unpaused, step, put, put_deferred, append, pause, make, fire, unpause, tell}
+use Rattle.dv_world.specs.declared.pair.Pair.{Pair}
+use Rattle.dv_world.specs.declared.performed.Performed.{Performed}
+use Rattle.dv_world.specs.declared.performed.Performed.TheVariants.{Done, Gave, Raised, Awaits}
+
+-- sizes
+failure_by : (f : Failure) (o : Option _) → (out-Failure f).sub ≡ o → failure_size f ≡ m.failure_sized_by f o
+failure_by f None e = rw (fold_out-Failure ℕ ℕ failure_size_step (λ sub. sub.failure) f, e) refl
+failure_by f (Some sub) e = refl
+
+failure_sized_is : (f : Failure) → failure_size f ≡ m.failure_sized f
+failure_sized_is f = failure_by f _ refl
+
+size_by : (v : Value) (layer : Value-F Value) → out-Value v ≡ layer → size v ≡ m.sized_by v layer
+size_by v Value-F.Null e = rw (fold_out-Value ℕ size_step v, e) refl
+size_by v (Value-F.Bool b) e = rw (fold_out-Value ℕ size_step v, e) refl
+size_by v (Value-F.Int n) e = rw (fold_out-Value ℕ size_step v, e) refl
+size_by v (Value-F.Text t) e = rw (fold_out-Value ℕ size_step v, e) refl
+size_by v (Value-F.List vs) e = refl
+size_by v (Value-F.Fault f) e = rw (fold_out-Value ℕ size_step v, e) (failure_sized_is f)
+
+sized_is : (v : Value) → size v ≡ m.sized v
+sized_is v = size_by v _ refl
+
+-- weights
+weighed_is : (told : Entry) → weight_of told ≡ m.weighed told
+weighed_is (entry.Fire d value) = ap (λ n. 1 + n) (sized_is value)
+weighed_is (entry.Set d value) = ap (λ n. 1 + n) (sized_is value)
+weighed_is (entry.Take d e value) = ap (λ n. 1 + n) (sized_is value)
+weighed_is (entry.Hand d c value) = ap (λ n. 1 + n) (sized_is value)
+weighed_is (entry.Unhandled failure) = ap (λ n. 1 + n) (failure_sized_is failure)
+weighed_is told = refl
+
+all_weighed_is : (entries : List Entry) → total_weight entries ≡ m.all_weighed entries
+all_weighed_is [] = refl
+all_weighed_is (told ∷ entries) = rw (weighed_is told, all_weighed_is entries) refl
+
+room_is : (journal : Written) (told : Entry) → fits journal told ≡ m.has_room journal told
+room_is journal told = rw (all_weighed_is journal.entries, weighed_is told) refl
 
 -- a function of both is one of either
 of_cond : {A B : Type 0} (f : A → B) (b : Bool) (x y : A) → cond b (f x) (f y) ≡ f (cond b x y)
@@ -46,363 +97,421 @@ of_cond f true x y = refl
 of_cond f false x y = refl
 
 -- alike in each case
-both : {A : Type 0} (b : Bool) (x y u v : A) → x ≡ u → y ≡ v → cond b x y ≡ cond b u v
-both true x y u v p q = p
-both false x y u v p q = q
+either : {A : Type 0} (b : Bool) (x y u v : A) → x ≡ u → y ≡ v → cond b x y ≡ cond b u v
+either true x y u v p q = p
+either false x y u v p q = q
 
--- sizes
-sized : (p : m.Plain) → size (m.value_of_plain p) ≡ m.plain_size p
-sized m.Blank = size_null
-sized (m.Number n) = size_int n
-sized (m.Words text) = size_text text
-sized (m.Failed class message) = size_fault class message
+-- what a call on the Deferreds of a small world answers and leaves, as one on those that they stand for
+abbrev left : {R : Type 0} → R × m.Both → R × State Pair Body
+left t = (t.0, m.both_of t.1)
 
--- values
-failed_is : (p : m.Plain) → is_fault (m.value_of_plain p) ≡ m.has_failed p
-unfolding value.out-Value out
-failed_is m.Blank = refl
-failed_is (m.Number n) = refl
-failed_is (m.Words text) = refl
-failed_is (m.Failed class message) = refl
+abbrev move_answer : Result (Step m.Sides) Stop → Result (Step Pair) Stop
+move_answer (Ok move) = Ok (m.move_of move)
+move_answer (Err stop) = Err stop
 
-class_of_plain : (class : ℕ) (message : List ℕ) → class_of (plain_failure class message) ≡ class
-class_of_plain class message = ap (λ layer. layer.class) (failure.out-roll-Failure _)
+abbrev stepped : Told (Step m.Sides) m.Sides Body → Told (Step Pair) Pair Body
+stepped t = (move_answer t.0, m.both_of t.1)
 
-trapped_is : (o : Option ℕ) (plain input : m.Plain) → ending.trapped_by o (m.value_of_plain plain) (m.value_of_plain input) ≡ m.value_of_plain (m.caught_by o plain input)
-trapped_is None plain input = refl
-trapped_is (Some class) plain input = refl
+-- telling
+telling_is : {A : Type 0} (told : Entry) (answer : A) (kept : List m.Kept) (s : m.Both)
+    → tellings.telling told answer (map m.record_of kept) (m.both_of s) ≡ left (m.telling told answer kept s)
+telling_is told answer kept s = rw (room_is s.1 told) (of_cond left (m.has_room s.1 told) _ _)
 
-caught_is : (table : List Class) (listed : List ℕ) (plain input : m.Plain) → ending.end_gives table (m.end_of (m.Catches listed plain)) (m.value_of_plain input) ≡ m.value_of_plain (m.caught table listed plain input)
-unfolding value.out-Value out
-caught_is table listed plain m.Blank = refl
-caught_is table listed plain (m.Number n) = refl
-caught_is table listed plain (m.Words text) = refl
-caught_is table listed plain (m.Failed class message) = rw (class_of_plain class message) (trapped_is (check table class listed) plain (m.Failed class message))
+move_told : (told : Entry) (move : Step m.Sides) (kept : List m.Kept) (s : m.Both)
+    → tellings.telling told (m.move_of move) (map m.record_of kept) (m.both_of s) ≡ stepped (m.telling told move kept s)
+move_told told move kept s = rw (room_is s.1 told) (of_cond stepped (m.has_room s.1 told) (Ok move, (kept, _)) (Err _, s))
 
-more_is : (n : ℤ) (p : m.Plain) → ending.plus_to n (value.out-Value (m.value_of_plain p)) ≡ m.value_of_plain (m.more n p)
-unfolding value.out-Value out
-more_is n m.Blank = refl
-more_is n (m.Number k) = of_cond m.value_of_plain (ending.fits (k +ℤ n)) (m.Number (k +ℤ n)) (m.Failed overflow_error (codes "plus"))
-more_is n (m.Words text) = refl
-more_is n (m.Failed class message) = refl
-
-finished_is : (table : List Class) (f : m.Finish) (p : m.Plain) → ending.end_gives table (m.end_of f) (m.value_of_plain p) ≡ m.value_of_plain (m.finished table f p)
-finished_is table (m.Gives plain) p = refl
-finished_is table m.Same p = refl
-finished_is table (m.More n) p = more_is n p
-finished_is table (m.Raises class message) p = refl
-finished_is table (m.Catches listed plain) p = caught_is table listed plain p
-
--- sides
-side_is : (sides : m.Sides) (failed : Bool) → side_for (m.bodies_of sides) failed ≡ option_map m.body_of (m.side_at sides failed)
-side_is sides failed = of_cond (option_map m.body_of) failed sides.errback sides.callback
-
-gave_is : (table : List Class) (o : Option m.Finish) (p : m.Plain) → side_gives table (option_map m.body_of o) (m.value_of_plain p) ≡ m.value_of_plain (m.side_gave table o p)
-gave_is table None p = refl
-gave_is table (Some f) p = ap (λ layer. ending.end_gives table layer.end (m.value_of_plain p)) (out-roll-Body (record { actions = []; end = m.end_of f })) ∙ finished_is table f p
-
-none_is : (o : Option m.Finish) → is_none (option_map m.body_of o) ≡ is_none o
-none_is None = refl
-none_is (Some f) = refl
-
-passes_is : (sides : m.Sides) (failed : Bool) → passes (m.bodies_of sides) failed ≡ is_none (m.side_at sides failed)
-passes_is sides failed = ap is_none (side_is sides failed) ∙ none_is (m.side_at sides failed)
-
--- entries
-weighed : (mark : m.Mark) → weight_of (m.entry_of mark) ≡ m.mark_weight mark
-weighed (m.Made d name) = refl
-weighed (m.Added d) = refl
-weighed (m.Fired d plain) = ap (λ n. 1 + n) (sized plain)
-weighed (m.Refused d) = refl
-weighed (m.Ran d) = refl
-weighed (m.Became d plain) = ap (λ n. 1 + n) (sized plain)
-weighed (m.Noted text) = refl
-weighed (m.Escaped class message) = ap (λ n. 1 + n) (size_plain_failure class message)
-
-totalled : (marks : List m.Mark) → total_weight (map m.entry_of marks) ≡ m.marks_weigh marks
-totalled [] = refl
-totalled (mark ∷ marks) = rw (weighed mark, totalled marks) refl
-
-room_is : (mark : m.Mark) (s : m.Small) → fits (m.world_of s).journal (m.entry_of mark) ≡ m.has_room mark s
-room_is mark s = rw (weighed mark, totalled s.marks) refl
-
--- a change that is told
-abbrev changed_by : {A : Type 0} → Bool → A → m.Mark → List m.Kept → m.Small → Told A Bodies Body
-changed_by b answer mark changed s = cond b (Ok answer, state_of (m.world_of (m.with_mark mark changed s))) (Err Limit, state_of (m.world_of s))
-
-telling_is : {A : Type 0} (mark : m.Mark) (answer : A) (changed : List m.Kept) (s : m.Small)
-    → telling (m.entry_of mark) answer (map m.record_of changed) (state_of (m.world_of s)) ≡ changed_by (m.has_room mark s) answer mark changed s
-telling_is mark answer changed s = rw (room_is mark s, map-append m.entry_of s.marks (mark ∷ [])) refl
+firing_is : (told : Entry) (answer : Result Unit StoreFault) (kept : List m.Kept) (s : m.Both)
+    → firing.telling told answer (map m.record_of kept) (m.both_of s) ≡ left (m.firing_told told answer kept s)
+firing_is told answer kept s = rw (room_is s.1 told) (of_cond left (m.has_room s.1 told) _ _)
 
 -- the record at a place
-kept_at : (s : m.Small) (d : ℕ) → slice_get (map m.record_of s.kept) d ≡ option_map m.record_of (slice_get s.kept d)
-kept_at s d = slice_get-map m.record_of s.kept d
+kept_at : (kept : List m.Kept) (d : ℕ) → slice_get (map m.record_of kept) d ≡ option_map m.record_of (slice_get kept d)
+kept_at kept d = slice_get-map m.record_of kept d
 
-kept_set : (s : m.Small) (d : ℕ) (kept : m.Kept) → slice_set (map m.record_of s.kept) d (m.record_of kept) ≡ map m.record_of (slice_set s.kept d kept)
-kept_set s d kept = sym (map-set m.record_of s.kept d kept)
+kept_set : (kept : List m.Kept) (d : ℕ) (r : m.Kept) → slice_set (map m.record_of kept) d (m.record_of r) ≡ map m.record_of (slice_set kept d r)
+kept_set kept d r = sym (map-set m.record_of kept d r)
 
--- what the world is after a change that was told
-after_changed : (b : Bool) (mark : m.Mark) (changed : List m.Kept) (s : m.Small)
-    → after (changed_by {A = Unit} b tt mark changed s).0 (changed_by {A = Unit} b tt mark changed s).1 (m.world_of s) ≡ m.world_of (cond b (m.with_mark mark changed s) (m.with_end s))
-after_changed true mark changed s = refl
-after_changed false mark changed s = refl
+changed_is : (d : ℕ) (f : Record Pair Body → Record Pair Body) (g : m.Kept → m.Kept) → ((r : m.Kept) → f (m.record_of r) ≡ m.record_of (g r)) → (o : Option m.Kept) (kept : List m.Kept)
+    → changed d f (option_map m.record_of o) (map m.record_of kept) ≡ map m.record_of (changed d g o kept)
+changed_is d f g same None kept = refl
+changed_is d f g same (Some r) kept = ap (λ x. slice_set (map m.record_of kept) d x) (same r) ∙ kept_set kept d (g r)
 
-after_is : (mark : m.Mark) (changed : List m.Kept) (s : m.Small) (told : Told Unit Bodies Body) → told ≡ telling (m.entry_of mark) tt (map m.record_of changed) (state_of (m.world_of s))
-    → after told.0 told.1 (m.world_of s) ≡ m.world_of (m.marked mark changed s)
-after_is mark changed s told e =
-    ap (λ (t : Told Unit Bodies Body). after t.0 t.1 (m.world_of s)) (e ∙ telling_is {A = Unit} mark tt changed s) ∙ after_changed (m.has_room mark s) mark changed s
+changing_is : (d : ℕ) (f : Record Pair Body → Record Pair Body) (g : m.Kept → m.Kept) → ((r : m.Kept) → f (m.record_of r) ≡ m.record_of (g r)) → (kept : List m.Kept)
+    → changing d f (map m.record_of kept) ≡ map m.record_of (changing d g kept)
+changing_is d f g same kept = ap (λ o. changed d f o (map m.record_of kept)) (kept_at kept d) ∙ changed_is d f g same (slice_get kept d) kept
 
-put_found_is : (d : ℕ) (plain : m.Plain) (o : Option m.Kept) (s : m.Small)
-    → let told = callbacks.put_found d (m.value_of_plain plain) (option_map m.record_of o) (state_of (m.world_of s)) in after told.0 told.1 (m.world_of s) ≡ m.world_of (m.put_at d plain o s)
-put_found_is d plain None s = refl
-put_found_is d plain (Some kept) s =
-    let changed = record kept { plain = plain; running = false } in
-    after_is (m.Became d plain) (slice_set s.kept d changed) s _ (ap (λ rs. telling (m.entry_of (m.Became d plain)) tt rs (state_of (m.world_of s))) (kept_set s d changed))
+item_is : (one : Item m.Sides) (r : m.Kept) → with_item (m.item_of one) (m.record_of r) ≡ m.record_of (with_item one r)
+item_is one r = rw (map-append m.item_of r.items (one ∷ [])) refl
 
-put_is : (d : ℕ) (plain : m.Plain) (s : m.Small) → put d (m.value_of_plain plain) (m.world_of s) ≡ m.world_of (m.placed d plain s)
+-- sides
+role_is : (sides : m.Sides) (failed : Bool) → side_for (m.pair_of sides) failed ≡ option_map m.side_of (m.role_for sides failed)
+role_is sides failed = of_cond (option_map m.side_of) failed sides.errback sides.callback
+
+none_is : (o : Option m.Role) → is_none (option_map m.side_of o) ≡ is_none o
+none_is None = refl
+none_is (Some role) = refl
+
+lacks_is : (sides : m.Sides) (failed : Bool) → passes (m.pair_of sides) failed ≡ m.lacks sides failed
+lacks_is sides failed = ap is_none (role_is sides failed) ∙ none_is (m.role_for sides failed)
+
+-- one item is used
+use_pair_is : (d : ℕ) (r : m.Kept) (sides : m.Sides) (rest : List (Item m.Sides)) (s : m.Both)
+    → callbacks.use_pair passes d (m.record_of r) (m.pair_of sides) (map m.item_of rest) (m.both_of s) ≡ stepped (m.use_pair d r sides rest s)
+use_pair_is d r sides rest s =
+    rw (lacks_is sides (is_fault r.value))
+    (either (m.lacks sides (is_fault r.value)) _ _ _ _
+    (ap (λ kept. tellings.untold {A = Step Pair} Passed (kept, s.1)) (kept_set s.0 d (record r { items = rest })))
+    (ap (λ kept. tellings.telling (entry.Run d) (Run (m.pair_of sides)) kept (m.both_of s)) (kept_set s.0 d (record r { items = rest; running = true }))
+    ∙ move_told (entry.Run d) (Run sides) (slice_set s.0 d (record r { items = rest; running = true })) s)
+    ∙ of_cond stepped (m.lacks sides (is_fault r.value)) _ _)
+
+hand_is : (d c : ℕ) (r : m.Kept) (rest : List (Item m.Sides)) (s : m.Both)
+    → callbacks.hand d c (m.record_of r) (map m.item_of rest) (m.both_of s) ≡ stepped (m.use_item d r (item.HandOver c) rest s)
+hand_is d c r rest s =
+    let emptied = record r { items = rest; value = Null } in
+    ap (λ kept. tellings.telling (entry.Hand d c r.value) (Handed c) kept (m.both_of s))
+    (ap (λ kept. changing c (with_handed r.value) kept) (kept_set s.0 d emptied) ∙ changing_is c (with_handed r.value) (with_handed r.value) (λ x. refl) (slice_set s.0 d emptied))
+    ∙ move_told (entry.Hand d c r.value) (Handed c) _ s
+
+use_item_is : (d : ℕ) (r : m.Kept) (first : Item m.Sides) (rest : List (Item m.Sides)) (s : m.Both)
+    → callbacks.use_item passes d (m.record_of r) (m.item_of first) (map m.item_of rest) (m.both_of s) ≡ stepped (m.use_item d r first rest s)
+use_item_is d r (item.Pair sides) rest s = use_pair_is d r sides rest s
+use_item_is d r (item.HandOver c) rest s = hand_is d c r rest s
+
+use_first_is : (d : ℕ) (r : m.Kept) (items : List (Item m.Sides)) (s : m.Both)
+    → callbacks.use_first passes d (m.record_of r) (map m.item_of items) (m.both_of s) ≡ stepped (m.use_first d r items s)
+use_first_is d r [] s = refl
+use_first_is d r (first ∷ rest) s = use_item_is d r first rest s
+
+step_found_is : (d : ℕ) (o : Option m.Kept) (s : m.Both) → callbacks.step_found passes d (option_map m.record_of o) (m.both_of s) ≡ stepped (m.step_found d o s)
+step_found_is d None s = refl
+step_found_is d (Some r) s = either (callbacks.is_ready r) _ _ _ _ (use_first_is d r r.items s) refl ∙ of_cond stepped (callbacks.is_ready r) _ _
+
+abbrev moving : Step m.Sides × m.Small → Step Pair × World
+moving t = (m.move_of t.0, m.world_of t.1)
+
+moved_is : (r : Result (Step m.Sides) Stop) (b : m.Both) (s : m.Small) → moved (move_answer r) (m.both_of b) (m.world_of s) ≡ moving (m.moved r b s)
+moved_is (Ok move) b s = refl
+moved_is (Err stop) b s = refl
+
+-- the Deferreds and the journal of a small world
+abbrev both_in : m.Small → m.Both
+both_in s = (s.kept, s.journal)
+
+step_is : (d : ℕ) (s : m.Small) → step d (m.world_of s) ≡ moving (m.step d s)
+unfolding step callbacks.step
+step_is d s =
+    let told = m.step_found d (slice_get s.kept d) (both_in s) in
+    either s.stopped _ _ _ _ refl
+    (ap (λ (t : Told (Step Pair) Pair Body). moved t.0 t.1 (m.world_of s))
+    (ap (λ o. callbacks.step_found passes d o (m.both_of (both_in s))) (kept_at s.kept d) ∙ step_found_is d (slice_get s.kept d) (both_in s))
+    ∙ moved_is told.0 told.1 s)
+    ∙ of_cond moving s.stopped (Nothing, s) (m.moved told.0 told.1 s)
+
+-- a change, where the run hasn't stopped
+after_is : {A : Type 0} (r : Result A Stop) (b : m.Both) (s : m.Small) → after r (m.both_of b) (m.world_of s) ≡ m.world_of (m.after r b s)
+after_is (Ok done) b s = refl
+after_is (Err stop) b s = refl
+
+change_is : {A : Type 0} (s : m.Small) (real : Told A Pair Body) (told : Told A m.Sides Body) → real ≡ left told
+    → cond s.stopped (m.world_of s) (after real.0 real.1 (m.world_of s)) ≡ m.world_of (cond s.stopped s (m.after told.0 told.1 s))
+change_is {A} s real told same =
+    either s.stopped _ _ _ _ refl (ap (λ (t : Told A Pair Body). after t.0 t.1 (m.world_of s)) same ∙ after_is {A = A} told.0 told.1 s)
+    ∙ of_cond m.world_of s.stopped s (m.after told.0 told.1 s)
+
+-- of one Deferred
+set_told : {A : Type 0} (told : Entry) (answer : A) (d : ℕ) (r : m.Kept) (s : m.Both)
+    → tellings.telling told answer (slice_set (map m.record_of s.0) d (m.record_of r)) (m.both_of s) ≡ left (m.telling told answer (slice_set s.0 d r) s)
+set_told told answer d r s = ap (λ kept. tellings.telling told answer kept (m.both_of s)) (kept_set s.0 d r) ∙ telling_is told answer (slice_set s.0 d r) s
+
+put_found_is : (d : ℕ) (value : Value) (o : Option m.Kept) (s : m.Both) → callbacks.put_found d value (option_map m.record_of o) (m.both_of s) ≡ left (m.put_found d value o s)
+put_found_is d value None s = refl
+put_found_is d value (Some r) s = set_told {A = Unit} (entry.Set d value) tt d (with_result value r) s
+
+put_is : (d : ℕ) (value : Value) (s : m.Small) → put d value (m.world_of s) ≡ m.world_of (m.put d value s)
 unfolding put
-put_is d plain s =
-    both s.stopped _ _ _ _ refl
-    (ap (λ o. let told = callbacks.put_found d (m.value_of_plain plain) o (state_of (m.world_of s)) in after told.0 told.1 (m.world_of s)) (kept_at s d)
-    ∙ put_found_is d plain (slice_get s.kept d) s)
-    ∙ of_cond m.world_of s.stopped s (m.put_at d plain (slice_get s.kept d) s)
+put_is d value s =
+    change_is {A = Unit} s _ _ (ap (λ o. callbacks.put_found d value o (m.both_of (both_in s))) (kept_at s.kept d) ∙ put_found_is d value (slice_get s.kept d) (both_in s))
 
-append_found_is : (d : ℕ) (sides : m.Sides) (o : Option m.Kept) (s : m.Small)
-    → let told = records.append_found d (m.bodies_of sides) (option_map m.record_of o) (state_of (m.world_of s)) in after told.0 told.1 (m.world_of s) ≡ m.world_of (m.append_at d sides o s)
+append_found_is : (d : ℕ) (sides : m.Sides) (o : Option m.Kept) (s : m.Both)
+    → records.append_found d (m.pair_of sides) (option_map m.record_of o) (m.both_of s) ≡ left (m.append_found d sides o s)
 append_found_is d sides None s = refl
-append_found_is d sides (Some kept) s =
-    let changed = record kept { sides = kept.sides ++ sides ∷ [] } in
-    let same : records.with_pair (m.bodies_of sides) (m.record_of kept) ≡ m.record_of changed = rw (map-append m.bodies_of kept.sides (sides ∷ [])) refl in
-    after_is (m.Added d) (slice_set s.kept d changed) s _
-    (ap (λ rs. telling (m.entry_of (m.Added d)) tt rs (state_of (m.world_of s))) (ap (λ r. slice_set (map m.record_of s.kept) d r) same ∙ kept_set s d changed))
+append_found_is d sides (Some r) s =
+    ap (λ x. tellings.telling {A = Unit} (entry.Add d) tt (slice_set (map m.record_of s.0) d x) (m.both_of s)) (item_is (item.Pair sides) r)
+    ∙ set_told {A = Unit} (entry.Add d) tt d (with_item (item.Pair sides) r) s
 
-append_is : (d : ℕ) (sides : m.Sides) (s : m.Small) → append d (m.bodies_of sides) (m.world_of s) ≡ m.world_of (m.appended d sides s)
+append_is : (d : ℕ) (sides : m.Sides) (s : m.Small) → append d (m.pair_of sides) (m.world_of s) ≡ m.world_of (m.append d sides s)
 unfolding append
 append_is d sides s =
-    both s.stopped _ _ _ _ refl
-    (ap (λ o. let told = records.append_found d (m.bodies_of sides) o (state_of (m.world_of s)) in after told.0 told.1 (m.world_of s)) (kept_at s d)
-    ∙ append_found_is d sides (slice_get s.kept d) s)
-    ∙ of_cond m.world_of s.stopped s (m.append_at d sides (slice_get s.kept d) s)
+    change_is {A = Unit} s _ _ (ap (λ o. records.append_found d (m.pair_of sides) o (m.both_of (both_in s))) (kept_at s.kept d) ∙ append_found_is d sides (slice_get s.kept d) (both_in s))
 
-tell_is : (mark : m.Mark) (s : m.Small) → tell (m.entry_of mark) (m.world_of s) ≡ m.world_of (m.told mark s)
-unfolding tell
-tell_is mark s =
-    both s.stopped _ _ _ _ refl
-    (rw (room_is mark s) (both (m.has_room mark s) _ _ (m.world_of (m.with_mark mark s.kept s)) (m.world_of (m.with_end s)) (rw (map-append m.entry_of s.marks (mark ∷ [])) refl) refl)
-    ∙ of_cond m.world_of (m.has_room mark s) (m.with_mark mark s.kept s) (m.with_end s))
-    ∙ of_cond m.world_of s.stopped s (m.marked mark s.kept s)
+pause_found_is : (d : ℕ) (o : Option m.Kept) (s : m.Both) → pausing.pause_found d (option_map m.record_of o) (m.both_of s) ≡ left (m.pause_found d o s)
+pause_found_is d None s = refl
+pause_found_is d (Some r) s = set_told {A = Unit} (entry.Pause d) tt d (with_pauses (r.pauses + 1) r) s
+
+pause_is : (d : ℕ) (s : m.Small) → pause d (m.world_of s) ≡ m.world_of (m.pause d s)
+unfolding pause
+pause_is d s =
+    change_is {A = Unit} s _ _ (ap (λ o. pausing.pause_found d o (m.both_of (both_in s))) (kept_at s.kept d) ∙ pause_found_is d (slice_get s.kept d) (both_in s))
+
+-- of two
+waiting_is : (d e : ℕ) (kept : List m.Kept) → waiting d e (map m.record_of kept) ≡ map m.record_of (waiting d e kept)
+waiting_is d e kept =
+    ap (λ rs. changing d (with_wait e) rs) (changing_is e (with_item (item.HandOver d)) (with_item (item.HandOver d)) (item_is (item.HandOver d)) kept)
+    ∙ changing_is d (with_wait e) (with_wait e) (λ r. refl) (changing e (with_item (item.HandOver d)) kept)
+
+taking_is : (d e : ℕ) (value : Value) (kept : List m.Kept) → taking d e value (map m.record_of kept) ≡ map m.record_of (taking d e value kept)
+taking_is d e value kept =
+    ap (λ rs. changing d (with_result value) rs) (changing_is e without_value without_value (λ r. refl) kept)
+    ∙ changing_is d (with_result value) (with_result value) (λ r. refl) (changing e without_value kept)
+
+put_from_is : (d e : ℕ) (r : m.Kept) (s : m.Both) → chaining.put_from d e (m.record_of r) (m.both_of s) ≡ left (m.put_from d e r s)
+put_from_is d e r s =
+    either (chaining.is_pending d e r) _ _ _ _
+    (ap (λ kept. tellings.telling (entry.Wait d e) Waits kept (m.both_of s)) (waiting_is d e s.0) ∙ telling_is (entry.Wait d e) Waits _ s)
+    (ap (λ kept. tellings.telling (entry.Take d e r.value) Taken kept (m.both_of s)) (taking_is d e r.value s.0) ∙ telling_is (entry.Take d e r.value) Taken _ s)
+    ∙ of_cond left (chaining.is_pending d e r) _ _
+
+put_deferred_found_is : (d e : ℕ) (o given : Option m.Kept) (s : m.Both)
+    → chaining.put_found d e (option_map m.record_of o) (option_map m.record_of given) (m.both_of s) ≡ left (m.put_deferred_found d e o given s)
+put_deferred_found_is d e None given s = refl
+put_deferred_found_is d e (Some r) None s = refl
+put_deferred_found_is d e (Some r) (Some given) s = put_from_is d e given s
+
+put_deferred_is : (d e : ℕ) (s : m.Small) → put_deferred d e (m.world_of s) ≡ m.world_of (m.put_deferred d e s)
+unfolding put_deferred chaining.put_deferred
+put_deferred_is d e s =
+    change_is {A = Placed} s _ _
+    (ap (λ o. chaining.put_found d e o (slice_get (map m.record_of s.kept) e) (m.both_of (both_in s))) (kept_at s.kept d)
+    ∙ ap (λ o. chaining.put_found d e (option_map m.record_of (slice_get s.kept d)) o (m.both_of (both_in s))) (kept_at s.kept e)
+    ∙ put_deferred_found_is d e (slice_get s.kept d) (slice_get s.kept e) (both_in s))
 
 -- making
-named_changed : (b : Bool) (name : List ℕ) (mark : m.Mark) (d : ℕ) (changed : List m.Kept) (s : m.Small)
-    → named_after name (changed_by b d mark changed s).0 (changed_by b d mark changed s).1 (m.world_of s)
-    ≡ m.world_of (cond b (record s { kept = changed; marks = s.marks ++ mark ∷ []; names = with_name name d s.names }) (m.with_end s))
-named_changed true name mark d changed s = refl
-named_changed false name mark d changed s = refl
+named_is : (name : List ℕ) (r : Result ℕ Stop) (b : m.Both) (s : m.Small) → named name r (m.both_of b) (m.world_of s) ≡ m.world_of (m.named name r b s)
+named_is name (Ok d) b s = refl
+named_is name (Err stop) b s = refl
 
-making_is : (name : List ℕ) (s : m.Small)
-    → records.make {P = Bodies} {K = Body} (Some name) None (state_of (m.world_of s)) ≡ changed_by (m.has_room (m.Made (length s.kept) (Some name)) s) (length s.kept) (m.Made (length s.kept) (Some name)) (s.kept ++ m.unfired name ∷ []) s
+making_is : (name : List ℕ) (s : m.Both)
+    → records.make {P = Pair} {K = Body} (Some name) None (m.both_of s) ≡ left (m.telling (entry.New (length s.0) (Some name)) (length s.0) (s.0 ++ new_record (Some name) None ∷ []) s)
 making_is name s =
-    let mark = m.Made (length s.kept) (Some name) in
     rw length-map
-    (ap (λ rs. telling (m.entry_of mark) (length s.kept) rs (state_of (m.world_of s))) (sym (map-append m.record_of s.kept (m.unfired name ∷ [])))
-    ∙ telling_is mark (length s.kept) (s.kept ++ m.unfired name ∷ []) s)
+    (ap (λ rs. tellings.telling (entry.New (length s.0) (Some name)) (length s.0) rs (m.both_of s)) (sym (map-append m.record_of s.0 (new_record (Some name) None ∷ [])))
+    ∙ telling_is (entry.New (length s.0) (Some name)) (length s.0) (s.0 ++ new_record (Some name) None ∷ []) s)
 
-made_is : (name : List ℕ) (s : m.Small) → make name (m.world_of s) ≡ m.world_of (m.made name s)
+make_is : (name : List ℕ) (s : m.Small) → make name (m.world_of s) ≡ m.world_of (m.make name s)
 unfolding make
-made_is name s =
-    let mark = m.Made (length s.kept) (Some name) in
-    let changed = s.kept ++ m.unfired name ∷ [] in
-    both s.stopped _ _ _ _ refl
-    (ap (λ (t : Told ℕ Bodies Body). named_after name t.0 t.1 (m.world_of s)) (making_is name s) ∙ named_changed (m.has_room mark s) name mark (length s.kept) changed s)
+make_is name s =
+    either s.stopped _ _ _ _ refl (ap (λ (t : Told ℕ Pair Body). named name t.0 t.1 (m.world_of s)) (making_is name (both_in s)) ∙ named_is name _ _ s)
     ∙ of_cond m.world_of s.stopped s _
 
 -- firing
-abbrev performed_of : Bool → Performed
-performed_of true = performed.Raised (plain_failure already_called_error [])
-performed_of false = performed.Done
+abbrev came_of : Performed × m.Small → Performed × World
+came_of t = (t.0, m.world_of t.1)
 
-abbrev answer_of : Bool × m.Small → Performed × World
-answer_of r = (performed_of r.0, m.world_of r.1)
+fired_is : (r : Result Unit StoreFault) (b : m.Both) (s : m.Small) → fired r (m.both_of b) (m.world_of s) ≡ came_of (m.fired r b s)
+fired_is (Ok done) b s = refl
+fired_is (Err firing_fault.AlreadyCalled) b s = refl
+fired_is (Err firing_fault.Limit) b s = refl
+fired_is (Err firing_fault.OutOfMemory) b s = refl
 
-fired_changed : (b : Bool) (changed : List m.Kept) (mark : m.Mark) (s : m.Small)
-    → (let told : firing.Fired Bodies Body = cond b (Ok tt, state_of (m.world_of (m.with_mark mark changed s))) (Err store_fault.Limit, state_of (m.world_of s)) in fired_after told.0 told.1 (m.world_of s))
-    ≡ answer_of (false, cond b (m.with_mark mark changed s) (m.with_end s))
-fired_changed true changed mark s = refl
-fired_changed false changed mark s = refl
+fire_found_is : (d : ℕ) (value : Value) (o : Option m.Kept) (s : m.Both) → firing.fire_found d value (option_map m.record_of o) (m.both_of s) ≡ left (m.fire_found d value o s)
+fire_found_is d value None s = refl
+fire_found_is d value (Some r) s =
+    either r.fired _ _ _ _ (firing_is (entry.Refuse d) (Err firing_fault.AlreadyCalled) s.0 s)
+    (ap (λ kept. firing.telling (entry.Fire d value) (Ok tt) kept (m.both_of s)) (kept_set s.0 d (firing.with_firing value r)) ∙ firing_is (entry.Fire d value) (Ok tt) _ s)
+    ∙ of_cond left r.fired _ _
 
-refused_changed : (b : Bool) (mark : m.Mark) (s : m.Small)
-    → (let told : firing.Fired Bodies Body = cond b (Err store_fault.AlreadyCalled, state_of (m.world_of (m.with_mark mark s.kept s))) (Err store_fault.Limit, state_of (m.world_of s)) in fired_after told.0 told.1 (m.world_of s))
-    ≡ answer_of (b, cond b (m.with_mark mark s.kept s) (m.with_end s))
-refused_changed true mark s = refl
-refused_changed false mark s = refl
-
-abbrev firing_gives : firing.Fired Bodies Body → m.Small → Performed × World
-firing_gives told s = fired_after told.0 told.1 (m.world_of s)
-
-refuse_is : (mark : m.Mark) (s : m.Small)
-    → firing_gives (firing.telling (m.entry_of mark) (Err store_fault.AlreadyCalled) (map m.record_of s.kept) (state_of (m.world_of s))) s ≡ answer_of (m.has_room mark s, m.marked mark s.kept s)
-refuse_is mark s = rw (room_is mark s, ← map-append m.entry_of s.marks (mark ∷ [])) (refused_changed (m.has_room mark s) mark s)
-
-fire_told_is : (mark : m.Mark) (changed : List m.Kept) (s : m.Small)
-    → firing_gives (firing.telling (m.entry_of mark) (Ok tt) (map m.record_of changed) (state_of (m.world_of s))) s ≡ answer_of (false, m.marked mark changed s)
-fire_told_is mark changed s = rw (room_is mark s, ← map-append m.entry_of s.marks (mark ∷ [])) (fired_changed (m.has_room mark s) changed mark s)
-
-fire_either : (b : Bool) (x y : firing.Fired Bodies Body) (u v : Bool × m.Small) (s : m.Small) → firing_gives x s ≡ answer_of u → firing_gives y s ≡ answer_of v → firing_gives (cond b x y) s ≡ answer_of (cond b u v)
-fire_either true x y u v s p q = p
-fire_either false x y u v s p q = q
-
-fire_found_is : (d : ℕ) (plain : m.Plain) (o : Option m.Kept) (s : m.Small)
-    → firing_gives (firing.fire_found d (m.value_of_plain plain) (option_map m.record_of o) (state_of (m.world_of s))) s ≡ answer_of (m.fire_at d plain o s)
-fire_found_is d plain None s = refl
-fire_found_is d plain (Some kept) s =
-    let changed = record kept { fired = true; plain = plain } in
-    fire_either kept.fired _ _ _ _ s (refuse_is (m.Refused d) s)
-    (ap (λ rs. firing_gives (firing.telling (m.entry_of (m.Fired d plain)) (Ok tt) rs (state_of (m.world_of s))) s) (kept_set s d changed)
-    ∙ fire_told_is (m.Fired d plain) (slice_set s.kept d changed) s)
-
-fired_is : (d : ℕ) (plain : m.Plain) (s : m.Small) → fire d (m.value_of_plain plain) (m.world_of s) ≡ answer_of (m.fired d plain s)
+fire_is : (d : ℕ) (value : Value) (s : m.Small) → fire d value (m.world_of s) ≡ came_of (m.fire d value s)
 unfolding fire
-fired_is d plain s =
-    both s.stopped _ _ _ _ refl
-    (ap (λ o. firing_gives (firing.fire_found d (m.value_of_plain plain) o (state_of (m.world_of s))) s) (kept_at s d)
-    ∙ fire_found_is d plain (slice_get s.kept d) s)
-    ∙ of_cond answer_of s.stopped (false, s) (m.fire_at d plain (slice_get s.kept d) s)
+fire_is d value s =
+    let told = m.fire_found d value (slice_get s.kept d) (both_in s) in
+    either s.stopped _ _ _ _ refl
+    (ap (λ (t : firing.Fired Pair Body). fired t.0 t.1 (m.world_of s))
+    (ap (λ o. firing.fire_found d value o (m.both_of (both_in s))) (kept_at s.kept d) ∙ fire_found_is d value (slice_get s.kept d) (both_in s))
+    ∙ fired_is told.0 told.1 s)
+    ∙ of_cond came_of s.stopped (Done, s) (m.fired told.0 told.1 s)
 
--- the first move
-abbrev moving_of : m.Move × m.Small → Step Bodies × World
-moving_of r = (m.move_of r.0, m.world_of r.1)
+-- unpausing
+unpaused_is : (r : Result Unit UnpauseFault) (b : m.Both) (s : m.Small) → unpaused r (m.both_of b) (m.world_of s) ≡ came_of (m.unpaused r b s)
+unpaused_is (Ok done) b s = refl
+unpaused_is (Err unpause_fault.NotPaused) b s = refl
+unpaused_is (Err unpause_fault.Limit) b s = refl
+unpaused_is (Err unpause_fault.OutOfMemory) b s = refl
 
-abbrev moving_gives : callbacks.Stepped Bodies Body → m.Small → Step Bodies × World
-moving_gives told s = moved_after told.0 told.1 (m.world_of s)
+less_paused_is : (d : ℕ) (r : m.Kept) (s : m.Both) → pausing.less_paused d (m.record_of r) (m.both_of s) ≡ left (m.less_paused d r s)
+less_paused_is d r s = rw (room_is s.1 (entry.Unpause d), kept_set s.0 d (with_pauses (r.pauses - 1) r)) (of_cond left (m.has_room s.1 (entry.Unpause d)) _ _)
 
-move_either : (b : Bool) (x y : callbacks.Stepped Bodies Body) (u v : m.Move × m.Small) (s : m.Small) → moving_gives x s ≡ moving_of u → moving_gives y s ≡ moving_of v → moving_gives (cond b x y) s ≡ moving_of (cond b u v)
-move_either true x y u v s p q = p
-move_either false x y u v s p q = q
+unpause_found_is : (d : ℕ) (o : Option m.Kept) (s : m.Both) → pausing.unpause_found d (option_map m.record_of o) (m.both_of s) ≡ left (m.unpause_found d o s)
+unpause_found_is d None s = refl
+unpause_found_is d (Some r) s = either (nat_eq r.pauses 0) _ _ _ _ refl (less_paused_is d r s) ∙ of_cond left (nat_eq r.pauses 0) _ _
 
-run_changed : (b : Bool) (sides : m.Sides) (mark : m.Mark) (changed : List m.Kept) (s : m.Small)
-    → moving_gives (changed_by b (move.Run (m.bodies_of sides)) mark changed s) s ≡ moving_of (cond b (m.Runs sides, m.with_mark mark changed s) (m.Stays, m.with_end s))
-run_changed true sides mark changed s = refl
-run_changed false sides mark changed s = refl
+unpause_is : (d : ℕ) (s : m.Small) → unpause d (m.world_of s) ≡ came_of (m.unpause d s)
+unfolding unpause
+unpause_is d s =
+    let told = m.unpause_found d (slice_get s.kept d) (both_in s) in
+    either s.stopped _ _ _ _ refl
+    (ap (λ (t : pausing.Unpaused Pair Body). unpaused t.0 t.1 (m.world_of s))
+    (ap (λ o. pausing.unpause_found d o (m.both_of (both_in s))) (kept_at s.kept d) ∙ unpause_found_is d (slice_get s.kept d) (both_in s))
+    ∙ unpaused_is told.0 told.1 s)
+    ∙ of_cond came_of s.stopped (Done, s) (m.unpaused told.0 told.1 s)
 
-run_is : (d : ℕ) (sides : m.Sides) (changed : m.Kept) (s : m.Small)
-    → moving_gives (telling (m.entry_of (m.Ran d)) (move.Run (m.bodies_of sides)) (slice_set (map m.record_of s.kept) d (m.record_of changed)) (state_of (m.world_of s))) s
-    ≡ moving_of (cond (m.has_room (m.Ran d) s) (m.Runs sides, m.with_mark (m.Ran d) (slice_set s.kept d changed) s) (m.Stays, m.with_end s))
-run_is d sides changed s =
-    ap (λ t. moving_gives t s) (ap (λ rs. telling (m.entry_of (m.Ran d)) (move.Run (m.bodies_of sides)) rs (state_of (m.world_of s))) (kept_set s d changed) ∙ telling_is (m.Ran d) (move.Run (m.bodies_of sides)) (slice_set s.kept d changed) s)
-    ∙ run_changed (m.has_room (m.Ran d) s) sides (m.Ran d) (slice_set s.kept d changed) s
+-- an entry of no Deferred's change
+tell_is : (told : Entry) (s : m.Small) → tell told (m.world_of s) ≡ m.world_of (m.tell told s)
+unfolding tell
+tell_is told s =
+    rw (room_is s.journal told)
+    (either s.stopped _ _ _ _ refl (of_cond m.world_of (m.has_room s.journal told) _ (m.with_stop s)) ∙ of_cond m.world_of s.stopped s _)
 
-use_pair_is : (d : ℕ) (kept : m.Kept) (sides : m.Sides) (rest : List m.Sides) (s : m.Small)
-    → moving_gives (callbacks.use_pair passes d (m.record_of kept) (m.bodies_of sides) (map m.bodies_of rest) (state_of (m.world_of s))) s ≡ moving_of (m.use_sides d kept sides rest s)
-use_pair_is d kept sides rest s =
-    rw (failed_is kept.plain, passes_is sides (m.has_failed kept.plain))
-    (move_either (is_none (m.side_at sides (m.has_failed kept.plain))) _ _ _ _ s
-    (ap (λ rs. (move.Passed, record (m.world_of s) { records = rs })) (kept_set s d (record kept { sides = rest })))
-    (run_is d sides (record kept { sides = rest; running = true }) s))
+-- the turns of the stack
+abbrev turn_of : m.Turn → Turned
+turn_of t = (map m.frame_of t.0, t.1, m.world_of t.2)
 
-use_first_is : (d : ℕ) (kept : m.Kept) (sides : List m.Sides) (s : m.Small)
-    → moving_gives (callbacks.use_first passes d (m.record_of kept) (map m.bodies_of sides) (state_of (m.world_of s))) s ≡ moving_of (m.use_first d kept sides s)
-use_first_is d kept [] s = refl
-use_first_is d kept (sides ∷ rest) s = use_pair_is d kept sides rest s
+next_is : (d : ℕ) (o : Performed) (s : m.Small) (below : List m.Still) → settle_next d o (m.world_of s) (map m.frame_of below) ≡ turn_of (m.settle_next d o s below)
+next_is d Done s below = refl
+next_is d (Gave value) s below = refl
+next_is d (Raised failure) s below = refl
+next_is d (Awaits e) s below = refl
 
-step_found_is : (d : ℕ) (o : Option m.Kept) (s : m.Small)
-    → moving_gives (callbacks.step_found passes d (option_map m.record_of o) (state_of (m.world_of s))) s ≡ moving_of (m.move_at d o s)
-step_found_is d None s = refl
-step_found_is d (Some kept) s = move_either (kept.fired && not kept.running) _ _ _ _ s (use_first_is d kept kept.sides s) refl
+-- what has come is settled next
+came_next : (d : ℕ) (real : Performed × World) (came : Performed × m.Small) (below : List m.Still) → real ≡ came_of came
+    → settle_next d real.0 real.1 (map m.frame_of below) ≡ turn_of (m.settle_next d came.0 came.1 below)
+came_next d real came below same = ap (λ (t : Performed × World). settle_next d t.0 t.1 (map m.frame_of below)) same ∙ next_is d came.0 came.1 below
 
-step_is : (d : ℕ) (s : m.Small) → step d (m.world_of s) ≡ moving_of (m.moved d s)
-unfolding step callbacks.step
-step_is d s =
-    both s.stopped _ _ _ _ refl
-    (ap (λ o. moving_gives (callbacks.step_found passes d o (state_of (m.world_of s))) s) (kept_at s d) ∙ step_found_is d (slice_get s.kept d) s)
-    ∙ of_cond moving_of s.stopped (m.Stays, s) (m.move_at d (slice_get s.kept d) s)
+place_is : (d : ℕ) (o : Performed) (s : m.Small) → place d o (m.world_of s) ≡ m.world_of (m.place d o s)
+place_is d Done s = put_is d Null s
+place_is d (Gave value) s = put_is d value s
+place_is d (Raised failure) s = put_is d (Fault failure) s
+place_is d (Awaits e) s = put_deferred_is d e s
 
--- the value at a place
-value_at : (o : Option m.Kept) → m.value_of_plain (m.plain_at o) ≡ option_map_or (λ (r : Record Bodies Body). r.value) (option_map m.record_of o) Null
-value_at None = refl
-value_at (Some kept) = refl
+side_is : (d : ℕ) (o : Option m.Role) (input : Value) (s : m.Small) (below : List m.Still)
+    → side_begun d (option_map m.side_of o) input (m.world_of s) (map m.frame_of below) ≡ turn_of (m.side_begun d o input s below)
+side_is d None input s below = refl
+side_is d (Some (m.Does work)) input s below = refl
+side_is d (Some (m.Fires e)) input s below = came_next e _ _ below (fire_is e input s)
 
-value_is : (d : ℕ) (s : m.Small) → value_of d (m.world_of s) ≡ m.value_of_plain (m.plain_at (slice_get s.kept d))
-value_is d s = ap (λ o. option_map_or (λ (r : Record Bodies Body). r.value) o Null) (kept_at s d) ∙ sym (value_at (slice_get s.kept d))
+settled_is : (d : ℕ) (move : Step m.Sides) (s : m.Small) (below : List m.Still)
+    → settled d (m.move_of move) (m.world_of s) (map m.frame_of below) ≡ turn_of (m.settled d move s below)
+settled_is d Nothing s below = refl
+settled_is d Passed s below = refl
+settled_is d (Run sides) s below =
+    let input = value_of d (m.world_of s) in
+    ap (λ o. side_begun d o input (m.world_of s) (map m.frame_of (m.Places d ∷ below))) (role_is sides (is_fault input))
+    ∙ side_is d (m.role_for sides (is_fault input)) input s (m.Places d ∷ below)
+settled_is d (Handed c) s below = refl
 
--- what a side gives for the value of its Deferred, put in place
-abbrev ran : ℕ → m.Sides → m.Small → m.Small
-ran d sides s = let input = m.plain_at (slice_get s.kept d) in m.placed d (m.side_gave s.classes (m.side_at sides (m.has_failed input)) input) s
+with_is : (o : Option ℕ) (name : List ℕ) (s : m.Small) (below : List m.Still) (f : ℕ → Turned) (g : ℕ → m.Turn) → ((d : ℕ) → f d ≡ turn_of (g d))
+    → with_deferred o name (m.world_of s) (map m.frame_of below) f ≡ turn_of (m.with_deferred o name s below g)
+with_is None name s below f g same = refl
+with_is (Some d) name s below f g same = same d
 
-ran_is : (d : ℕ) (sides : m.Sides) (s : m.Small)
-    → (let w = m.world_of s in m.world_of (ran d sides s) ≡ put d (side_gives w.classes (side_for (m.bodies_of sides) (is_fault (value_of d w))) (value_of d w)) w)
-ran_is d sides s =
-    let input = m.plain_at (slice_get s.kept d) in
-    let gave : side_gives s.classes (side_for (m.bodies_of sides) (is_fault (value_of d (m.world_of s)))) (value_of d (m.world_of s)) ≡ m.value_of_plain (m.side_gave s.classes (m.side_at sides (m.has_failed input)) input) =
-    ap (λ v. side_gives s.classes (side_for (m.bodies_of sides) (is_fault v)) v) (value_is d s)
-    ∙ ap (λ b. side_gives s.classes (side_for (m.bodies_of sides) b) (m.value_of_plain input)) (failed_is input)
-    ∙ ap (λ side. side_gives s.classes side (m.value_of_plain input)) (side_is sides (m.has_failed input))
-    ∙ gave_is s.classes (m.side_at sides (m.has_failed input)) input in
-    sym (ap (λ v. put d v (m.world_of s)) gave ∙ put_is d (m.side_gave s.classes (m.side_at sides (m.has_failed input)) input) s)
+-- an action that is told to be such a deed
+abbrev Begins : Option ℕ → m.Doing → Type 0
+Begins itself doing =
+    (s : m.Small) (below : List m.Still) → begun itself (deed_of (out-Action (m.action_of doing))) (m.world_of s) (map m.frame_of below) ≡ turn_of (m.begun itself doing s below)
 
--- settling
-abbrev Settles : (m.Small → Option m.Small) → ℕ → Type 0
-Settles go d = (s u : m.Small) → go s ≡ Some u → Gives (Settle d) (m.world_of s) performed.Done (m.world_of u)
+fires_is : (itself : Option ℕ) (name : List ℕ) (value : Value) (s : m.Small) (below : List m.Still)
+    → begun itself (FireWith name value) (m.world_of s) (map m.frame_of below) ≡ turn_of (m.fires itself name value s below)
+fires_is itself name value s below = with_is (deferred_at itself name (m.world_of s)) name s below _ _ (λ d. came_next d _ _ below (fire_is d value s))
 
-settles_by : (go : m.Small → Option m.Small) (d : ℕ) → Settles go d → (w : World) (move : m.Move) (s u : m.Small) → (m.move_of move, m.world_of s) ≡ step d w → m.settled_by go d move s ≡ Some u
-    → Gives (Settle d) w performed.Done (m.world_of u)
-settles_by go d goes w m.Stays s u e h = let same : s ≡ u = cc in subst (λ x. Gives (Settle d) w performed.Done (m.world_of x)) same (settle_nothing e refl)
-settles_by go d goes w m.Passes s u e h = settle_passed e refl (goes s u h)
-settles_by go d goes w (m.Runs sides) s u e h = settle_run e refl (ran_is d sides s) (goes (ran d sides s) u h)
+adds_is : (itself : Option ℕ) (name : List ℕ) (sides : m.Sides) (s : m.Small) (below : List m.Still)
+    → begun itself (AddTo name (m.pair_of sides)) (m.world_of s) (map m.frame_of below) ≡ turn_of (m.adds itself name sides s below)
+adds_is itself name sides s below =
+    with_is (deferred_at itself name (m.world_of s)) name s below _ _ (λ d. ap (λ w. (frame.Settle d ∷ map m.frame_of below, Done, w)) (append_is d sides s))
 
-settles : (n d : ℕ) → Settles (m.settled n d) d
-settles zero d s u h = cc
-settles (suc n) d s u h = settles_by (m.settled n d) d (settles n d) (m.world_of s) (m.moved d s).0 (m.moved d s).1 u (sym (step_is d s)) h
+-- the deed of an action
+by_deed : (itself : Option ℕ) (s : m.Small) (below : List m.Still) (turn : m.Turn) (deed same : Deed) → deed ≡ same → begun itself same (m.world_of s) (map m.frame_of below) ≡ turn_of turn
+    → begun itself deed (m.world_of s) (map m.frame_of below) ≡ turn_of turn
+by_deed itself s below turn deed same e h = ap (λ x. begun itself x (m.world_of s) (map m.frame_of below)) e ∙ h
 
--- an event, and what is told of it
-abbrev Leads : m.Small → m.Doing → m.Small → Type 0
-Leads s doing u = Happens (event.Action (m.action_of doing)) (m.world_of s) (m.world_of u)
+begun_is : (itself : Option ℕ) (doing : m.Doing) → Begins itself doing
+begun_is itself (m.Makes name) s below =
+    by_deed itself s below _ _ _ (ap deed_of (outs-Deferred name None)) (ap (λ w. (map m.frame_of below, Done, w)) (make_is name s))
+begun_is itself (m.Calls name value) s below = by_deed itself s below _ _ _ (ap deed_of (outs-Callback name value)) (fires_is itself name value s below)
+begun_is itself (m.Fails name class message) s below =
+    by_deed itself s below _ _ _ (ap deed_of (outs-Errback name class message)) (fires_is itself name (fault class message) s below)
+begun_is itself (m.AddsCallback name body) s below =
+    by_deed itself s below _ _ _ (ap deed_of (outs-AddCallback name (m.body_of body))) (adds_is itself name (record { callback = Some (m.Does body); errback = None }) s below)
+begun_is itself (m.AddsErrback name body) s below =
+    by_deed itself s below _ _ _ (ap deed_of (outs-AddErrback name (m.body_of body))) (adds_is itself name (record { callback = None; errback = Some (m.Does body) }) s below)
+begun_is itself (m.AddsBoth name body) s below =
+    by_deed itself s below _ _ _ (ap deed_of (outs-AddBoth name (m.body_of body))) (adds_is itself name (record { callback = Some (m.Does body); errback = Some (m.Does body) }) s below)
+begun_is itself (m.AddsCallbacks name callback errback) s below =
+    by_deed itself s below _ _ _ (ap deed_of (outs-AddCallbacks name (m.body_of callback) (m.body_of errback)))
+    (adds_is itself name (record { callback = Some (m.Does callback); errback = Some (m.Does errback) }) s below)
+begun_is itself (m.Chains name next) s below =
+    by_deed itself s below _ _ _ (ap deed_of (outs-Chain name next))
+    (with_is (deferred_at itself name (m.world_of s)) name s below _ _
+    (λ d. with_is (deferred_at itself next (m.world_of s)) next s below _ _
+    (λ e. ap (λ w. (frame.Settle d ∷ map m.frame_of below, Done, w)) (append_is d (record { callback = Some (m.Fires e); errback = Some (m.Fires e) }) s))))
+begun_is itself (m.Pauses name) s below =
+    by_deed itself s below _ _ _ (ap deed_of (outs-Pause name))
+    (with_is (deferred_at itself name (m.world_of s)) name s below _ _ (λ d. ap (λ w. (map m.frame_of below, Done, w)) (pause_is d s)))
+begun_is itself (m.Unpauses name) s below =
+    by_deed itself s below _ _ _ (ap deed_of (outs-Unpause name))
+    (with_is (deferred_at itself name (m.world_of s)) name s below _ _ (λ d. came_next d _ _ below (unpause_is d s)))
+begun_is itself (m.Notes text) s below =
+    by_deed itself s below _ _ _ (ap deed_of (outs-Note text)) (ap (λ w. (map m.frame_of below, Done, w)) (tell_is (entry.Note text) s))
 
-escaped_is : (class : ℕ) (message : List ℕ) (s : m.Small) → m.world_of (m.escaped class message s) ≡ told_of (performed.Raised (plain_failure class message)) (m.world_of s)
-escaped_is class message s = sym (tell_is (m.Escaped class message) s)
+gone_is : (itself : Option ℕ) (work : m.Work) (input : Value) (s : m.Small) (below : List m.Still)
+    → gone_on itself (m.actions_of work) (m.end_of work) input (m.world_of s) (map m.frame_of below) ≡ turn_of (m.gone_on itself work input s below)
+gone_is itself (m.Ends end) input s below = refl
+gone_is itself (m.First doing rest) input s below = begun_is itself doing s (m.Rests itself rest input ∷ below)
 
-same_of : (s u : m.Small) → ◌≡◌ {A = Option m.Small} (Some s) (Some u) → m.world_of u ≡ m.world_of s
-same_of s u h = let same : s ≡ u = cc in ap m.world_of (sym same)
+turned_is : (f : m.Still) (o : Performed) (s : m.Small) (below : List m.Still) → turned (m.frame_of f) o (m.world_of s) (map m.frame_of below) ≡ turn_of (m.turned f o s below)
+turned_is (m.Settles d) o s below =
+    ap (λ (t : Step Pair × World). settled d t.0 t.1 (map m.frame_of below)) (step_is d s) ∙ settled_is d (m.step d s).0 (m.step d s).1 below
+turned_is (m.Places d) o s below = ap (λ w. (frame.Settle d ∷ map m.frame_of below, Done, w)) (place_is d o s)
+turned_is (m.Rests itself work input) Done s below = gone_is itself work input s below
+turned_is (m.Rests itself work input) (Gave value) s below = gone_is itself work input s below
+turned_is (m.Rests itself work input) (Raised failure) s below = refl
+turned_is (m.Rests itself work input) (Awaits e) s below = gone_is itself work input s below
 
--- what a task of an event came to, and then what is told
-abbrev Ends : (Performed → World → Type 0) → m.Small → Type 0
-Ends leads u = (p : Performed) × (next : World) × leads p next × (m.world_of u ≡ told_of p next)
+-- what is come to, the stack leads to
+abbrev Ended : Type 0
+Ended = Performed × m.Small
 
-fires_by : (n d : ℕ) (name : List ℕ) (plain : m.Plain) (s : m.Small) (b : Bool) (s1 u : m.Small) → number_of name s.names ≡ Some d → answer_of (b, s1) ≡ fire d (m.value_of_plain plain) (m.world_of s)
-    → m.fired_and_settled n d b s1 ≡ Some u → Ends (Fires name (m.value_of_plain plain) (m.world_of s)) u
-fires_by n d name plain s true s1 u found e h =
-    (performed_of true, m.world_of s1, fires_refused found e (λ q. cc), same_of (m.escaped already_called_error [] s1) u h ∙ escaped_is already_called_error [] s1)
-fires_by n d name plain s false s1 u found e h = (performed.Done, m.world_of u, fires_settled found e refl (settles n d s1 u h), refl)
+abbrev Leads : List m.Still → Ended → Ended → Type 0
+Leads fs from to = AllLead (map m.frame_of fs) from.0 (m.world_of from.1) to.0 (m.world_of to.1)
 
-fires : (n : ℕ) (name : List ℕ) (plain : m.Plain) (s : m.Small) (o : Option ℕ) (u : m.Small) → number_of name s.names ≡ o → m.called n name plain o s ≡ Some u
-    → Ends (Fires name (m.value_of_plain plain) (m.world_of s)) u
-fires n name plain s None u found h = (unbound name, m.world_of s, fires_unbound found refl, same_of (m.escaped name_error name s) u h ∙ escaped_is name_error name s)
-fires n name plain s (Some d) u found h = fires_by n d name plain s (m.fired d plain s).0 (m.fired d plain s).1 u found (sym (fired_is d plain s)) h
+leads_itself : (from to : Ended) → Some from ≡ Some to → Leads [] from to
+leads_itself from to h =
+    let same : to ≡ from = cc in
+    (ap (λ (t : Ended). t.0) same, ap (λ (t : Ended). m.world_of t.1) same)
 
-adds : (n : ℕ) (name : List ℕ) (sides : m.Sides) (s : m.Small) (o : Option ℕ) (u : m.Small) → number_of name s.names ≡ o → m.added n name sides o s ≡ Some u
-    → Ends (Adds name (m.bodies_of sides) (m.world_of s)) u
-adds n name sides s None u found h = (unbound name, m.world_of s, adds_unbound found refl, same_of (m.escaped name_error name s) u h ∙ escaped_is name_error name s)
-adds n name sides s (Some d) u found h = (performed.Done, m.world_of u, adds_settled found (sym (append_is d sides s)) (settles n d (m.appended d sides s) u h), refl)
+run_leads : (n : ℕ) (fs : List m.Still) (o : Performed) (s : m.Small) (to : Ended) → m.run n fs o s ≡ Some to → Leads fs (o, s) to
+run_leads zero [] o s to h = leads_itself (o, s) to h
+run_leads (suc n) [] o s to h = leads_itself (o, s) to h
+run_leads zero (f ∷ below) o s to h = absurd cc
+run_leads (suc n) (f ∷ below) o s to h =
+    let t = m.turned f o s below in
+    turned_leads (m.frame_of f) o (m.world_of s) (map m.frame_of below) to.0 (m.world_of to.1)
+    (subst (λ (u : Turned). AllLead u.0 u.1 u.2 to.0 (m.world_of to.1)) (sym (turned_is f o s below)) (run_leads n t.0 t.1 t.2 to h))
 
-happens : (n : ℕ) (doing : m.Doing) (s u : m.Small) → m.done n doing s ≡ Some u → Leads s doing u
-happens n (m.Makes name) s u h = (performed.Done, m.world_of u, act_deferred None refl (same_of (m.made name s) u h ∙ sym (made_is name s)), refl)
-happens n (m.Calls name plain) s u h = let r = fires n name plain s _ u refl h in (r.0, r.1, act_callback refl r.2, r.3)
-happens n (m.Fails name class message) s u h = let r = fires n name (m.Failed class message) s _ u refl h in (r.0, r.1, act_errback refl refl r.2, r.3)
-happens n (m.AddsCallback name f) s u h = let r = adds n name (record { callback = Some f; errback = None }) s _ u refl h in (r.0, r.1, act_add_callback refl r.2, r.3)
-happens n (m.AddsErrback name f) s u h = let r = adds n name (record { callback = None; errback = Some f }) s _ u refl h in (r.0, r.1, act_add_errback refl r.2, r.3)
-happens n (m.AddsBoth name f) s u h = let r = adds n name (record { callback = Some f; errback = Some f }) s _ u refl h in (r.0, r.1, act_add_both refl r.2, r.3)
-happens n (m.AddsCallbacks name f g) s u h = let r = adds n name (record { callback = Some f; errback = Some g }) s _ u refl h in (r.0, r.1, act_add_callbacks refl r.2, r.3)
-happens n (m.Notes text) s u h = (performed.Done, m.world_of u, act_note refl (same_of (m.told (m.Noted text) s) u h ∙ sym (tell_is (m.Noted text) s)), refl)
+acted_gives : (n : ℕ) (doing : m.Doing) (s : m.Small) (to : Ended) → m.acted n doing s ≡ Some to → Gives (Act None (m.action_of doing)) (m.world_of s) to.0 (m.world_of to.1)
+acted_gives n doing s to h =
+    let t = m.begun None doing s [] in
+    act_leads None (m.action_of doing) (m.world_of s) to.0 (m.world_of to.1)
+    (subst (λ (u : Turned). AllLead u.0 u.1 u.2 to.0 (m.world_of to.1)) (sym (begun_is None doing s [])) (run_leads n t.0 t.1 t.2 to h))
+
+told_is : (o : Performed) (s : m.Small) → told_of o (m.world_of s) ≡ m.world_of (m.told_of o s)
+told_is Done s = refl
+told_is (Gave value) s = refl
+told_is (Raised failure) s = tell_is (entry.Unhandled failure) s
+told_is (Awaits e) s = refl
 
 -- a script
 abbrev events_of : List m.Doing → List Event
 events_of doings = map (λ action. event.Action action) (map m.action_of doings)
 
-first_then : (n : ℕ) (doing : m.Doing) (doings : List m.Doing) (s u : m.Small) (o : Option m.Small)
-    → ((v : m.Small) → m.played n doings v ≡ Some u → Runs (events_of doings) (m.world_of v) (m.world_of u)) → m.done n doing s ≡ o → m.then_played (m.played n doings) o ≡ Some u
+first_then : (n : ℕ) (doing : m.Doing) (doings : List m.Doing) (s u : m.Small) (o : Option Ended)
+    → ((v : m.Small) → m.played n doings v ≡ Some u → Runs (events_of doings) (m.world_of v) (m.world_of u)) → m.acted n doing s ≡ o → m.then_played (m.played n doings) o ≡ Some u
     → Runs (events_of (doing ∷ doings)) (m.world_of s) (m.world_of u)
-first_then n doing doings s u None rest h k = cc
-first_then n doing doings s u (Some v) rest h k = (m.world_of v, happens n doing s v h, rest v k)
+first_then n doing doings s u None rest h k = absurd cc
+first_then n doing doings s u (Some came) rest h k =
+    let next = m.told_of came.0 came.1 in
+    (m.world_of next, (came.0, m.world_of came.1, acted_gives n doing s came h, sym (told_is came.0 came.1)), rest next k)
 
 pub runs : (n : ℕ) (doings : List m.Doing) (s u : m.Small) → m.played n doings s ≡ Some u → Runs (events_of doings) (m.world_of s) (m.world_of u)
-runs n [] s u h = same_of s u h
+runs n [] s u h = let same : u ≡ s = cc in ap m.world_of same
 runs n (doing ∷ doings) s u h = first_then n doing doings s u _ (λ v. runs n doings v u) refl h

@@ -1,86 +1,119 @@
--- Every task ends: by the pairs that are left, and then by the rule of the task.
-use Rattle.std.proofs.Common.{◌≡◌, ℕ, zero, suc, ◌<◌, List, [], ◌∷◌, Option, None, Some, refl, sym, subst, ◌∙◌, arith}
-use Rattle.dv_value.specs.Failure.{is_fault}
+-- Every task ends, in one way, and what every step keeps, tasks, events and scripts keep.
+use Rattle.std.proofs.Common.{◌≡◌, ℕ, List, [], ◌∷◌, Option, None, refl, sym, subst, ◌∙◌}
 use Rattle.dv_value.specs.declared.value.Value.{Value}
 use Rattle.dv_script.specs.declared.action.Action.{Action, out-Action}
+use Rattle.dv_script.specs.declared.body.End.{End}
 use Rattle.dv_script.specs.declared.event.Event.{Event}
 use Rattle.dv_script.specs.declared.event.Event.TheVariants as event
-use Rattle.dv_store.specs.Laws.{unused_pairs}
-use Rattle.dv_store.specs.declared.store.Step.{Step}
-use Rattle.dv_store.specs.declared.store.Step.TheVariants.{Nothing, Passed, Run}
-use Rattle.dv_engine.proofs.Rules.{gives_one, one_level, settle_nothing, settle_passed, settle_run, fires_unbound, fires_settled, fires_refused, adds_unbound, adds_settled, act_idle, act_write, act_make, act_fire, act_add}
-use Rattle.dv_engine.proofs.WorldLemmas.{passed_took, run_took}
-use Rattle.dv_engine.specs.Deed.{Deed, Idle, Write, Make, FireWith, AddTo, deed_of}
+use Rattle.dv_script.specs.declared.script.Script.{Script}
+use Rattle.dv_engine.specs.Deed.{deed_of}
+use Rattle.dv_engine.specs.Frames.{begun}
 use Rattle.dv_engine.specs.Laws.{EveryTaskEnds, EachTaskHasOneResult, EveryScriptEnds, EachScriptHasOneMeaning}
-use Rattle.dv_engine.specs.Meaning.{Gives, Fires, Adds, told_of, Happens, Runs}
-use Rattle.dv_engine.specs.Names.{number_of}
-use Rattle.dv_engine.specs.Pair.{Bodies, side_for}
-use Rattle.dv_engine.specs.Perform.{made}
-use Rattle.dv_engine.specs.Settling.{side_gives}
+use Rattle.dv_engine.specs.Meaning.{Gives, told_of, Happens, Runs, Means}
 use Rattle.dv_engine.specs.Task.{Task, Settle, Perform, Act}
-use Rattle.dv_engine.specs.World.{World, step, put, append, fire, tell, value_of, unbound, first_world}
-use Rattle.dv_engine.specs.declared.performed.Performed.{Performed}
-use Rattle.dv_engine.specs.declared.performed.Performed.TheVariants.{Done, Gave, Raised}
+use Rattle.dv_engine.specs.declared.frame.Frame.TheVariants as frame
+use Rattle.dv_engine.specs.declared.frame.Rest.{Rest}
+use Rattle.dv_engine.proofs.Extends.{gives_one}
+use Rattle.dv_engine.proofs.FrameLaws.{act_leads}
+use Rattle.dv_engine.proofs.Halts.{finishes}
+use Rattle.dv_engine.proofs.Lasting.{Lasting, begun_keeps, run_keeps, told_keeps}
+use Rattle.dv_engine.proofs.Runs.{runs_lead}
+use Rattle.dv_world.specs.World.{World, first_world}
+use Rattle.dv_world.specs.declared.performed.Performed.{Performed}
+use Rattle.dv_world.specs.declared.performed.Performed.TheVariants.{Done}
 
-abbrev Ends : Task → World → Type 0
-Ends t w = (o : Performed) × (u : World) × Gives t w o u
+-- a task ends, and what every step keeps, it keeps
+record EndsKeeping (R : World → World → Type 0) (task : Task) (w : World) : Type 0 where
+  performed : Performed
+  after : World
+  gives : Gives task w performed after
+  keeps : R w after
 
--- settling ends where fewer pairs than so many are left
-abbrev Settles : ℕ → Type 0
-Settles n = (d : ℕ) (w : World) → unused_pairs w.records < n → Ends (Settle d) w
+module _ (R : World → World → Type 0) (l : Lasting R) where
+  settle_keeps : (d : ℕ) (w : World) → EndsKeeping R (Settle d) w
+  settle_keeps d w =
+      let all = finishes (frame.Settle d ∷ []) Done w in
+      let led = runs_lead all.turns (frame.Settle d ∷ []) Done w all.outcome all.after all.ends in
+      record {
+        performed = led.0;
+        after = led.1;
+        gives = led.2;
+        keeps = subst (λ u. R w u) led.3.1 (run_keeps R l all.turns (frame.Settle d ∷ []) Done w all.outcome all.after all.ends);
+      }
 
-settles_by : (n d : ℕ) (w w1 : World) (move : Step Bodies) → Settles n → unused_pairs w.records < suc n → (move, w1) ≡ step d w → Ends (Settle d) w
-settles_by n d w w1 Nothing below h e = (Done, w1, settle_nothing e refl)
-settles_by n d w w1 Passed below h e =
-    let took : unused_pairs w1.records < unused_pairs w.records = passed_took d w w1 Passed e refl in
-    let r = below d w1 (omega arith) in
-    (r.0, r.1, settle_passed e refl r.2)
-settles_by n d w w1 (Run pair) below h e =
-    let value = side_gives w1.classes (side_for pair (is_fault (value_of d w1))) (value_of d w1) in
-    let took : unused_pairs (put d value w1).records < unused_pairs w.records = run_took d value pair w w1 (put d value w1) (Run pair) e refl refl in
-    let r = below d (put d value w1) (omega arith) in
-    (r.0, r.1, settle_run e refl refl r.2)
+  perform_keeps : (itself : Option ℕ) (actions : List Action) (end : End) (input : Value) (w : World) → EndsKeeping R (Perform itself actions end input) w
+  perform_keeps itself actions end input w =
+      let rest : Rest = record { itself = itself; actions = actions; end = end; input = input } in
+      let all = finishes (frame.Rest rest ∷ []) Done w in
+      let led = runs_lead all.turns (frame.Rest rest ∷ []) Done w all.outcome all.after all.ends in
+      record {
+        performed = led.0;
+        after = led.1;
+        gives = led.2;
+        keeps = subst (λ u. R w u) led.3.1 (run_keeps R l all.turns (frame.Rest rest ∷ []) Done w all.outcome all.after all.ends);
+      }
 
-settles_within : (n : ℕ) → Settles n
-settles_within zero d w h = absurd (omega arith)
-settles_within (suc n) d w h = settles_by n d w _ _ (settles_within n) h refl
+  act_keeps : (itself : Option ℕ) (action : Action) (w : World) → EndsKeeping R (Act itself action) w
+  act_keeps itself action w =
+      let t = begun itself (deed_of (out-Action action)) w [] in
+      let all = finishes t.0 t.1 t.2 in
+      record {
+        performed = all.outcome;
+        after = all.after;
+        gives = act_leads itself action w all.outcome all.after (runs_lead all.turns t.0 t.1 t.2 all.outcome all.after all.ends);
+        keeps = l.joins w t.2 all.after (begun_keeps R l itself (deed_of (out-Action action)) w []) (run_keeps R l all.turns t.0 t.1 t.2 all.outcome all.after all.ends);
+      }
 
-settle_ends : (d : ℕ) (w : World) → Ends (Settle d) w
-settle_ends d w = settles_within (suc (unused_pairs w.records)) d w (omega arith)
+  task_keeps : (task : Task) (w : World) → EndsKeeping R task w
+  task_keeps (Settle d) w = settle_keeps d w
+  task_keeps (Perform itself actions end input) w = perform_keeps itself actions end input w
+  task_keeps (Act itself action) w = act_keeps itself action w
 
-fired_ends : (name : List ℕ) (value : Value) (d : ℕ) (w w1 : World) (o : Performed) → number_of name w.names ≡ Some d → (o, w1) ≡ fire d value w → (p : Performed) × (u : World) × Fires name value w p u
-fired_ends name value d w w1 Done h e = let r = settle_ends d w1 in (r.0, r.1, fires_settled h e refl r.2)
-fired_ends name value d w w1 (Gave v) h e = (Gave v, w1, fires_refused h e (λ q. cc))
-fired_ends name value d w w1 (Raised f) h e = (Raised f, w1, fires_refused h e (λ q. cc))
+  pub gives_keeps : (task : Task) (w : World) (o : Performed) (u : World) → Gives task w o u → R w u
+  gives_keeps task w o u g =
+      let e = task_keeps task w in
+      subst (λ x. R w x) ((gives_one e.gives g).1) e.keeps
 
-fire_ends : (name : List ℕ) (value : Value) (w : World) (o : Option ℕ) → number_of name w.names ≡ o → (p : Performed) × (u : World) × Fires name value w p u
-fire_ends name value w None h = (unbound name, w, fires_unbound h refl)
-fire_ends name value w (Some d) h = fired_ends name value d w _ _ h refl
+  pub happens_keeps : (event : Event) (w u : World) → Happens event w u → R w u
+  happens_keeps (event.Action action) w u h =
+      subst (λ x. R w x) (sym h.3) (l.joins w h.1 _ (gives_keeps (Act None action) w h.0 h.1 h.2) (told_keeps R l h.0 h.1))
+  happens_keeps (event.Advance ticks) w u h = subst (λ x. R w x) (sym h) (l.stays w)
+  happens_keeps (event.Drain most) w u h = subst (λ x. R w x) (sym h) (l.stays w)
 
-add_ends : (name : List ℕ) (pair : Bodies) (w : World) (o : Option ℕ) → number_of name w.names ≡ o → (p : Performed) × (u : World) × Adds name pair w p u
-add_ends name pair w None h = (unbound name, w, adds_unbound h refl)
-add_ends name pair w (Some d) h = let r = settle_ends d (append d pair w) in (r.0, r.1, adds_settled h refl r.2)
+  pub runs_keeps : (events : List Event) (w u : World) → Runs events w u → R w u
+  runs_keeps [] w u h = subst (λ x. R w x) (sym h) (l.stays w)
+  runs_keeps (event ∷ events) w u h = l.joins w h.0 u (happens_keeps event w h.0 h.1) (runs_keeps events h.0 u h.2)
 
-deed_ends : (action : Action) (deed : Deed) (w : World) → deed_of (out-Action action) ≡ deed → Ends (Act action) w
-deed_ends action Idle w h = (Done, w, act_idle h)
-deed_ends action (Write entry) w h = (Done, tell entry w, act_write h refl)
-deed_ends action (Make name canceller) w h = (Done, made name canceller w, act_make h refl)
-deed_ends action (FireWith name value) w h = let r = fire_ends name value w _ refl in (r.0, r.1, act_fire h r.2)
-deed_ends action (AddTo name pair) w h = let r = add_ends name pair w _ refl in (r.0, r.1, act_add h r.2)
+  pub means_keeps : (script : Script) (w : World) → Means script w → R (first_world script.classes script.limit) w
+  means_keeps script w h = runs_keeps script.events (first_world script.classes script.limit) w h
 
-act_ends : (action : Action) (w : World) → Ends (Act action) w
-act_ends action w = deed_ends action _ w refl
+-- nothing is kept but that there was something
+record Any (w u : World) : Type 0 where
+
+any : Lasting Any
+any = record {
+  stays = λ w. record {};
+  joins = λ u v w p q. record {};
+  by_step = λ d w. record {};
+  by_put = λ d value w. record {};
+  by_put_deferred = λ d e w. record {};
+  by_append = λ d pair w. record {};
+  by_make = λ name w. record {};
+  by_fire = λ d value w. record {};
+  by_pause = λ d w. record {};
+  by_unpause = λ d w. record {};
+  by_note = λ text w. record {};
+  by_unhandled = λ failure w. record {};
+}
 
 pub every_task_ends : EveryTaskEnds
-every_task_ends (Settle d) w = settle_ends d w
-every_task_ends (Perform body input) w = (_, w, one_level 0 (Perform body input) w _ w refl)
-every_task_ends (Act action) w = act_ends action w
+every_task_ends task w = let e = task_keeps Any any task w in (e.performed, e.after, e.gives)
 
 pub each_task_has_one_result : EachTaskHasOneResult
-each_task_has_one_result t w o p u v g h = gives_one g h
+each_task_has_one_result task w o p u v g h = gives_one g h
 
 happens_end : (event : Event) (w : World) → (u : World) × Happens event w u
-happens_end (event.Action action) w = let r = act_ends action w in (told_of r.0 r.1, (r.0, r.1, r.2, refl))
+happens_end (event.Action action) w = let r = every_task_ends (Act None action) w in (told_of r.0 r.1, (r.0, r.1, r.2, refl))
 happens_end (event.Advance ticks) w = (w, refl)
 happens_end (event.Drain most) w = (w, refl)
 

@@ -1,22 +1,23 @@
--- Small scripts, with what they tell and what they make of their Deferreds (Twisted: the Deferred Reference, "Callbacks", "Errbacks" and "Handling either callback or errback").
+-- Small scripts, with what they tell and what they make of their Deferreds (Twisted: the Deferred Reference, "Callbacks", "Errbacks", "Handling either callback or errback" and "Chaining Deferreds").
 use Rattle.std.specs.Prelude.{ℕ, pos, ◌≡◌, Bool, true, false, List, [], ◌∷◌, None, Some, map, codes}
-use Rattle.dv_value.specs.Builtin.{builtin, exception, value_error, type_error, name_error, overflow_error, already_called_error}
+use Rattle.dv_value.specs.Builtin.{builtin, exception, value_error, type_error, name_error, assertion_error, overflow_error, already_called_error}
 use Rattle.dv_value.specs.Failure.{plain_failure}
 use Rattle.dv_value.specs.declared.value.Value.{Value, Null, Int, Text}
 use Rattle.dv_journal.specs.declared.entry.Entry.{Entry}
 use Rattle.dv_journal.specs.declared.entry.Entry.TheVariants as entry
-use Rattle.dv_script.specs.declared.action.Action.{Action, Deferred, Callback, Errback, AddCallback, AddErrback, AddBoth, AddCallbacks, Note}
+use Rattle.dv_script.specs.declared.action.Action.{Action, Deferred, Callback, Errback, AddCallback, AddErrback, AddBoth, AddCallbacks, Chain, Pause, Unpause, Note}
 use Rattle.dv_script.specs.declared.body.Body.{Body, roll-Body}
 use Rattle.dv_script.specs.declared.body.End.{End}
-use Rattle.dv_script.specs.declared.body.End.TheVariants.{Return, Pass, Plus, Raise, Trap}
+use Rattle.dv_script.specs.declared.body.End.TheVariants.{Return, Pass, Plus, Raise, Trap, Wait}
 use Rattle.dv_script.specs.declared.event.Event.TheVariants as event
 use Rattle.dv_script.specs.declared.script.Script.{Script}
-use Rattle.dv_engine.specs.Ending.{fault}
 use Rattle.dv_engine.specs.Meaning.{Means}
 use Rattle.dv_engine.specs.Report.{outcomes_of}
-use Rattle.dv_engine.specs.World.{World}
 use Rattle.dv_engine.specs.declared.report.Outcome.{Outcome}
-use Rattle.dv_engine.specs.declared.report.State.TheVariants.{Unfired, Fired}
+use Rattle.dv_engine.specs.declared.report.State.{State}
+use Rattle.dv_engine.specs.declared.report.State.TheVariants.{Unfired, Waiting, Fired}
+use Rattle.dv_world.specs.Ending.{fault}
+use Rattle.dv_world.specs.World.{World}
 
 -- a script of these actions, with the classes that every script has
 abbrev pub script_of : ℕ → List Action → Script
@@ -43,7 +44,16 @@ FitsIn limit = Ends limit false
 abbrev pub StopsAt : ℕ → List Action → List Entry → List Outcome → Type 0
 StopsAt limit = Ends limit true
 
--- the names of two Deferreds, and one that is never made
+-- the names of Deferreds, one that is never made, and the name of the Deferred on which a body runs
+abbrev pub a : List ℕ
+a = codes "a"
+
+abbrev pub b : List ℕ
+b = codes "b"
+
+abbrev pub c : List ℕ
+c = codes "c"
+
 abbrev pub d : List ℕ
 d = codes "d"
 
@@ -52,6 +62,9 @@ e = codes "e"
 
 abbrev pub stranger : List ℕ
 stranger = codes "stranger"
+
+abbrev pub itself : List ℕ
+itself = codes "@"
 
 -- a number, and a ValueError
 abbrev pub number : ℕ → Value
@@ -79,6 +92,13 @@ raises class message = ends_by (Raise class message)
 
 abbrev pub traps : ℕ → ℕ → Body
 traps class n = ends_by (Trap (class ∷ []) (number n))
+
+-- bodies that give the Deferred of a name, and that perform actions and pass their input on
+abbrev pub waits_for : List ℕ → Body
+waits_for name = ends_by (Wait name)
+
+abbrev pub does : List Action → Body
+does actions = roll-Body (record { actions = actions; end = Pass })
 
 -- a Deferred without a canceller is made
 abbrev pub deferred : List ℕ → Action
@@ -111,6 +131,24 @@ runs id = entry.Run id
 abbrev pub becomes : ℕ → Value → Entry
 becomes id value = entry.Set id value
 
+-- a side of the first gave the second, whose value the first waits for or takes at once
+abbrev pub awaits : ℕ → ℕ → Entry
+awaits id on = entry.Wait id on
+
+abbrev pub takes : ℕ → ℕ → Value → Entry
+takes id from value = entry.Take id from value
+
+-- the first hands its value over to the second, which waited for it
+abbrev pub hands : ℕ → ℕ → Value → Entry
+hands from id value = entry.Hand from id value
+
+-- it is paused once more, or once less
+abbrev pub paused : ℕ → Entry
+paused id = entry.Pause id
+
+abbrev pub unpaused : ℕ → Entry
+unpaused id = entry.Unpause id
+
 -- a text is noted, and a failure leaves an event
 abbrev pub noted : List ℕ → Entry
 noted text = entry.Note text
@@ -118,15 +156,28 @@ noted text = entry.Note text
 abbrev pub unhandled : ℕ → List ℕ → Entry
 unhandled class message = entry.Unhandled (plain_failure class message)
 
--- what has become of a Deferred
+-- what has become of a Deferred that isn't paused
+abbrev pub is_so : List ℕ → State → Outcome
+is_so name state = record { name = Some name; pauses = 0; state = state }
+
 abbrev pub is_unfired : List ℕ → Outcome
-is_unfired name = record { name = Some name; state = Unfired }
+is_unfired name = is_so name Unfired
+
+abbrev pub is_waiting : List ℕ → ℕ → Outcome
+is_waiting name on = is_so name (Waiting on)
 
 abbrev pub has : List ℕ → ℕ → Outcome
-has name n = record { name = Some name; state = Fired (number n) }
+has name n = is_so name (Fired (number n))
+
+abbrev pub has_null : List ℕ → Outcome
+has_null name = is_so name (Fired Null)
 
 abbrev pub has_failed : List ℕ → ℕ → List ℕ → Outcome
-has_failed name class message = record { name = Some name; state = Fired (fault class message) }
+has_failed name class message = is_so name (Fired (fault class message))
+
+-- one that is paused once
+abbrev pub has_paused : List ℕ → ℕ → Outcome
+has_paused name n = record { name = Some name; pauses = 1; state = Fired (number n) }
 
 -- what each script tells and shows
 pub record Examples : Type 0 where
@@ -264,4 +315,57 @@ pub record Examples : Type 0 where
   pub nothing_happens_once_it_has_stopped :
       StopsAt 2 (deferred d ∷ fire d 1 ∷ deferred e ∷ AddCallback d passes ∷ fire stranger 1 ∷ [])
       (made 0 d ∷ [])
+      (is_unfired d ∷ [])
+  pub a_pair_added_meanwhile_runs_after_the_hand_over :
+      LeadsTo (deferred a ∷ deferred b ∷ AddCallback b (plus 1) ∷ AddCallback a (waits_for b) ∷ fire a 0 ∷ AddBoth b (does (Note (codes "after") ∷ [])) ∷ fire b 5 ∷ [])
+      (made 0 a ∷ made 1 b ∷ added 1 ∷ added 0 ∷ fired 0 (number 0) ∷ runs 0 ∷ awaits 0 1 ∷ added 1 ∷ fired 1 (number 5) ∷ runs 1 ∷ becomes 1 (number 6)
+      ∷ hands 1 0 (number 6) ∷ runs 1 ∷ noted (codes "after") ∷ becomes 1 Null ∷ [])
+      (has a 6 ∷ has_null b ∷ [])
+  pub a_hand_over_that_does_not_fit_hands_nothing_over :
+      StopsAt 15 (deferred a ∷ deferred b ∷ AddCallback b (plus 1) ∷ AddCallback a (waits_for b) ∷ fire a 0 ∷ AddBoth b (does (Note (codes "after") ∷ [])) ∷ fire b 5 ∷ [])
+      (made 0 a ∷ made 1 b ∷ added 1 ∷ added 0 ∷ fired 0 (number 0) ∷ runs 0 ∷ awaits 0 1 ∷ added 1 ∷ fired 1 (number 5) ∷ runs 1 ∷ becomes 1 (number 6) ∷ [])
+      (is_waiting a 1 ∷ has b 6 ∷ [])
+  pub the_giver_goes_on_inside_the_side_that_adds_to_it :
+      LeadsTo (deferred c ∷ deferred e ∷ AddCallback c (waits_for e) ∷ fire c 0 ∷ AddCallback c (does (AddBoth e (does (Note (codes "new") ∷ [])) ∷ Note (codes "c") ∷ []))
+      ∷ AddBoth e (does (Note (codes "old") ∷ [])) ∷ fire e 1 ∷ [])
+      (made 0 c ∷ made 1 e ∷ added 0 ∷ fired 0 (number 0) ∷ runs 0 ∷ awaits 0 1 ∷ added 0 ∷ added 1 ∷ fired 1 (number 1) ∷ hands 1 0 (number 1) ∷ runs 0 ∷ added 1
+      ∷ runs 1 ∷ noted (codes "old") ∷ becomes 1 Null ∷ runs 1 ∷ noted (codes "new") ∷ becomes 1 Null ∷ noted (codes "c") ∷ becomes 0 (number 1) ∷ [])
+      (has c 1 ∷ has_null e ∷ [])
+  pub a_chain_and_a_pause :
+      LeadsTo (deferred a ∷ deferred b ∷ Chain a b ∷ Pause b ∷ AddCallback b (plus 1) ∷ fire a 1 ∷ Unpause b ∷ Unpause b ∷ [])
+      (made 0 a ∷ made 1 b ∷ added 0 ∷ paused 1 ∷ added 1 ∷ fired 0 (number 1) ∷ runs 0 ∷ fired 1 (number 1) ∷ becomes 0 Null ∷ unpaused 1 ∷ runs 1 ∷ becomes 1 (number 2)
+      ∷ unhandled assertion_error (codes "not paused") ∷ [])
+      (has_null a ∷ has b 2 ∷ [])
+  pub nothing_runs_while_it_is_paused :
+      LeadsTo (deferred a ∷ deferred b ∷ Chain a b ∷ Pause b ∷ AddCallback b (plus 1) ∷ fire a 1 ∷ [])
+      (made 0 a ∷ made 1 b ∷ added 0 ∷ paused 1 ∷ added 1 ∷ fired 0 (number 1) ∷ runs 0 ∷ fired 1 (number 1) ∷ becomes 0 Null ∷ [])
+      (has_null a ∷ has_paused b 1 ∷ [])
+  pub a_deferred_that_waits_for_itself :
+      LeadsTo (deferred d ∷ AddCallback d (waits_for itself) ∷ fire d 1 ∷ [])
+      (made 0 d ∷ added 0 ∷ fired 0 (number 1) ∷ runs 0 ∷ awaits 0 0 ∷ [])
+      (is_waiting d 0 ∷ [])
+  pub a_pair_added_from_its_own_side_runs_after_it :
+      LeadsTo (deferred a ∷ deferred b ∷ AddCallback a (waits_for b) ∷ AddCallback b (does (AddCallback b (plus 1) ∷ fire a 0 ∷ [])) ∷ fire b 5 ∷ [])
+      (made 0 a ∷ made 1 b ∷ added 0 ∷ added 1 ∷ fired 1 (number 5) ∷ runs 1 ∷ added 1 ∷ fired 0 (number 0) ∷ runs 0 ∷ takes 0 1 (number 5) ∷ becomes 1 (number 5)
+      ∷ runs 1 ∷ becomes 1 (number 6) ∷ [])
+      (has a 5 ∷ has b 6 ∷ [])
+  pub a_wait_for_a_name_that_is_not_bound_fails :
+      LeadsTo (deferred d ∷ AddCallback d (waits_for stranger) ∷ fire d 1 ∷ [])
+      (made 0 d ∷ added 0 ∷ fired 0 (number 1) ∷ runs 0 ∷ becomes 0 (fault name_error stranger) ∷ [])
+      (has_failed d name_error stranger ∷ [])
+  pub an_action_that_raises_ends_its_body :
+      LeadsTo (deferred d ∷ AddCallback d (does (Note (codes "before") ∷ fire stranger 1 ∷ Note (codes "after") ∷ [])) ∷ fire d 1 ∷ [])
+      (made 0 d ∷ added 0 ∷ fired 0 (number 1) ∷ runs 0 ∷ noted (codes "before") ∷ becomes 0 (fault name_error stranger) ∷ [])
+      (has_failed d name_error stranger ∷ [])
+  pub a_second_firing_inside_a_body_ends_it :
+      LeadsTo (deferred d ∷ deferred e ∷ AddCallback d (does (fire e 1 ∷ fire e 2 ∷ Note (codes "after") ∷ [])) ∷ fire d 0 ∷ [])
+      (made 0 d ∷ made 1 e ∷ added 0 ∷ fired 0 (number 0) ∷ runs 0 ∷ fired 1 (number 1) ∷ refused 1 ∷ becomes 0 (fault already_called_error []) ∷ [])
+      (has_failed d already_called_error [] ∷ has e 1 ∷ [])
+  pub a_chain_to_one_that_is_fired_already_fails :
+      LeadsTo (deferred d ∷ deferred e ∷ fire e 1 ∷ Chain d e ∷ fire d 2 ∷ [])
+      (made 0 d ∷ made 1 e ∷ fired 1 (number 1) ∷ added 0 ∷ fired 0 (number 2) ∷ runs 0 ∷ refused 1 ∷ becomes 0 (fault already_called_error []) ∷ [])
+      (has_failed d already_called_error [] ∷ has e 1 ∷ [])
+  pub outside_a_body_no_deferred_is_meant_by_at :
+      LeadsTo (deferred d ∷ fire itself 1 ∷ [])
+      (made 0 d ∷ unhandled name_error itself ∷ [])
       (is_unfired d ∷ [])

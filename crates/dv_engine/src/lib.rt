@@ -1,15 +1,16 @@
 //! Performs a script: what its events do to the Deferreds that they make.
 #![tactic(auto)]
 
-mod ending;
+mod acting;
 pub mod engine;
+pub mod error;
+mod events;
+mod frame;
 pub mod laws;
-mod names;
-mod pair;
-mod perform;
-mod performed;
 pub mod performs;
 pub mod report;
+mod runner;
+mod settling;
+mod stack;
 #[cfg(test)]
 mod tests;
-mod world;

@@ -1,45 +1,33 @@
-ghost use Rattle.std.specs.Prelude.{◌≡◌};
+ghost use Rattle.std.specs.Prelude.{◌≡◌, map};
 ghost use Rattle.std.specs.List.{list_all};
-ghost use Rattle.dv_engine.specs.Performs.{is_empty, performs_end, performs_body, performs_action, performs_event, performs};
+ghost use Rattle.dv_engine.specs.Performs.{is_empty, performs_action, performs_body, performs_event, performs};
 
 use dv_script::action::Action;
-use dv_script::body::{Body, End};
+use dv_script::body::Body;
 use dv_script::event::Event;
 use dv_script::script::Script;
 use dv_value::items::Items;
 
-fn performs_end(end: &End) -> bool
-    ensures { result ≡ performs_end end.now }
-{
-    match end {
-        End::Return(_) | End::Pass | End::Plus(_) | End::Raise(_, _) | End::Trap(_, _) => true,
-        End::Wait(_) => false,
-    }
-}
-
-fn performs_body(body: &Body) -> bool
-    ensures { result ≡ performs_body body.now }
-{
-    body.actions.as_slice().is_empty() && performs_end(&body.end)
-}
-
+#[cycle(performs)]
 fn performs_action(action: &Action) -> bool
     ensures { result ≡ performs_action action.now }
 {
     match action {
-        Action::Deferred(_, None)
-        | Action::Callback(_, _)
+        Action::Deferred(_, None) => true,
+        Action::Deferred(_, Some(_)) => false,
+        Action::Callback(_, _)
         | Action::Errback(_, _, _)
-        | Action::Note(_) => true,
-        Action::AddCallback(_, body) | Action::AddErrback(_, body) => performs_body(body),
-        Action::AddBoth(_, body) => performs_body(body),
-        Action::AddCallbacks(_, callback, errback) => performs_body(callback)
-            && performs_body(errback),
-        Action::Deferred(_, Some(_))
         | Action::Chain(_, _)
         | Action::Pause(_)
         | Action::Unpause(_)
-        | Action::Cancel(_)
+        | Action::Note(_) => true,
+        Action::AddCallback(_, body) | Action::AddErrback(_, body) | Action::AddBoth(_, body) => {
+            performs_body(body)
+        }
+        Action::AddCallbacks(_, callback, errback) => {
+            performs_body(callback) && performs_body(errback)
+        }
+        Action::Cancel(_)
         | Action::List(_, _, _)
         | Action::Gather(_, _, _)
         | Action::Maybe(_, _)
@@ -63,6 +51,25 @@ fn performs_action(action: &Action) -> bool
         | Action::Inline(_, _)
         | Action::Thread(_, _, _) => false,
     }
+}
+
+#[cycle(performs)]
+fn perform_all(actions: &[Action]) -> bool
+    ensures { result ≡ list_all (λ b. b) (map performs_action actions.now) }
+{
+    for action in actions {
+        if !performs_action(action) {
+            return false;
+        }
+    }
+    true
+}
+
+#[cycle(performs)]
+fn performs_body(body: &Body) -> bool
+    ensures { result ≡ performs_body body.now }
+{
+    perform_all(body.actions.as_slice())
 }
 
 fn performs_event(event: &Event) -> bool
@@ -92,8 +99,9 @@ fn are_performed(events: &[Event]) -> bool
     events.iter().all(performs_event)
 }
 
-/// Whether a script uses only what is performed: its events are actions among those of `Action` that make, fire and
-/// add to Deferreds, and notes; its bodies have no actions and don't wait, and nothing is posted. It takes no memory.
+/// Whether a script uses only what is performed: its events are actions, and these and those of its bodies are among
+/// those of `Action` that make, fire, chain, pause, unpause and add to Deferreds, and notes; no Deferred has a
+/// canceller, and nothing is posted. It takes no memory.
 pub fn performs(script: &Script) -> bool
     ensures { result ≡ performs script.now }
 {

@@ -1,4 +1,5 @@
-use crate::engine::perform;
+use crate::engine::{Engine, Next, perform};
+use crate::error::EngineFault;
 use crate::report::{Outcome, State};
 use dv_script::script::Script;
 use dv_value::classes::Classes;
@@ -18,15 +19,24 @@ fn show(
     }
     match &outcome.state {
         State::Unfired => write!(out, "unfired")?,
+        State::Waiting(id) => write!(out, "waits for {}", id.number())?,
         State::Fired(value) => write_outcome(alloc, classes, out, value)?,
+    }
+    if outcome.pauses != 0 {
+        write!(out, " paused {}", outcome.pauses)?;
     }
     write!(out, "; ")
 }
 
+/// A script of these events.
+fn script(alloc: Global, events: &str) -> Result<Script, Fail> {
+    let text = format!(in alloc; "{{\"version\":1,\"events\":[{events}]}}")?;
+    Ok(Script::read(alloc, text.as_bytes())?)
+}
+
 /// The outcomes of a script of these events.
 fn outcomes(alloc: Global, events: &str) -> Result<String, Fail> {
-    let text = format!(in alloc; "{{\"version\":1,\"events\":[{events}]}}")?;
-    let script = Script::read(alloc, text.as_bytes())?;
+    let script = script(alloc, events)?;
     let report = perform(alloc, &script)?;
     let mut out = String::new(alloc);
     for outcome in report.outcomes.as_slice() {
@@ -35,7 +45,7 @@ fn outcomes(alloc: Global, events: &str) -> Result<String, Fail> {
     Ok(out)
 }
 
-static ROWS: [(&str, &str); 9] = [
+static ROWS: [(&str, &str); 13] = [
     ("", ""),
     (
         r#"["deferred","d"],["addCallback","d",{"end":["plus",2]}],["callback","d",1]"#,
@@ -69,6 +79,22 @@ static ROWS: [(&str, &str); 9] = [
         r#"["callback","z",1],["deferred","z"],["deferred","z"],["addCallback","y",{}],["callback","z",2]"#,
         "z unfired; z ok 2; ",
     ),
+    (
+        r#"["deferred","a"],["deferred","b"],["addCallback","a",{"end":["wait","b"]}],["callback","a",1]"#,
+        "a waits for 1; b unfired; ",
+    ),
+    (
+        r#"["deferred","a"],["deferred","b"],["addCallback","a",{"end":["wait","b"]}],["callback","a",1],["callback","b",2]"#,
+        "a ok 2; b ok null; ",
+    ),
+    (
+        r#"["deferred","a"],["pause","a"],["pause","a"],["pause","a"],["unpause","a"],["callback","a",1]"#,
+        "a ok 1 paused 2; ",
+    ),
+    (
+        r#"["deferred","a"],["deferred","b"],["chain","a","b"],["callback","a",1]"#,
+        "a ok null; b ok 1; ",
+    ),
 ];
 
 #[test]
@@ -80,5 +106,31 @@ fn deferreds_end_as_they_do_in_twisted(rt: HostRuntime) -> Result<(), Fail> {
             "{events}"
         );
     }
+    Ok(())
+}
+
+#[test]
+fn an_engine_goes_event_by_event_and_then_ends(rt: HostRuntime) -> Result<(), Fail> {
+    let script = script(rt.alloc(), r#"["note","one"],["callback","z",1]"#)?;
+    let mut engine = Engine::new(rt.alloc(), &script);
+    assert_eq!(rt; engine.event(), Ok(Next::Went));
+    assert_eq!(rt; engine.event(), Ok(Next::Went));
+    assert_eq!(rt; engine.event(), Ok(Next::Ended));
+    assert_eq!(rt; engine.event(), Err(EngineFault::NotNow));
+    assert_eq!(rt; engine.event(), Err(EngineFault::NotNow));
+    let report = engine.finish()?;
+    assert_eq!(rt; report.journal.entries().len(), 2);
+    assert!(rt; !report.stopped);
+    Ok(())
+}
+
+#[test]
+fn an_engine_that_has_not_ended_gives_no_report(rt: HostRuntime) -> Result<(), Fail> {
+    let script = script(rt.alloc(), r#"["note","one"]"#)?;
+    let fresh = Engine::new(rt.alloc(), &script);
+    assert!(rt; matches!(fresh.finish(), Err(EngineFault::NotNow)));
+    let mut engine = Engine::new(rt.alloc(), &script);
+    assert_eq!(rt; engine.event(), Ok(Next::Went));
+    assert!(rt; matches!(engine.finish(), Err(EngineFault::NotNow)));
     Ok(())
 }

@@ -65,9 +65,9 @@ says_text input bytes read report front says performed reports = record {
     world = reports.world;
     means = reports.means;
     lines =
-        ap (λ (j : Written). text_of read.classes j.entries ++ output read.classes report.outcomes) reports.journal
-        ∙ ap (λ (o : List Outcome). text_of read.classes reports.world.journal.entries ++ output read.classes o) reports.outcomes;
-    how = ap ended_by reports.stopped;
+        ap (λ (j : Written). text_of read.classes j.entries ++ output read.classes report.outcomes) reports.tells.journal
+        ∙ ap (λ (o : List Outcome). text_of read.classes reports.world.journal.entries ++ output read.classes o) reports.tells.outcomes;
+    how = ap ended_by reports.tells.stopped;
   };
 }
 

@@ -1,27 +1,26 @@
 -- The lines that tell the outcomes of a run.
-use Rattle.std.specs.Prelude.{ℕ, suc, List, [], ◌∷◌, ◌++◌, Option, None, Some, codes}
-use Rattle.std.specs.Fmt.{decimal}
+use Rattle.std.specs.Prelude.{ℕ, suc, nat_eq, if◌then◌else◌, List, [], ◌∷◌, ◌++◌, Option, None, Some, codes}
 use Rattle.dv_value.specs.ValueText.{outcome}
 use Rattle.dv_value.specs.declared.classes.Class.{Class}
-use Rattle.dv_journal.specs.Line.{text_of}
+use Rattle.dv_journal.specs.Line.{text_of, hash, name_text}
 use Rattle.dv_engine.specs.declared.report.Outcome.{Outcome}
 use Rattle.dv_engine.specs.declared.report.Report.{Report}
 use Rattle.dv_engine.specs.declared.report.State.{State}
-use Rattle.dv_engine.specs.declared.report.State.TheVariants.{Unfired, Fired}
+use Rattle.dv_engine.specs.declared.report.State.TheVariants.{Unfired, Waiting, Fired}
 
--- the name, or a dash for a Deferred without one
-abbrev pub name_text : Option (List ℕ) → List ℕ
-name_text None = codes "-"
-name_text (Some name) = name
-
--- unfired, or what it was fired with: `ok` and a value, or `fail` and a failure
+-- unfired, waiting for another, or what it was fired with: `ok` and a value, or `fail` and a failure
 abbrev pub state_text : List Class → State → List ℕ
 state_text table Unfired = codes "unfired"
+state_text table (Waiting id) = codes "waiting " ++ hash id
 state_text table (Fired value) = outcome table value
+
+-- a paused one is said to be
+abbrev pub pauses_text : ℕ → List ℕ
+pauses_text pauses = if nat_eq pauses 0 then [] else codes "paused "
 
 -- #N NAME STATE
 abbrev pub outcome_line : List Class → ℕ → Outcome → List ℕ
-outcome_line table number o = codes "#" ++ decimal number ++ codes " " ++ name_text o.name ++ codes " " ++ state_text table o.state ++ codes "\n"
+outcome_line table number o = hash number ++ codes " " ++ name_text o.name ++ codes " " ++ pauses_text o.pauses ++ state_text table o.state ++ codes "\n"
 
 abbrev pub lines_from : List Class → ℕ → List Outcome → List ℕ
 lines_from table number [] = []

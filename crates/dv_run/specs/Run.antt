@@ -4,13 +4,13 @@ use Rattle.std.specs.Io.KnownBytes.{Appends, Keeps}
 use Rattle.dv_engine.specs.Meaning.{Means}
 use Rattle.dv_engine.specs.Performs.{performs}
 use Rattle.dv_engine.specs.Report.{outcomes_of}
-use Rattle.dv_engine.specs.World.{World}
 use Rattle.dv_journal.specs.Line.{text_of}
 use Rattle.dv_journal.specs.Sink.{AppendsPrefix}
 use Rattle.dv_script.specs.Refusal.{Says, Refuses}
 use Rattle.dv_script.specs.declared.error.ScriptFault.{ScriptFault}
 use Rattle.dv_script.specs.declared.error.ScriptFault.TheVariants as script
 use Rattle.dv_script.specs.declared.script.Script.{Script}
+use Rattle.dv_world.specs.World.{World}
 use Rattle.dv_run.specs.Output.{output}
 use Rattle.dv_run.specs.Source.{IsFrontOf}
 use Rattle.dv_run.specs.declared.run.Ended.{Ended}

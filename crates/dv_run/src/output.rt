@@ -1,7 +1,8 @@
 ghost use Rattle.std.specs.Prelude.{◌≡◌, ◌++◌, OnOk, OnErr, IsErrOf, string_bytes};
 ghost use Rattle.std.specs.Io.KnownBytes.{Appends};
 ghost use Rattle.dv_journal.specs.Sink.{HasFailed, AppendsPrefix};
-ghost use Rattle.dv_run.specs.Output.{name_text, state_text, outcome_line, output, report_text};
+ghost use Rattle.dv_journal.specs.Line.{name_text};
+ghost use Rattle.dv_run.specs.Output.{pauses_text, state_text, outcome_line, output, report_text};
 
 use dv_engine::report::{Outcome, Report, State};
 use dv_journal::error::PrintFault;
@@ -20,6 +21,12 @@ fn name_text(name: &Option<Text>) -> &str
     }
 }
 
+fn pauses_text(pauses: u32) -> &'static str
+    ensures { result.now ≡ pauses_text pauses }
+{
+    if pauses == 0 { "" } else { "paused " }
+}
+
 fn write_state(
     alloc: Global,
     classes: &Classes,
@@ -30,6 +37,7 @@ fn write_state(
 {
     match state {
         State::Unfired => write!(line, "unfired"),
+        State::Waiting(id) => write!(line, "waiting #{}", id.number()),
         State::Fired(value) => write_outcome(alloc, classes, line, value),
     }
 }
@@ -43,7 +51,12 @@ fn write_line(
 ) -> Result<(), AllocError>
     ensures { OnOk result (string_bytes line.new ≡ string_bytes line.old ++ outcome_line classes.now number outcome.now) }
 {
-    write!(line, "#{number} {} ", name_text(&outcome.name))?;
+    write!(
+        line,
+        "#{number} {} {}",
+        name_text(&outcome.name),
+        pauses_text(outcome.pauses)
+    )?;
     write_state(alloc, classes, line, &outcome.state)?;
     write!(line, "\n")
 }

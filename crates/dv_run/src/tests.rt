@@ -1,3 +1,4 @@
+mod chains;
 mod exit;
 mod faults;
 mod refusals;

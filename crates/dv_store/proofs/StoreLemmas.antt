@@ -5,11 +5,11 @@ use Rattle.std.proofs.lemmas.Option.{get_or_from_slice_get}
 use Rattle.std.proofs.Math.Seq.{take-append_seam}
 use Rattle.dv_store.specs.declared.record.Record.{Record}
 
-one_less : {P : Type 0} (pairs : List P) (pair : P) → length (pairs ++ pair ∷ []) - 1 ≡ length pairs
-one_less pairs pair = omega (arith, length-append pairs (pair ∷ []))
+one_less : {X : Type 0} (items : List X) (item : X) → length (items ++ item ∷ []) - 1 ≡ length items
+one_less items item = omega (arith, length-append items (item ∷ []))
 
-pub pair_taken_back : {P : Type 0} (pairs : List P) (pair : P) → take (length (pairs ++ pair ∷ []) - 1) (pairs ++ pair ∷ []) ≡ pairs
-pair_taken_back pairs pair = ap (λ n. take n (pairs ++ pair ∷ [])) (one_less pairs pair) ∙ take-append_seam pairs (pair ∷ [])
+pub item_taken_back : {X : Type 0} (items : List X) (item : X) → take (length (items ++ item ∷ []) - 1) (items ++ item ∷ []) ≡ items
+item_taken_back items item = ap (λ n. take n (items ++ item ∷ [])) (one_less items item) ∙ take-append_seam items (item ∷ [])
 
 -- a record that is set to what it was leaves the records
 pub record_kept : {P K : Type 0} (rs : List (Record P K)) (id : ℕ) (r same : Record P K) → slice_get rs id ≡ Some r → same ≡ r → slice_set rs id same ≡ rs

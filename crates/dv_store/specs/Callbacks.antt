@@ -1,35 +1,52 @@
--- One pair used (Twisted: the Deferred Reference, "Callbacks"; `Deferred.addCallbacks`).
-use Rattle.std.specs.Prelude.{ℕ, Bool, true, false, not, ◌&&◌, if◌then◌else◌, List, [], ◌∷◌, Option, Some, None, slice_get, slice_set}
+-- One item used (Twisted: the Deferred Reference, "Callbacks" and "Chaining Deferreds"; `Deferred.addCallbacks`).
+use Rattle.std.specs.Prelude.{ℕ, Bool, true, false, not, ◌&&◌, nat_eq, is_none, if◌then◌else◌, List, [], ◌∷◌, Option, Some, None, slice_get, slice_set}
 use Rattle.dv_value.specs.Failure.{is_fault}
 use Rattle.dv_value.specs.declared.value.Value.{Value}
+use Rattle.dv_value.specs.declared.value.Value.TheVariants.{Null}
 use Rattle.dv_journal.specs.declared.entry.Entry.TheVariants as entry
+use Rattle.dv_store.specs.Record.{changing}
 use Rattle.dv_store.specs.Telling.{State, Told, untold, telling}
+use Rattle.dv_store.specs.declared.record.Item.{Item}
+use Rattle.dv_store.specs.declared.record.Item.TheVariants as item
 use Rattle.dv_store.specs.declared.record.Record.{Record}
 use Rattle.dv_store.specs.declared.store.Step.{Step}
-use Rattle.dv_store.specs.declared.store.Step.TheVariants.{Nothing, Passed, Run}
+use Rattle.dv_store.specs.declared.store.Step.TheVariants.{Nothing, Passed, Run, Handed}
 
 -- what a step did, and what it leaves
 abbrev pub Stepped : Type 0 → Type 0 → Type 0
 Stepped P K = Told (Step P) P K
 
--- a Deferred is ready once it is fired, while no side of it runs
+-- a Deferred is ready once it is fired, while no side of it runs, it isn't paused, and it waits for no other
 abbrev pub is_ready : {P K : Type 0} → Record P K → Bool
-is_ready r = r.fired && not r.running
+is_ready r = r.fired && not r.running && nat_eq r.pauses 0 && is_none r.waits_for
+
+-- a Deferred that waited gets a value, and waits no longer
+abbrev pub with_handed : {P K : Type 0} → Value → Record P K → Record P K
+with_handed value r = record r { value = value; waits_for = None }
+
+-- the value is handed over to c, and this one's is null
+abbrev pub hand : {P K : Type 0} → ℕ → ℕ → Record P K → List (Item P) → State P K → Stepped P K
+hand id c r rest s =
+    telling (entry.Hand id c r.value) (Handed c) (changing c (with_handed r.value) (slice_set s.0 id (record r { items = rest; value = Null }))) s
 
 module _ {P K : Type 0} (passes_at : P → Bool → Bool) where
   -- a pair without a side for the value passes it on, which isn't told; else its side runs
-  abbrev pub use_pair : ℕ → Record P K → P → List P → State P K → Stepped P K
+  abbrev pub use_pair : ℕ → Record P K → P → List (Item P) → State P K → Stepped P K
   use_pair id r pair rest s =
       if passes_at pair (is_fault r.value)
       then untold Passed (slice_set s.0 id (record r { items = rest }), s.1)
       else telling (entry.Run id) (Run pair) (slice_set s.0 id (record r { items = rest; running = true })) s
 
-  -- pairs are used in the order in which they were added, each once
-  abbrev pub use_first : ℕ → Record P K → List P → State P K → Stepped P K
-  use_first id r [] s = untold Nothing s
-  use_first id r (pair ∷ rest) s = use_pair id r pair rest s
+  abbrev pub use_item : ℕ → Record P K → Item P → List (Item P) → State P K → Stepped P K
+  use_item id r (item.Pair pair) rest s = use_pair id r pair rest s
+  use_item id r (item.HandOver c) rest s = hand id c r rest s
 
-  -- only a ready Deferred uses a pair; an id of no record changes nothing
+  -- items are used in the order in which they were added, each once
+  abbrev pub use_first : ℕ → Record P K → List (Item P) → State P K → Stepped P K
+  use_first id r [] s = untold Nothing s
+  use_first id r (item ∷ rest) s = use_item id r item rest s
+
+  -- only a ready Deferred uses an item; an id of no record changes nothing
   abbrev pub step_found : ℕ → Option (Record P K) → State P K → Stepped P K
   step_found id None s = untold Nothing s
   step_found id (Some r) s = if is_ready r then use_first id r r.items s else untold Nothing s

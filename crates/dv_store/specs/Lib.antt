@@ -2,4 +2,6 @@ pub mod Telling
 pub mod Record
 pub mod Fire
 pub mod Callbacks
+pub mod Chaining
+pub mod Pausing
 pub mod Laws

@@ -39,3 +39,30 @@ impl From<AllocError> for StoreFault {
         StoreFault::OutOfMemory
     }
 }
+
+/// Why a Deferred isn't unpaused.
+#[derive(Clone, Copy, Debug, PartialEq, Eq, Error)]
+pub enum UnpauseFault {
+    /// It isn't paused.
+    #[error("not paused")]
+    NotPaused,
+    /// What the journal would tell of it would pass the journal's limit.
+    #[error("journal limit reached")]
+    Limit,
+    #[error("out of memory")]
+    OutOfMemory,
+}
+
+impl From<Stop> for UnpauseFault {
+    ghost use Rattle.std.specs.Prelude.{◌≡◌};
+    ghost use Rattle.dv_store.specs.Pausing.{fault_of};
+
+    ghost from_gives = { λ stop fault. fault ≡ fault_of stop };
+
+    fn from(stop: Stop) -> UnpauseFault {
+        match stop {
+            Stop::Limit => UnpauseFault::Limit,
+            Stop::OutOfMemory => UnpauseFault::OutOfMemory,
+        }
+    }
+}

@@ -1,6 +1,16 @@
+use dv_journal::deferred_id::DeferredId;
 use dv_value::deque::Deque;
 use dv_value::text::Text;
 use dv_value::value::Value;
+
+/// What a Deferred uses up, one after the other (Twisted: the entries of `Deferred.callbacks`).
+#[derive(Debug, Drop)]
+pub enum Item<P> {
+    /// A pair of a callback and an errback.
+    Pair(P),
+    /// The value is handed over to this Deferred, which waits for it.
+    HandOver(DeferredId),
+}
 
 /// What is kept of one Deferred.
 #[derive(Debug, Drop)]
@@ -9,10 +19,14 @@ pub struct Record<P, K> {
     /// Whether it has been fired (Twisted: `Deferred.called`).
     pub fired: bool,
     /// The current value (Twisted: `Deferred.result`). It is `Null` until the Deferred is fired, and while a side
-    /// runs it is still what that side was given.
+    /// runs it is still what that side was given, or `Null` where another Deferred took that.
     pub value: Value,
-    /// The pairs that aren't used yet, in the order in which they were added (Twisted: `Deferred.callbacks`).
-    pub items: Deque<P>,
+    /// What isn't used yet, in the order in which it was added (Twisted: `Deferred.callbacks`).
+    pub items: Deque<Item<P>>,
+    /// How often it was paused and not unpaused since (Twisted: `Deferred.paused`).
+    pub pauses: u32,
+    /// The Deferred that a side of it gave, and whose value it gets (Twisted: `Deferred._chainedTo`).
+    pub waits_for: Option<DeferredId>,
     /// Whether a side of it runs (Twisted: `Deferred._runningCallbacks`).
     pub running: bool,
     /// What a cancel of it does while it is unfired.

@@ -1,10 +1,10 @@
 ghost use Rattle.std.specs.Prelude.{◌≡◌, true, [], ◌∷◌, ◌++◌, ◌<◌, ◌^◌, ◌-◌, length, slice_get, IfOk, OnOk, OnErr};
 ghost use Rattle.std.specs.Option.{option_copied};
 ghost use Rattle.dv_journal.specs.Journal.{fits, with_entry};
-ghost use Rattle.dv_journal.specs.declared.entry.Entry.TheVariants.{Add};
+ghost use Rattle.dv_store.specs.Chaining.{is_pending};
 
-use crate::error::StoreFault;
-use crate::record::Record;
+use crate::error::{StoreFault, UnpauseFault};
+use crate::record::{Item, Record};
 use crate::sides::Sides;
 use dv_journal::deferred_id::DeferredId;
 use dv_journal::entry::Entry;
@@ -15,6 +15,7 @@ use dv_value::text::Text;
 use dv_value::value::Value;
 use std::alloc::{AllocError, Global};
 use std::marker::Model;
+use std::mem;
 
 /// What one step of a Deferred did.
 #[derive(Debug, Drop)]
@@ -25,12 +26,23 @@ pub enum Step<P> {
     Passed,
     /// The first pair is taken out, and its side for the value is to be run.
     Run(P),
+    /// The value is handed over to this Deferred, which waits no longer and is to be settled before this one goes on.
+    Handed(DeferredId),
+}
+
+/// What became of a side that gave a Deferred.
+#[derive(Clone, Copy, Debug, PartialEq, Eq)]
+pub enum Placed {
+    /// The given Deferred's value was taken at once.
+    Taken,
+    /// The value comes when the given Deferred hands it over.
+    Waits,
 }
 
 /// The records of all Deferreds, in order of making.
 ///
 /// An id that isn't of this store means nothing to it: no call changes anything for it, `record` answers None, `step`
-/// answers Nothing, and `append`, `fire` and `put` answer Ok.
+/// answers Nothing, `put_deferred` answers Waits, and the others answer Ok.
 #[derive(Debug, Drop)]
 pub struct Store<P, K> {
     alloc: Global,
@@ -51,10 +63,14 @@ impl<P, K> Model for Store<P, K> {
 }
 
 impl<P: Sides + Drop, K: Drop> Store<P, K> {
-    ghost use Rattle.dv_store.specs.Record.{make, append};
+    ghost use Rattle.dv_store.specs.Record.{make, append, changing};
     ghost use Rattle.dv_store.specs.Fire.{fire, FiresUnlessMemory};
-    ghost use Rattle.dv_store.specs.Callbacks.{step, put};
-    ghost use Rattle.dv_store.specs.Telling.{UnlessMemory};
+    ghost use Rattle.dv_store.specs.Callbacks.{step, put, with_handed, with_result};
+    ghost use Rattle.dv_store.specs.Chaining.{put_deferred, with_wait, waiting, taking, value_at};
+    ghost use Rattle.dv_store.specs.Pausing.{pauses_of, pause, unpause, UnpausesUnlessMemory};
+    ghost use Rattle.dv_store.specs.Telling.{UnlessMemory, telling};
+    ghost use Rattle.dv_store.specs.declared.store.Placed.TheVariants.{Taken, Waits};
+    ghost use Rattle.dv_journal.specs.declared.entry.Entry.TheVariants.{Wait, Take};
 
     /// No records. It takes no memory before the first Deferred is made.
     pub fn new(alloc: Global) -> Store<P, K>
@@ -104,6 +120,8 @@ impl<P: Sides + Drop, K: Drop> Store<P, K> {
             fired: false,
             value: Value::Null,
             items: Deque::new(self.alloc),
+            pauses: 0,
+            waits_for: None,
             running: false,
             canceller,
         };
@@ -125,7 +143,12 @@ impl<P: Sides + Drop, K: Drop> Store<P, K> {
         if !journal.fits_plain() {
             return Err(Stop::Limit);
         }
-        add(journal, id, &mut self.records[place].items, pair)?;
+        add(
+            journal,
+            Entry::Add(id),
+            &mut self.records[place].items,
+            Item::Pair(pair),
+        )?;
         Ok(())
     }
 
@@ -159,10 +182,11 @@ impl<P: Sides + Drop, K: Drop> Store<P, K> {
         Ok(())
     }
 
-    /// Uses the first unused pair of a Deferred, where it is fired and no side of it runs.
+    /// Uses the first unused item of a Deferred, where it is fired, no side of it runs, it isn't paused and it waits for
+    /// no other.
     ///
-    /// After `Run` the side is the caller's to run, on the record's value, and `put` ends it. Where it is refused, the
-    /// pair isn't used.
+    /// After `Run` the side is the caller's to run, on the record's value, and `put` or `put_deferred` ends it. After
+    /// `Handed` this Deferred's value is `Null`. Where it is refused, the item isn't used.
     #[tactic(auto, unfolding(crate::specs::Callbacks::step))]
     pub fn step(&mut self, journal: &mut Journal, id: DeferredId) -> Result<Step<P>, Stop>
         ensures { UnlessMemory result (self.old, journal.old) (self.new, journal.new) (step P.passes_at id (self.old, journal.old)) }
@@ -171,20 +195,38 @@ impl<P: Sides + Drop, K: Drop> Store<P, K> {
         let Some(record) = self.records.get(place) else {
             return Ok(Step::Nothing);
         };
-        if !record.fired || record.running {
+        if !record.fired || record.running || record.pauses != 0 || record.waits_for.is_some() {
             return Ok(Step::Nothing);
         }
-        let Some(pair) = record.items.front() else {
-            return Ok(Step::Nothing);
-        };
-        if pair.passes(record.value.is_fault()) {
-            let _ = self.records[place].items.pop_front();
-            return Ok(Step::Passed);
+        match record.items.front() {
+            None => Ok(Step::Nothing),
+            Some(Item::Pair(pair)) => {
+                if pair.passes(record.value.is_fault()) {
+                    let _ = self.records[place].items.pop_front();
+                    return Ok(Step::Passed);
+                }
+                journal.write(Entry::Run(id))?;
+                let record = &mut self.records[place];
+                record.running = true;
+                match record.items.pop_front() {
+                    Some(Item::Pair(pair)) => Ok(Step::Run(pair)),
+                    Some(Item::HandOver(_)) | None => unreachable!(),
+                }
+            }
+            Some(Item::HandOver(to)) => {
+                let to = *to;
+                if !journal.fits_value(&record.value) {
+                    return Err(Stop::Limit);
+                }
+                let shown = record.value.copy(self.alloc)?;
+                journal.write(Entry::Hand(id, to, shown))?;
+                let record = &mut self.records[place];
+                let _ = record.items.pop_front();
+                let value = mem::replace(&mut record.value, Value::Null);
+                self.set_handed(to, value);
+                Ok(Step::Handed(to))
+            }
         }
-        journal.write(Entry::Run(id))?;
-        let record = &mut self.records[place];
-        record.running = true;
-        Ok(Step::Run(record.items.pop_front().unwrap()))
     }
 
     /// Ends the running side of a Deferred with what it gave, a plain result or a failure, which becomes the value.
@@ -208,6 +250,148 @@ impl<P: Sides + Drop, K: Drop> Store<P, K> {
         Ok(())
     }
 
+    /// Ends the running side of a Deferred with another that it gave, itself too: its value is taken, which leaves it
+    /// `Null`, or the Deferred waits for it, where it is itself, unfired, paused or waiting (Twisted:
+    /// `Deferred._runCallbacks`, which chains the two).
+    ///
+    /// Where it is refused, the side runs on.
+    #[tactic(auto, unfolding(crate::specs::Chaining::put_deferred))]
+    pub fn put_deferred(
+        &mut self,
+        journal: &mut Journal,
+        id: DeferredId,
+        given: DeferredId,
+    ) -> Result<Placed, Stop>
+        ensures { UnlessMemory result (self.old, journal.old) (self.new, journal.new) (put_deferred id given (self.old, journal.old)) }
+    {
+        match self.records.get(id.number() as usize) {
+            None => Ok(Placed::Waits),
+            Some(_) => match self.records.get(given.number() as usize) {
+                None => Ok(Placed::Waits),
+                Some(record) => {
+                    if is_pending(id, given, record) {
+                        Ok(self.wait_for(journal, id, given)?)
+                    } else {
+                        Ok(self.take_from(journal, id, given)?)
+                    }
+                }
+            },
+        }
+    }
+
+    /// The given Deferred is to hand its value over.
+    #[tactic(auto, using(crate::proofs::StoreLemmas::record_kept))]
+    fn wait_for(
+        &mut self,
+        journal: &mut Journal,
+        id: DeferredId,
+        given: DeferredId,
+    ) -> Result<Placed, Stop>
+        requires within { given < length self.old }
+        ensures { UnlessMemory result (self.old, journal.old) (self.new, journal.new) (telling (Wait id given) Waits (waiting id given self.old) (self.old, journal.old)) }
+    {
+        if !journal.fits_plain() {
+            return Err(Stop::Limit);
+        }
+        add(
+            journal,
+            Entry::Wait(id, given),
+            &mut self.records[given.number() as usize].items,
+            Item::HandOver(id),
+        )?;
+        self.set_waiting(id, given);
+        Ok(Placed::Waits)
+    }
+
+    /// The value of the given Deferred is moved.
+    fn take_from(
+        &mut self,
+        journal: &mut Journal,
+        id: DeferredId,
+        given: DeferredId,
+    ) -> Result<Placed, Stop>
+        requires within { given < length self.old }
+        ensures { UnlessMemory result (self.old, journal.old) (self.new, journal.new) (telling (Take id given (value_at given self.old)) Taken (taking id given (value_at given self.old) self.old) (self.old, journal.old)) }
+    {
+        let place = given.number() as usize;
+        let value = &self.records[place].value;
+        if !journal.fits_value(value) {
+            return Err(Stop::Limit);
+        }
+        let shown = value.copy(self.alloc)?;
+        journal.write(Entry::Take(id, given, shown))?;
+        let value = mem::replace(&mut self.records[place].value, Value::Null);
+        self.set_result(id, value);
+        Ok(Placed::Taken)
+    }
+
+    /// A Deferred gets the value that was handed over to it.
+    fn set_handed(&mut self, id: DeferredId, value: Value)
+        ensures { self.new ≡ changing id (with_handed value) self.old }
+    {
+        let place = id.number() as usize;
+        if place < self.records.len() {
+            let record = &mut self.records[place];
+            record.value = value;
+            record.waits_for = None;
+        }
+    }
+
+    /// A side of a Deferred has ended with another that it is to wait for.
+    fn set_waiting(&mut self, id: DeferredId, given: DeferredId)
+        ensures { self.new ≡ changing id (with_wait given) self.old }
+    {
+        let place = id.number() as usize;
+        if place < self.records.len() {
+            let record = &mut self.records[place];
+            record.waits_for = Some(given);
+            record.running = false;
+        }
+    }
+
+    /// A side of a Deferred has ended with another, whose value it gets.
+    fn set_result(&mut self, id: DeferredId, value: Value)
+        ensures { self.new ≡ changing id (with_result value) self.old }
+    {
+        let place = id.number() as usize;
+        if place < self.records.len() {
+            let record = &mut self.records[place];
+            record.value = value;
+            record.running = false;
+        }
+    }
+
+    /// Pauses a Deferred once more: it uses no items until it is unpaused as often (Twisted: `Deferred.pause`).
+    pub fn pause(&mut self, journal: &mut Journal, id: DeferredId) -> Result<(), Stop>
+        requires room { pauses_of id self.old < 2 ^ 32 - 1 }
+        ensures { UnlessMemory result (self.old, journal.old) (self.new, journal.new) (pause id (self.old, journal.old)) }
+    {
+        let place = id.number() as usize;
+        if place >= self.records.len() {
+            return Ok(());
+        }
+        journal.write(Entry::Pause(id))?;
+        self.records[place].pauses += 1;
+        Ok(())
+    }
+
+    /// Pauses a Deferred once less, and uses no item (Twisted: `Deferred.unpause`, which also runs what it can). One that
+    /// isn't paused stays as it is, and nothing is written.
+    pub fn unpause(&mut self, journal: &mut Journal, id: DeferredId) -> Result<(), UnpauseFault>
+        ensures { UnpausesUnlessMemory result (self.old, journal.old) (self.new, journal.new) (unpause id (self.old, journal.old)) }
+    {
+        let place = id.number() as usize;
+        let Some(record) = self.records.get(place) else {
+            return Ok(());
+        };
+        if record.pauses == 0 {
+            return Err(UnpauseFault::NotPaused);
+        }
+        journal.write(Entry::Unpause(id))?;
+        self.records[place].pauses -= 1;
+        Ok(())
+    }
+
     /// All records, in order of making, with their values moved.
     pub fn into_records(self) -> Vec<Record<P, K>>
         ensures { result.items ≡ self }
@@ -227,26 +411,36 @@ fn name_copy(alloc: Global, name: &Option<Text>) -> Result<Option<Text>, AllocEr
     }
 }
 
-/// Adds a pair after the others, and tells of it.
-#[tactic(auto, using(crate::proofs::StoreLemmas::pair_taken_back))]
+/// Whether a Deferred that a side of another gave has no value to take yet.
+fn is_pending<P, K>(id: DeferredId, given: DeferredId, record: &Record<P, K>) -> bool
+    ensures { result ≡ is_pending id given «record».now }
+{
+    id.number() == given.number()
+        || !record.fired
+        || record.pauses != 0
+        || record.waits_for.is_some()
+}
+
+/// Adds an item after the others, and tells of it.
+#[tactic(auto, using(crate::proofs::StoreLemmas::item_taken_back))]
 fn add<P: Drop>(
     journal: &mut Journal,
-    id: DeferredId,
-    pairs: &mut Deque<P>,
-    pair: P,
+    entry: Entry,
+    items: &mut Deque<Item<P>>,
+    item: Item<P>,
 ) -> Result<(), AllocError>
-    requires room { fits journal.old (Add id) ≡ true }
-    ensures added { OnOk result (pairs.new ≡ pairs.old ++ pair ∷ []) }
-    ensures written { OnOk result (journal.new ≡ with_entry journal.old (Add id)) }
-    ensures kept { OnErr result (pairs.new ≡ pairs.old) }
+    requires room { fits journal.old entry ≡ true }
+    ensures added { OnOk result (items.new ≡ items.old ++ item ∷ []) }
+    ensures written { OnOk result (journal.new ≡ with_entry journal.old entry) }
+    ensures kept { OnErr result (items.new ≡ items.old) }
     ensures err { OnErr result (journal.new ≡ journal.old) }
 {
-    pairs.push_back(pair)?;
-    match journal.write(Entry::Add(id)) {
+    items.push_back(item)?;
+    match journal.write(entry) {
         Ok(()) => Ok(()),
         Err(Stop::Limit) => unreachable!(),
         Err(Stop::OutOfMemory) => {
-            pairs.drop_back();
+            items.drop_back();
             Err(AllocError)
         }
     }

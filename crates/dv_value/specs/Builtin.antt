@@ -19,6 +19,9 @@ type_error = 2
 abbrev pub name_error : ℕ
 name_error = 3
 
+abbrev pub assertion_error : ℕ
+assertion_error = 4
+
 abbrev pub overflow_error : ℕ
 overflow_error = 5
 

@@ -3,7 +3,7 @@ use Rattle.std.specs.Prelude.{ℕ, ◌≡◌, ◌≢◌, ◌↔◌, ◌<◌, Lis
 use Rattle.std.specs.Option.{option_map_or}
 use Rattle.dv_value.specs.declared.classes.Class.{Class}
 use Rattle.dv_value.specs.Classes.{parent_of, path, find_class, name_of}
-use Rattle.dv_value.specs.Builtin.{builtin, type_error, name_error, overflow_error, already_called_error}
+use Rattle.dv_value.specs.Builtin.{builtin, type_error, name_error, assertion_error, overflow_error, already_called_error}
 
 -- each class's parent stands before it
 abbrev pub ParentsStandBefore : List Class → Type 0
@@ -21,6 +21,7 @@ PathsOfOrderedTablesGoUp = (table : List Class) → ParentsStandBefore table →
 pub record BuiltinsHaveTheirPlaces : Type 0 where
   pub type_error : find_class (codes "TypeError") builtin ≡ Some type_error
   pub name_error : find_class (codes "NameError") builtin ≡ Some name_error
+  pub assertion_error : find_class (codes "AssertionError") builtin ≡ Some assertion_error
   pub overflow_error : find_class (codes "OverflowError") builtin ≡ Some overflow_error
   pub already_called_error : find_class (codes "AlreadyCalledError") builtin ≡ Some already_called_error
 

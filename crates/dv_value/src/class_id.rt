@@ -27,6 +27,8 @@ impl ClassId {
     pub const TYPE_ERROR: ClassId = ClassId { place: 2 };
     /// For a name that nothing bears; the message is the name.
     pub const NAME_ERROR: ClassId = ClassId { place: 3 };
+    /// For a call that the state of its object doesn't allow; the message says which state is wanted.
+    pub const ASSERTION_ERROR: ClassId = ClassId { place: 4 };
     /// For a sum that no `i64` holds.
     pub const OVERFLOW_ERROR: ClassId = ClassId { place: 5 };
     /// For a second firing of a Deferred (Twisted: `defer.AlreadyCalledError`).

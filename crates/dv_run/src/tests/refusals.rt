@@ -50,11 +50,8 @@ fn a_refused_script_writes_nothing(rt: HostRuntime) -> Result<(), Fail> {
 }
 
 // a script for each action, event, body and key that isn't performed yet
-static UNPERFORMED: [&str; 34] = [
+static UNPERFORMED: [&str; 33] = [
     r#"{"version":1,"events":[["deferred","d",{}]]}"#,
-    r#"{"version":1,"events":[["chain","a","b"]]}"#,
-    r#"{"version":1,"events":[["pause","d"]]}"#,
-    r#"{"version":1,"events":[["unpause","d"]]}"#,
     r#"{"version":1,"events":[["cancel","d"]]}"#,
     r#"{"version":1,"events":[["list","d",[],[]]]}"#,
     r#"{"version":1,"events":[["gather","d",[],[]]]}"#,
@@ -80,10 +77,12 @@ static UNPERFORMED: [&str; 34] = [
     r#"{"version":1,"events":[["thread","d",0,["sum",1]]]}"#,
     r#"{"version":1,"events":[["advance",0]]}"#,
     r#"{"version":1,"events":[["drain",0]]}"#,
-    r#"{"version":1,"events":[["addCallback","d",{"do":[["note","x"]]}]]}"#,
-    r#"{"version":1,"events":[["addErrback","d",{"end":["wait","d"]}]]}"#,
-    r#"{"version":1,"events":[["addBoth","d",{"do":[["note","x"]]}]]}"#,
-    r#"{"version":1,"events":[["deferred","d"],["addCallbacks","d",{},{"end":["wait","@"]}]]}"#,
+    r#"{"version":1,"events":[["addCallback","d",{"do":[["note","x"],["cancel","d"]]}]]}"#,
+    r#"{"version":1,"events":[["addErrback","d",{"do":[["deferred","e",{}]]}]]}"#,
+    r#"{"version":1,"events":[["addBoth","d",{"do":[["addBoth","d",{"do":[["lock","l"]]}]]}]]}"#,
+    r#"{"version":1,"events":[["addCallbacks","d",{"do":[["maybe","d",{}]]},{}]]}"#,
+    r#"{"version":1,"events":[["addCallbacks","d",{},{"do":[["inline","d",[]]]}]]}"#,
+    r#"{"version":1,"events":[["note","x"],["addCallbacks","d",{"do":[["pause","d"]]},{"do":[["later","c",0,{}]]}]]}"#,
     r#"{"version":1,"callers":[[],[{}]],"events":[]}"#,
 ];
 

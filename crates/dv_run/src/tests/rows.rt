@@ -1,12 +1,15 @@
 use crate::run::Ended;
 use crate::tests::ran;
+use std::alloc::Global;
+use std::process::Abort;
 use std::test::Fail;
 
-struct Row {
-    name: &'static str,
-    script: &'static str,
-    output: &'static str,
-    ended: Ended,
+/// A script, what it prints, and how its run ends.
+pub struct Row {
+    pub name: &'static str,
+    pub script: &'static str,
+    pub output: &'static str,
+    pub ended: Ended,
 }
 
 static ROWS: [Row; 39] = [
@@ -246,12 +249,17 @@ static ROWS: [Row; 39] = [
     },
 ];
 
-#[test]
-fn scripts_give_their_journal_and_their_outcomes(rt: HostRuntime) -> Result<(), Fail> {
-    for row in &ROWS {
-        let (ended, sink) = ran(rt.alloc(), row.script.as_bytes())?;
+/// Runs each row.
+pub fn assert_rows(alloc: Global, rt: &impl Abort, rows: &[Row]) -> Result<(), Fail> {
+    for row in rows {
+        let (ended, sink) = ran(alloc, row.script.as_bytes())?;
         assert_eq!(rt; ended, Ok(row.ended), "{}", row.name);
         assert_eq!(rt; sink.bytes(), row.output.as_bytes(), "{}", row.name);
     }
     Ok(())
+}
+
+#[test]
+fn scripts_give_their_journal_and_their_outcomes(rt: HostRuntime) -> Result<(), Fail> {
+    assert_rows(rt.alloc(), &rt, &ROWS)
 }

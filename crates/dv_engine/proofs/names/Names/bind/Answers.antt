@@ -1,7 +1,0 @@
-use Rattle.std.proofs.Common.{◌∙◌, ap}
-use Rattle.dv_engine.proofs.NamesLemmas.{shown, with_name_shown}
-use Rattle.dv_engine.proofs.names.Names.bind.Goals as goal
-
-pub returns-clause-ok : goal.returns-clause-ok
-returns-clause-ok c =
-    rw (← c.self.view_is, ← c.in_ok-name.ensures.ok) (ap shown c.in_ok-insert.ensures.entries ∙ with_name_shown c.in_ok-name.name c.args.id c.self.inside.bound.entries)

@@ -1,0 +1,120 @@
+ghost use Rattle.std.specs.Prelude.{◌≡◌, None, [], ◌∷◌, IfOk};
+ghost use Rattle.dv_engine.specs.Bounds.{Bounded};
+ghost use Rattle.dv_engine.specs.Frames.{gone_on, rest_turned, turned, AllLead};
+ghost use Rattle.dv_engine.specs.Meaning.{Gives};
+ghost use Rattle.dv_engine.specs.Task.{Act};
+
+use crate::acting::begin;
+use crate::frame::{Frame, Rest};
+use crate::settling::{place, settle};
+use crate::stack::Stack;
+use dv_script::action::Action;
+use dv_world::ending::ended;
+use dv_world::performed::Performed;
+use dv_world::world::World;
+use std::alloc::{AllocError, Global};
+
+/// Performs an action, in which `@` isn't bound, with all that follows from it. It is one loop over a stack of what is
+/// still to be done, so that no script can exhaust the machine's stack.
+#[tactic(auto, using(crate::proofs::FrameLaws::act_leads, crate::proofs::Turns::begun_bounded))]
+pub fn act<'s>(
+    alloc: Global,
+    world: &mut World<'s>,
+    action: &'s Action,
+) -> Result<Performed, AllocError>
+    requires bounded { Bounded world.old }
+    ensures { IfOk result (λ performed. Gives (Act None action.now) world.old performed world.new) }
+{
+    let mut stack = Stack::new(alloc);
+    let performed = begin(alloc, world, &mut stack, None, action)?;
+    Ok(run(alloc, world, stack, performed)?)
+}
+
+/// Goes on until the stack is empty.
+fn run<'s>(
+    alloc: Global,
+    world: &mut World<'s>,
+    stack: Stack<Frame<'s>>,
+    performed: Performed,
+) -> Result<Performed, AllocError>
+    requires bounded { Bounded world.old }
+    ensures { IfOk result (λ last. AllLead stack.entry performed world.old last world.new) }
+{
+    let mut stack = stack;
+    let mut last = performed;
+    while let Some(frame) = stack.pop() {
+        last = turn(alloc, world, &mut stack, frame, last)?;
+    }
+    Ok(last)
+}
+
+/// Goes on with the frame that was on top, which gets what was come to above it.
+fn turn<'s>(
+    alloc: Global,
+    world: &mut World<'s>,
+    stack: &mut Stack<Frame<'s>>,
+    frame: Frame<'s>,
+    performed: Performed,
+) -> Result<Performed, AllocError>
+    requires bounded { Bounded world.old }
+    ensures { IfOk result (λ next. (stack.new, next, world.new) ≡ turned frame.entry performed world.old stack.old) }
+{
+    match frame {
+        Frame::Settle(id) => Ok(settle(world, stack, id)?),
+        Frame::Place(id) => {
+            place(alloc, world, id, performed)?;
+            stack.push(Frame::Settle(id))?;
+            Ok(Performed::Done)
+        }
+        Frame::Rest(rest) => Ok(go_on_unless_raised(alloc, world, stack, rest, performed)?),
+    }
+}
+
+/// Goes on with a body, unless what it performed last raised.
+fn go_on_unless_raised<'s>(
+    alloc: Global,
+    world: &mut World<'s>,
+    stack: &mut Stack<Frame<'s>>,
+    rest: Rest<'s>,
+    performed: Performed,
+) -> Result<Performed, AllocError>
+    requires bounded { Bounded world.old }
+    ensures { IfOk result (λ next. (stack.new, next, world.new) ≡ rest_turned rest.entry performed world.old stack.old) }
+{
+    match performed {
+        Performed::Raised(failure) => Ok(Performed::Raised(failure)),
+        Performed::Done => Ok(go_on(alloc, world, stack, rest)?),
+        Performed::Gave(_) => Ok(go_on(alloc, world, stack, rest)?),
+        Performed::Awaits(_) => Ok(go_on(alloc, world, stack, rest)?),
+    }
+}
+
+/// Begins the next action of a body, or ends it.
+fn go_on<'s>(
+    alloc: Global,
+    world: &mut World<'s>,
+    stack: &mut Stack<Frame<'s>>,
+    rest: Rest<'s>,
+) -> Result<Performed, AllocError>
+    requires bounded { Bounded world.old }
+    ensures { IfOk result (λ next. (stack.new, next, world.new) ≡ gone_on rest.entry.itself rest.entry.actions rest.entry.end rest.entry.input world.old stack.old) }
+{
+    let Rest {
+        itself,
+        actions,
+        end,
+        input,
+    } = rest;
+    match actions.split() {
+        None => Ok(ended(alloc, world, itself, end.get(), input)?),
+        Some((action, actions)) => {
+            stack.push(Frame::Rest(Rest {
+                itself,
+                actions,
+                end,
+                input,
+            }))?;
+            Ok(begin(alloc, world, stack, itself, action)?)
+        }
+    }
+}

@@ -1,0 +1,58 @@
+-- Pausing (Twisted: `Deferred.pause`, `Deferred.unpause`).
+use Rattle.std.specs.Prelude.{◌≡◌, ◌≢◌, ℕ, ◌+◌, ◌-◌, nat_eq, if◌then◌else◌, List, Option, Some, None, Result, Ok, Err, slice_get, slice_set}
+use Rattle.std.specs.Option.{option_map_or}
+use Rattle.dv_journal.specs.Journal.{fits, with_entry}
+use Rattle.dv_journal.specs.declared.entry.Entry.TheVariants as entry
+use Rattle.dv_journal.specs.declared.error.Stop.{Stop}
+use Rattle.dv_journal.specs.declared.error.Stop.TheVariants as stop
+use Rattle.dv_store.specs.Telling.{State, Told, untold, telling}
+use Rattle.dv_store.specs.declared.record.Record.{Record}
+use Rattle.dv_store.specs.declared.error.UnpauseFault.{UnpauseFault}
+use Rattle.dv_store.specs.declared.error.UnpauseFault.TheVariants.{NotPaused, Limit, OutOfMemory}
+
+-- the journal's reason to stop, as one of an unpausing
+abbrev pub fault_of : Stop → UnpauseFault
+fault_of stop.Limit = Limit
+fault_of stop.OutOfMemory = OutOfMemory
+
+-- how often a Deferred is paused; never where there is none
+abbrev pub pauses_of : {P K : Type 0} → ℕ → List (Record P K) → ℕ
+pauses_of id rs = option_map_or (λ r. r.pauses) (slice_get rs id) 0
+
+-- so many pauses
+abbrev pub with_pauses : {P K : Type 0} → ℕ → Record P K → Record P K
+with_pauses n r = record r { pauses = n }
+
+-- the Deferred that is found is paused once more; an id of no record changes nothing
+abbrev pub pause_found : {P K : Type 0} → ℕ → Option (Record P K) → State P K → Told Unit P K
+pause_found id None s = untold tt s
+pause_found id (Some r) s = telling (entry.Pause id) tt (slice_set s.0 id (with_pauses (r.pauses + 1) r)) s
+
+abbrev pub pause : {P K : Type 0} → ℕ → State P K → Told Unit P K
+pause id s = pause_found id (slice_get s.0 id) s
+
+-- what an unpausing answers, and what it leaves
+abbrev pub Unpaused : Type 0 → Type 0 → Type 0
+Unpaused P K = Result Unit UnpauseFault × State P K
+
+-- the entry is written and the count goes down, or the entry doesn't fit and nothing changes
+abbrev pub less_paused : {P K : Type 0} → ℕ → Record P K → State P K → Unpaused P K
+less_paused id r s =
+    if fits s.1 (entry.Unpause id)
+    then (Ok tt, (slice_set s.0 id (with_pauses (r.pauses - 1) r), with_entry s.1 (entry.Unpause id)))
+    else (Err Limit, s)
+
+-- the Deferred that is found is paused once less, where it is paused; an id of no record changes nothing
+abbrev pub unpause_found : {P K : Type 0} → ℕ → Option (Record P K) → State P K → Unpaused P K
+unpause_found id None s = (Ok tt, s)
+unpause_found id (Some r) s = if nat_eq r.pauses 0 then (Err NotPaused, s) else less_paused id r s
+
+abbrev pub unpause : {P K : Type 0} → ℕ → State P K → Unpaused P K
+unpause id s = unpause_found id (slice_get s.0 id) s
+
+-- an unpausing did what the rule says, or memory was refused where the rule's entry fits, and nothing changed
+abbrev pub UnpausesUnlessMemory : {P K : Type 0} → Result Unit UnpauseFault → State P K → State P K → Unpaused P K → Type 0
+UnpausesUnlessMemory (Ok done) before after rule = (Ok done, after) ≡ rule
+UnpausesUnlessMemory (Err NotPaused) before after rule = (Err NotPaused, after) ≡ rule
+UnpausesUnlessMemory (Err Limit) before after rule = (Err Limit, after) ≡ rule
+UnpausesUnlessMemory (Err OutOfMemory) before after rule = (rule.0 ≢ Err Limit) × (after ≡ before)

@@ -1,0 +1,4 @@
+pub mod Names
+pub mod Pair
+pub mod World
+pub mod Ending

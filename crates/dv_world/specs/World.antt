@@ -1,0 +1,152 @@
+-- The world of a run: its Deferreds, their names, the classes of failures and the journal, and one step of each kind.
+use Rattle.std.specs.Prelude.{ℕ, Bool, true, false, if◌then◌else◌, List, [], Option, None, Some, Result, Ok, Err, slice_get, bytes_eq, codes}
+use Rattle.std.specs.Option.{option_map_or}
+use Rattle.dv_value.specs.Builtin.{name_error, assertion_error, already_called_error}
+use Rattle.dv_value.specs.Failure.{plain_failure}
+use Rattle.dv_value.specs.declared.classes.Class.{Class}
+use Rattle.dv_value.specs.declared.value.Value.{Value, Null}
+use Rattle.dv_journal.specs.Journal.{Written, empty, fits, with_entry}
+use Rattle.dv_journal.specs.declared.entry.Entry.{Entry}
+use Rattle.dv_journal.specs.declared.error.Stop.{Stop}
+use Rattle.dv_script.specs.declared.body.Body.{Body}
+use Rattle.dv_store.specs.Callbacks as callbacks
+use Rattle.dv_store.specs.Chaining as chaining
+use Rattle.dv_store.specs.Fire as firing
+use Rattle.dv_store.specs.Pausing as pausing
+use Rattle.dv_store.specs.Record as records
+use Rattle.dv_store.specs.Telling.{State}
+use Rattle.dv_store.specs.declared.error.StoreFault.{StoreFault}
+use Rattle.dv_store.specs.declared.error.StoreFault.TheVariants as firing_fault
+use Rattle.dv_store.specs.declared.error.UnpauseFault.{UnpauseFault}
+use Rattle.dv_store.specs.declared.error.UnpauseFault.TheVariants as unpause_fault
+use Rattle.dv_store.specs.declared.record.Record.{Record}
+use Rattle.dv_store.specs.declared.store.Step.{Step}
+use Rattle.dv_store.specs.declared.store.Step.TheVariants.{Nothing}
+use Rattle.dv_world.specs.Names.{Names, number_of, with_name}
+use Rattle.dv_world.specs.Pair.{passes}
+use Rattle.dv_world.specs.declared.pair.Pair.{Pair}
+use Rattle.dv_world.specs.declared.performed.Performed.{Performed}
+use Rattle.dv_world.specs.declared.performed.Performed.TheVariants.{Done, Raised}
+
+-- the records of all Deferreds, in order of making
+abbrev pub Records : Type 0
+Records = List (Record Pair Body)
+
+-- what a run has made so far and what it has told; once an entry didn't fit it has stopped
+pub record World : Type 0 where
+  pub classes : List Class
+  pub names : Names
+  pub records : Records
+  pub journal : Written
+  pub stopped : Bool
+
+-- nothing is made and nothing is told at first
+abbrev pub first_world : List Class → ℕ → World
+first_world classes limit = record { classes = classes; names = []; records = []; journal = empty limit; stopped = false }
+
+-- the Deferreds and the journal
+abbrev pub state_of : World → State Pair Body
+state_of w = (w.records, w.journal)
+
+-- these Deferreds and this journal
+abbrev pub with_state : State Pair Body → World → World
+with_state s w = record w { records = s.0; journal = s.1 }
+
+-- stopped, and otherwise as before
+abbrev pub with_stop : World → World
+with_stop w = record w { stopped = true }
+
+-- the value of a Deferred; null where there is none
+abbrev pub value_of : ℕ → World → Value
+value_of d w = option_map_or (λ r. r.value) (slice_get w.records d) Null
+
+-- the Deferred that a name stands for; `@` is the one that is given, where one is
+abbrev pub deferred_at : Option ℕ → List ℕ → World → Option ℕ
+deferred_at self name w = if bytes_eq name (codes "@") then self else number_of name w.names
+
+-- a change that was told is made; one that can't be told stops the run
+abbrev pub after : {A : Type 0} → Result A Stop → State Pair Body → World → World
+after (Ok done) s w = with_state s w
+after (Err stop) s w = with_stop (with_state s w)
+
+-- the move that was made; one that can't be told stops the run, and is none
+abbrev pub moved : Result (Step Pair) Stop → State Pair Body → World → Step Pair × World
+moved (Ok move) s w = (move, with_state s w)
+moved (Err stop) s w = (Nothing, with_stop (with_state s w))
+
+-- the first move of settling d; a stopped run makes none
+unfoldable pub step : ℕ → World → Step Pair × World
+step d w =
+    if w.stopped then (Nothing, w) else
+    let told = callbacks.step passes d (state_of w) in moved told.0 told.1 w
+
+-- what a side gave becomes the value of its Deferred
+unfoldable pub put : ℕ → Value → World → World
+put d value w =
+    if w.stopped then w else
+    let told = callbacks.put d value (state_of w) in after told.0 told.1 w
+
+-- a side of d gave e, whose value d takes or waits for
+unfoldable pub put_deferred : ℕ → ℕ → World → World
+put_deferred d e w =
+    if w.stopped then w else
+    let told = chaining.put_deferred d e (state_of w) in after told.0 told.1 w
+
+-- a pair is added to d, which isn't settled yet
+unfoldable pub append : ℕ → Pair → World → World
+append d pair w =
+    if w.stopped then w else
+    let told = records.append d pair (state_of w) in after told.0 told.1 w
+
+-- d is paused once more
+unfoldable pub pause : ℕ → World → World
+pause d w =
+    if w.stopped then w else
+    let told = pausing.pause d (state_of w) in after told.0 told.1 w
+
+-- a Deferred that is made is what its name is bound to
+abbrev pub named : List ℕ → Result ℕ Stop → State Pair Body → World → World
+named name (Ok d) s w = record (with_state s w) { names = with_name name d w.names }
+named name (Err stop) s w = with_stop (with_state s w)
+
+-- a Deferred is made, and its name is bound to it
+unfoldable pub make : List ℕ → World → World
+make name w =
+    if w.stopped then w else
+    let told = records.make (Some name) None (state_of w) in named name told.0 told.1 w
+
+-- a second firing raises; one that can't be told stops the run
+abbrev pub fired : Result Unit StoreFault → State Pair Body → World → Performed × World
+fired (Ok done) s w = (Done, with_state s w)
+fired (Err firing_fault.AlreadyCalled) s w = (Raised (plain_failure already_called_error []), with_state s w)
+fired (Err firing_fault.Limit) s w = (Done, with_stop (with_state s w))
+fired (Err firing_fault.OutOfMemory) s w = (Done, with_stop (with_state s w))
+
+-- d is fired, and not settled yet
+unfoldable pub fire : ℕ → Value → World → Performed × World
+fire d value w =
+    if w.stopped then (Done, w) else
+    let told = firing.fire d value (state_of w) in fired told.0 told.1 w
+
+-- an unpausing of what isn't paused raises; one that can't be told stops the run
+abbrev pub unpaused : Result Unit UnpauseFault → State Pair Body → World → Performed × World
+unpaused (Ok done) s w = (Done, with_state s w)
+unpaused (Err unpause_fault.NotPaused) s w = (Raised (plain_failure assertion_error (codes "not paused")), with_state s w)
+unpaused (Err unpause_fault.Limit) s w = (Done, with_stop (with_state s w))
+unpaused (Err unpause_fault.OutOfMemory) s w = (Done, with_stop (with_state s w))
+
+-- d is paused once less, and not settled yet
+unfoldable pub unpause : ℕ → World → Performed × World
+unpause d w =
+    if w.stopped then (Done, w) else
+    let told = pausing.unpause d (state_of w) in unpaused told.0 told.1 w
+
+-- an entry that tells of no Deferred's change
+unfoldable pub tell : Entry → World → World
+tell entry w =
+    if w.stopped then w else
+    if fits w.journal entry then record w { journal = with_entry w.journal entry } else with_stop w
+
+-- what a name that isn't bound raises
+abbrev pub unbound : List ℕ → Performed
+unbound name = Raised (plain_failure name_error name)

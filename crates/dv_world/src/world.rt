@@ -1,0 +1,292 @@
+ghost use Rattle.std.specs.Prelude.{◌≡◌, ◌<◌, ◌^◌, ◌-◌, length, IfOk, OnOk};
+ghost use Rattle.dv_value.specs.Failure.{plain_failure};
+ghost use Rattle.dv_world.specs.World.{unbound};
+ghost use Rattle.dv_world.specs.declared.performed.Performed.TheVariants.{Raised};
+
+use crate::lent::BodyRef;
+use crate::names::Names;
+use crate::pair::Pair;
+use crate::performed::Performed;
+use dv_journal::deferred_id::DeferredId;
+use dv_journal::entry::Entry;
+use dv_journal::error::Stop;
+use dv_journal::journal::Journal;
+use dv_store::error::{StoreFault, UnpauseFault};
+use dv_store::record::Record;
+use dv_store::store::{Step, Store};
+use dv_value::class_id::ClassId;
+use dv_value::classes::Classes;
+use dv_value::failure::Failure;
+use dv_value::text::Text;
+use dv_value::value::Value;
+use std::alloc::{AllocError, Global};
+use std::marker::Model;
+
+/// The world of a run: its Deferreds, their names, the classes of failures and the journal. Once an entry doesn't fit
+/// into the journal the run has stopped: from then on nothing changes.
+#[derive(Drop)]
+pub struct World<'s> {
+    alloc: Global,
+    classes: &'s Classes,
+    names: Names,
+    store: Store<Pair<'s>, BodyRef<'s>>,
+    journal: Journal,
+    stopped: bool,
+}
+
+impl<'s> Model for World<'s> {
+    ghost use Rattle.dv_world.specs.World.{World as Seen};
+    ghost use Rattle.dv_script.specs.contracts.body.Body as body_contract;
+    ghost use Rattle.dv_value.specs.contracts.classes.Class as class_contract;
+    ghost use Rattle.dv_value.specs.contracts.failure.Failure as failure_contract;
+    ghost use Rattle.dv_value.specs.contracts.value.Value as value_contract;
+    ghost use Rattle.std.specs.Coded.{codes};
+
+    ghost Value = { Seen };
+
+    ghost coded = { Prim.hlevel (codes, body_contract.the_row.coded, class_contract.the_row.coded, failure_contract.the_row.coded, value_contract.the_row.coded) };
+
+    ghost view = { λ w. record { classes = w.classes.now; names = w.names; records = w.store; journal = w.journal; stopped = w.stopped } };
+}
+
+impl<'s> World<'s> {
+    ghost use Rattle.dv_store.specs.Pausing.{pauses_of};
+    ghost use Rattle.dv_world.specs.World.{first_world, value_of, deferred_at, step, put, put_deferred, append, make, fire, pause, unpause, tell};
+
+    /// A world in which nothing is made, and whose journal takes so much weight.
+    pub fn new(alloc: Global, classes: &'s Classes, limit: u64) -> World<'s>
+        requires { limit < 2 ^ 32 }
+        ensures { result ≡ first_world classes.now limit }
+    {
+        World {
+            alloc,
+            classes,
+            names: Names::new(alloc),
+            store: Store::new(alloc),
+            journal: Journal::new(alloc, limit),
+            stopped: false,
+        }
+    }
+
+    /// The classes of the script's failures.
+    pub fn classes(&self) -> &'s Classes
+        ensures { result.now ≡ self.now.classes }
+    {
+        self.classes
+    }
+
+    /// The Deferred that a name stands for; `@` is the one that is given, where one is.
+    pub fn find(&self, itself: Option<DeferredId>, name: &str) -> Option<DeferredId>
+        ensures { result ≡ deferred_at itself name.now self.now }
+    {
+        if name == "@" {
+            itself
+        } else {
+            self.names.find(name)
+        }
+    }
+
+    /// The value of a Deferred, copied; null where there is none.
+    pub fn value(&self, id: DeferredId) -> Result<Value, AllocError>
+        ensures { IfOk result (λ value. value ≡ value_of id self.now) }
+    {
+        match self.store.record(id) {
+            None => Ok(Value::Null),
+            Some(record) => Ok(record.value.copy(self.alloc)?),
+        }
+    }
+
+    /// The first move of settling a Deferred.
+    #[tactic(auto, unfolding(crate::specs::World::step))]
+    pub fn step(&mut self, id: DeferredId) -> Result<Step<Pair<'s>>, AllocError>
+        ensures { IfOk result (λ move. (move, self.new) ≡ step id self.old) }
+    {
+        if self.stopped {
+            return Ok(Step::Nothing);
+        }
+        match self.store.step(&mut self.journal, id) {
+            Ok(move_made) => Ok(move_made),
+            Err(Stop::Limit) => {
+                self.stopped = true;
+                Ok(Step::Nothing)
+            }
+            Err(Stop::OutOfMemory) => Err(AllocError),
+        }
+    }
+
+    /// What a side gave becomes the value of its Deferred.
+    #[tactic(auto, unfolding(crate::specs::World::put))]
+    pub fn put(&mut self, id: DeferredId, value: Value) -> Result<(), AllocError>
+        ensures { OnOk result (self.new ≡ put id value self.old) }
+    {
+        if self.stopped {
+            return Ok(());
+        }
+        match self.store.put(&mut self.journal, id, value) {
+            Ok(()) => Ok(()),
+            Err(Stop::Limit) => {
+                self.stopped = true;
+                Ok(())
+            }
+            Err(Stop::OutOfMemory) => Err(AllocError),
+        }
+    }
+
+    /// A side of a Deferred gave another, whose value it takes or waits for.
+    #[tactic(auto, unfolding(crate::specs::World::put_deferred))]
+    pub fn put_deferred(&mut self, id: DeferredId, given: DeferredId) -> Result<(), AllocError>
+        ensures { OnOk result (self.new ≡ put_deferred id given self.old) }
+    {
+        if self.stopped {
+            return Ok(());
+        }
+        match self.store.put_deferred(&mut self.journal, id, given) {
+            Ok(_) => Ok(()),
+            Err(Stop::Limit) => {
+                self.stopped = true;
+                Ok(())
+            }
+            Err(Stop::OutOfMemory) => Err(AllocError),
+        }
+    }
+
+    /// Adds a pair, and doesn't settle.
+    #[tactic(auto, unfolding(crate::specs::World::append))]
+    pub fn append(&mut self, id: DeferredId, pair: Pair<'s>) -> Result<(), AllocError>
+        ensures { OnOk result (self.new ≡ append id pair.entry self.old) }
+    {
+        if self.stopped {
+            return Ok(());
+        }
+        match self.store.append(&mut self.journal, id, pair) {
+            Ok(()) => Ok(()),
+            Err(Stop::Limit) => {
+                self.stopped = true;
+                Ok(())
+            }
+            Err(Stop::OutOfMemory) => Err(AllocError),
+        }
+    }
+
+    /// Makes a Deferred, and binds its name to it, also where that was bound to another.
+    #[tactic(auto, unfolding(crate::specs::World::make))]
+    pub fn make(&mut self, name: &str) -> Result<(), AllocError>
+        requires { length self.old.records < 2 ^ 32 - 1 }
+        ensures { OnOk result (self.new ≡ make name.now self.old) }
+    {
+        if self.stopped {
+            return Ok(());
+        }
+        let shown = Text::of(self.alloc, name)?;
+        match self.store.make(&mut self.journal, Some(shown), None) {
+            Ok(id) => self.names.bind(name, id),
+            Err(Stop::Limit) => {
+                self.stopped = true;
+                Ok(())
+            }
+            Err(Stop::OutOfMemory) => Err(AllocError),
+        }
+    }
+
+    /// Fires a Deferred, and doesn't settle. A second firing raises AlreadyCalledError, and the value is dropped.
+    #[tactic(auto, unfolding(crate::specs::World::fire))]
+    pub fn fire(&mut self, id: DeferredId, value: Value) -> Result<Performed, AllocError>
+        ensures { IfOk result (λ performed. (performed, self.new) ≡ fire id value self.old) }
+    {
+        if self.stopped {
+            return Ok(Performed::Done);
+        }
+        match self.store.fire(&mut self.journal, id, value) {
+            Ok(()) => Ok(Performed::Done),
+            Err(StoreFault::AlreadyCalled) => raised(self.alloc, ClassId::ALREADY_CALLED_ERROR, ""),
+            Err(StoreFault::Limit) => {
+                self.stopped = true;
+                Ok(Performed::Done)
+            }
+            Err(StoreFault::OutOfMemory) => Err(AllocError),
+        }
+    }
+
+    /// Pauses a Deferred once more.
+    #[tactic(auto, unfolding(crate::specs::World::pause))]
+    pub fn pause(&mut self, id: DeferredId) -> Result<(), AllocError>
+        requires room { pauses_of id self.old.records < 2 ^ 32 - 1 }
+        ensures { OnOk result (self.new ≡ pause id self.old) }
+    {
+        if self.stopped {
+            return Ok(());
+        }
+        match self.store.pause(&mut self.journal, id) {
+            Ok(()) => Ok(()),
+            Err(Stop::Limit) => {
+                self.stopped = true;
+                Ok(())
+            }
+            Err(Stop::OutOfMemory) => Err(AllocError),
+        }
+    }
+
+    /// Pauses a Deferred once less, and doesn't settle. One that isn't paused raises AssertionError.
+    #[tactic(auto, unfolding(crate::specs::World::unpause))]
+    pub fn unpause(&mut self, id: DeferredId) -> Result<Performed, AllocError>
+        ensures { IfOk result (λ performed. (performed, self.new) ≡ unpause id self.old) }
+    {
+        if self.stopped {
+            return Ok(Performed::Done);
+        }
+        match self.store.unpause(&mut self.journal, id) {
+            Ok(()) => Ok(Performed::Done),
+            Err(UnpauseFault::NotPaused) => raised(
+                self.alloc,
+                ClassId::ASSERTION_ERROR,
+                "not paused",
+            ),
+            Err(UnpauseFault::Limit) => {
+                self.stopped = true;
+                Ok(Performed::Done)
+            }
+            Err(UnpauseFault::OutOfMemory) => Err(AllocError),
+        }
+    }
+
+    /// Writes an entry that tells of no Deferred's change.
+    #[tactic(auto, unfolding(crate::specs::World::tell))]
+    pub fn tell(&mut self, entry: Entry) -> Result<(), AllocError>
+        ensures { OnOk result (self.new ≡ tell entry self.old) }
+    {
+        if self.stopped {
+            return Ok(());
+        }
+        match self.journal.write(entry) {
+            Ok(()) => Ok(()),
+            Err(Stop::Limit) => {
+                self.stopped = true;
+                Ok(())
+            }
+            Err(Stop::OutOfMemory) => Err(AllocError),
+        }
+    }
+
+    /// Its journal, whether it has stopped, and all records in order of making.
+    pub fn into_parts(self) -> (Journal, bool, Vec<Record<Pair<'s>, BodyRef<'s>>>)
+        ensures journal { result.0 ≡ self.entry.journal }
+        ensures stopped { result.1 ≡ self.entry.stopped }
+        ensures records { result.2.items ≡ self.entry.records }
+    {
+        (self.journal, self.stopped, self.store.into_records())
+    }
+}
+
+/// What a name that isn't bound raises.
+pub fn unbound(alloc: Global, name: &str) -> Result<Performed, AllocError>
+    ensures { IfOk result (λ p. p ≡ unbound name.now) }
+{
+    raised(alloc, ClassId::NAME_ERROR, name)
+}
+
+/// A failure that was raised.
+fn raised(alloc: Global, class: ClassId, message: &str) -> Result<Performed, AllocError>
+    ensures { IfOk result (λ p. p ≡ Raised (plain_failure class message.now)) }
+{
+    Ok(Performed::Raised(Failure::new(class, Text::of(alloc, message)?)))
+}
