@@ -1,3 +1,5 @@
+ghost use Rattle.std.specs.Prelude.{◌<◌, ◌^◌, ◌-◌, IfOk};
+
 use crate::engine::{Engine, Next, perform};
 use crate::error::EngineFault;
 use crate::report::{Outcome, State};
@@ -29,7 +31,9 @@ fn show(
 }
 
 /// A script of these events.
-fn script(alloc: Global, events: &str) -> Result<Script, Fail> {
+fn script(alloc: Global, events: &str) -> Result<Script, Fail>
+    ensures limited { IfOk result (λ script. script.limit < 2 ^ 32 - 1) }
+{
     let text = format!(in alloc; "{{\"version\":1,\"events\":[{events}]}}")?;
     Ok(Script::read(alloc, text.as_bytes())?)
 }
