@@ -19,8 +19,8 @@ HERE = os.path.dirname(os.path.abspath(__file__))
 PROGRAM = os.path.join(HERE, "..", "crates", "deferreds", "out", "deferreds")
 
 
-def script(events):
-    return json.dumps({"version": 1, "limit": 200000, "events": events}, separators=(",", ":")).encode()
+def script(events, limit=200000):
+    return json.dumps({"version": 1, "limit": limit, "events": events}, separators=(",", ":")).encode()
 
 
 def many_deferreds(n):
@@ -85,6 +85,27 @@ def waits_in_a_row(n):
     return script(events + [["callback", "d%d" % n, 0]])
 
 
+def cancel_of_a_row(n):
+    events = [["deferred", "d%d" % i] for i in range(n + 1)]
+    for i in range(n):
+        events += [["addCallback", "d%d" % i, {"end": ["wait", "d%d" % (i + 1)]}], ["callback", "d%d" % i, 0]]
+    return script(events + [["cancel", "d0"]])
+
+
+def cancels_of_a_circle(n):
+    events = [["deferred", "d%d" % i] for i in range(n)]
+    events += [["addCallback", "d0", {"end": ["wait", "@"]}], ["callback", "d0", 0]]
+    return script(events + [["cancel", "d0"] for _ in range(n)])
+
+
+def nested_cancels(n):
+    return script([["deferred", "d", {"do": [["cancel", "@"]]}], ["cancel", "d"]], n)
+
+
+def swallowed_firings(n):
+    return script([event for _ in range(n) for event in (["deferred", "d"], ["cancel", "d"], ["callback", "d", 1])])
+
+
 # name, the script of a size, the least size
 BENCHES = [
     ("many Deferreds", many_deferreds, 1000),
@@ -93,6 +114,10 @@ BENCHES = [
     ("nested firings", nested_firings, 500),
     ("chained Deferreds", chained_deferreds, 1000),
     ("waits in a row", waits_in_a_row, 450),
+    ("a cancel of a row of waits", cancel_of_a_row, 450),
+    ("cancels of a circle", cancels_of_a_circle, 1000),
+    ("nested cancels", nested_cancels, 25000),
+    ("swallowed firings", swallowed_firings, 700),
     ("pairs that pass", pairs_that_pass, 2000),
     ("refused firings", refused_firings, 2000),
     ("many notes", many_notes, 2600),

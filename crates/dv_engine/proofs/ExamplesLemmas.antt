@@ -1,12 +1,13 @@
 -- The examples are computed: each as a run of a small world, whose script is the example's.
 use Rattle.std.proofs.Common.{◌≡◌, ℕ, pos, Bool, true, false, List, [], ◌∷◌, map, Option, None, Some, refl, ap, subst, codes}
-use Rattle.dv_value.specs.Builtin.{builtin, exception, value_error, type_error}
+use Rattle.dv_value.specs.Builtin.{builtin, exception, value_error, type_error, cancelled_error}
 use Rattle.dv_value.specs.declared.failure.Failure.{out-Failure, roll-Failure}
 use Rattle.dv_value.specs.declared.value.Value.{Null, Text, out-Value}
 use Rattle.dv_journal.specs.declared.entry.Entry.{Entry}
 use Rattle.dv_script.specs.declared.action.Action.{Action}
 use Rattle.dv_script.specs.declared.body.End.TheVariants.{Return, Pass, Plus, Raise, Trap, Wait}
-use Rattle.dv_engine.proofs.Mirror.{Work, Ends as EndsBy, First, Doing, Makes, Calls, Fails, AddsCallback, AddsErrback, AddsBoth, AddsCallbacks, Chains, Pauses, Unpauses, Notes, Small, action_of, first_small, world_of, played}
+use Rattle.dv_store.specs.Cancelling.{walk}
+use Rattle.dv_engine.proofs.Mirror.{Work, Ends as EndsBy, First, Doing, Makes, MakesWith, Calls, Fails, AddsCallback, AddsErrback, AddsBoth, AddsCallbacks, Chains, Pauses, Unpauses, Cancels, Notes, Small, action_of, first_small, world_of, played}
 use Rattle.dv_engine.proofs.MirrorLemmas.{runs}
 use Rattle.dv_engine.specs.Examples.{Ends, LeadsTo, FitsIn, StopsAt, Examples, a, b, c, d, e, stranger, itself, number}
 use Rattle.dv_engine.specs.Report.{outcomes_of}
@@ -81,6 +82,9 @@ does (doing ∷ doings) = First doing (does doings)
 abbrev deferred : List ℕ → Doing
 deferred name = Makes name
 
+abbrev deferred_with : List ℕ → Work → Doing
+deferred_with name canceller = MakesWith name canceller
+
 abbrev fire : List ℕ → ℕ → Doing
 fire name n = Calls name (number n)
 
@@ -88,7 +92,7 @@ abbrev fail : List ℕ → Doing
 fail name = Fails name value_error (codes "boom")
 
 pub examples : Examples
-unfolding builtin out-Value out-Failure roll-Failure out roll
+unfolding builtin walk out-Value out-Failure roll-Failure out roll
 examples = record {
   no_events = leads [] refl refl;
   a_callback_waits_for_the_firing = leads (deferred d ∷ AddsCallback d (plus 2) ∷ fire d 1 ∷ []) refl refl;
@@ -138,4 +142,52 @@ examples = record {
   a_second_firing_inside_a_body_ends_it = leads (deferred d ∷ deferred e ∷ AddsCallback d (does (fire e 1 ∷ fire e 2 ∷ Notes (codes "after") ∷ [])) ∷ fire d 0 ∷ []) refl refl;
   a_chain_to_one_that_is_fired_already_fails = leads (deferred d ∷ deferred e ∷ fire e 1 ∷ Chains d e ∷ fire d 2 ∷ []) refl refl;
   outside_a_body_no_deferred_is_meant_by_at = leads (deferred d ∷ fire itself 1 ∷ []) refl refl;
+  a_cancel_of_an_unfired_deferred_fires_it_and_swallows_one_firing = leads (deferred d ∷ Cancels d ∷ fire d 1 ∷ fire d 2 ∷ []) refl refl;
+  a_failure_after_a_cancel_is_swallowed_too = leads (deferred d ∷ Cancels d ∷ fail d ∷ fail d ∷ []) refl refl;
+  a_second_cancel_swallows_no_further_firing = leads (deferred d ∷ Cancels d ∷ Cancels d ∷ fire d 1 ∷ Cancels d ∷ fire d 2 ∷ []) refl refl;
+  a_cancel_of_a_fired_deferred_changes_nothing = leads (deferred d ∷ fire d 1 ∷ Cancels d ∷ fire d 2 ∷ []) refl refl;
+  an_errback_traps_the_failure_of_a_cancel = leads (deferred d ∷ AddsErrback d (traps cancelled_error 7) ∷ Cancels d ∷ []) refl refl;
+  the_failure_of_a_cancel_is_an_exception_and_no_value_error = leads (deferred d ∷ AddsErrback d (traps value_error 0) ∷ AddsErrback d (traps exception 7) ∷ Cancels d ∷ []) refl refl;
+  a_paused_deferred_that_is_cancelled_waits_for_its_unpausing = leads (deferred d ∷ AddsErrback d (traps cancelled_error 7) ∷ Pauses d ∷ Cancels d ∷ Notes (codes "still") ∷ Unpauses d ∷ []) refl refl;
+  a_swallowed_firing_inside_a_body_does_not_end_it = leads (deferred d ∷ deferred e ∷ Cancels e ∷ AddsCallback d (does (fire e 1 ∷ Notes (codes "after") ∷ [])) ∷ fire d 0 ∷ []) refl refl;
+  a_chain_to_one_that_is_cancelled_is_swallowed = leads (deferred d ∷ deferred e ∷ Chains d e ∷ Cancels e ∷ fire d 2 ∷ []) refl refl;
+  a_cancel_inside_a_body_settles_at_once = leads (deferred a ∷ deferred b ∷ AddsErrback b (traps cancelled_error 7) ∷ AddsCallback a (does (Cancels b ∷ Notes (codes "after") ∷ [])) ∷ fire a 1 ∷ []) refl refl;
+  a_cancel_of_one_whose_side_runs_changes_nothing = leads (deferred d ∷ AddsCallback d (does (Cancels itself ∷ [])) ∷ fire d 1 ∷ []) refl refl;
+  a_cancel_of_a_name_that_is_not_bound_raises = leads (Cancels d ∷ deferred d ∷ Cancels stranger ∷ []) refl refl;
+  outside_a_body_no_deferred_is_cancelled_by_at = leads (deferred d ∷ Cancels itself ∷ []) refl refl;
+  the_canceller_of_a_fired_deferred_does_not_run = leads (deferred_with d (does (Notes (codes "canceller") ∷ [])) ∷ fire d 1 ∷ Cancels d ∷ []) refl refl;
+  after_a_canceller_that_fires_no_firing_is_swallowed = leads (deferred_with d (does (fire itself 9 ∷ [])) ∷ Cancels d ∷ fire d 1 ∷ []) refl refl;
+  after_a_canceller_that_does_not_fire_it_is_fired_and_no_firing_is_swallowed = leads (deferred_with d (does (Notes (codes "canceller") ∷ [])) ∷ Cancels d ∷ fire d 1 ∷ []) refl refl;
+  what_a_canceller_fires_is_settled_before_the_canceller_goes_on = leads (deferred_with d (does (fail itself ∷ Notes (codes "canceller") ∷ [])) ∷ AddsErrback d (traps value_error 7) ∷ Cancels d ∷ []) refl refl;
+  errbacks_run_after_a_canceller_that_does_not_fire = leads (deferred_with d (does (Notes (codes "canceller") ∷ [])) ∷ AddsErrback d (traps cancelled_error 7) ∷ Cancels d ∷ []) refl refl;
+  what_a_canceller_returns_is_dropped = leads (deferred_with d (returns 5) ∷ Cancels d ∷ []) refl refl;
+  a_deferred_that_a_canceller_gives_is_dropped = leads (deferred e ∷ deferred_with d (waits_for e) ∷ Cancels d ∷ []) refl refl;
+  a_canceller_that_gives_its_own_deferred_does_not_wait = leads (deferred_with d (waits_for itself) ∷ Cancels d ∷ []) refl refl;
+  the_input_of_a_canceller_is_null = leads (deferred_with d (plus 1) ∷ Cancels d ∷ []) refl refl;
+  a_canceller_that_raises_leaves_it_unfired = leads (deferred_with d (raises value_error (codes "boom")) ∷ Cancels d ∷ fire d 1 ∷ []) refl refl;
+  a_canceller_that_raised_runs_again_at_the_next_cancel = leads (deferred_with d (raises value_error (codes "boom")) ∷ Cancels d ∷ Cancels d ∷ []) refl refl;
+  an_action_that_raises_inside_a_canceller_leaves_it_unfired = leads (deferred_with d (does (fire stranger 1 ∷ Notes (codes "after") ∷ [])) ∷ Cancels d ∷ []) refl refl;
+  a_canceller_that_gives_a_name_that_is_not_bound_leaves_it_unfired = leads (deferred_with d (waits_for stranger) ∷ Cancels d ∷ []) refl refl;
+  a_canceller_that_fires_twice_raises = leads (deferred_with d (does (fire itself 8 ∷ fire itself 9 ∷ [])) ∷ Cancels d ∷ []) refl refl;
+  what_a_canceller_raises_ends_the_body_that_cancels = leads (deferred a ∷ deferred_with b (raises value_error (codes "boom")) ∷ AddsCallback a (does (Cancels b ∷ Notes (codes "after") ∷ [])) ∷ fire a 1 ∷ []) refl refl;
+  a_canceller_chains_its_deferred_to_a_new_one = leads (deferred_with d (does (deferred e ∷ Chains itself e ∷ [])) ∷ Cancels d ∷ fire e 1 ∷ []) refl refl;
+  a_canceller_cancels_another = leads (deferred e ∷ deferred_with d (does (Cancels e ∷ [])) ∷ Cancels d ∷ []) refl refl;
+  a_cancel_inside_its_own_canceller_runs_it_again_until_the_limit = stops 5 (deferred_with d (does (Cancels itself ∷ [])) ∷ Cancels d ∷ []) refl refl;
+  a_cancel_reaches_the_end_of_the_chain = leads (deferred a ∷ deferred b ∷ AddsCallback a (waits_for b) ∷ fire a 0 ∷ Cancels a ∷ fire b 1 ∷ []) refl refl;
+  a_cancel_reaches_the_end_of_a_longer_chain = leads (deferred a ∷ deferred b ∷ deferred c ∷ AddsCallback a (waits_for b) ∷ AddsCallback b (waits_for c) ∷ fire a 0 ∷ fire b 0 ∷ Cancels a ∷ []) refl refl;
+  the_canceller_at_the_end_of_the_chain_runs = leads (deferred_with a (does (Notes (codes "a") ∷ [])) ∷ deferred_with b (does (fire itself 9 ∷ [])) ∷ AddsCallback a (waits_for b) ∷ fire a 0 ∷ Cancels a ∷ []) refl refl;
+  the_first_of_two_that_wait_gets_the_failure_of_a_cancel = leads (deferred a ∷ deferred b ∷ deferred c ∷ AddsCallback a (waits_for c) ∷ AddsCallback b (waits_for c) ∷ fire a 0 ∷ fire b 0 ∷ Cancels b ∷ []) refl refl;
+  a_cancel_of_one_that_waits_for_a_fired_one_changes_nothing = leads (deferred a ∷ deferred b ∷ Pauses b ∷ fire b 1 ∷ AddsCallback a (waits_for b) ∷ fire a 0 ∷ Cancels a ∷ Unpauses b ∷ []) refl refl;
+  the_end_of_the_chain_may_trap_the_failure_of_a_cancel = leads (deferred a ∷ deferred b ∷ AddsErrback b (traps cancelled_error 7) ∷ AddsCallback a (waits_for b) ∷ fire a 0 ∷ Cancels a ∷ []) refl refl;
+  a_second_cancel_reaches_what_an_errback_gave = leads (deferred d ∷ deferred e ∷ AddsErrback d (waits_for e) ∷ Cancels d ∷ Cancels d ∷ fire d 1 ∷ fire e 1 ∷ []) refl refl;
+  a_cancel_of_one_that_waits_for_itself_ends = leads (deferred d ∷ AddsCallback d (waits_for itself) ∷ fire d 1 ∷ Cancels d ∷ []) refl refl;
+  a_cancel_of_one_of_two_that_wait_for_each_other_ends = leads (deferred a ∷ deferred b ∷ AddsCallback a (waits_for b) ∷ AddsCallback b (waits_for a) ∷ fire a 0 ∷ fire b 0 ∷ Cancels a ∷ Cancels b ∷ []) refl refl;
+  a_cancel_that_does_not_fit_changes_nothing = stops 1 (deferred d ∷ Cancels d ∷ []) refl refl;
+  a_canceller_does_not_run_after_a_cancel_that_does_not_fit = stops 1 (deferred_with d (does (fire itself 9 ∷ [])) ∷ Cancels d ∷ []) refl refl;
+  a_firing_by_a_cancel_that_does_not_fit_fires_nothing = stops 3 (deferred d ∷ Cancels d ∷ []) refl refl;
+  a_firing_by_a_cancel_that_just_fits_fires = fits 4 (deferred d ∷ Cancels d ∷ []) refl refl;
+  a_firing_after_a_canceller_that_does_not_fit_fires_nothing = stops 3 (deferred_with d passes ∷ Cancels d ∷ []) refl refl;
+  a_swallowing_that_does_not_fit_is_not_told = stops 4 (deferred d ∷ Cancels d ∷ fire d 1 ∷ []) refl refl;
+  a_swallowing_that_just_fits_is_told = fits 5 (deferred d ∷ Cancels d ∷ fire d 1 ∷ []) refl refl;
+  no_cancel_is_told_once_it_has_stopped = stops 2 (deferred d ∷ fire d 1 ∷ Cancels d ∷ Cancels stranger ∷ []) refl refl;
 }

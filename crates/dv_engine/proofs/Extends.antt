@@ -1,23 +1,32 @@
 -- More depth changes no answer.
-use Rattle.std.proofs.Common.{◌≡◌, ℕ, zero, suc, ◌+◌, List, [], ◌∷◌, Option, None, Some, refl, ap, subst, zero-add, suc-add, add_comm}
+use Rattle.std.proofs.Common.{◌≡◌, ℕ, zero, suc, ◌+◌, Bool, true, false, if◌then◌else◌, List, [], ◌∷◌, Option, None, Some, refl, ap, subst, zero-add, suc-add, add_comm}
+use Rattle.dv_value.specs.declared.failure.Failure.{Failure}
 use Rattle.dv_value.specs.declared.value.Value.{Value}
 use Rattle.dv_script.specs.declared.action.Action.{Action, out-Action}
 use Rattle.dv_script.specs.declared.body.End.{End}
 use Rattle.dv_store.specs.declared.store.Step.{Step}
 use Rattle.dv_store.specs.declared.store.Step.TheVariants.{Nothing, Passed, Run, Handed}
 use Rattle.dv_engine.specs.Acting.{with_deferred, do_by}
-use Rattle.dv_engine.specs.Deed.{Deed, Idle, NoteOf, Make, FireWith, AddTo, ChainTo, PauseOf, UnpauseOf, deed_of}
+use Rattle.dv_engine.specs.Cancelling.{canceller_ended_by, cancelled_by}
+use Rattle.dv_engine.specs.Deed.{deed_of}
+use Rattle.dv_engine.specs.declared.deed.Deed.{Deed}
+use Rattle.dv_engine.specs.declared.deed.Deed.TheVariants.{Idle, NoteOf, Make, FireWith, AddTo, ChainTo, PauseOf, UnpauseOf, CancelOf}
 use Rattle.dv_engine.specs.Meaning.{task_by, meaning, Gives}
 use Rattle.dv_engine.specs.Performing.{rest_by, perform_by}
 use Rattle.dv_engine.specs.Settling.{settled_by, side_by, settle_by}
 use Rattle.dv_engine.specs.Task.{Task, Settle, Perform, Act, Answer, Meant, ◌>>=◌}
+use Rattle.dv_world.specs.Ending.{failed_with}
 use Rattle.dv_world.specs.Pair.{chain}
-use Rattle.dv_world.specs.World.{World, deferred_at, append, fire, unpause}
+use Rattle.dv_world.specs.World.{World, deferred_at, append, fire, is_unfired, cancelled, cancel, unpause}
+use Rattle.dv_world.specs.declared.follow.Follow.{Follow}
+use Rattle.dv_world.specs.declared.follow.Follow.TheVariants as follow
 use Rattle.dv_world.specs.declared.pair.Pair.{Pair}
 use Rattle.dv_world.specs.declared.pair.Side.{Side}
 use Rattle.dv_world.specs.declared.pair.Side.TheVariants as side
 use Rattle.dv_world.specs.declared.performed.Performed.{Performed}
 use Rattle.dv_world.specs.declared.performed.Performed.TheVariants.{Done, Gave, Raised, Awaits}
+use Rattle.dv_world.specs.declared.reached.Reached.{Reached}
+use Rattle.dv_world.specs.declared.reached.Reached.TheVariants as reached
 
 abbrev pub Ended : Type 0
 Ended = Performed × World
@@ -35,11 +44,10 @@ with_extends None name w f g r p h = h
 with_extends (Some d) name w f g r p h = p d h
 
 module _ (f g : Meant) (e : Extends f g) where
-  pub settled_extends : (d : ℕ) (o : Performed) (w : World) (r : Ended) → settled_by f d o w ≡ Some r → settled_by g d o w ≡ Some r
-  settled_extends d Done w r h = e.at _ _ _ h
-  settled_extends d (Gave v) w r h = h
-  settled_extends d (Raised v) w r h = h
-  settled_extends d (Awaits v) w r h = h
+  pub settled_extends : (d : ℕ) (o : Follow) (w : World) (r : Ended) → settled_by f d o w ≡ Some r → settled_by g d o w ≡ Some r
+  settled_extends d follow.Settle w r h = e.at _ _ _ h
+  settled_extends d follow.Nothing w r h = h
+  settled_extends d (follow.Raise v) w r h = h
 
   pub side_extends : (d : ℕ) (s : Option Side) (input : Value) (w : World) (r : Ended) → side_by f d s input w ≡ Some r → side_by g d s input w ≡ Some r
   side_extends d None input w r h = h
@@ -62,6 +70,20 @@ module _ (f g : Meant) (e : Extends f g) where
   perform_extends itself [] n i w r h = h
   perform_extends itself (a ∷ rest) n i w r h = bind_extends _ _ _ _ r (e.at _ _) (λ x. rest_extends itself rest n i x.0 x.1 r) h
 
+  late_extends : (d : ℕ) (b : Bool) (w : World) (r : Ended) → (if b then settled_by f d (fire d cancelled w).0 (fire d cancelled w).1 else Some (Done, w)) ≡ Some r
+      → (if b then settled_by g d (fire d cancelled w).0 (fire d cancelled w).1 else Some (Done, w)) ≡ Some r
+  late_extends d true w r h = settled_extends d _ _ r h
+  late_extends d false w r h = h
+
+  pub canceller_extends : (d : ℕ) (failure : Option Failure) (w : World) (r : Ended) → canceller_ended_by f d failure w ≡ Some r → canceller_ended_by g d failure w ≡ Some r
+  canceller_extends d (Some failure) w r h = h
+  canceller_extends d None w r h = late_extends d (is_unfired d w) w r h
+
+  pub cancelled_extends : (o : Reached) (w : World) (r : Ended) → cancelled_by f o w ≡ Some r → cancelled_by g o w ≡ Some r
+  cancelled_extends reached.Nothing w r h = h
+  cancelled_extends (reached.Fire d) w r h = e.at _ _ _ h
+  cancelled_extends (reached.Run d canceller) w r h = bind_extends _ _ _ _ r (e.at _ _) (λ x. canceller_extends d (failed_with x.0) x.1 r) h
+
   pub do_extends : (itself : Option ℕ) (deed : Deed) (w : World) (r : Ended) → do_by f itself deed w ≡ Some r → do_by g itself deed w ≡ Some r
   do_extends itself Idle w r h = h
   do_extends itself (NoteOf text) w r h = h
@@ -72,6 +94,7 @@ module _ (f g : Meant) (e : Extends f g) where
       with_extends (deferred_at itself name w) name w _ _ r (λ d. with_extends (deferred_at itself next w) next w _ _ r (λ c. e.at (Settle d) (append d (chain c) w) r)) h
   do_extends itself (PauseOf name) w r h = h
   do_extends itself (UnpauseOf name) w r h = with_extends (deferred_at itself name w) name w _ _ r (λ d. settled_extends d (unpause d w).0 (unpause d w).1 r) h
+  do_extends itself (CancelOf name) w r h = with_extends (deferred_at itself name w) name w _ _ r (λ d. cancelled_extends (cancel d w).0 (cancel d w).1 r) h
 
   task_extends : (t : Task) (w : World) (r : Ended) → task_by f t w ≡ Some r → task_by g t w ≡ Some r
   task_extends (Settle d) w r h = settle_extends d _ _ r h

@@ -1,27 +1,34 @@
 -- One turn of the runner keeps what the stack leads to.
-use Rattle.std.proofs.Common.{◌≡◌, ℕ, List, [], ◌∷◌, Option, None, Some, refl, sym, subst}
+use Rattle.std.proofs.Common.{◌≡◌, ℕ, Bool, true, false, if◌then◌else◌, List, [], ◌∷◌, Option, None, Some, refl, sym, subst}
 use Rattle.dv_value.specs.Failure.{is_fault}
+use Rattle.dv_value.specs.declared.failure.Failure.{Failure}
 use Rattle.dv_value.specs.declared.value.Value.{Value}
 use Rattle.dv_script.specs.declared.action.Action.{Action, out-Action}
 use Rattle.dv_script.specs.declared.body.End.{End}
 use Rattle.dv_store.specs.declared.store.Step.{Step}
 use Rattle.dv_store.specs.declared.store.Step.TheVariants.{Nothing, Passed, Run, Handed}
-use Rattle.dv_engine.specs.Acting.{made}
-use Rattle.dv_engine.specs.Deed.{Deed, Idle, NoteOf, Make, FireWith, AddTo, ChainTo, PauseOf, UnpauseOf, deed_of}
-use Rattle.dv_engine.specs.Frames.{Turned, settle_next, side_begun, settled, with_deferred, begun, gone_on, rest_turned, turned, RestLeads, Leads, AllLead}
+use Rattle.dv_engine.specs.Deed.{deed_of}
+use Rattle.dv_engine.specs.declared.deed.Deed.{Deed}
+use Rattle.dv_engine.specs.declared.deed.Deed.TheVariants.{Idle, NoteOf, Make, FireWith, AddTo, ChainTo, PauseOf, UnpauseOf, CancelOf}
+use Rattle.dv_engine.specs.Frames.{Turned, settle_next, side_begun, settled, with_deferred, cancel_begun, canceller_ended, CancellerLeads, begun, gone_on, rest_turned, turned, RestLeads, Leads, AllLead}
 use Rattle.dv_engine.specs.Meaning.{Gives}
 use Rattle.dv_engine.specs.Task.{Settle, Perform, Act}
 use Rattle.dv_engine.specs.declared.frame.Frame.{Frame}
 use Rattle.dv_engine.specs.declared.frame.Frame.TheVariants as frame
 use Rattle.dv_engine.specs.declared.frame.Rest.{Rest}
-use Rattle.dv_engine.proofs.Rules.{SettledGives, SideGives, RestGives, DeedGives, settle_nothing, settle_passed, settle_run, settle_handed, perform_end, perform_on, act_by_deed}
+use Rattle.dv_engine.proofs.Rules.{SettledGives, SideGives, RestGives, CancelGives, DeedGives, settle_nothing, settle_passed, settle_run, settle_handed, perform_end, perform_on, cancel_run, act_by_deed}
+use Rattle.dv_world.specs.Ending.{failed_with}
 use Rattle.dv_world.specs.Pair.{side_for, chain}
-use Rattle.dv_world.specs.World.{World, deferred_at, step, fire, append, pause, unpause, unbound, value_of}
+use Rattle.dv_world.specs.World.{World, deferred_at, step, make, fire, is_unfired, cancelled, cancel, append, pause, unpause, unbound, value_of}
+use Rattle.dv_world.specs.declared.follow.Follow.{Follow}
+use Rattle.dv_world.specs.declared.follow.Follow.TheVariants as follow
 use Rattle.dv_world.specs.declared.pair.Pair.{Pair}
 use Rattle.dv_world.specs.declared.pair.Side.{Side}
 use Rattle.dv_world.specs.declared.pair.Side.TheVariants as side
 use Rattle.dv_world.specs.declared.performed.Performed.{Performed}
 use Rattle.dv_world.specs.declared.performed.Performed.TheVariants.{Done, Gave, Raised, Awaits}
+use Rattle.dv_world.specs.declared.reached.Reached.{Reached}
+use Rattle.dv_world.specs.declared.reached.Reached.TheVariants as reached
 
 -- what came on top leads to something that has this property, and the frames below go on from there
 abbrev pub Splits : (Performed → World → Type 0) → List Frame → Performed → World → Type 0
@@ -31,11 +38,10 @@ Splits P below q v = (p : Performed) × (u : World) × P p u × AllLead below p 
 abbrev pub LeadsBy : (Performed → World → Type 0) → List Frame → Turned → Type 0
 LeadsBy P below t = (q : Performed) (v : World) → AllLead t.0 t.1 t.2 q v → Splits P below q v
 
-next_leads : (d : ℕ) (o : Performed) (w : World) (below : List Frame) → LeadsBy (SettledGives d o w) below (settle_next d o w below)
-next_leads d Done w below q v h = (h.0, h.1, record { depth = h.2.depth; ends = h.2.ends }, h.3)
-next_leads d (Gave value) w below q v h = (Gave value, w, record { depth = 0; ends = refl }, h)
-next_leads d (Raised failure) w below q v h = (Raised failure, w, record { depth = 0; ends = refl }, h)
-next_leads d (Awaits e) w below q v h = (Awaits e, w, record { depth = 0; ends = refl }, h)
+next_leads : (d : ℕ) (o : Follow) (w : World) (below : List Frame) → LeadsBy (SettledGives d o w) below (settle_next d o w below)
+next_leads d follow.Settle w below q v h = (h.0, h.1, record { depth = h.2.depth; ends = h.2.ends }, h.3)
+next_leads d follow.Nothing w below q v h = (Done, w, record { depth = 0; ends = refl }, h)
+next_leads d (follow.Raise failure) w below q v h = (Raised failure, w, record { depth = 0; ends = refl }, h)
 
 side_leads : (d : ℕ) (s : Option Side) (input : Value) (w : World) (below : List Frame) → LeadsBy (SideGives d s input w) below (side_begun d s input w below)
 side_leads d None input w below q v h = (Gave input, w, record { depth = 0; ends = refl }, h)
@@ -86,15 +92,41 @@ unpause_leads itself name w below (Some d) e q v h =
     let s = next_leads d (unpause d w).0 (unpause d w).1 below q v h in
     (s.0, s.1, record { depth = s.2.depth; ends = rw e s.2.ends }, s.3)
 
+cancel_leads : (o : Reached) (w : World) (below : List Frame) → LeadsBy (CancelGives o w) below (cancel_begun o w below)
+cancel_leads reached.Nothing w below q v h = (Done, w, record { depth = 0; ends = refl }, h)
+cancel_leads (reached.Fire d) w below q v h = (h.0, h.1, record { depth = h.2.depth; ends = h.2.ends }, h.3)
+cancel_leads (reached.Run d canceller) w below q v h =
+    let more = h.3 in
+    (more.0, more.1, cancel_run h.2 more.2, more.3)
+
+cancel_named_leads : (itself : Option ℕ) (name : List ℕ) (w : World) (below : List Frame) (o : Option ℕ) → deferred_at itself name w ≡ o
+    → LeadsBy (DeedGives itself (CancelOf name) w) below (with_deferred o name w below (λ d. cancel_begun (cancel d w).0 (cancel d w).1 below))
+cancel_named_leads itself name w below None e q v h = (unbound name, w, record { depth = 0; ends = rw e refl }, h)
+cancel_named_leads itself name w below (Some d) e q v h =
+    let s = cancel_leads (cancel d w).0 (cancel d w).1 below q v h in
+    (s.0, s.1, record { depth = s.2.depth; ends = rw e s.2.ends }, s.3)
+
+late_leads : (d : ℕ) (w : World) (below : List Frame) (b : Bool) → is_unfired d w ≡ b
+    → LeadsBy (CancellerLeads d None w) below (if b then settle_next d (fire d cancelled w).0 (fire d cancelled w).1 below else (below, Done, w))
+late_leads d w below true e q v h =
+    let s = next_leads d (fire d cancelled w).0 (fire d cancelled w).1 below q v h in
+    (s.0, s.1, record { depth = s.2.depth; ends = rw e s.2.ends }, s.3)
+late_leads d w below false e q v h = (Done, w, record { depth = 0; ends = rw e refl }, h)
+
+canceller_leads : (d : ℕ) (failure : Option Failure) (w : World) (below : List Frame) → LeadsBy (CancellerLeads d failure w) below (canceller_ended d failure w below)
+canceller_leads d (Some failure) w below q v h = (Raised failure, w, record { depth = 0; ends = refl }, h)
+canceller_leads d None w below q v h = late_leads d w below _ refl q v h
+
 begun_leads : (itself : Option ℕ) (deed : Deed) (w : World) (below : List Frame) → LeadsBy (DeedGives itself deed w) below (begun itself deed w below)
 begun_leads itself Idle w below q v h = (Done, w, record { depth = 0; ends = refl }, h)
 begun_leads itself (NoteOf text) w below q v h = (Done, _, record { depth = 0; ends = refl }, h)
-begun_leads itself (Make name canceller) w below q v h = (Done, made name canceller w, record { depth = 0; ends = refl }, h)
+begun_leads itself (Make name canceller) w below q v h = (Done, make name canceller w, record { depth = 0; ends = refl }, h)
 begun_leads itself (FireWith name value) w below q v h = fire_leads itself name value w below _ refl q v h
 begun_leads itself (AddTo name pair) w below q v h = add_leads itself name pair w below _ refl q v h
 begun_leads itself (ChainTo name next) w below q v h = chain_leads itself name next w below _ _ refl refl q v h
 begun_leads itself (PauseOf name) w below q v h = pause_leads itself name w below _ refl q v h
 begun_leads itself (UnpauseOf name) w below q v h = unpause_leads itself name w below _ refl q v h
+begun_leads itself (CancelOf name) w below q v h = cancel_named_leads itself name w below _ refl q v h
 
 -- the rest of a body, as a frame and as a rule
 rest_gives : (rest : Rest) (o : Performed) (w : World) (p : Performed) (u : World) → RestLeads rest o w p u → RestGives rest.itself rest.actions rest.end rest.input o w p u
@@ -122,6 +154,7 @@ pub turned_leads : (f : Frame) (o : Performed) (w : World) (below : List Frame) 
 turned_leads (frame.Settle d) o w below q v h = settled_leads d w _ _ below refl q v h
 turned_leads (frame.Place d) o w below q v h = h
 turned_leads (frame.Rest rest) o w below q v h = rest_leads rest o w below q v h
+turned_leads (frame.Canceller d) o w below q v h = canceller_leads d (failed_with o) w below q v h
 
 -- an action leads to what the stack leads to that it has begun
 pub act_leads : (itself : Option ℕ) (action : Action) (w : World) (q : Performed) (v : World) → (let t = begun itself (deed_of (out-Action action)) w [] in AllLead t.0 t.1 t.2 q v) → Gives (Act itself action) w q v

@@ -1,28 +1,35 @@
 -- Every frame halts: by what a run can still do, and then by what is left of the frame.
-use Rattle.std.proofs.Common.{◌≡◌, ℕ, zero, suc, ◌+◌, ◌<◌, ◌≤◌, List, [], ◌∷◌, Option, None, Some, length, refl, ap, ◌∙◌, arith, zero-add, suc-add}
+use Rattle.std.proofs.Common.{◌≡◌, ℕ, zero, suc, ◌+◌, ◌<◌, ◌≤◌, Bool, true, false, if◌then◌else◌, List, [], ◌∷◌, Option, None, Some, length, refl, ap, ◌∙◌, arith, zero-add, suc-add}
 use Rattle.dv_value.specs.Failure.{is_fault}
-use Rattle.dv_value.specs.declared.value.Value.{Value}
+use Rattle.dv_value.specs.declared.failure.Failure.{Failure}
+use Rattle.dv_value.specs.declared.value.Value.{Value, Null}
 use Rattle.dv_script.specs.declared.action.Action.{Action, out-Action}
 use Rattle.dv_script.specs.declared.body.End.{End}
 use Rattle.dv_store.specs.Laws.{used}
 use Rattle.dv_store.specs.declared.store.Step.{Step}
 use Rattle.dv_store.specs.declared.store.Step.TheVariants.{Nothing, Passed, Run, Handed}
-use Rattle.dv_engine.specs.Deed.{Deed, Idle, NoteOf, Make, FireWith, AddTo, ChainTo, PauseOf, UnpauseOf, deed_of}
-use Rattle.dv_engine.specs.Frames.{Turned, settle_next, rest_of, side_begun, settled, with_deferred, begun, gone_on, rest_turned, turned}
+use Rattle.dv_engine.specs.Deed.{deed_of}
+use Rattle.dv_engine.specs.declared.deed.Deed.{Deed}
+use Rattle.dv_engine.specs.declared.deed.Deed.TheVariants.{Idle, NoteOf, Make, FireWith, AddTo, ChainTo, PauseOf, UnpauseOf, CancelOf}
+use Rattle.dv_engine.specs.Frames.{Turned, settle_next, rest_of, side_begun, settled, with_deferred, cancel_begun, canceller_ended, begun, gone_on, rest_turned, turned}
 use Rattle.dv_engine.specs.Settling.{place}
 use Rattle.dv_engine.specs.declared.frame.Frame.{Frame}
 use Rattle.dv_engine.specs.declared.frame.Frame.TheVariants as frame
 use Rattle.dv_engine.specs.declared.frame.Rest.{Rest}
-use Rattle.dv_engine.proofs.Budget.{Spares, budget, spares, step_took}
+use Rattle.dv_engine.proofs.Budget.{Spares, budget, spares, step_took, reaches, cancel_took}
 use Rattle.dv_engine.proofs.Lasting.{run, begun_keeps, place_keeps}
-use Rattle.dv_world.specs.Ending.{ended}
+use Rattle.dv_world.specs.Ending.{ended, failed_with}
 use Rattle.dv_world.specs.Pair.{side_for, chain}
-use Rattle.dv_world.specs.World.{World, state_of, deferred_at, step, append, fire, pause, unpause, unbound, value_of}
+use Rattle.dv_world.specs.World.{World, state_of, deferred_at, step, append, fire, fire_guarded, is_unfired, cancelled, cancel, pause, unpause, unbound, value_of}
+use Rattle.dv_world.specs.declared.follow.Follow.{Follow}
+use Rattle.dv_world.specs.declared.follow.Follow.TheVariants as follow
 use Rattle.dv_world.specs.declared.pair.Pair.{Pair}
 use Rattle.dv_world.specs.declared.pair.Side.{Side}
 use Rattle.dv_world.specs.declared.pair.Side.TheVariants as side
 use Rattle.dv_world.specs.declared.performed.Performed.{Performed}
 use Rattle.dv_world.specs.declared.performed.Performed.TheVariants.{Done, Gave, Raised, Awaits}
+use Rattle.dv_world.specs.declared.reached.Reached.{Reached}
+use Rattle.dv_world.specs.declared.reached.Reached.TheVariants as reached
 
 abbrev Ended : Type 0
 Ended = Performed × World
@@ -80,6 +87,7 @@ abbrev rank : Frame → ℕ
 rank (frame.Settle d) = 0
 rank (frame.Place d) = 1
 rank (frame.Rest rest) = 2 + length rest.actions
+rank (frame.Canceller d) = 1
 
 -- a frame halts where less can be done, or no more and less is left of it
 record Lower (n m : ℕ) : Type 0 where
@@ -88,6 +96,9 @@ record Lower (n m : ℕ) : Type 0 where
 
 fire_pays : (d : ℕ) (value : Value) (w : World) → can (fire d value w).1 ≤ can w
 fire_pays d value w = (spares.by_fire d value w).pays
+
+guarded_pays : (d : ℕ) (w : World) → can (fire_guarded d w) ≤ can w
+guarded_pays d w = (spares.by_fire_guarded d w).pays
 
 unpause_pays : (d : ℕ) (w : World) → can (unpause d w).1 ≤ can w
 unpause_pays d w = (spares.by_unpause d w).pays
@@ -104,11 +115,10 @@ place_pays d o w = (place_keeps (λ v u. Spares (state_of v) (state_of u)) spare
 begun_pays : (itself : Option ℕ) (deed : Deed) (w : World) → can (begun itself deed w []).2 ≤ can w
 begun_pays itself deed w = (begun_keeps (λ v u. Spares (state_of v) (state_of u)) spares itself deed w []).pays
 
-next_reaches : (d : ℕ) (o : Performed) (w0 w : World) → can w ≤ can w0 → Halts (frame.Settle d) Done w → Reaches (settle_next d o w) w0
-next_reaches d Done w0 w h k = reach_then (frame.Settle d) Done w0 w h k
-next_reaches d (Gave value) w0 w h k = reach_now (Gave value) w0 w h
-next_reaches d (Raised failure) w0 w h k = reach_now (Raised failure) w0 w h
-next_reaches d (Awaits e) w0 w h k = reach_now (Awaits e) w0 w h
+next_reaches : (d : ℕ) (o : Follow) (w0 w : World) → can w ≤ can w0 → Halts (frame.Settle d) Done w → Reaches (settle_next d o w) w0
+next_reaches d follow.Settle w0 w h k = reach_then (frame.Settle d) Done w0 w h k
+next_reaches d follow.Nothing w0 w h k = reach_now Done w0 w h
+next_reaches d (follow.Raise failure) w0 w h k = reach_now (Raised failure) w0 w h
 
 with_reaches : (o : Option ℕ) (name : List ℕ) (w : World) (next : List Frame → ℕ → Turned) → ((d : ℕ) → Reaches (λ below. next below d) w) → Reaches (λ below. with_deferred o name w below (next below)) w
 with_reaches None name w next h = reach_now (unbound name) w w (omega arith)
@@ -139,7 +149,30 @@ module _ (n m : ℕ) (k : Lower n m) where
       let second = k.less (frame.Settle d) first.outcome first.after (omega (arith, first.pays, h, b)) in
       weaken (settled d (Handed c) w) w0 w (omega (arith, h)) (reach_over (λ below. (frame.Settle c ∷ below, Done, w)) (frame.Settle d) w first second)
 
+  -- a cancel that reaches somebody was told, so that less can be done
+  cancel_reaches : (w0 : World) (o : Reached) (w : World) → can w + reaches o ≤ can w0 → can w0 ≤ n → Reaches (cancel_begun o w) w0
+  cancel_reaches w0 reached.Nothing w h b = reach_now Done w0 w (omega (arith, h))
+  cancel_reaches w0 (reached.Fire d) w h b =
+      let pays = guarded_pays d w in
+      reach_then (frame.Settle d) Done w0 (fire_guarded d w) (omega (arith, pays, h)) (k.less (frame.Settle d) Done (fire_guarded d w) (omega (arith, pays, h, b)))
+  cancel_reaches w0 (reached.Run d canceller) w h b =
+      let body = frame.Rest (rest_of (Some d) canceller Null) in
+      let first = reach_then body Done w w (omega arith) (k.less body Done w (omega (arith, h, b))) in
+      let second = k.less (frame.Canceller d) first.outcome first.after (omega (arith, first.pays, h, b)) in
+      weaken (cancel_begun (reached.Run d canceller) w) w0 w (omega (arith, h)) (reach_over (λ below. (body ∷ below, Done, w)) (frame.Canceller d) w first second)
+
   -- where no more can be done, and less is left
+  late_reaches : (d : ℕ) (answer : Bool) (w : World) → can w ≤ n → 0 < m
+      → Reaches (λ below. if answer then settle_next d (fire d cancelled w).0 (fire d cancelled w).1 below else (below, Done, w)) w
+  late_reaches d true w b q =
+      let pays = fire_pays d cancelled w in
+      next_reaches d (fire d cancelled w).0 w (fire d cancelled w).1 pays (k.same (frame.Settle d) Done (fire d cancelled w).1 (omega (arith, pays, b)) q)
+  late_reaches d false w b q = reach_now Done w w (omega arith)
+
+  canceller_reaches : (d : ℕ) (failure : Option Failure) (w : World) → can w ≤ n → 0 < m → Reaches (canceller_ended d failure w) w
+  canceller_reaches d (Some failure) w b q = reach_now (Raised failure) w w (omega arith)
+  canceller_reaches d None w b q = late_reaches d (is_unfired d w) w b q
+
   begun_reaches : (itself : Option ℕ) (deed : Deed) (w : World) → can w ≤ n → 0 < m → Reaches (begun itself deed w) w
   begun_reaches itself Idle w b q = reach_now Done w w (omega arith)
   begun_reaches itself (NoteOf text) w b q = reach_now Done w _ (begun_pays itself (NoteOf text) w)
@@ -159,6 +192,9 @@ module _ (n m : ℕ) (k : Lower n m) where
   begun_reaches itself (UnpauseOf name) w b q =
       with_reaches (deferred_at itself name w) name w (λ below d. settle_next d (unpause d w).0 (unpause d w).1 below)
       (λ d. next_reaches d (unpause d w).0 w (unpause d w).1 (unpause_pays d w) (k.same (frame.Settle d) Done (unpause d w).1 (omega (arith, unpause_pays d w, b)) q))
+  begun_reaches itself (CancelOf name) w b q =
+      with_reaches (deferred_at itself name w) name w (λ below d. cancel_begun (cancel d w).0 (cancel d w).1 below)
+      (λ d. cancel_reaches w (cancel d w).0 (cancel d w).1 (cancel_took d w) b)
 
   gone_reaches : (itself : Option ℕ) (actions : List Action) (end : End) (input : Value) (w : World) → can w ≤ n → 2 + length actions ≤ m → Reaches (gone_on itself actions end input w) w
   gone_reaches itself [] end input w b q = reach_now (ended itself end input w) w w (omega arith)
@@ -179,6 +215,7 @@ module _ (n m : ℕ) (k : Lower n m) where
   turned_reaches (frame.Place d) o w b q =
       reach_then (frame.Settle d) Done w (place d o w) (place_pays d o w) (k.same (frame.Settle d) Done (place d o w) (omega (arith, place_pays d o w, b)) (omega (arith, q)))
   turned_reaches (frame.Rest rest) o w b q = rest_reaches rest o w b q
+  turned_reaches (frame.Canceller d) o w b q = canceller_reaches d (failed_with o) w b (omega (arith, q))
 
 halts_within : (n : ℕ) → ((f : Frame) (o : Performed) (w : World) → can w < n → Halts f o w) → (m : ℕ) (f : Frame) (o : Performed) (w : World) → can w ≤ n → rank f < m → Halts f o w
 halts_within n less zero f o w b q = absurd (omega (arith, q))

@@ -1,5 +1,5 @@
 -- What every step of a world keeps, every turn and every run of the stack keeps.
-use Rattle.std.proofs.Common.{◌≡◌, ℕ, zero, suc, List, [], ◌∷◌, Option, None, Some, ap, subst}
+use Rattle.std.proofs.Common.{◌≡◌, ℕ, zero, suc, Bool, true, false, if◌then◌else◌, List, [], ◌∷◌, Option, None, Some, ap, subst}
 use Rattle.dv_value.specs.Failure.{is_fault}
 use Rattle.dv_value.specs.declared.failure.Failure.{Failure}
 use Rattle.dv_value.specs.declared.value.Value.{Value, Null, Fault}
@@ -9,21 +9,27 @@ use Rattle.dv_script.specs.declared.body.Body.{Body}
 use Rattle.dv_script.specs.declared.body.End.{End}
 use Rattle.dv_store.specs.declared.store.Step.{Step}
 use Rattle.dv_store.specs.declared.store.Step.TheVariants.{Nothing, Passed, Run, Handed}
-use Rattle.dv_engine.specs.Acting.{made}
-use Rattle.dv_engine.specs.Deed.{Deed, Idle, NoteOf, Make, FireWith, AddTo, ChainTo, PauseOf, UnpauseOf, deed_of}
-use Rattle.dv_engine.specs.Frames.{Turned, settle_next, side_begun, settled, with_deferred, begun, gone_on, rest_turned, turned}
+use Rattle.dv_engine.specs.Deed.{deed_of}
+use Rattle.dv_engine.specs.declared.deed.Deed.{Deed}
+use Rattle.dv_engine.specs.declared.deed.Deed.TheVariants.{Idle, NoteOf, Make, FireWith, AddTo, ChainTo, PauseOf, UnpauseOf, CancelOf}
+use Rattle.dv_engine.specs.Frames.{Turned, settle_next, side_begun, settled, with_deferred, cancel_begun, canceller_ended, begun, gone_on, rest_turned, turned}
 use Rattle.dv_engine.specs.Meaning.{told_of}
 use Rattle.dv_engine.specs.Settling.{place}
 use Rattle.dv_engine.specs.declared.frame.Frame.{Frame}
 use Rattle.dv_engine.specs.declared.frame.Frame.TheVariants as frame
 use Rattle.dv_engine.specs.declared.frame.Rest.{Rest}
+use Rattle.dv_world.specs.Ending.{failed_with}
 use Rattle.dv_world.specs.Pair.{side_for, chain}
-use Rattle.dv_world.specs.World.{World, deferred_at, step, put, put_deferred, append, make, fire, pause, unpause, tell, value_of}
+use Rattle.dv_world.specs.World.{World, deferred_at, step, put, put_deferred, append, make, fire, fire_guarded, is_unfired, cancelled, cancel, pause, unpause, tell, value_of}
+use Rattle.dv_world.specs.declared.follow.Follow.{Follow}
+use Rattle.dv_world.specs.declared.follow.Follow.TheVariants as follow
 use Rattle.dv_world.specs.declared.pair.Pair.{Pair}
 use Rattle.dv_world.specs.declared.pair.Side.{Side}
 use Rattle.dv_world.specs.declared.pair.Side.TheVariants as side
 use Rattle.dv_world.specs.declared.performed.Performed.{Performed}
 use Rattle.dv_world.specs.declared.performed.Performed.TheVariants.{Done, Gave, Raised, Awaits}
+use Rattle.dv_world.specs.declared.reached.Reached.{Reached}
+use Rattle.dv_world.specs.declared.reached.Reached.TheVariants as reached
 
 -- the stack after so many turns, all of it done
 unfoldable pub run : ℕ → List Frame → Performed → World → Option (Performed × World)
@@ -40,8 +46,10 @@ pub record Lasting (R : World → World → Type 0) : Type 0 where
   pub by_put : (d : ℕ) (value : Value) (w : World) → R w (put d value w)
   pub by_put_deferred : (d e : ℕ) (w : World) → R w (put_deferred d e w)
   pub by_append : (d : ℕ) (pair : Pair) (w : World) → R w (append d pair w)
-  pub by_make : (name : List ℕ) (w : World) → R w (make name w)
+  pub by_make : (name : List ℕ) (canceller : Option Body) (w : World) → R w (make name canceller w)
   pub by_fire : (d : ℕ) (value : Value) (w : World) → R w (fire d value w).1
+  pub by_fire_guarded : (d : ℕ) (w : World) → R w (fire_guarded d w)
+  pub by_cancel : (d : ℕ) (w : World) → R w (cancel d w).1
   pub by_pause : (d : ℕ) (w : World) → R w (pause d w)
   pub by_unpause : (d : ℕ) (w : World) → R w (unpause d w).1
   pub by_note : (text : List ℕ) (w : World) → R w (tell (entry.Note text) w)
@@ -51,11 +59,10 @@ module _ (R : World → World → Type 0) (l : Lasting R) where
   abbrev Keeps : World → Turned → Type 0
   Keeps w t = R w t.2
 
-  next_keeps : (d : ℕ) (o : Performed) (w0 w : World) (below : List Frame) → R w0 w → Keeps w0 (settle_next d o w below)
-  next_keeps d Done w0 w below h = h
-  next_keeps d (Gave value) w0 w below h = h
-  next_keeps d (Raised failure) w0 w below h = h
-  next_keeps d (Awaits e) w0 w below h = h
+  next_keeps : (d : ℕ) (o : Follow) (w0 w : World) (below : List Frame) → R w0 w → Keeps w0 (settle_next d o w below)
+  next_keeps d follow.Settle w0 w below h = h
+  next_keeps d follow.Nothing w0 w below h = h
+  next_keeps d (follow.Raise failure) w0 w below h = h
 
   side_keeps : (d : ℕ) (s : Option Side) (input : Value) (w0 w : World) (below : List Frame) → R w0 w → Keeps w0 (side_begun d s input w below)
   side_keeps d None input w0 w below h = h
@@ -78,14 +85,23 @@ module _ (R : World → World → Type 0) (l : Lasting R) where
   with_keeps None name w below next h = l.stays w
   with_keeps (Some d) name w below next h = h d
 
-  made_keeps : (name : List ℕ) (canceller : Option Body) (w : World) → R w (made name canceller w)
-  made_keeps name None w = l.by_make name w
-  made_keeps name (Some canceller) w = l.stays w
+  cancel_keeps : (o : Reached) (w0 w : World) (below : List Frame) → R w0 w → Keeps w0 (cancel_begun o w below)
+  cancel_keeps reached.Nothing w0 w below h = h
+  cancel_keeps (reached.Fire d) w0 w below h = l.joins w0 w _ h (l.by_fire_guarded d w)
+  cancel_keeps (reached.Run d canceller) w0 w below h = h
+
+  late_keeps : (d : ℕ) (b : Bool) (w : World) (below : List Frame) → Keeps w (if b then settle_next d (fire d cancelled w).0 (fire d cancelled w).1 below else (below, Done, w))
+  late_keeps d true w below = next_keeps d (fire d cancelled w).0 w (fire d cancelled w).1 below (l.by_fire d cancelled w)
+  late_keeps d false w below = l.stays w
+
+  canceller_keeps : (d : ℕ) (failure : Option Failure) (w : World) (below : List Frame) → Keeps w (canceller_ended d failure w below)
+  canceller_keeps d (Some failure) w below = l.stays w
+  canceller_keeps d None w below = late_keeps d (is_unfired d w) w below
 
   pub begun_keeps : (itself : Option ℕ) (deed : Deed) (w : World) (below : List Frame) → Keeps w (begun itself deed w below)
   begun_keeps itself Idle w below = l.stays w
   begun_keeps itself (NoteOf text) w below = l.by_note text w
-  begun_keeps itself (Make name canceller) w below = made_keeps name canceller w
+  begun_keeps itself (Make name canceller) w below = l.by_make name canceller w
   begun_keeps itself (FireWith name value) w below =
       with_keeps (deferred_at itself name w) name w below _ (λ d. next_keeps d (fire d value w).0 w (fire d value w).1 below (l.by_fire d value w))
   begun_keeps itself (AddTo name pair) w below = with_keeps (deferred_at itself name w) name w below _ (λ d. l.by_append d pair w)
@@ -94,6 +110,8 @@ module _ (R : World → World → Type 0) (l : Lasting R) where
   begun_keeps itself (PauseOf name) w below = with_keeps (deferred_at itself name w) name w below _ (λ d. l.by_pause d w)
   begun_keeps itself (UnpauseOf name) w below =
       with_keeps (deferred_at itself name w) name w below _ (λ d. next_keeps d (unpause d w).0 w (unpause d w).1 below (l.by_unpause d w))
+  begun_keeps itself (CancelOf name) w below =
+      with_keeps (deferred_at itself name w) name w below _ (λ d. cancel_keeps (cancel d w).0 w (cancel d w).1 below (l.by_cancel d w))
 
   gone_keeps : (itself : Option ℕ) (actions : List Action) (end : End) (input : Value) (w : World) (below : List Frame) → Keeps w (gone_on itself actions end input w below)
   gone_keeps itself [] end input w below = l.stays w
@@ -109,6 +127,7 @@ module _ (R : World → World → Type 0) (l : Lasting R) where
   turned_keeps (frame.Settle d) o w below = settled_keeps d (step d w).0 w (step d w).1 below (l.by_step d w)
   turned_keeps (frame.Place d) o w below = place_keeps d o w
   turned_keeps (frame.Rest rest) o w below = rest_keeps rest o w below
+  turned_keeps (frame.Canceller d) o w below = canceller_keeps d (failed_with o) w below
 
   pub run_keeps : (n : ℕ) (fs : List Frame) (o : Performed) (w : World) (q : Performed) (v : World) → run n fs o w ≡ Some (q, v) → R w v
   unfolding run

@@ -13,10 +13,11 @@ use Rattle.dv_journal.specs.declared.entry.Entry.{Entry}
 use Rattle.dv_journal.specs.declared.entry.Entry.TheVariants as entry
 use Rattle.dv_journal.specs.declared.error.Stop.{Stop}
 use Rattle.dv_journal.specs.declared.error.Stop.TheVariants as stop
-use Rattle.dv_script.specs.declared.action.Action.{Action, Deferred, Callback, Errback, AddCallback, AddErrback, AddBoth, AddCallbacks, Chain, Pause, Unpause, Note}
+use Rattle.dv_script.specs.declared.action.Action.{Action, Deferred, Callback, Errback, AddCallback, AddErrback, AddBoth, AddCallbacks, Chain, Pause, Unpause, Cancel, Note}
 use Rattle.dv_script.specs.declared.body.Body.{Body, roll-Body}
 use Rattle.dv_script.specs.declared.body.End.{End}
 use Rattle.dv_store.specs.Callbacks.{Stepped, is_ready, with_handed, with_result}
+use Rattle.dv_store.specs.Cancelling.{guard, end_of_chain}
 use Rattle.dv_store.specs.Chaining.{is_pending, waiting, taking}
 use Rattle.dv_store.specs.Fire as firing
 use Rattle.dv_store.specs.Pausing as pausing
@@ -30,20 +31,26 @@ use Rattle.dv_store.specs.declared.error.UnpauseFault.TheVariants as unpause_fau
 use Rattle.dv_store.specs.declared.record.Item.{Item}
 use Rattle.dv_store.specs.declared.record.Item.TheVariants as item
 use Rattle.dv_store.specs.declared.record.Record.{Record}
+use Rattle.dv_store.specs.declared.store.Fired.{Fired}
+use Rattle.dv_store.specs.declared.store.Fired.TheVariants.{Set, Swallowed}
 use Rattle.dv_store.specs.declared.store.Placed.{Placed}
 use Rattle.dv_store.specs.declared.store.Placed.TheVariants.{Taken, Waits}
 use Rattle.dv_store.specs.declared.store.Step.{Step}
 use Rattle.dv_store.specs.declared.store.Step.TheVariants.{Nothing, Passed, Run, Handed}
 use Rattle.dv_engine.specs.declared.frame.Frame.{Frame}
 use Rattle.dv_engine.specs.declared.frame.Frame.TheVariants as frame
-use Rattle.dv_world.specs.Ending.{fault, ended}
+use Rattle.dv_world.specs.Ending.{fault, ended, failed_with}
 use Rattle.dv_world.specs.Names.{Names, with_name}
-use Rattle.dv_world.specs.World.{World, value_of, deferred_at, unbound}
+use Rattle.dv_world.specs.World.{World, value_of, deferred_at, cancelled, is_unfired, unbound}
+use Rattle.dv_world.specs.declared.follow.Follow.{Follow}
+use Rattle.dv_world.specs.declared.follow.Follow.TheVariants as follow
 use Rattle.dv_world.specs.declared.pair.Pair.{Pair}
 use Rattle.dv_world.specs.declared.pair.Side.{Side}
 use Rattle.dv_world.specs.declared.pair.Side.TheVariants as side
 use Rattle.dv_world.specs.declared.performed.Performed.{Performed}
 use Rattle.dv_world.specs.declared.performed.Performed.TheVariants.{Done, Gave, Raised, Awaits}
+use Rattle.dv_world.specs.declared.reached.Reached.{Reached}
+use Rattle.dv_world.specs.declared.reached.Reached.TheVariants as reached
 
 mutual
   -- what a body does: actions, and then its end
@@ -54,6 +61,7 @@ mutual
   -- an action
   pub data Doing : Type 0 where
     Makes : (name : List ℕ) → Doing
+    MakesWith : (name : List ℕ) (canceller : Work) → Doing
     Calls : (name : List ℕ) (value : Value) → Doing
     Fails : (name : List ℕ) (class : ℕ) (message : List ℕ) → Doing
     AddsCallback : (name : List ℕ) (body : Work) → Doing
@@ -63,6 +71,7 @@ mutual
     Chains : (name next : List ℕ) → Doing
     Pauses : (name : List ℕ) → Doing
     Unpauses : (name : List ℕ) → Doing
+    Cancels : (name : List ℕ) → Doing
     Notes : (text : List ℕ) → Doing
 
 -- the end that it comes to
@@ -78,6 +87,7 @@ abbrev mutual
 
   pub action_of : Doing → Action
   action_of (Makes name) = Deferred name None
+  action_of (MakesWith name canceller) = Deferred name (Some (roll-Body (record { actions = actions_of canceller; end = end_of canceller })))
   action_of (Calls name value) = Callback name value
   action_of (Fails name class message) = Errback name class message
   action_of (AddsCallback name body) = AddCallback name (roll-Body (record { actions = actions_of body; end = end_of body }))
@@ -88,6 +98,7 @@ abbrev mutual
   action_of (Chains name next) = Chain name next
   action_of (Pauses name) = Pause name
   action_of (Unpauses name) = Unpause name
+  action_of (Cancels name) = Cancel name
   action_of (Notes text) = Note text
 
 -- the body that it stands for
@@ -122,7 +133,7 @@ lacks sides failed = is_none (role_for sides failed)
 
 -- what is kept of a Deferred
 abbrev pub Kept : Type 0
-Kept = Record Sides Body
+Kept = Record Sides Work
 
 abbrev pub item_of : Item Sides → Item Pair
 item_of (item.Pair sides) = item.Pair (pair_of sides)
@@ -131,11 +142,21 @@ item_of (item.HandOver c) = item.HandOver c
 -- the record that it stands for
 abbrev pub record_of : Kept → Record Pair Body
 record_of r =
-    record { name = r.name; fired = r.fired; value = r.value; items = map item_of r.items; pauses = r.pauses; waits_for = r.waits_for; running = r.running; canceller = r.canceller }
+    record {
+      name = r.name;
+      fired = r.fired;
+      value = r.value;
+      items = map item_of r.items;
+      pauses = r.pauses;
+      waits_for = r.waits_for;
+      running = r.running;
+      swallows = r.swallows;
+      canceller = option_map body_of r.canceller;
+    }
 
 -- the Deferreds and the journal
 abbrev pub Both : Type 0
-Both = State Sides Body
+Both = State Sides Work
 
 abbrev pub both_of : Both → State Pair Body
 both_of s = (map record_of s.0, s.1)
@@ -162,6 +183,18 @@ move_of Nothing = Nothing
 move_of Passed = Passed
 move_of (Run sides) = Run (pair_of sides)
 move_of (Handed c) = Handed c
+
+-- whom a cancel reaches: nobody, one that is to be fired, or one whose canceller is to run
+pub data Reach : Type 0 where
+  Nobody : Reach
+  ToFire : (d : ℕ) → Reach
+  ToRun : (d : ℕ) (work : Work) → Reach
+
+-- what it stands for
+abbrev pub reach_of : Reach → Reached
+reach_of Nobody = reached.Nothing
+reach_of (ToFire d) = reached.Fire d
+reach_of (ToRun d work) = reached.Run d (body_of work)
 
 -- the size of a failure, which computes where it has none inside
 abbrev pub failure_sized_by : {S : Type 0} → Failure → Option S → ℕ
@@ -219,39 +252,47 @@ abbrev pub named : List ℕ → Result ℕ Stop → Both → Small → Small
 named name (Ok d) b s = record (with_both b s) { names = with_name name d s.names }
 named name (Err stop) b s = with_stop (with_both b s)
 
-abbrev pub fired : Result Unit StoreFault → Both → Small → Performed × Small
-fired (Ok done) b s = (Done, with_both b s)
-fired (Err firing_fault.AlreadyCalled) b s = (Raised (plain_failure already_called_error []), with_both b s)
-fired (Err firing_fault.Limit) b s = (Done, with_stop (with_both b s))
-fired (Err firing_fault.OutOfMemory) b s = (Done, with_stop (with_both b s))
+abbrev pub fired : Result Fired StoreFault → Both → Small → Follow × Small
+fired (Ok Set) b s = (follow.Settle, with_both b s)
+fired (Ok Swallowed) b s = (follow.Nothing, with_both b s)
+fired (Err firing_fault.AlreadyCalled) b s = (follow.Raise (plain_failure already_called_error []), with_both b s)
+fired (Err firing_fault.Limit) b s = (follow.Nothing, with_stop (with_both b s))
+fired (Err firing_fault.OutOfMemory) b s = (follow.Nothing, with_stop (with_both b s))
 
-abbrev pub unpaused : Result Unit UnpauseFault → Both → Small → Performed × Small
-unpaused (Ok done) b s = (Done, with_both b s)
-unpaused (Err unpause_fault.NotPaused) b s = (Raised (plain_failure assertion_error (codes "not paused")), with_both b s)
-unpaused (Err unpause_fault.Limit) b s = (Done, with_stop (with_both b s))
-unpaused (Err unpause_fault.OutOfMemory) b s = (Done, with_stop (with_both b s))
+abbrev pub guarded : ℕ → Result Fired StoreFault → Both → Small → Small
+guarded d (Ok Set) b s = with_both (guard d b.0, b.1) s
+guarded d (Ok Swallowed) b s = with_both b s
+guarded d (Err firing_fault.AlreadyCalled) b s = with_both b s
+guarded d (Err firing_fault.Limit) b s = with_stop (with_both b s)
+guarded d (Err firing_fault.OutOfMemory) b s = with_stop (with_both b s)
+
+abbrev pub unpaused : Result Unit UnpauseFault → Both → Small → Follow × Small
+unpaused (Ok done) b s = (follow.Settle, with_both b s)
+unpaused (Err unpause_fault.NotPaused) b s = (follow.Raise (plain_failure assertion_error (codes "not paused")), with_both b s)
+unpaused (Err unpause_fault.Limit) b s = (follow.Nothing, with_stop (with_both b s))
+unpaused (Err unpause_fault.OutOfMemory) b s = (follow.Nothing, with_stop (with_both b s))
 
 -- the entry is written and then the change is made, or it doesn't fit
-abbrev pub telling : {A : Type 0} → Entry → A → List Kept → Both → Told A Sides Body
+abbrev pub telling : {A : Type 0} → Entry → A → List Kept → Both → Told A Sides Work
 telling told answer changed s = if has_room s.1 told then (Ok answer, (changed, with_entry s.1 told)) else (Err stop.Limit, s)
 
 -- one item is used
-abbrev pub use_pair : ℕ → Kept → Sides → List (Item Sides) → Both → Stepped Sides Body
+abbrev pub use_pair : ℕ → Kept → Sides → List (Item Sides) → Both → Stepped Sides Work
 use_pair d r sides rest s =
     if lacks sides (is_fault r.value)
     then untold Passed (slice_set s.0 d (record r { items = rest }), s.1)
     else telling (entry.Run d) (Run sides) (slice_set s.0 d (record r { items = rest; running = true })) s
 
-abbrev pub use_item : ℕ → Kept → Item Sides → List (Item Sides) → Both → Stepped Sides Body
+abbrev pub use_item : ℕ → Kept → Item Sides → List (Item Sides) → Both → Stepped Sides Work
 use_item d r (item.Pair sides) rest s = use_pair d r sides rest s
 use_item d r (item.HandOver c) rest s =
     telling (entry.Hand d c r.value) (Handed c) (changing c (with_handed r.value) (slice_set s.0 d (record r { items = rest; value = Null }))) s
 
-abbrev pub use_first : ℕ → Kept → List (Item Sides) → Both → Stepped Sides Body
+abbrev pub use_first : ℕ → Kept → List (Item Sides) → Both → Stepped Sides Work
 use_first d r [] s = untold Nothing s
 use_first d r (first ∷ rest) s = use_item d r first rest s
 
-abbrev pub step_found : ℕ → Option Kept → Both → Stepped Sides Body
+abbrev pub step_found : ℕ → Option Kept → Both → Stepped Sides Work
 step_found d None s = untold Nothing s
 step_found d (Some r) s = if is_ready r then use_first d r r.items s else untold Nothing s
 
@@ -261,7 +302,7 @@ step d s =
     let told = step_found d (slice_get s.kept d) (s.kept, s.journal) in moved told.0 told.1 s
 
 -- what a side gave is put in place
-abbrev pub put_found : ℕ → Value → Option Kept → Both → Told Unit Sides Body
+abbrev pub put_found : ℕ → Value → Option Kept → Both → Told Unit Sides Work
 put_found d value None s = untold tt s
 put_found d value (Some r) s = telling (entry.Set d value) tt (slice_set s.0 d (with_result value r)) s
 
@@ -271,13 +312,13 @@ put d value s =
     let told = put_found d value (slice_get s.kept d) (s.kept, s.journal) in after told.0 told.1 s
 
 -- a side gave a Deferred
-abbrev pub put_from : ℕ → ℕ → Kept → Both → Told Placed Sides Body
+abbrev pub put_from : ℕ → ℕ → Kept → Both → Told Placed Sides Work
 put_from d e r s =
     if is_pending d e r
     then telling (entry.Wait d e) Waits (waiting d e s.0) s
     else telling (entry.Take d e r.value) Taken (taking d e r.value s.0) s
 
-abbrev pub put_deferred_found : ℕ → ℕ → Option Kept → Option Kept → Both → Told Placed Sides Body
+abbrev pub put_deferred_found : ℕ → ℕ → Option Kept → Option Kept → Both → Told Placed Sides Work
 put_deferred_found d e None given s = untold Waits s
 put_deferred_found d e (Some r) None s = untold Waits s
 put_deferred_found d e (Some r) (Some given) s = put_from d e given s
@@ -288,7 +329,7 @@ put_deferred d e s =
     let told = put_deferred_found d e (slice_get s.kept d) (slice_get s.kept e) (s.kept, s.journal) in after told.0 told.1 s
 
 -- a pair is added
-abbrev pub append_found : ℕ → Sides → Option Kept → Both → Told Unit Sides Body
+abbrev pub append_found : ℕ → Sides → Option Kept → Both → Told Unit Sides Work
 append_found d sides None s = untold tt s
 append_found d sides (Some r) s = telling (entry.Add d) tt (slice_set s.0 d (with_item (item.Pair sides) r)) s
 
@@ -298,7 +339,7 @@ append d sides s =
     let told = append_found d sides (slice_get s.kept d) (s.kept, s.journal) in after told.0 told.1 s
 
 -- a Deferred is paused once more
-abbrev pub pause_found : ℕ → Option Kept → Both → Told Unit Sides Body
+abbrev pub pause_found : ℕ → Option Kept → Both → Told Unit Sides Work
 pause_found d None s = untold tt s
 pause_found d (Some r) s = telling (entry.Pause d) tt (slice_set s.0 d (with_pauses (r.pauses + 1) r)) s
 
@@ -308,43 +349,77 @@ pause d s =
     let told = pause_found d (slice_get s.kept d) (s.kept, s.journal) in after told.0 told.1 s
 
 -- a Deferred is made
-abbrev pub make : List ℕ → Small → Small
-make name s =
+abbrev pub make : List ℕ → Option Work → Small → Small
+make name canceller s =
     if s.stopped then s else
-    let told = telling (entry.New (length s.kept) (Some name)) (length s.kept) (s.kept ++ new_record (Some name) None ∷ []) (s.kept, s.journal) in
+    let told = telling (entry.New (length s.kept) (Some name)) (length s.kept) (s.kept ++ new_record (Some name) canceller ∷ []) (s.kept, s.journal) in
     named name told.0 told.1 s
 
 -- a Deferred is fired
-abbrev pub firing_told : Entry → Result Unit StoreFault → List Kept → Both → firing.Fired Sides Body
+abbrev pub firing_told : Entry → Result Fired StoreFault → List Kept → Both → firing.Firing Sides Work
 firing_told told answer changed s = if has_room s.1 told then (answer, (changed, with_entry s.1 told)) else (Err firing_fault.Limit, s)
 
-abbrev pub fire_found : ℕ → Value → Option Kept → Both → firing.Fired Sides Body
-fire_found d value None s = (Ok tt, s)
-fire_found d value (Some r) s =
-    if r.fired
-    then firing_told (entry.Refuse d) (Err firing_fault.AlreadyCalled) s.0 s
-    else firing_told (entry.Fire d value) (Ok tt) (slice_set s.0 d (firing.with_firing value r)) s
+abbrev pub fire_again : ℕ → Kept → Both → firing.Firing Sides Work
+fire_again d r s =
+    if r.swallows
+    then firing_told (entry.Swallow d) (Ok Swallowed) (slice_set s.0 d (firing.with_guard false r)) s
+    else firing_told (entry.Refuse d) (Err firing_fault.AlreadyCalled) s.0 s
 
-abbrev pub fire : ℕ → Value → Small → Performed × Small
+abbrev pub fire_found : ℕ → Value → Option Kept → Both → firing.Firing Sides Work
+fire_found d value None s = (Ok Set, s)
+fire_found d value (Some r) s =
+    if r.fired then fire_again d r s else firing_told (entry.Fire d value) (Ok Set) (slice_set s.0 d (firing.with_firing value r)) s
+
+abbrev pub fire : ℕ → Value → Small → Follow × Small
 fire d value s =
-    if s.stopped then (Done, s) else
+    if s.stopped then (follow.Nothing, s) else
     let told = fire_found d value (slice_get s.kept d) (s.kept, s.journal) in fired told.0 told.1 s
 
+-- a Deferred is fired since it is cancelled, and its next firing is swallowed
+abbrev pub fire_guarded : ℕ → Small → Small
+fire_guarded d s =
+    if s.stopped then s else
+    let told = fire_found d cancelled (slice_get s.kept d) (s.kept, s.journal) in guarded d told.0 told.1 s
+
 -- a Deferred is paused once less
-abbrev pub less_paused : ℕ → Kept → Both → pausing.Unpaused Sides Body
+abbrev pub less_paused : ℕ → Kept → Both → pausing.Unpaused Sides Work
 less_paused d r s =
     if has_room s.1 (entry.Unpause d)
     then (Ok tt, (slice_set s.0 d (with_pauses (r.pauses - 1) r), with_entry s.1 (entry.Unpause d)))
     else (Err unpause_fault.Limit, s)
 
-abbrev pub unpause_found : ℕ → Option Kept → Both → pausing.Unpaused Sides Body
+abbrev pub unpause_found : ℕ → Option Kept → Both → pausing.Unpaused Sides Work
 unpause_found d None s = (Ok tt, s)
 unpause_found d (Some r) s = if nat_eq r.pauses 0 then (Err unpause_fault.NotPaused, s) else less_paused d r s
 
-abbrev pub unpause : ℕ → Small → Performed × Small
+abbrev pub unpause : ℕ → Small → Follow × Small
 unpause d s =
-    if s.stopped then (Done, s) else
+    if s.stopped then (follow.Nothing, s) else
     let told = unpause_found d (slice_get s.kept d) (s.kept, s.journal) in unpaused told.0 told.1 s
+
+-- whom a cancel reaches
+abbrev pub unfired_reached : ℕ → Option Work → Reach
+unfired_reached d None = ToFire d
+unfired_reached d (Some canceller) = ToRun d canceller
+
+abbrev pub record_reached : ℕ → Option Kept → Reach
+record_reached d None = Nobody
+record_reached d (Some r) = if r.fired then Nobody else unfired_reached d r.canceller
+
+abbrev pub end_reached : Option ℕ → List Kept → Reach
+end_reached None kept = Nobody
+end_reached (Some end) kept = record_reached end (slice_get kept end)
+
+abbrev pub reached_from : ℕ → List Kept → Reach
+reached_from d kept = end_reached (end_of_chain d kept) kept
+
+-- a Deferred is cancelled
+abbrev pub cancel : ℕ → Small → Reach × Small
+cancel d s =
+    if s.stopped then (Nobody, s) else
+    if has_room s.journal (entry.Cancel d)
+    then (reached_from d s.kept, record s { journal = with_entry s.journal (entry.Cancel d) })
+    else (Nobody, with_stop s)
 
 -- an entry of no Deferred's change
 abbrev pub tell : Entry → Small → Small
@@ -357,23 +432,24 @@ pub data Still : Type 0 where
   Settles : (d : ℕ) → Still
   Places : (d : ℕ) → Still
   Rests : (itself : Option ℕ) (work : Work) (input : Value) → Still
+  EndsCanceller : (d : ℕ) → Still
 
 -- the frame that it stands for
 abbrev pub frame_of : Still → Frame
 frame_of (Settles d) = frame.Settle d
 frame_of (Places d) = frame.Place d
 frame_of (Rests itself work input) = frame.Rest (record { itself = itself; actions = actions_of work; end = end_of work; input = input })
+frame_of (EndsCanceller d) = frame.Canceller d
 
 -- the stack, what was come to, and the world
 abbrev pub Turn : Type 0
 Turn = List Still × Performed × Small
 
 -- the turns of the stack
-abbrev pub settle_next : ℕ → Performed → Small → List Still → Turn
-settle_next d Done s below = (Settles d ∷ below, Done, s)
-settle_next d (Gave value) s below = (below, Gave value, s)
-settle_next d (Raised failure) s below = (below, Raised failure, s)
-settle_next d (Awaits e) s below = (below, Awaits e, s)
+abbrev pub settle_next : ℕ → Follow → Small → List Still → Turn
+settle_next d follow.Settle s below = (Settles d ∷ below, Done, s)
+settle_next d follow.Nothing s below = (below, Done, s)
+settle_next d (follow.Raise failure) s below = (below, Raised failure, s)
 
 abbrev pub place : ℕ → Performed → Small → Small
 place d Done s = put d Null s
@@ -402,8 +478,19 @@ fires itself name value s below = with_deferred (deferred_at itself name (world_
 abbrev pub adds : Option ℕ → List ℕ → Sides → Small → List Still → Turn
 adds itself name sides s below = with_deferred (deferred_at itself name (world_of s)) name s below (λ d. (Settles d ∷ below, Done, append d sides s))
 
+abbrev pub cancel_begun : Reach → Small → List Still → Turn
+cancel_begun Nobody s below = (below, Done, s)
+cancel_begun (ToFire d) s below = (Settles d ∷ below, Done, fire_guarded d s)
+cancel_begun (ToRun d work) s below = (Rests (Some d) work Null ∷ EndsCanceller d ∷ below, Done, s)
+
+abbrev pub canceller_ended : ℕ → Option Failure → Small → List Still → Turn
+canceller_ended d (Some failure) s below = (below, Raised failure, s)
+canceller_ended d None s below =
+    if is_unfired d (world_of s) then settle_next d (fire d cancelled s).0 (fire d cancelled s).1 below else (below, Done, s)
+
 abbrev pub begun : Option ℕ → Doing → Small → List Still → Turn
-begun itself (Makes name) s below = (below, Done, make name s)
+begun itself (Makes name) s below = (below, Done, make name None s)
+begun itself (MakesWith name canceller) s below = (below, Done, make name (Some canceller) s)
 begun itself (Calls name value) s below = fires itself name value s below
 begun itself (Fails name class message) s below = fires itself name (fault class message) s below
 begun itself (AddsCallback name body) s below = adds itself name (record { callback = Some (Does body); errback = None }) s below
@@ -416,6 +503,8 @@ begun itself (Chains name next) s below =
 begun itself (Pauses name) s below = with_deferred (deferred_at itself name (world_of s)) name s below (λ d. (below, Done, pause d s))
 begun itself (Unpauses name) s below =
     with_deferred (deferred_at itself name (world_of s)) name s below (λ d. settle_next d (unpause d s).0 (unpause d s).1 below)
+begun itself (Cancels name) s below =
+    with_deferred (deferred_at itself name (world_of s)) name s below (λ d. cancel_begun (cancel d s).0 (cancel d s).1 below)
 begun itself (Notes text) s below = (below, Done, tell (entry.Note text) s)
 
 abbrev pub gone_on : Option ℕ → Work → Value → Small → List Still → Turn
@@ -432,6 +521,7 @@ abbrev pub turned : Still → Performed → Small → List Still → Turn
 turned (Settles d) o s below = settled d (step d s).0 (step d s).1 below
 turned (Places d) o s below = (Settles d ∷ below, Done, place d o s)
 turned (Rests itself work input) o s below = rest_turned itself work input o s below
+turned (EndsCanceller d) o s below = canceller_ended d (failed_with o) s below
 
 -- what the stack has come to, where that takes so many turns at most
 abbrev pub run : ℕ → List Still → Performed → Small → Option (Performed × Small)

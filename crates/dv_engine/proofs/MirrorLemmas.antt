@@ -2,6 +2,7 @@
 use Rattle.std.proofs.Common.{◌≡◌, ℕ, zero, suc, ◌+◌, ◌-◌, Bool, true, false, nat_eq, is_none, List, [], ◌∷◌, ◌++◌, map, length, Option, None, Some, option_map, Result, Ok, Err, cond, slice_get, slice_set, refl, ap, sym, subst, ◌∙◌}
 use Rattle.std.proofs.lemmas.List.{map-append, map-set, length-map}
 use Rattle.std.proofs.lemmas.Option.{slice_get-map}
+use Rattle.std.specs.Option.{option_and_then, option_map_or}
 use Rattle.dv_value.specs.Failure.{is_fault}
 use Rattle.dv_value.specs.Size.{size, size_step, failure_size, failure_size_step}
 use Rattle.dv_value.specs.declared.failure.Failure.{Failure, out-Failure}
@@ -15,12 +16,13 @@ use Rattle.dv_journal.specs.declared.entry.Entry.{Entry}
 use Rattle.dv_journal.specs.declared.entry.Entry.TheVariants as entry
 use Rattle.dv_journal.specs.declared.error.Stop.{Stop}
 use Rattle.dv_script.specs.declared.action.Action.{out-Action}
-use Rattle.dv_script.specs.declared.action.Action.TheViews.{outs-Deferred, outs-Callback, outs-Errback, outs-AddCallback, outs-AddErrback, outs-AddBoth, outs-AddCallbacks, outs-Chain, outs-Pause, outs-Unpause, outs-Note}
+use Rattle.dv_script.specs.declared.action.Action.TheViews.{outs-Deferred, outs-Callback, outs-Errback, outs-AddCallback, outs-AddErrback, outs-AddBoth, outs-AddCallbacks, outs-Chain, outs-Pause, outs-Unpause, outs-Cancel, outs-Note}
 use Rattle.dv_script.specs.declared.body.Body.{Body}
 use Rattle.dv_script.specs.declared.event.Event.{Event}
 use Rattle.dv_script.specs.declared.event.Event.TheVariants as event
 use Rattle.dv_store.specs.Callbacks as callbacks
 use Rattle.dv_store.specs.Callbacks.{with_handed, with_result}
+use Rattle.dv_store.specs.Cancelling.{guard, link, walk, end_of_chain}
 use Rattle.dv_store.specs.Chaining as chaining
 use Rattle.dv_store.specs.Chaining.{with_wait, without_value, waiting, taking}
 use Rattle.dv_store.specs.Fire as firing
@@ -37,24 +39,31 @@ use Rattle.dv_store.specs.declared.error.UnpauseFault.TheVariants as unpause_fau
 use Rattle.dv_store.specs.declared.record.Item.{Item}
 use Rattle.dv_store.specs.declared.record.Item.TheVariants as item
 use Rattle.dv_store.specs.declared.record.Record.{Record}
+use Rattle.dv_store.specs.declared.store.Fired.{Fired}
+use Rattle.dv_store.specs.declared.store.Fired.TheVariants.{Set, Swallowed}
 use Rattle.dv_store.specs.declared.store.Placed.{Placed}
 use Rattle.dv_store.specs.declared.store.Placed.TheVariants.{Taken, Waits}
 use Rattle.dv_store.specs.declared.store.Step.{Step}
 use Rattle.dv_store.specs.declared.store.Step.TheVariants.{Nothing, Passed, Run, Handed}
 use Rattle.dv_engine.proofs.FrameLaws.{turned_leads, act_leads}
 use Rattle.dv_engine.proofs.Mirror as m
-use Rattle.dv_engine.specs.Deed.{Deed, FireWith, AddTo, deed_of}
-use Rattle.dv_engine.specs.Frames.{Turned, settle_next, with_deferred, side_begun, settled, begun, gone_on, turned, AllLead}
+use Rattle.dv_engine.specs.Deed.{deed_of}
+use Rattle.dv_engine.specs.declared.deed.Deed.{Deed}
+use Rattle.dv_engine.specs.declared.deed.Deed.TheVariants.{FireWith, AddTo}
+use Rattle.dv_engine.specs.Frames.{Turned, settle_next, with_deferred, side_begun, settled, cancel_begun, canceller_ended, begun, gone_on, turned, AllLead}
 use Rattle.dv_engine.specs.Meaning.{Gives, told_of, Runs}
 use Rattle.dv_engine.specs.Settling.{place}
 use Rattle.dv_engine.specs.Task.{Act}
 use Rattle.dv_engine.specs.declared.frame.Frame.TheVariants as frame
-use Rattle.dv_world.specs.Ending.{fault}
+use Rattle.dv_world.specs.Ending.{fault, failed_with}
 use Rattle.dv_world.specs.Pair.{passes, side_for}
-use Rattle.dv_world.specs.World.{World, value_of, deferred_at, after, moved, named, fired, unpaused, step, put, put_deferred, append, pause, make, fire, unpause, tell}
+use Rattle.dv_world.specs.World.{World, value_of, deferred_at, after, moved, named, fired, cancelled, guarded, is_unfired, unpaused, step, put, put_deferred, append, pause, make, fire, fire_guarded, unpause, unfired_reached, record_reached, end_reached, reached_from, cancel, tell}
+use Rattle.dv_world.specs.declared.follow.Follow.{Follow}
+use Rattle.dv_world.specs.declared.follow.Follow.TheVariants as follow
 use Rattle.dv_world.specs.declared.pair.Pair.{Pair}
 use Rattle.dv_world.specs.declared.performed.Performed.{Performed}
 use Rattle.dv_world.specs.declared.performed.Performed.TheVariants.{Done, Gave, Raised, Awaits}
+use Rattle.dv_world.specs.declared.reached.Reached.{Reached}
 
 -- sizes
 failure_by : (f : Failure) (o : Option _) → (out-Failure f).sub ≡ o → failure_size f ≡ m.failure_sized_by f o
@@ -109,7 +118,7 @@ abbrev move_answer : Result (Step m.Sides) Stop → Result (Step Pair) Stop
 move_answer (Ok move) = Ok (m.move_of move)
 move_answer (Err stop) = Err stop
 
-abbrev stepped : Told (Step m.Sides) m.Sides Body → Told (Step Pair) Pair Body
+abbrev stepped : Told (Step m.Sides) m.Sides m.Work → Told (Step Pair) Pair Body
 stepped t = (move_answer t.0, m.both_of t.1)
 
 -- telling
@@ -121,7 +130,7 @@ move_told : (told : Entry) (move : Step m.Sides) (kept : List m.Kept) (s : m.Bot
     → tellings.telling told (m.move_of move) (map m.record_of kept) (m.both_of s) ≡ stepped (m.telling told move kept s)
 move_told told move kept s = rw (room_is s.1 told) (of_cond stepped (m.has_room s.1 told) (Ok move, (kept, _)) (Err _, s))
 
-firing_is : (told : Entry) (answer : Result Unit StoreFault) (kept : List m.Kept) (s : m.Both)
+firing_is : (told : Entry) (answer : Result Fired StoreFault) (kept : List m.Kept) (s : m.Both)
     → firing.telling told answer (map m.record_of kept) (m.both_of s) ≡ left (m.firing_told told answer kept s)
 firing_is told answer kept s = rw (room_is s.1 told) (of_cond left (m.has_room s.1 told) _ _)
 
@@ -214,7 +223,7 @@ after_is : {A : Type 0} (r : Result A Stop) (b : m.Both) (s : m.Small) → after
 after_is (Ok done) b s = refl
 after_is (Err stop) b s = refl
 
-change_is : {A : Type 0} (s : m.Small) (real : Told A Pair Body) (told : Told A m.Sides Body) → real ≡ left told
+change_is : {A : Type 0} (s : m.Small) (real : Told A Pair Body) (told : Told A m.Sides m.Work) → real ≡ left told
     → cond s.stopped (m.world_of s) (after real.0 real.1 (m.world_of s)) ≡ m.world_of (cond s.stopped s (m.after told.0 told.1 s))
 change_is {A} s real told same =
     either s.stopped _ _ _ _ refl (ap (λ (t : Told A Pair Body). after t.0 t.1 (m.world_of s)) same ∙ after_is {A = A} told.0 told.1 s)
@@ -292,45 +301,78 @@ named_is : (name : List ℕ) (r : Result ℕ Stop) (b : m.Both) (s : m.Small) �
 named_is name (Ok d) b s = refl
 named_is name (Err stop) b s = refl
 
-making_is : (name : List ℕ) (s : m.Both)
-    → records.make {P = Pair} {K = Body} (Some name) None (m.both_of s) ≡ left (m.telling (entry.New (length s.0) (Some name)) (length s.0) (s.0 ++ new_record (Some name) None ∷ []) s)
-making_is name s =
+making_is : (name : List ℕ) (canceller : Option m.Work) (s : m.Both)
+    → records.make {P = Pair} {K = Body} (Some name) (option_map m.body_of canceller) (m.both_of s)
+    ≡ left (m.telling (entry.New (length s.0) (Some name)) (length s.0) (s.0 ++ new_record (Some name) canceller ∷ []) s)
+making_is name canceller s =
     rw length-map
-    (ap (λ rs. tellings.telling (entry.New (length s.0) (Some name)) (length s.0) rs (m.both_of s)) (sym (map-append m.record_of s.0 (new_record (Some name) None ∷ [])))
-    ∙ telling_is (entry.New (length s.0) (Some name)) (length s.0) (s.0 ++ new_record (Some name) None ∷ []) s)
+    (ap (λ rs. tellings.telling (entry.New (length s.0) (Some name)) (length s.0) rs (m.both_of s)) (sym (map-append m.record_of s.0 (new_record (Some name) canceller ∷ [])))
+    ∙ telling_is (entry.New (length s.0) (Some name)) (length s.0) (s.0 ++ new_record (Some name) canceller ∷ []) s)
 
-make_is : (name : List ℕ) (s : m.Small) → make name (m.world_of s) ≡ m.world_of (m.make name s)
+make_is : (name : List ℕ) (canceller : Option m.Work) (s : m.Small) → make name (option_map m.body_of canceller) (m.world_of s) ≡ m.world_of (m.make name canceller s)
 unfolding make
-make_is name s =
-    either s.stopped _ _ _ _ refl (ap (λ (t : Told ℕ Pair Body). named name t.0 t.1 (m.world_of s)) (making_is name (both_in s)) ∙ named_is name _ _ s)
+make_is name canceller s =
+    either s.stopped _ _ _ _ refl (ap (λ (t : Told ℕ Pair Body). named name t.0 t.1 (m.world_of s)) (making_is name canceller (both_in s)) ∙ named_is name _ _ s)
     ∙ of_cond m.world_of s.stopped s _
 
 -- firing
-abbrev came_of : Performed × m.Small → Performed × World
+abbrev came_of : Follow × m.Small → Follow × World
 came_of t = (t.0, m.world_of t.1)
 
-fired_is : (r : Result Unit StoreFault) (b : m.Both) (s : m.Small) → fired r (m.both_of b) (m.world_of s) ≡ came_of (m.fired r b s)
-fired_is (Ok done) b s = refl
+fired_is : (r : Result Fired StoreFault) (b : m.Both) (s : m.Small) → fired r (m.both_of b) (m.world_of s) ≡ came_of (m.fired r b s)
+fired_is (Ok Set) b s = refl
+fired_is (Ok Swallowed) b s = refl
 fired_is (Err firing_fault.AlreadyCalled) b s = refl
 fired_is (Err firing_fault.Limit) b s = refl
 fired_is (Err firing_fault.OutOfMemory) b s = refl
 
+fire_again_is : (d : ℕ) (r : m.Kept) (s : m.Both) → firing.fire_again d (m.record_of r) (m.both_of s) ≡ left (m.fire_again d r s)
+fire_again_is d r s =
+    either r.swallows _ _ _ _
+    (ap (λ kept. firing.telling (entry.Swallow d) (Ok Swallowed) kept (m.both_of s)) (kept_set s.0 d (firing.with_guard false r)) ∙ firing_is (entry.Swallow d) (Ok Swallowed) _ s)
+    (firing_is (entry.Refuse d) (Err firing_fault.AlreadyCalled) s.0 s)
+    ∙ of_cond left r.swallows _ _
+
 fire_found_is : (d : ℕ) (value : Value) (o : Option m.Kept) (s : m.Both) → firing.fire_found d value (option_map m.record_of o) (m.both_of s) ≡ left (m.fire_found d value o s)
 fire_found_is d value None s = refl
 fire_found_is d value (Some r) s =
-    either r.fired _ _ _ _ (firing_is (entry.Refuse d) (Err firing_fault.AlreadyCalled) s.0 s)
-    (ap (λ kept. firing.telling (entry.Fire d value) (Ok tt) kept (m.both_of s)) (kept_set s.0 d (firing.with_firing value r)) ∙ firing_is (entry.Fire d value) (Ok tt) _ s)
+    either r.fired _ _ _ _ (fire_again_is d r s)
+    (ap (λ kept. firing.telling (entry.Fire d value) (Ok Set) kept (m.both_of s)) (kept_set s.0 d (firing.with_firing value r)) ∙ firing_is (entry.Fire d value) (Ok Set) _ s)
     ∙ of_cond left r.fired _ _
+
+-- a firing by the rule of the Deferreds and the journal
+firing_found : (d : ℕ) (value : Value) (s : m.Small)
+    → firing.fire d value (m.both_of (both_in s)) ≡ left (m.fire_found d value (slice_get s.kept d) (both_in s))
+firing_found d value s =
+    ap (λ o. firing.fire_found d value o (m.both_of (both_in s))) (kept_at s.kept d) ∙ fire_found_is d value (slice_get s.kept d) (both_in s)
 
 fire_is : (d : ℕ) (value : Value) (s : m.Small) → fire d value (m.world_of s) ≡ came_of (m.fire d value s)
 unfolding fire
 fire_is d value s =
     let told = m.fire_found d value (slice_get s.kept d) (both_in s) in
     either s.stopped _ _ _ _ refl
-    (ap (λ (t : firing.Fired Pair Body). fired t.0 t.1 (m.world_of s))
-    (ap (λ o. firing.fire_found d value o (m.both_of (both_in s))) (kept_at s.kept d) ∙ fire_found_is d value (slice_get s.kept d) (both_in s))
-    ∙ fired_is told.0 told.1 s)
-    ∙ of_cond came_of s.stopped (Done, s) (m.fired told.0 told.1 s)
+    (ap (λ (t : firing.Firing Pair Body). fired t.0 t.1 (m.world_of s)) (firing_found d value s) ∙ fired_is told.0 told.1 s)
+    ∙ of_cond came_of s.stopped (follow.Nothing, s) (m.fired told.0 told.1 s)
+
+-- firing a Deferred that is cancelled
+guard_is : (d : ℕ) (kept : List m.Kept) → guard d (map m.record_of kept) ≡ map m.record_of (guard d kept)
+guard_is d kept = changing_is d (firing.with_guard true) (firing.with_guard true) (λ r. refl) kept
+
+guarded_is : (d : ℕ) (r : Result Fired StoreFault) (b : m.Both) (s : m.Small) → guarded d r (m.both_of b) (m.world_of s) ≡ m.world_of (m.guarded d r b s)
+guarded_is d (Ok Set) b s =
+    ap (λ rs. record { classes = s.classes; names = s.names; records = rs; journal = b.1; stopped = s.stopped }) (guard_is d b.0)
+guarded_is d (Ok Swallowed) b s = refl
+guarded_is d (Err firing_fault.AlreadyCalled) b s = refl
+guarded_is d (Err firing_fault.Limit) b s = refl
+guarded_is d (Err firing_fault.OutOfMemory) b s = refl
+
+fire_guarded_is : (d : ℕ) (s : m.Small) → fire_guarded d (m.world_of s) ≡ m.world_of (m.fire_guarded d s)
+unfolding fire_guarded
+fire_guarded_is d s =
+    let told = m.fire_found d cancelled (slice_get s.kept d) (both_in s) in
+    either s.stopped _ _ _ _ refl
+    (ap (λ (t : firing.Firing Pair Body). guarded d t.0 t.1 (m.world_of s)) (firing_found d cancelled s) ∙ guarded_is d told.0 told.1 s)
+    ∙ of_cond m.world_of s.stopped s (m.guarded d told.0 told.1 s)
 
 -- unpausing
 unpaused_is : (r : Result Unit UnpauseFault) (b : m.Both) (s : m.Small) → unpaused r (m.both_of b) (m.world_of s) ≡ came_of (m.unpaused r b s)
@@ -354,7 +396,54 @@ unpause_is d s =
     (ap (λ (t : pausing.Unpaused Pair Body). unpaused t.0 t.1 (m.world_of s))
     (ap (λ o. pausing.unpause_found d o (m.both_of (both_in s))) (kept_at s.kept d) ∙ unpause_found_is d (slice_get s.kept d) (both_in s))
     ∙ unpaused_is told.0 told.1 s)
-    ∙ of_cond came_of s.stopped (Done, s) (m.unpaused told.0 told.1 s)
+    ∙ of_cond came_of s.stopped (follow.Nothing, s) (m.unpaused told.0 told.1 s)
+
+-- whom a cancel reaches
+waits_is : (o : Option m.Kept) → option_and_then (λ (r : Record Pair Body). r.waits_for) (option_map m.record_of o) ≡ option_and_then (λ (r : m.Kept). r.waits_for) o
+waits_is None = refl
+waits_is (Some r) = refl
+
+link_is : (kept : List m.Kept) (d : ℕ) → link (map m.record_of kept) d ≡ link kept d
+link_is kept d = ap (λ o. option_and_then (λ (r : Record Pair Body). r.waits_for) o) (kept_at kept d) ∙ waits_is (slice_get kept d)
+
+walk_on_is : (n d : ℕ) (kept : List m.Kept) (o : Option ℕ) → ((next : ℕ) → walk n next (map m.record_of kept) ≡ walk n next kept)
+    → option_map_or (λ next. walk n next (map m.record_of kept)) o (Some d) ≡ option_map_or (λ next. walk n next kept) o (Some d)
+walk_on_is n d kept None same = refl
+walk_on_is n d kept (Some next) same = same next
+
+walk_is : (n d : ℕ) (kept : List m.Kept) → walk n d (map m.record_of kept) ≡ walk n d kept
+unfolding walk
+walk_is zero d kept = refl
+walk_is (suc n) d kept =
+    ap (λ o. option_map_or (λ next. walk n next (map m.record_of kept)) o (Some d)) (link_is kept d) ∙ walk_on_is n d kept (link kept d) (λ next. walk_is n next kept)
+
+chain_is : (d : ℕ) (kept : List m.Kept) → end_of_chain d (map m.record_of kept) ≡ end_of_chain d kept
+chain_is d kept = rw length-map (walk_is (length kept + 1) d kept)
+
+unfired_reached_is : (d : ℕ) (o : Option m.Work) → unfired_reached d (option_map m.body_of o) ≡ m.reach_of (m.unfired_reached d o)
+unfired_reached_is d None = refl
+unfired_reached_is d (Some work) = refl
+
+record_reached_is : (d : ℕ) (o : Option m.Kept) → record_reached d (option_map m.record_of o) ≡ m.reach_of (m.record_reached d o)
+record_reached_is d None = refl
+record_reached_is d (Some r) = either r.fired _ _ _ _ refl (unfired_reached_is d r.canceller) ∙ of_cond m.reach_of r.fired _ _
+
+end_reached_is : (o : Option ℕ) (kept : List m.Kept) → end_reached o (map m.record_of kept) ≡ m.reach_of (m.end_reached o kept)
+end_reached_is None kept = refl
+end_reached_is (Some end) kept = ap (record_reached end) (kept_at kept end) ∙ record_reached_is end (slice_get kept end)
+
+reached_is : (d : ℕ) (kept : List m.Kept) → reached_from d (map m.record_of kept) ≡ m.reach_of (m.reached_from d kept)
+reached_is d kept = ap (λ o. end_reached o (map m.record_of kept)) (chain_is d kept) ∙ end_reached_is (end_of_chain d kept) kept
+
+-- cancelling
+abbrev reaching : m.Reach × m.Small → Reached × World
+reaching t = (m.reach_of t.0, m.world_of t.1)
+
+cancel_is : (d : ℕ) (s : m.Small) → cancel d (m.world_of s) ≡ reaching (m.cancel d s)
+unfolding cancel
+cancel_is d s =
+    rw (room_is s.journal (entry.Cancel d), reached_is d s.kept)
+    (either s.stopped _ _ _ _ refl (of_cond reaching (m.has_room s.journal (entry.Cancel d)) _ (m.Nobody, m.with_stop s)) ∙ of_cond reaching s.stopped (m.Nobody, s) _)
 
 -- an entry of no Deferred's change
 tell_is : (told : Entry) (s : m.Small) → tell told (m.world_of s) ≡ m.world_of (m.tell told s)
@@ -367,16 +456,15 @@ tell_is told s =
 abbrev turn_of : m.Turn → Turned
 turn_of t = (map m.frame_of t.0, t.1, m.world_of t.2)
 
-next_is : (d : ℕ) (o : Performed) (s : m.Small) (below : List m.Still) → settle_next d o (m.world_of s) (map m.frame_of below) ≡ turn_of (m.settle_next d o s below)
-next_is d Done s below = refl
-next_is d (Gave value) s below = refl
-next_is d (Raised failure) s below = refl
-next_is d (Awaits e) s below = refl
+next_is : (d : ℕ) (next : Follow) (s : m.Small) (below : List m.Still) → settle_next d next (m.world_of s) (map m.frame_of below) ≡ turn_of (m.settle_next d next s below)
+next_is d follow.Settle s below = refl
+next_is d follow.Nothing s below = refl
+next_is d (follow.Raise failure) s below = refl
 
 -- what has come is settled next
-came_next : (d : ℕ) (real : Performed × World) (came : Performed × m.Small) (below : List m.Still) → real ≡ came_of came
+came_next : (d : ℕ) (real : Follow × World) (came : Follow × m.Small) (below : List m.Still) → real ≡ came_of came
     → settle_next d real.0 real.1 (map m.frame_of below) ≡ turn_of (m.settle_next d came.0 came.1 below)
-came_next d real came below same = ap (λ (t : Performed × World). settle_next d t.0 t.1 (map m.frame_of below)) same ∙ next_is d came.0 came.1 below
+came_next d real came below same = ap (λ (t : Follow × World). settle_next d t.0 t.1 (map m.frame_of below)) same ∙ next_is d came.0 came.1 below
 
 place_is : (d : ℕ) (o : Performed) (s : m.Small) → place d o (m.world_of s) ≡ m.world_of (m.place d o s)
 place_is d Done s = put_is d Null s
@@ -405,6 +493,26 @@ with_is : (o : Option ℕ) (name : List ℕ) (s : m.Small) (below : List m.Still
 with_is None name s below f g same = refl
 with_is (Some d) name s below f g same = same d
 
+-- a cancel begins, and its canceller ends
+cancel_begun_is : (reach : m.Reach) (s : m.Small) (below : List m.Still)
+    → cancel_begun (m.reach_of reach) (m.world_of s) (map m.frame_of below) ≡ turn_of (m.cancel_begun reach s below)
+cancel_begun_is m.Nobody s below = refl
+cancel_begun_is (m.ToFire d) s below = ap (λ w. (frame.Settle d ∷ map m.frame_of below, Done, w)) (fire_guarded_is d s)
+cancel_begun_is (m.ToRun d work) s below = refl
+
+cancels_is : (d : ℕ) (s : m.Small) (below : List m.Still)
+    → cancel_begun (cancel d (m.world_of s)).0 (cancel d (m.world_of s)).1 (map m.frame_of below) ≡ turn_of (m.cancel_begun (m.cancel d s).0 (m.cancel d s).1 below)
+cancels_is d s below =
+    ap (λ (t : Reached × World). cancel_begun t.0 t.1 (map m.frame_of below)) (cancel_is d s) ∙ cancel_begun_is (m.cancel d s).0 (m.cancel d s).1 below
+
+canceller_ended_is : (d : ℕ) (o : Option Failure) (s : m.Small) (below : List m.Still)
+    → canceller_ended d o (m.world_of s) (map m.frame_of below) ≡ turn_of (m.canceller_ended d o s below)
+canceller_ended_is d (Some failure) s below = refl
+canceller_ended_is d None s below =
+    let unfired = is_unfired d (m.world_of s) in
+    either unfired _ _ _ _ (came_next d _ _ below (fire_is d cancelled s)) refl
+    ∙ of_cond turn_of unfired (m.settle_next d (m.fire d cancelled s).0 (m.fire d cancelled s).1 below) (below, Done, s)
+
 -- an action that is told to be such a deed
 abbrev Begins : Option ℕ → m.Doing → Type 0
 Begins itself doing =
@@ -426,7 +534,9 @@ by_deed itself s below turn deed same e h = ap (λ x. begun itself x (m.world_of
 
 begun_is : (itself : Option ℕ) (doing : m.Doing) → Begins itself doing
 begun_is itself (m.Makes name) s below =
-    by_deed itself s below _ _ _ (ap deed_of (outs-Deferred name None)) (ap (λ w. (map m.frame_of below, Done, w)) (make_is name s))
+    by_deed itself s below _ _ _ (ap deed_of (outs-Deferred name None)) (ap (λ w. (map m.frame_of below, Done, w)) (make_is name None s))
+begun_is itself (m.MakesWith name canceller) s below =
+    by_deed itself s below _ _ _ (ap deed_of (outs-Deferred name (Some (m.body_of canceller)))) (ap (λ w. (map m.frame_of below, Done, w)) (make_is name (Some canceller) s))
 begun_is itself (m.Calls name value) s below = by_deed itself s below _ _ _ (ap deed_of (outs-Callback name value)) (fires_is itself name value s below)
 begun_is itself (m.Fails name class message) s below =
     by_deed itself s below _ _ _ (ap deed_of (outs-Errback name class message)) (fires_is itself name (fault class message) s below)
@@ -450,6 +560,8 @@ begun_is itself (m.Pauses name) s below =
 begun_is itself (m.Unpauses name) s below =
     by_deed itself s below _ _ _ (ap deed_of (outs-Unpause name))
     (with_is (deferred_at itself name (m.world_of s)) name s below _ _ (λ d. came_next d _ _ below (unpause_is d s)))
+begun_is itself (m.Cancels name) s below =
+    by_deed itself s below _ _ _ (ap deed_of (outs-Cancel name)) (with_is (deferred_at itself name (m.world_of s)) name s below _ _ (λ d. cancels_is d s below))
 begun_is itself (m.Notes text) s below =
     by_deed itself s below _ _ _ (ap deed_of (outs-Note text)) (ap (λ w. (map m.frame_of below, Done, w)) (tell_is (entry.Note text) s))
 
@@ -466,6 +578,7 @@ turned_is (m.Rests itself work input) Done s below = gone_is itself work input s
 turned_is (m.Rests itself work input) (Gave value) s below = gone_is itself work input s below
 turned_is (m.Rests itself work input) (Raised failure) s below = refl
 turned_is (m.Rests itself work input) (Awaits e) s below = gone_is itself work input s below
+turned_is (m.EndsCanceller d) o s below = canceller_ended_is d (failed_with o) s below
 
 -- what is come to, the stack leads to
 abbrev Ended : Type 0

@@ -10,6 +10,7 @@ use Rattle.dv_journal.specs.declared.entry.Entry.TheVariants as entry
 use Rattle.dv_journal.specs.Journal.{Written}
 use Rattle.dv_script.specs.declared.script.Script.{Script}
 use Rattle.dv_store.specs.Chaining as chaining
+use Rattle.dv_store.specs.Fire.{with_guard}
 use Rattle.dv_store.specs.Record.{with_item, new_record, changed, changing}
 use Rattle.dv_store.specs.declared.record.Item.TheVariants as item
 use Rattle.dv_engine.specs.ReadBack.{Shown, with_firing, with_value, with_wait, with_handed, with_pause, without_pause, told_at, told, told_by, outcome_shown, read_back, OutcomesAreToldByTheJournal}
@@ -18,7 +19,7 @@ use Rattle.dv_engine.specs.Report.{outcome_of}
 use Rattle.dv_engine.specs.declared.report.Outcome.{Outcome}
 use Rattle.dv_engine.proofs.Kept.{Both, Kind, Kept, telling_of, every_step}
 use Rattle.dv_engine.proofs.Total.{means_keeps}
-use Rattle.dv_world.specs.World.{World, Records, state_of}
+use Rattle.dv_world.specs.World.{World, Records, state_of, cancelled}
 
 -- what is found after a record was set
 pub get_set : {X : Type 0} (l : List X) (d n : ℕ) (r s : X) → slice_get l d ≡ Some r → slice_get (slice_set l d s) n ≡ cond (nat_eq d n) (Some s) (slice_get l n)
@@ -103,10 +104,14 @@ reads = record {
   stays = λ s. record { goes_on = λ k. k };
   joins = λ s t u p q. record { goes_on = λ k. q.goes_on (p.goes_on k) };
   drops = λ d r pair rest s h e. record { goes_on = λ k n. k n ∙ sym (set_hidden n d r _ s.0 h refl) };
-  news = λ name s x. tells (entry.New (length s.0) name) _ s (λ n. push_at n (new_record name None) s.0);
+  news = λ name canceller s x. tells (entry.New (length s.0) name) _ s (λ n. push_at n (new_record name canceller) s.0);
   notes = λ text s x. tells (entry.Note text) _ s (λ n. refl);
   unhandles = λ failure s x. tells (entry.Unhandled failure) _ s (λ n. refl);
   refuses = λ d r s x h f. tells (entry.Refuse d) _ s (λ n. refl);
+  swallows = λ d r s x h f. tells (entry.Swallow d) _ s (λ n. set_hidden n d r _ s.0 h refl);
+  cancels = λ d s x. tells (entry.Cancel d) _ s (λ n. refl);
+  guards = λ d r s x h f. tells (entry.Fire d cancelled) _ s
+      (λ n. changing_hidden n d (with_guard true) _ (λ y. refl) ∙ set_at n d (with_firing cancelled) r _ s.0 h refl);
   fires = λ d value r s x h f. tells (entry.Fire d value) _ s (λ n. set_at n d (with_firing value) r _ s.0 h refl);
   adds = λ d pair r s x h. tells (entry.Add d) _ s (λ n. set_hidden n d r _ s.0 h refl);
   runs = λ d pair r rest s x h e. tells (entry.Run d) _ s (λ n. set_hidden n d r _ s.0 h refl);

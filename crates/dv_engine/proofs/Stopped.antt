@@ -3,7 +3,7 @@ use Rattle.std.proofs.Common.{◌≡◌, Bool, true, false, cond, refl, ◌∙�
 use Rattle.dv_engine.specs.Laws.{StoppedWorldsStay}
 use Rattle.dv_engine.proofs.Lasting.{Lasting}
 use Rattle.dv_engine.proofs.Total.{gives_keeps}
-use Rattle.dv_world.specs.World.{World, step, put, put_deferred, append, make, fire, pause, unpause, tell}
+use Rattle.dv_world.specs.World.{World, step, put, put_deferred, append, make, fire, fire_guarded, cancel, pause, unpause, tell}
 
 record Stays (w u : World) : Type 0 where
   where_stopped : w.stopped ≡ true → u ≡ w
@@ -17,7 +17,7 @@ kept_and true x p w h = refl
 kept_and false x p w h = absurd cc
 
 stays : Lasting Stays
-unfolding step put put_deferred append make fire pause unpause tell
+unfolding step put put_deferred append make fire fire_guarded cancel pause unpause tell
 stays = record {
   stays = λ w. record { where_stopped = λ h. refl };
   joins = λ u v w p q. record { where_stopped = λ h. let first = p.where_stopped h in q.where_stopped (rw first h) ∙ first };
@@ -25,8 +25,10 @@ stays = record {
   by_put = λ d value w. record { where_stopped = λ h. kept w.stopped w _ h };
   by_put_deferred = λ d e w. record { where_stopped = λ h. kept w.stopped w _ h };
   by_append = λ d pair w. record { where_stopped = λ h. kept w.stopped w _ h };
-  by_make = λ name w. record { where_stopped = λ h. kept w.stopped w _ h };
+  by_make = λ name canceller w. record { where_stopped = λ h. kept w.stopped w _ h };
   by_fire = λ d value w. record { where_stopped = λ h. kept_and w.stopped _ _ w h };
+  by_fire_guarded = λ d w. record { where_stopped = λ h. kept w.stopped w _ h };
+  by_cancel = λ d w. record { where_stopped = λ h. kept_and w.stopped _ _ w h };
   by_pause = λ d w. record { where_stopped = λ h. kept w.stopped w _ h };
   by_unpause = λ d w. record { where_stopped = λ h. kept_and w.stopped _ _ w h };
   by_note = λ text w. record { where_stopped = λ h. kept w.stopped w _ h };

@@ -1,24 +1,12 @@
 -- What each action comes to (Twisted: the methods of `Deferred`). An action that isn't performed yet comes to nothing.
-use Rattle.std.specs.Prelude.{ℕ, List, Option}
-use Rattle.dv_value.specs.declared.value.Value.{Value}
 use Rattle.dv_script.specs.declared.action.Action.{Action}
 use Rattle.dv_script.specs.declared.action.Action.TheOpen.{Action-F}
 use Rattle.dv_script.specs.declared.body.Body.{Body}
 use Rattle.dv_script.specs.declared.body.Statement.{Statement}
 use Rattle.dv_world.specs.Ending.{fault}
 use Rattle.dv_world.specs.Pair.{callback, errback, both}
-use Rattle.dv_world.specs.declared.pair.Pair.{Pair}
-
--- nothing is done, a text is noted, a Deferred is made, one is fired, a pair is added to one, one is to fire another, or its count of pauses goes up or down
-pub data Deed : Type 0 where
-  Idle : Deed
-  NoteOf : (text : List ℕ) → Deed
-  Make : (name : List ℕ) (canceller : Option Body) → Deed
-  FireWith : (name : List ℕ) (value : Value) → Deed
-  AddTo : (name : List ℕ) (pair : Pair) → Deed
-  ChainTo : (name next : List ℕ) → Deed
-  PauseOf : (name : List ℕ) → Deed
-  UnpauseOf : (name : List ℕ) → Deed
+use Rattle.dv_engine.specs.declared.deed.Deed.{Deed}
+use Rattle.dv_engine.specs.declared.deed.Deed.TheVariants.{Idle, NoteOf, Make, FireWith, AddTo, ChainTo, PauseOf, UnpauseOf, CancelOf}
 
 -- what an action comes to; a pair of `addBoth` has the same body on both sides
 abbrev pub deed_of : Action-F Action Statement Body → Deed
@@ -32,7 +20,7 @@ deed_of (Action-F.AddCallbacks name on_value on_failure) = AddTo name (both on_v
 deed_of (Action-F.Chain name next) = ChainTo name next
 deed_of (Action-F.Pause name) = PauseOf name
 deed_of (Action-F.Unpause name) = UnpauseOf name
-deed_of (Action-F.Cancel name) = Idle
+deed_of (Action-F.Cancel name) = CancelOf name
 deed_of (Action-F.Note text) = NoteOf text
 deed_of (Action-F.List name children flags) = Idle
 deed_of (Action-F.Gather name children flags) = Idle

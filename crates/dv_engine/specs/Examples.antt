@@ -1,11 +1,11 @@
--- Small scripts, with what they tell and what they make of their Deferreds (Twisted: the Deferred Reference, "Callbacks", "Errbacks", "Handling either callback or errback" and "Chaining Deferreds").
+-- Small scripts, with what they tell and what they make of their Deferreds (Twisted: the Deferred Reference, "Callbacks", "Errbacks", "Handling either callback or errback", "Chaining Deferreds" and "Cancellation").
 use Rattle.std.specs.Prelude.{ℕ, pos, ◌≡◌, Bool, true, false, List, [], ◌∷◌, None, Some, map, codes}
-use Rattle.dv_value.specs.Builtin.{builtin, exception, value_error, type_error, name_error, assertion_error, overflow_error, already_called_error}
+use Rattle.dv_value.specs.Builtin.{builtin, exception, value_error, type_error, name_error, assertion_error, overflow_error, already_called_error, cancelled_error}
 use Rattle.dv_value.specs.Failure.{plain_failure}
 use Rattle.dv_value.specs.declared.value.Value.{Value, Null, Int, Text}
 use Rattle.dv_journal.specs.declared.entry.Entry.{Entry}
 use Rattle.dv_journal.specs.declared.entry.Entry.TheVariants as entry
-use Rattle.dv_script.specs.declared.action.Action.{Action, Deferred, Callback, Errback, AddCallback, AddErrback, AddBoth, AddCallbacks, Chain, Pause, Unpause, Note}
+use Rattle.dv_script.specs.declared.action.Action.{Action, Deferred, Callback, Errback, AddCallback, AddErrback, AddBoth, AddCallbacks, Chain, Pause, Unpause, Cancel, Note}
 use Rattle.dv_script.specs.declared.body.Body.{Body, roll-Body}
 use Rattle.dv_script.specs.declared.body.End.{End}
 use Rattle.dv_script.specs.declared.body.End.TheVariants.{Return, Pass, Plus, Raise, Trap, Wait}
@@ -66,12 +66,15 @@ stranger = codes "stranger"
 abbrev pub itself : List ℕ
 itself = codes "@"
 
--- a number, and a ValueError
+-- a number, a ValueError, and the CancelledError of a cancel
 abbrev pub number : ℕ → Value
 number n = Int (pos n)
 
 abbrev pub boom : Value
 boom = fault value_error (codes "boom")
+
+abbrev pub cancellation : Value
+cancellation = fault cancelled_error []
 
 -- a body without actions, which ends so
 abbrev pub ends_by : End → Body
@@ -100,9 +103,12 @@ waits_for name = ends_by (Wait name)
 abbrev pub does : List Action → Body
 does actions = roll-Body (record { actions = actions; end = Pass })
 
--- a Deferred without a canceller is made
+-- a Deferred without a canceller is made, and one with this canceller
 abbrev pub deferred : List ℕ → Action
 deferred name = Deferred name None
+
+abbrev pub deferred_with : List ℕ → Body → Action
+deferred_with name canceller = Deferred name (Some canceller)
 
 -- firing with a number, and with a ValueError
 abbrev pub fire : List ℕ → ℕ → Action
@@ -123,6 +129,13 @@ fired id value = entry.Fire id value
 
 abbrev pub refused : ℕ → Entry
 refused id = entry.Refuse id
+
+-- a cancel of it, and a firing of it that is swallowed
+abbrev pub cancelled : ℕ → Entry
+cancelled id = entry.Cancel id
+
+abbrev pub swallowed : ℕ → Entry
+swallowed id = entry.Swallow id
 
 -- a side of it runs, and what it gives is the value
 abbrev pub runs : ℕ → Entry
@@ -174,6 +187,10 @@ has_null name = is_so name (Fired Null)
 
 abbrev pub has_failed : List ℕ → ℕ → List ℕ → Outcome
 has_failed name class message = is_so name (Fired (fault class message))
+
+-- one that has failed with the CancelledError of a cancel
+abbrev pub is_cancelled : List ℕ → Outcome
+is_cancelled name = has_failed name cancelled_error []
 
 -- one that is paused once
 abbrev pub has_paused : List ℕ → ℕ → Outcome
@@ -368,4 +385,201 @@ pub record Examples : Type 0 where
   pub outside_a_body_no_deferred_is_meant_by_at :
       LeadsTo (deferred d ∷ fire itself 1 ∷ [])
       (made 0 d ∷ unhandled name_error itself ∷ [])
+      (is_unfired d ∷ [])
+  pub a_cancel_of_an_unfired_deferred_fires_it_and_swallows_one_firing :
+      LeadsTo (deferred d ∷ Cancel d ∷ fire d 1 ∷ fire d 2 ∷ [])
+      (made 0 d ∷ cancelled 0 ∷ fired 0 cancellation ∷ swallowed 0 ∷ refused 0 ∷ unhandled already_called_error [] ∷ [])
+      (is_cancelled d ∷ [])
+  pub a_failure_after_a_cancel_is_swallowed_too :
+      LeadsTo (deferred d ∷ Cancel d ∷ fail d ∷ fail d ∷ [])
+      (made 0 d ∷ cancelled 0 ∷ fired 0 cancellation ∷ swallowed 0 ∷ refused 0 ∷ unhandled already_called_error [] ∷ [])
+      (is_cancelled d ∷ [])
+  pub a_second_cancel_swallows_no_further_firing :
+      LeadsTo (deferred d ∷ Cancel d ∷ Cancel d ∷ fire d 1 ∷ Cancel d ∷ fire d 2 ∷ [])
+      (made 0 d ∷ cancelled 0 ∷ fired 0 cancellation ∷ cancelled 0 ∷ swallowed 0 ∷ cancelled 0 ∷ refused 0 ∷ unhandled already_called_error [] ∷ [])
+      (is_cancelled d ∷ [])
+  pub a_cancel_of_a_fired_deferred_changes_nothing :
+      LeadsTo (deferred d ∷ fire d 1 ∷ Cancel d ∷ fire d 2 ∷ [])
+      (made 0 d ∷ fired 0 (number 1) ∷ cancelled 0 ∷ refused 0 ∷ unhandled already_called_error [] ∷ [])
+      (has d 1 ∷ [])
+  pub an_errback_traps_the_failure_of_a_cancel :
+      LeadsTo (deferred d ∷ AddErrback d (traps cancelled_error 7) ∷ Cancel d ∷ [])
+      (made 0 d ∷ added 0 ∷ cancelled 0 ∷ fired 0 cancellation ∷ runs 0 ∷ becomes 0 (number 7) ∷ [])
+      (has d 7 ∷ [])
+  pub the_failure_of_a_cancel_is_an_exception_and_no_value_error :
+      LeadsTo (deferred d ∷ AddErrback d (traps value_error 0) ∷ AddErrback d (traps exception 7) ∷ Cancel d ∷ [])
+      (made 0 d ∷ added 0 ∷ added 0 ∷ cancelled 0 ∷ fired 0 cancellation ∷ runs 0 ∷ becomes 0 cancellation ∷ runs 0 ∷ becomes 0 (number 7) ∷ [])
+      (has d 7 ∷ [])
+  pub a_paused_deferred_that_is_cancelled_waits_for_its_unpausing :
+      LeadsTo (deferred d ∷ AddErrback d (traps cancelled_error 7) ∷ Pause d ∷ Cancel d ∷ Note (codes "still") ∷ Unpause d ∷ [])
+      (made 0 d ∷ added 0 ∷ paused 0 ∷ cancelled 0 ∷ fired 0 cancellation ∷ noted (codes "still") ∷ unpaused 0 ∷ runs 0 ∷ becomes 0 (number 7) ∷ [])
+      (has d 7 ∷ [])
+  pub a_swallowed_firing_inside_a_body_does_not_end_it :
+      LeadsTo (deferred d ∷ deferred e ∷ Cancel e ∷ AddCallback d (does (fire e 1 ∷ Note (codes "after") ∷ [])) ∷ fire d 0 ∷ [])
+      (made 0 d ∷ made 1 e ∷ cancelled 1 ∷ fired 1 cancellation ∷ added 0 ∷ fired 0 (number 0) ∷ runs 0 ∷ swallowed 1 ∷ noted (codes "after") ∷ becomes 0 (number 0) ∷ [])
+      (has d 0 ∷ is_cancelled e ∷ [])
+  pub a_chain_to_one_that_is_cancelled_is_swallowed :
+      LeadsTo (deferred d ∷ deferred e ∷ Chain d e ∷ Cancel e ∷ fire d 2 ∷ [])
+      (made 0 d ∷ made 1 e ∷ added 0 ∷ cancelled 1 ∷ fired 1 cancellation ∷ fired 0 (number 2) ∷ runs 0 ∷ swallowed 1 ∷ becomes 0 Null ∷ [])
+      (has_null d ∷ is_cancelled e ∷ [])
+  pub a_cancel_inside_a_body_settles_at_once :
+      LeadsTo (deferred a ∷ deferred b ∷ AddErrback b (traps cancelled_error 7) ∷ AddCallback a (does (Cancel b ∷ Note (codes "after") ∷ [])) ∷ fire a 1 ∷ [])
+      (made 0 a ∷ made 1 b ∷ added 1 ∷ added 0 ∷ fired 0 (number 1) ∷ runs 0 ∷ cancelled 1 ∷ fired 1 cancellation ∷ runs 1 ∷ becomes 1 (number 7) ∷ noted (codes "after")
+      ∷ becomes 0 (number 1) ∷ [])
+      (has a 1 ∷ has b 7 ∷ [])
+  pub a_cancel_of_one_whose_side_runs_changes_nothing :
+      LeadsTo (deferred d ∷ AddCallback d (does (Cancel itself ∷ [])) ∷ fire d 1 ∷ [])
+      (made 0 d ∷ added 0 ∷ fired 0 (number 1) ∷ runs 0 ∷ cancelled 0 ∷ becomes 0 (number 1) ∷ [])
+      (has d 1 ∷ [])
+  pub a_cancel_of_a_name_that_is_not_bound_raises :
+      LeadsTo (Cancel d ∷ deferred d ∷ Cancel stranger ∷ [])
+      (unhandled name_error d ∷ made 0 d ∷ unhandled name_error stranger ∷ [])
+      (is_unfired d ∷ [])
+  pub outside_a_body_no_deferred_is_cancelled_by_at :
+      LeadsTo (deferred d ∷ Cancel itself ∷ [])
+      (made 0 d ∷ unhandled name_error itself ∷ [])
+      (is_unfired d ∷ [])
+  pub the_canceller_of_a_fired_deferred_does_not_run :
+      LeadsTo (deferred_with d (does (Note (codes "canceller") ∷ [])) ∷ fire d 1 ∷ Cancel d ∷ [])
+      (made 0 d ∷ fired 0 (number 1) ∷ cancelled 0 ∷ [])
+      (has d 1 ∷ [])
+  pub after_a_canceller_that_fires_no_firing_is_swallowed :
+      LeadsTo (deferred_with d (does (fire itself 9 ∷ [])) ∷ Cancel d ∷ fire d 1 ∷ [])
+      (made 0 d ∷ cancelled 0 ∷ fired 0 (number 9) ∷ refused 0 ∷ unhandled already_called_error [] ∷ [])
+      (has d 9 ∷ [])
+  pub after_a_canceller_that_does_not_fire_it_is_fired_and_no_firing_is_swallowed :
+      LeadsTo (deferred_with d (does (Note (codes "canceller") ∷ [])) ∷ Cancel d ∷ fire d 1 ∷ [])
+      (made 0 d ∷ cancelled 0 ∷ noted (codes "canceller") ∷ fired 0 cancellation ∷ refused 0 ∷ unhandled already_called_error [] ∷ [])
+      (is_cancelled d ∷ [])
+  pub what_a_canceller_fires_is_settled_before_the_canceller_goes_on :
+      LeadsTo (deferred_with d (does (fail itself ∷ Note (codes "canceller") ∷ [])) ∷ AddErrback d (traps value_error 7) ∷ Cancel d ∷ [])
+      (made 0 d ∷ added 0 ∷ cancelled 0 ∷ fired 0 boom ∷ runs 0 ∷ becomes 0 (number 7) ∷ noted (codes "canceller") ∷ [])
+      (has d 7 ∷ [])
+  pub errbacks_run_after_a_canceller_that_does_not_fire :
+      LeadsTo (deferred_with d (does (Note (codes "canceller") ∷ [])) ∷ AddErrback d (traps cancelled_error 7) ∷ Cancel d ∷ [])
+      (made 0 d ∷ added 0 ∷ cancelled 0 ∷ noted (codes "canceller") ∷ fired 0 cancellation ∷ runs 0 ∷ becomes 0 (number 7) ∷ [])
+      (has d 7 ∷ [])
+  pub what_a_canceller_returns_is_dropped :
+      LeadsTo (deferred_with d (returns 5) ∷ Cancel d ∷ [])
+      (made 0 d ∷ cancelled 0 ∷ fired 0 cancellation ∷ [])
+      (is_cancelled d ∷ [])
+  pub a_deferred_that_a_canceller_gives_is_dropped :
+      LeadsTo (deferred e ∷ deferred_with d (waits_for e) ∷ Cancel d ∷ [])
+      (made 0 e ∷ made 1 d ∷ cancelled 1 ∷ fired 1 cancellation ∷ [])
+      (is_unfired e ∷ is_cancelled d ∷ [])
+  pub a_canceller_that_gives_its_own_deferred_does_not_wait :
+      LeadsTo (deferred_with d (waits_for itself) ∷ Cancel d ∷ [])
+      (made 0 d ∷ cancelled 0 ∷ fired 0 cancellation ∷ [])
+      (is_cancelled d ∷ [])
+  pub the_input_of_a_canceller_is_null :
+      LeadsTo (deferred_with d (plus 1) ∷ Cancel d ∷ [])
+      (made 0 d ∷ cancelled 0 ∷ unhandled type_error (codes "plus") ∷ [])
+      (is_unfired d ∷ [])
+  pub a_canceller_that_raises_leaves_it_unfired :
+      LeadsTo (deferred_with d (raises value_error (codes "boom")) ∷ Cancel d ∷ fire d 1 ∷ [])
+      (made 0 d ∷ cancelled 0 ∷ unhandled value_error (codes "boom") ∷ fired 0 (number 1) ∷ [])
+      (has d 1 ∷ [])
+  pub a_canceller_that_raised_runs_again_at_the_next_cancel :
+      LeadsTo (deferred_with d (raises value_error (codes "boom")) ∷ Cancel d ∷ Cancel d ∷ [])
+      (made 0 d ∷ cancelled 0 ∷ unhandled value_error (codes "boom") ∷ cancelled 0 ∷ unhandled value_error (codes "boom") ∷ [])
+      (is_unfired d ∷ [])
+  pub an_action_that_raises_inside_a_canceller_leaves_it_unfired :
+      LeadsTo (deferred_with d (does (fire stranger 1 ∷ Note (codes "after") ∷ [])) ∷ Cancel d ∷ [])
+      (made 0 d ∷ cancelled 0 ∷ unhandled name_error stranger ∷ [])
+      (is_unfired d ∷ [])
+  pub a_canceller_that_gives_a_name_that_is_not_bound_leaves_it_unfired :
+      LeadsTo (deferred_with d (waits_for stranger) ∷ Cancel d ∷ [])
+      (made 0 d ∷ cancelled 0 ∷ unhandled name_error stranger ∷ [])
+      (is_unfired d ∷ [])
+  pub a_canceller_that_fires_twice_raises :
+      LeadsTo (deferred_with d (does (fire itself 8 ∷ fire itself 9 ∷ [])) ∷ Cancel d ∷ [])
+      (made 0 d ∷ cancelled 0 ∷ fired 0 (number 8) ∷ refused 0 ∷ unhandled already_called_error [] ∷ [])
+      (has d 8 ∷ [])
+  pub what_a_canceller_raises_ends_the_body_that_cancels :
+      LeadsTo (deferred a ∷ deferred_with b (raises value_error (codes "boom")) ∷ AddCallback a (does (Cancel b ∷ Note (codes "after") ∷ [])) ∷ fire a 1 ∷ [])
+      (made 0 a ∷ made 1 b ∷ added 0 ∷ fired 0 (number 1) ∷ runs 0 ∷ cancelled 1 ∷ becomes 0 boom ∷ [])
+      (has_failed a value_error (codes "boom") ∷ is_unfired b ∷ [])
+  pub a_canceller_chains_its_deferred_to_a_new_one :
+      LeadsTo (deferred_with d (does (deferred e ∷ Chain itself e ∷ [])) ∷ Cancel d ∷ fire e 1 ∷ [])
+      (made 0 d ∷ cancelled 0 ∷ made 1 e ∷ added 0 ∷ fired 0 cancellation ∷ runs 0 ∷ fired 1 cancellation ∷ becomes 0 Null ∷ refused 1 ∷ unhandled already_called_error [] ∷ [])
+      (has_null d ∷ is_cancelled e ∷ [])
+  pub a_canceller_cancels_another :
+      LeadsTo (deferred e ∷ deferred_with d (does (Cancel e ∷ [])) ∷ Cancel d ∷ [])
+      (made 0 e ∷ made 1 d ∷ cancelled 1 ∷ cancelled 0 ∷ fired 0 cancellation ∷ fired 1 cancellation ∷ [])
+      (is_cancelled e ∷ is_cancelled d ∷ [])
+  pub a_cancel_inside_its_own_canceller_runs_it_again_until_the_limit :
+      StopsAt 5 (deferred_with d (does (Cancel itself ∷ [])) ∷ Cancel d ∷ [])
+      (made 0 d ∷ cancelled 0 ∷ cancelled 0 ∷ cancelled 0 ∷ cancelled 0 ∷ [])
+      (is_unfired d ∷ [])
+  pub a_cancel_reaches_the_end_of_the_chain :
+      LeadsTo (deferred a ∷ deferred b ∷ AddCallback a (waits_for b) ∷ fire a 0 ∷ Cancel a ∷ fire b 1 ∷ [])
+      (made 0 a ∷ made 1 b ∷ added 0 ∷ fired 0 (number 0) ∷ runs 0 ∷ awaits 0 1 ∷ cancelled 0 ∷ fired 1 cancellation ∷ hands 1 0 cancellation ∷ swallowed 1 ∷ [])
+      (is_cancelled a ∷ has_null b ∷ [])
+  pub a_cancel_reaches_the_end_of_a_longer_chain :
+      LeadsTo (deferred a ∷ deferred b ∷ deferred c ∷ AddCallback a (waits_for b) ∷ AddCallback b (waits_for c) ∷ fire a 0 ∷ fire b 0 ∷ Cancel a ∷ [])
+      (made 0 a ∷ made 1 b ∷ made 2 c ∷ added 0 ∷ added 1 ∷ fired 0 (number 0) ∷ runs 0 ∷ awaits 0 1 ∷ fired 1 (number 0) ∷ runs 1 ∷ awaits 1 2 ∷ cancelled 0 ∷ fired 2 cancellation
+      ∷ hands 2 1 cancellation ∷ hands 1 0 cancellation ∷ [])
+      (is_cancelled a ∷ has_null b ∷ has_null c ∷ [])
+  pub the_canceller_at_the_end_of_the_chain_runs :
+      LeadsTo (deferred_with a (does (Note (codes "a") ∷ [])) ∷ deferred_with b (does (fire itself 9 ∷ [])) ∷ AddCallback a (waits_for b) ∷ fire a 0 ∷ Cancel a ∷ [])
+      (made 0 a ∷ made 1 b ∷ added 0 ∷ fired 0 (number 0) ∷ runs 0 ∷ awaits 0 1 ∷ cancelled 0 ∷ fired 1 (number 9) ∷ hands 1 0 (number 9) ∷ [])
+      (has a 9 ∷ has_null b ∷ [])
+  pub the_first_of_two_that_wait_gets_the_failure_of_a_cancel :
+      LeadsTo (deferred a ∷ deferred b ∷ deferred c ∷ AddCallback a (waits_for c) ∷ AddCallback b (waits_for c) ∷ fire a 0 ∷ fire b 0 ∷ Cancel b ∷ [])
+      (made 0 a ∷ made 1 b ∷ made 2 c ∷ added 0 ∷ added 1 ∷ fired 0 (number 0) ∷ runs 0 ∷ awaits 0 2 ∷ fired 1 (number 0) ∷ runs 1 ∷ awaits 1 2 ∷ cancelled 1 ∷ fired 2 cancellation
+      ∷ hands 2 0 cancellation ∷ hands 2 1 Null ∷ [])
+      (is_cancelled a ∷ has_null b ∷ has_null c ∷ [])
+  pub a_cancel_of_one_that_waits_for_a_fired_one_changes_nothing :
+      LeadsTo (deferred a ∷ deferred b ∷ Pause b ∷ fire b 1 ∷ AddCallback a (waits_for b) ∷ fire a 0 ∷ Cancel a ∷ Unpause b ∷ [])
+      (made 0 a ∷ made 1 b ∷ paused 1 ∷ fired 1 (number 1) ∷ added 0 ∷ fired 0 (number 0) ∷ runs 0 ∷ awaits 0 1 ∷ cancelled 0 ∷ unpaused 1 ∷ hands 1 0 (number 1) ∷ [])
+      (has a 1 ∷ has_null b ∷ [])
+  pub the_end_of_the_chain_may_trap_the_failure_of_a_cancel :
+      LeadsTo (deferred a ∷ deferred b ∷ AddErrback b (traps cancelled_error 7) ∷ AddCallback a (waits_for b) ∷ fire a 0 ∷ Cancel a ∷ [])
+      (made 0 a ∷ made 1 b ∷ added 1 ∷ added 0 ∷ fired 0 (number 0) ∷ runs 0 ∷ awaits 0 1 ∷ cancelled 0 ∷ fired 1 cancellation ∷ runs 1 ∷ becomes 1 (number 7)
+      ∷ hands 1 0 (number 7) ∷ [])
+      (has a 7 ∷ has_null b ∷ [])
+  pub a_second_cancel_reaches_what_an_errback_gave :
+      LeadsTo (deferred d ∷ deferred e ∷ AddErrback d (waits_for e) ∷ Cancel d ∷ Cancel d ∷ fire d 1 ∷ fire e 1 ∷ [])
+      (made 0 d ∷ made 1 e ∷ added 0 ∷ cancelled 0 ∷ fired 0 cancellation ∷ runs 0 ∷ awaits 0 1 ∷ cancelled 0 ∷ fired 1 cancellation ∷ hands 1 0 cancellation ∷ swallowed 0
+      ∷ swallowed 1 ∷ [])
+      (is_cancelled d ∷ has_null e ∷ [])
+  pub a_cancel_of_one_that_waits_for_itself_ends :
+      LeadsTo (deferred d ∷ AddCallback d (waits_for itself) ∷ fire d 1 ∷ Cancel d ∷ [])
+      (made 0 d ∷ added 0 ∷ fired 0 (number 1) ∷ runs 0 ∷ awaits 0 0 ∷ cancelled 0 ∷ [])
+      (is_waiting d 0 ∷ [])
+  pub a_cancel_of_one_of_two_that_wait_for_each_other_ends :
+      LeadsTo (deferred a ∷ deferred b ∷ AddCallback a (waits_for b) ∷ AddCallback b (waits_for a) ∷ fire a 0 ∷ fire b 0 ∷ Cancel a ∷ Cancel b ∷ [])
+      (made 0 a ∷ made 1 b ∷ added 0 ∷ added 1 ∷ fired 0 (number 0) ∷ runs 0 ∷ awaits 0 1 ∷ fired 1 (number 0) ∷ runs 1 ∷ awaits 1 0 ∷ cancelled 0 ∷ cancelled 1 ∷ [])
+      (is_waiting a 1 ∷ is_waiting b 0 ∷ [])
+  pub a_cancel_that_does_not_fit_changes_nothing :
+      StopsAt 1 (deferred d ∷ Cancel d ∷ [])
+      (made 0 d ∷ [])
+      (is_unfired d ∷ [])
+  pub a_canceller_does_not_run_after_a_cancel_that_does_not_fit :
+      StopsAt 1 (deferred_with d (does (fire itself 9 ∷ [])) ∷ Cancel d ∷ [])
+      (made 0 d ∷ [])
+      (is_unfired d ∷ [])
+  pub a_firing_by_a_cancel_that_does_not_fit_fires_nothing :
+      StopsAt 3 (deferred d ∷ Cancel d ∷ [])
+      (made 0 d ∷ cancelled 0 ∷ [])
+      (is_unfired d ∷ [])
+  pub a_firing_by_a_cancel_that_just_fits_fires :
+      FitsIn 4 (deferred d ∷ Cancel d ∷ [])
+      (made 0 d ∷ cancelled 0 ∷ fired 0 cancellation ∷ [])
+      (is_cancelled d ∷ [])
+  pub a_firing_after_a_canceller_that_does_not_fit_fires_nothing :
+      StopsAt 3 (deferred_with d passes ∷ Cancel d ∷ [])
+      (made 0 d ∷ cancelled 0 ∷ [])
+      (is_unfired d ∷ [])
+  pub a_swallowing_that_does_not_fit_is_not_told :
+      StopsAt 4 (deferred d ∷ Cancel d ∷ fire d 1 ∷ [])
+      (made 0 d ∷ cancelled 0 ∷ fired 0 cancellation ∷ [])
+      (is_cancelled d ∷ [])
+  pub a_swallowing_that_just_fits_is_told :
+      FitsIn 5 (deferred d ∷ Cancel d ∷ fire d 1 ∷ [])
+      (made 0 d ∷ cancelled 0 ∷ fired 0 cancellation ∷ swallowed 0 ∷ [])
+      (is_cancelled d ∷ [])
+  pub no_cancel_is_told_once_it_has_stopped :
+      StopsAt 2 (deferred d ∷ fire d 1 ∷ Cancel d ∷ Cancel stranger ∷ [])
+      (made 0 d ∷ [])
       (is_unfired d ∷ [])

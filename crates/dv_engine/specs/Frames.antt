@@ -1,40 +1,46 @@
 -- The stack of what is still to be done: how one turn of the runner goes on with the frame on top, and what a stack leads to. The first frame of a list is on top.
-use Rattle.std.specs.Prelude.{ℕ, ◌≡◌, List, [], ◌∷◌, Option, None, Some}
+use Rattle.std.specs.Prelude.{ℕ, ◌≡◌, if◌then◌else◌, List, [], ◌∷◌, Option, None, Some}
 use Rattle.dv_value.specs.Failure.{is_fault}
-use Rattle.dv_value.specs.declared.value.Value.{Value}
+use Rattle.dv_value.specs.declared.failure.Failure.{Failure}
+use Rattle.dv_value.specs.declared.value.Value.{Value, Null}
 use Rattle.dv_journal.specs.declared.entry.Entry.TheVariants as entry
 use Rattle.dv_script.specs.declared.action.Action.{Action, out-Action}
 use Rattle.dv_script.specs.declared.body.Body.{Body, out-Body}
 use Rattle.dv_script.specs.declared.body.End.{End}
 use Rattle.dv_store.specs.declared.store.Step.{Step}
 use Rattle.dv_store.specs.declared.store.Step.TheVariants.{Nothing, Passed, Run, Handed}
-use Rattle.dv_engine.specs.Acting.{made}
-use Rattle.dv_engine.specs.Deed.{Deed, Idle, NoteOf, Make, FireWith, AddTo, ChainTo, PauseOf, UnpauseOf, deed_of}
-use Rattle.dv_engine.specs.Meaning.{Gives}
+use Rattle.dv_engine.specs.Cancelling.{canceller_ended_by}
+use Rattle.dv_engine.specs.Deed.{deed_of}
+use Rattle.dv_engine.specs.declared.deed.Deed.{Deed}
+use Rattle.dv_engine.specs.declared.deed.Deed.TheVariants.{Idle, NoteOf, Make, FireWith, AddTo, ChainTo, PauseOf, UnpauseOf, CancelOf}
+use Rattle.dv_engine.specs.Meaning.{meaning, Gives}
 use Rattle.dv_engine.specs.Settling.{place}
 use Rattle.dv_engine.specs.Task.{Settle, Perform}
 use Rattle.dv_engine.specs.declared.frame.Frame.{Frame}
 use Rattle.dv_engine.specs.declared.frame.Frame.TheVariants as frame
 use Rattle.dv_engine.specs.declared.frame.Rest.{Rest}
-use Rattle.dv_world.specs.Ending.{ended}
+use Rattle.dv_world.specs.Ending.{ended, failed_with}
 use Rattle.dv_world.specs.Pair.{side_for, chain}
-use Rattle.dv_world.specs.World.{World, deferred_at, step, fire, append, pause, unpause, tell, unbound, value_of}
+use Rattle.dv_world.specs.World.{World, deferred_at, step, make, fire, fire_guarded, is_unfired, cancelled, cancel, append, pause, unpause, tell, unbound, value_of}
+use Rattle.dv_world.specs.declared.follow.Follow.{Follow}
+use Rattle.dv_world.specs.declared.follow.Follow.TheVariants as follow
 use Rattle.dv_world.specs.declared.pair.Pair.{Pair}
 use Rattle.dv_world.specs.declared.pair.Side.{Side}
 use Rattle.dv_world.specs.declared.pair.Side.TheVariants as side
 use Rattle.dv_world.specs.declared.performed.Performed.{Performed}
 use Rattle.dv_world.specs.declared.performed.Performed.TheVariants.{Done, Gave, Raised, Awaits}
+use Rattle.dv_world.specs.declared.reached.Reached.{Reached}
+use Rattle.dv_world.specs.declared.reached.Reached.TheVariants as reached
 
 -- the stack, what was come to, and the world
 abbrev pub Turned : Type 0
 Turned = List Frame × Performed × World
 
--- d is to be settled, where what came before is done
-abbrev pub settle_next : ℕ → Performed → World → List Frame → Turned
-settle_next d Done w below = (frame.Settle d ∷ below, Done, w)
-settle_next d (Gave value) w below = (below, Gave value, w)
-settle_next d (Raised failure) w below = (below, Raised failure, w)
-settle_next d (Awaits e) w below = (below, Awaits e, w)
+-- d is to be settled, where that is to follow
+abbrev pub settle_next : ℕ → Follow → World → List Frame → Turned
+settle_next d follow.Settle w below = (frame.Settle d ∷ below, Done, w)
+settle_next d follow.Nothing w below = (below, Done, w)
+settle_next d (follow.Raise failure) w below = (below, Raised failure, w)
 
 -- a body is to be performed from its beginning
 abbrev pub rest_of : Option ℕ → Body → Value → Rest
@@ -58,11 +64,22 @@ abbrev pub with_deferred : Option ℕ → List ℕ → World → List Frame → 
 with_deferred None name w below next = (below, unbound name, w)
 with_deferred (Some d) name w below next = next d
 
+-- a cancel begins by whom it reaches
+abbrev pub cancel_begun : Reached → World → List Frame → Turned
+cancel_begun reached.Nothing w below = (below, Done, w)
+cancel_begun (reached.Fire d) w below = (frame.Settle d ∷ below, Done, fire_guarded d w)
+cancel_begun (reached.Run d canceller) w below = (frame.Rest (rest_of (Some d) canceller Null) ∷ frame.Canceller d ∷ below, Done, w)
+
+-- a canceller of d has ended, with a failure or without
+abbrev pub canceller_ended : ℕ → Option Failure → World → List Frame → Turned
+canceller_ended d (Some failure) w below = (below, Raised failure, w)
+canceller_ended d None w below = if is_unfired d w then settle_next d (fire d cancelled w).0 (fire d cancelled w).1 below else (below, Done, w)
+
 -- a deed begins
 abbrev pub begun : Option ℕ → Deed → World → List Frame → Turned
 begun itself Idle w below = (below, Done, w)
 begun itself (NoteOf text) w below = (below, Done, tell (entry.Note text) w)
-begun itself (Make name canceller) w below = (below, Done, made name canceller w)
+begun itself (Make name canceller) w below = (below, Done, make name canceller w)
 begun itself (FireWith name value) w below =
     with_deferred (deferred_at itself name w) name w below (λ d. settle_next d (fire d value w).0 (fire d value w).1 below)
 begun itself (AddTo name pair) w below =
@@ -74,6 +91,8 @@ begun itself (PauseOf name) w below =
     with_deferred (deferred_at itself name w) name w below (λ d. (below, Done, pause d w))
 begun itself (UnpauseOf name) w below =
     with_deferred (deferred_at itself name w) name w below (λ d. settle_next d (unpause d w).0 (unpause d w).1 below)
+begun itself (CancelOf name) w below =
+    with_deferred (deferred_at itself name w) name w below (λ d. cancel_begun (cancel d w).0 (cancel d w).1 below)
 
 -- the next action of a body begins, or it ends
 abbrev pub gone_on : Option ℕ → List Action → End → Value → World → List Frame → Turned
@@ -93,6 +112,7 @@ abbrev pub turned : Frame → Performed → World → List Frame → Turned
 turned (frame.Settle d) o w below = settled d (step d w).0 (step d w).1 below
 turned (frame.Place d) o w below = (frame.Settle d ∷ below, Done, place d o w)
 turned (frame.Rest rest) o w below = rest_turned rest o w below
+turned (frame.Canceller d) o w below = canceller_ended d (failed_with o) w below
 
 -- what the rest of a body leads to
 abbrev pub RestLeads : Rest → Performed → World → Performed → World → Type 0
@@ -101,11 +121,17 @@ RestLeads rest (Gave value) w p u = Gives (Perform rest.itself rest.actions rest
 RestLeads rest (Raised failure) w p u = (p ≡ Raised failure) × (u ≡ w)
 RestLeads rest (Awaits e) w p u = Gives (Perform rest.itself rest.actions rest.end rest.input) w p u
 
+-- what the end of a canceller leads to
+pub record CancellerLeads (d : ℕ) (failure : Option Failure) (w : World) (p : Performed) (u : World) : Type 0 where
+  pub depth : ℕ
+  pub ends : canceller_ended_by (meaning depth) d failure w ≡ Some (p, u)
+
 -- the frame leads there from what was come to above it, in that world
 abbrev pub Leads : Frame → Performed → World → Performed → World → Type 0
 Leads (frame.Settle d) o w p u = Gives (Settle d) w p u
 Leads (frame.Place d) o w p u = Gives (Settle d) (place d o w) p u
 Leads (frame.Rest rest) o w p u = RestLeads rest o w p u
+Leads (frame.Canceller d) o w p u = CancellerLeads d (failed_with o) w p u
 
 -- so do the frames of a stack, one after the other
 abbrev pub AllLead : List Frame → Performed → World → Performed → World → Type 0

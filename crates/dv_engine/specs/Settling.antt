@@ -8,6 +8,8 @@ use Rattle.dv_store.specs.declared.store.Step.TheVariants.{Nothing, Passed, Run,
 use Rattle.dv_engine.specs.Task.{Settle, Perform, Answer, Meant, ◌>>=◌}
 use Rattle.dv_world.specs.Pair.{side_for}
 use Rattle.dv_world.specs.World.{World, put, put_deferred, fire, value_of}
+use Rattle.dv_world.specs.declared.follow.Follow.{Follow}
+use Rattle.dv_world.specs.declared.follow.Follow.TheVariants as follow
 use Rattle.dv_world.specs.declared.pair.Pair.{Pair}
 use Rattle.dv_world.specs.declared.pair.Side.{Side}
 use Rattle.dv_world.specs.declared.pair.Side.TheVariants as side
@@ -21,12 +23,11 @@ place d (Gave value) w = put d value w
 place d (Raised failure) w = put d (Fault failure) w
 place d (Awaits e) w = put_deferred d e w
 
--- d is settled, where what came before is done
-abbrev pub settled_by : Meant → ℕ → Performed → World → Answer
-settled_by go d Done w = go (Settle d) w
-settled_by go d (Gave value) w = Some (Gave value, w)
-settled_by go d (Raised failure) w = Some (Raised failure, w)
-settled_by go d (Awaits e) w = Some (Awaits e, w)
+-- d is settled, where that is to follow; a refusal is raised
+abbrev pub settled_by : Meant → ℕ → Follow → World → Answer
+settled_by go d follow.Settle w = go (Settle d) w
+settled_by go d follow.Nothing w = Some (Done, w)
+settled_by go d (follow.Raise failure) w = Some (Raised failure, w)
 
 -- a side of d on its input: a body is performed on it, another Deferred is fired with it, and a missing side gives it on
 abbrev pub side_by : Meant → ℕ → Option Side → Value → World → Answer

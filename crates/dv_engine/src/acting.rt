@@ -1,30 +1,28 @@
-ghost use Rattle.std.specs.Prelude.{◌≡◌, List, Some, IfOk, OnOk, ◌<◌, ◌^◌, ◌-◌, length};
+ghost use Rattle.std.specs.Prelude.{◌≡◌, List, IfOk};
 ghost use Rattle.dv_script.specs.declared.action.Action.{out-Action};
-ghost use Rattle.dv_engine.specs.Acting.{made};
 ghost use Rattle.dv_engine.specs.Bounds.{Bounded};
-ghost use Rattle.dv_engine.specs.Deed.{Idle, FireWith, AddTo, ChainTo, PauseOf, UnpauseOf, deed_of};
+ghost use Rattle.dv_engine.specs.Deed.{deed_of};
 ghost use Rattle.dv_engine.specs.Frames.{begun};
+ghost use Rattle.dv_engine.specs.declared.deed.Deed.TheVariants.{FireWith, AddTo, ChainTo, PauseOf, UnpauseOf, CancelOf};
 ghost use Rattle.dv_engine.specs.declared.frame.Frame.{Frame as Seen};
-ghost use Rattle.dv_world.specs.declared.performed.Performed.TheVariants.{Done};
 
+use crate::cancelling::cancel;
+use crate::deed::Deed;
 use crate::frame::Frame;
 use crate::settling::settle_next;
 use crate::stack::Stack;
 use dv_journal::deferred_id::DeferredId;
 use dv_journal::entry::Entry;
 use dv_script::action::Action;
-use dv_script::body::Body;
-use dv_value::text::Text;
 use dv_value::value::Value;
-use dv_world::ending::fault;
 use dv_world::pair::Pair;
 use dv_world::performed::Performed;
 use dv_world::world::{World, unbound};
 use std::alloc::{AllocError, Global};
 
-/// Begins an action, and puts on the stack what is to follow. A name that isn't bound raises NameError, a second firing
-/// AlreadyCalledError, and an unpausing of what isn't paused AssertionError; each changes no Deferred. An action that
-/// isn't performed yet does nothing.
+/// Begins an action, and puts on the stack what is to follow. A name that isn't bound raises NameError, a further firing
+/// AlreadyCalledError unless it is swallowed, and an unpausing of what isn't paused AssertionError; each changes no
+/// Deferred. An action that isn't performed yet does nothing.
 pub fn begin<'s>(
     alloc: Global,
     world: &mut World<'s>,
@@ -35,87 +33,41 @@ pub fn begin<'s>(
     requires bounded { Bounded world.old }
     ensures { IfOk result (λ performed. (stack.new, performed, world.new) ≡ begun itself (deed_of (out-Action action.now)) world.old stack.old) }
 {
-    match action {
-        Action::Deferred(name, canceller) => {
-            make(world, name.as_str(), canceller)?;
+    let deed = Deed::of(alloc, action)?;
+    Ok(begin_deed(alloc, world, stack, itself, deed)?)
+}
+
+/// Begins what an action comes to.
+fn begin_deed<'s>(
+    alloc: Global,
+    world: &mut World<'s>,
+    stack: &mut Stack<Frame<'s>>,
+    itself: Option<DeferredId>,
+    deed: Deed<'s>,
+) -> Result<Performed, AllocError>
+    requires bounded { Bounded world.old }
+    ensures { IfOk result (λ performed. (stack.new, performed, world.new) ≡ begun itself deed.entry world.old stack.old) }
+{
+    match deed {
+        Deed::Idle => Ok(Performed::Done),
+        Deed::NoteOf(text) => {
+            world.tell(Entry::Note(text))?;
             Ok(Performed::Done)
         }
-        Action::Callback(name, value) => {
-            let value = value.copy(alloc)?;
+        Deed::Make(name, canceller) => {
+            world.make(name.as_str(), canceller)?;
+            Ok(Performed::Done)
+        }
+        Deed::FireWith(name, value) => {
             Ok(fire(alloc, world, stack, itself, name.as_str(), value)?)
         }
-        Action::Errback(name, class, message) => {
-            let value = fault(alloc, *class, message.as_str())?;
-            Ok(fire(alloc, world, stack, itself, name.as_str(), value)?)
-        }
-        Action::AddCallback(name, body) => {
-            let pair = Pair::callback(body);
-            Ok(add(alloc, world, stack, itself, name.as_str(), pair)?)
-        }
-        Action::AddErrback(name, body) => {
-            let pair = Pair::errback(body);
-            Ok(add(alloc, world, stack, itself, name.as_str(), pair)?)
-        }
-        Action::AddBoth(name, body) => {
-            let pair = Pair::both(body, body);
-            Ok(add(alloc, world, stack, itself, name.as_str(), pair)?)
-        }
-        Action::AddCallbacks(name, callback, errback) => {
-            let pair = Pair::both(callback, errback);
-            Ok(add(alloc, world, stack, itself, name.as_str(), pair)?)
-        }
-        Action::Chain(name, next) => {
+        Deed::AddTo(name, pair) => Ok(add(alloc, world, stack, itself, name.as_str(), pair)?),
+        Deed::ChainTo(name, next) => {
             Ok(chain(alloc, world, stack, itself, name.as_str(), next.as_str())?)
         }
-        Action::Pause(name) => Ok(pause(alloc, world, itself, name.as_str())?),
-        Action::Unpause(name) => Ok(unpause(alloc, world, stack, itself, name.as_str())?),
-        Action::Note(text) => {
-            world.tell(Entry::Note(Text::of(alloc, text.as_str())?))?;
-            Ok(Performed::Done)
-        }
-        Action::Cancel(_)
-        | Action::List(_, _, _)
-        | Action::Gather(_, _, _)
-        | Action::Maybe(_, _)
-        | Action::Lock(_)
-        | Action::Semaphore(_, _)
-        | Action::Acquire(_, _)
-        | Action::Release(_)
-        | Action::RunWith(_, _, _)
-        | Action::Queue(_, _, _)
-        | Action::Put(_, _)
-        | Action::Get(_, _)
-        | Action::Later(_, _, _)
-        | Action::CancelCall(_)
-        | Action::Loop(_, _, _, _, _)
-        | Action::StopLoop(_)
-        | Action::Cooperate(_, _)
-        | Action::WhenDone(_, _)
-        | Action::PauseTask(_)
-        | Action::StopTask(_)
-        | Action::ResumeTask(_)
-        | Action::Inline(_, _)
-        | Action::Thread(_, _, _) => Ok(idle(action)),
-    }
-}
-
-/// What an action comes to that isn't performed yet.
-fn idle(_action: &Action) -> Performed
-    requires idle { deed_of (out-Action _action.now) ≡ Idle }
-    ensures { result ≡ Done }
-{
-    Performed::Done
-}
-
-/// Makes a Deferred (Twisted: `Deferred`). One with a canceller isn't made yet.
-#[tactic(auto)]
-fn make<'s>(world: &mut World<'s>, name: &str, canceller: &Option<Body>) -> Result<(), AllocError>
-    requires room { length world.old.records < 2 ^ 32 - 1 }
-    ensures { OnOk result (world.new ≡ made name.now canceller.now world.old) }
-{
-    match canceller {
-        None => world.make(name),
-        Some(_) => Ok(()),
+        Deed::PauseOf(name) => Ok(pause(alloc, world, itself, name.as_str())?),
+        Deed::UnpauseOf(name) => Ok(unpause(alloc, world, stack, itself, name.as_str())?),
+        Deed::CancelOf(name) => Ok(cancel_named(alloc, world, stack, itself, name.as_str())?),
     }
 }
 
@@ -220,5 +172,21 @@ fn unpause<'s>(
             let unpaused = world.unpause(id)?;
             Ok(settle_next(stack, id, unpaused)?)
         }
+    }
+}
+
+/// Cancels a Deferred by its name (Twisted: `Deferred.cancel`).
+fn cancel_named<'s>(
+    alloc: Global,
+    world: &mut World<'s>,
+    stack: &mut Stack<Frame<'s>>,
+    itself: Option<DeferredId>,
+    name: &str,
+) -> Result<Performed, AllocError>
+    ensures { IfOk result (λ performed. (stack.new, performed, world.new) ≡ begun itself (CancelOf name.now) world.old stack.old) }
+{
+    match world.find(itself, name) {
+        None => Ok(unbound(alloc, name)?),
+        Some(id) => Ok(cancel(world, stack, id)?),
     }
 }

@@ -198,6 +198,7 @@ fn outcome_of<'s>(deferred: Record<Pair<'s>, BodyRef<'s>>) -> Outcome
         pauses,
         waits_for,
         running: _,
+        swallows: _,
         canceller: _,
     } = deferred;
     Outcome {

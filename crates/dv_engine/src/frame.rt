@@ -21,4 +21,6 @@ pub enum Frame<'s> {
     Place(DeferredId),
     /// A body goes on, unless its last action raised.
     Rest(Rest<'s>),
+    /// A canceller of the Deferred has ended. Unless it failed, the Deferred is fired where it still may be.
+    Canceller(DeferredId),
 }

@@ -18,7 +18,8 @@ pub fn scripts_end()
     ensures one { EachScriptHasOneMeaning }
 {}
 
-/// The journal of a run tells what has become of each Deferred, and that each was fired once at most.
+/// The journal of a run tells what has become of each Deferred, that each was fired once at most, and that a further firing
+/// of it was swallowed once at most, where a cancel had fired it.
 pub fn journals_tell()
     ensures outcomes { OutcomesAreToldByTheJournal }
     ensures once { EachDeferredIsFiredOnce }

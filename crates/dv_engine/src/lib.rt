@@ -2,6 +2,8 @@
 #![tactic(auto)]
 
 mod acting;
+mod cancelling;
+mod deed;
 pub mod engine;
 pub mod error;
 mod events;

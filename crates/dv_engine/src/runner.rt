@@ -5,6 +5,7 @@ ghost use Rattle.dv_engine.specs.Meaning.{Gives};
 ghost use Rattle.dv_engine.specs.Task.{Act};
 
 use crate::acting::begin;
+use crate::cancelling::end_canceller;
 use crate::frame::{Frame, Rest};
 use crate::settling::{place, settle};
 use crate::stack::Stack;
@@ -15,7 +16,7 @@ use dv_world::world::World;
 use std::alloc::{AllocError, Global};
 
 /// Performs an action, in which `@` isn't bound, with all that follows from it. It is one loop over a stack of what is
-/// still to be done, so that no script can exhaust the machine's stack.
+/// still to be done, so that what a run nests isn't on the machine's stack.
 #[tactic(auto, using(crate::proofs::FrameLaws::act_leads, crate::proofs::Turns::begun_bounded))]
 pub fn act<'s>(
     alloc: Global,
@@ -67,6 +68,7 @@ fn turn<'s>(
             Ok(Performed::Done)
         }
         Frame::Rest(rest) => Ok(go_on_unless_raised(alloc, world, stack, rest, performed)?),
+        Frame::Canceller(id) => Ok(end_canceller(alloc, world, stack, id, performed)?),
     }
 }
 

@@ -11,6 +11,7 @@ use dv_journal::deferred_id::DeferredId;
 use dv_store::store::Step;
 use dv_value::boxed::Boxed;
 use dv_value::value::Value;
+use dv_world::follow::Follow;
 use dv_world::lent::{Actions, BodyRef, EndRef};
 use dv_world::pair::{Pair, Side};
 use dv_world::performed::Performed;
@@ -84,7 +85,7 @@ fn begin<'s>(
 }
 
 /// A body from its beginning.
-fn whole<'s>(itself: Option<DeferredId>, body: BodyRef<'s>, input: Value) -> Rest<'s>
+pub fn whole<'s>(itself: Option<DeferredId>, body: BodyRef<'s>, input: Value) -> Rest<'s>
     ensures { result ≡ rest_of itself body.entry input }
 {
     let body = body.get();
@@ -96,22 +97,21 @@ fn whole<'s>(itself: Option<DeferredId>, body: BodyRef<'s>, input: Value) -> Res
     }
 }
 
-/// The Deferred is to be settled, where what came before is done.
+/// The Deferred is to be settled, where that is to follow.
 pub fn settle_next<'s>(
     stack: &mut Stack<Frame<'s>>,
     id: DeferredId,
-    performed: Performed,
+    follow: Follow,
 ) -> Result<Performed, AllocError>
-    ensures { IfOk result (λ next. (w : Seen) → (stack.new, next, w) ≡ settle_next id performed w stack.old) }
+    ensures { IfOk result (λ next. (w : Seen) → (stack.new, next, w) ≡ settle_next id follow w stack.old) }
 {
-    match performed {
-        Performed::Done => {
+    match follow {
+        Follow::Settle => {
             stack.push(Frame::Settle(id))?;
             Ok(Performed::Done)
         }
-        Performed::Gave(value) => Ok(Performed::Gave(value)),
-        Performed::Raised(failure) => Ok(Performed::Raised(failure)),
-        Performed::Awaits(given) => Ok(Performed::Awaits(given)),
+        Follow::Nothing => Ok(Performed::Done),
+        Follow::Raise(failure) => Ok(Performed::Raised(failure)),
     }
 }
 

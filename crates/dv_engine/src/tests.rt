@@ -2,6 +2,7 @@ ghost use Rattle.std.specs.Prelude.{◌<◌, ◌^◌, ◌-◌, IfOk};
 
 use crate::engine::{Engine, Next, perform};
 use crate::error::EngineFault;
+use crate::performs::performs;
 use crate::report::{Outcome, State};
 use dv_script::script::Script;
 use dv_value::classes::Classes;
@@ -49,7 +50,7 @@ fn outcomes(alloc: Global, events: &str) -> Result<String, Fail> {
     Ok(out)
 }
 
-static ROWS: [(&str, &str); 13] = [
+static ROWS: [(&str, &str); 23] = [
     ("", ""),
     (
         r#"["deferred","d"],["addCallback","d",{"end":["plus",2]}],["callback","d",1]"#,
@@ -99,6 +100,46 @@ static ROWS: [(&str, &str); 13] = [
         r#"["deferred","a"],["deferred","b"],["chain","a","b"],["callback","a",1]"#,
         "a ok null; b ok 1; ",
     ),
+    (
+        r#"["deferred","d"],["cancel","d"],["callback","d",1],["callback","d",2]"#,
+        "d fail CancelledError \"\"; ",
+    ),
+    (
+        r#"["deferred","d"],["callback","d",1],["cancel","d"]"#,
+        "d ok 1; ",
+    ),
+    (
+        r#"["deferred","d",{"do":[["callback","@",9]]}],["cancel","d"],["callback","d",1]"#,
+        "d ok 9; ",
+    ),
+    (
+        r#"["deferred","d",{"do":[["note","no more"]]}],["addErrback","d",{"end":["trap",["CancelledError"],7]}],["cancel","d"]"#,
+        "d ok 7; ",
+    ),
+    (
+        r#"["deferred","d",{"end":["raise","ValueError","no"]}],["cancel","d"]"#,
+        "d unfired; ",
+    ),
+    (
+        r#"["deferred","a"],["pause","a"],["addErrback","a",{"end":["return",1]}],["cancel","a"]"#,
+        "a fail CancelledError \"\" paused 1; ",
+    ),
+    (
+        r#"["deferred","a"],["deferred","b"],["addCallback","a",{"end":["wait","b"]}],["callback","a",1],["cancel","a"]"#,
+        "a fail CancelledError \"\"; b ok null; ",
+    ),
+    (
+        r#"["deferred","a"],["deferred","b",{"do":[["callback","@",2]]}],["deferred","c"],["addCallback","a",{"end":["wait","b"]}],["addCallback","c",{"end":["wait","a"]}],["callback","a",1],["callback","c",1],["cancel","c"]"#,
+        "a ok null; b ok null; c ok 2; ",
+    ),
+    (
+        r#"["deferred","a"],["deferred","b"],["addCallback","a",{"end":["wait","b"]}],["addCallback","b",{"end":["wait","a"]}],["callback","a",1],["callback","b",1],["cancel","a"]"#,
+        "a waits for 1; b waits for 0; ",
+    ),
+    (
+        r#"["deferred","a"],["deferred","b"],["chain","a","b"],["cancel","b"],["callback","a",1],["callback","b",2]"#,
+        "a ok null; b fail CancelledError \"\"; ",
+    ),
 ];
 
 #[test]
@@ -109,6 +150,51 @@ fn deferreds_end_as_they_do_in_twisted(rt: HostRuntime) -> Result<(), Fail> {
             *expected,
             "{events}"
         );
+    }
+    Ok(())
+}
+
+static PERFORMED: [(&str, bool); 13] = [
+    (r#"["cancel","d"]"#, true),
+    (r#"["deferred","d",{}]"#, true),
+    (
+        r#"["deferred","d",{"do":[["cancel","@"],["note","x"]],"end":["wait","d"]}]"#,
+        true,
+    ),
+    (
+        r#"["deferred","d",{"do":[["deferred","e",{"do":[["cancel","d"]]}]]}]"#,
+        true,
+    ),
+    (
+        r#"["addCallbacks","d",{"do":[["cancel","@"]]},{"do":[["deferred","e",{"do":[["callback","@",1]]}]]}]"#,
+        true,
+    ),
+    (r#"["lock","l"]"#, false),
+    (r#"["cancel","d"],["cancelCall","c"]"#, false),
+    (r#"["deferred","d",{"do":[["lock","l"]]}]"#, false),
+    (
+        r#"["deferred","d",{"do":[["cancel","@"],["note","x"],["cancelCall","c"]]}]"#,
+        false,
+    ),
+    (
+        r#"["deferred","d",{"do":[["deferred","e",{"do":[["maybe","f",{}]]}]]}]"#,
+        false,
+    ),
+    (
+        r#"["addBoth","d",{"do":[["deferred","e",{"do":[["lock","l"]]}]]}]"#,
+        false,
+    ),
+    (r#"["deferred","d",{}],["cancel","d"],["advance",0]"#, false),
+    (r#"["drain",0],["cancel","d"]"#, false),
+];
+
+#[test]
+fn a_script_is_performed_where_all_actions_of_its_bodies_and_cancellers_are(
+    rt: HostRuntime,
+) -> Result<(), Fail> {
+    for (events, expected) in &PERFORMED {
+        let script = script(rt.alloc(), *events)?;
+        assert_eq!(rt; performs(&script), *expected, "{events}");
     }
     Ok(())
 }

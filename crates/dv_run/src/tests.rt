@@ -1,3 +1,4 @@
+mod cancels;
 mod chains;
 mod exit;
 mod faults;

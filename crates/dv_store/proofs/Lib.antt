@@ -1,2 +1,4 @@
 pub mod CallbacksLemmas
+pub mod ChainLaws
+pub mod ChainLemmas
 pub mod StoreLemmas

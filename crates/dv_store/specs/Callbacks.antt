@@ -1,5 +1,5 @@
 -- One item used (Twisted: the Deferred Reference, "Callbacks" and "Chaining Deferreds"; `Deferred.addCallbacks`).
-use Rattle.std.specs.Prelude.{ℕ, Bool, true, false, not, ◌&&◌, nat_eq, is_none, if◌then◌else◌, List, [], ◌∷◌, Option, Some, None, slice_get, slice_set}
+use Rattle.std.specs.Prelude.{ℕ, Bool, true, false, not, ◌&&◌, nat_eq, is_none, if◌then◌else◌, List, [], ◌∷◌, drop, Option, Some, None, slice_get, slice_set}
 use Rattle.dv_value.specs.Failure.{is_fault}
 use Rattle.dv_value.specs.declared.value.Value.{Value}
 use Rattle.dv_value.specs.declared.value.Value.TheVariants.{Null}
@@ -28,6 +28,11 @@ with_handed value r = record r { value = value; waits_for = None }
 abbrev pub hand : {P K : Type 0} → ℕ → ℕ → Record P K → List (Item P) → State P K → Stepped P K
 hand id c r rest s =
     telling (entry.Hand id c r.value) (Handed c) (changing c (with_handed r.value) (slice_set s.0 id (record r { items = rest; value = Null }))) s
+
+-- the first item of the Deferred that is found is used up so; an id of no record changes nothing
+abbrev pub hand_found : {P K : Type 0} → ℕ → ℕ → Option (Record P K) → State P K → Stepped P K
+hand_found id c None s = untold Nothing s
+hand_found id c (Some r) s = hand id c r (drop 1 r.items) s
 
 module _ {P K : Type 0} (passes_at : P → Bool → Bool) where
   -- a pair without a side for the value passes it on, which isn't told; else its side runs

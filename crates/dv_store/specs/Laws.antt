@@ -1,26 +1,39 @@
 -- What holds of every Deferred, whatever its pairs are.
-use Rattle.std.specs.Prelude.{◌≡◌, ℕ, ◌+◌, ◌<◌, Bool, if◌then◌else◌, List, length, sum_by, Result, Ok, Err}
+use Rattle.std.specs.Prelude.{◌≡◌, ℕ, ◌+◌, ◌<◌, Bool, false, if◌then◌else◌, List, length, sum_by, Result, Ok, Err, slice_get}
+use Rattle.std.specs.Option.{option_map_or}
 use Rattle.dv_value.specs.declared.value.Value.{Value}
 use Rattle.dv_journal.specs.Journal.{fits}
 use Rattle.dv_journal.specs.declared.entry.Entry.TheVariants.{Refuse}
 use Rattle.dv_journal.specs.declared.error.Stop.{Stop}
-use Rattle.dv_store.specs.Fire.{fire}
+use Rattle.dv_store.specs.Fire.{with_guard, fire}
 use Rattle.dv_store.specs.Callbacks.{step}
+use Rattle.dv_store.specs.Record.{changing}
 use Rattle.dv_store.specs.Telling.{State}
 use Rattle.dv_store.specs.declared.record.Record.{Record}
 use Rattle.dv_store.specs.declared.error.StoreFault.{StoreFault}
 use Rattle.dv_store.specs.declared.error.StoreFault.TheVariants.{AlreadyCalled, Limit}
+use Rattle.dv_store.specs.declared.store.Fired.{Fired}
+use Rattle.dv_store.specs.declared.store.Fired.TheVariants.{Set, Swallowed}
 use Rattle.dv_store.specs.declared.store.Step.{Step}
 use Rattle.dv_store.specs.declared.store.Step.TheVariants.{Nothing, Passed, Run, Handed}
 
 -- the refusal of a second firing, or the limit where there is no room to tell of it
-abbrev pub second_answer : {P K : Type 0} → ℕ → State P K → Result Unit StoreFault
+abbrev pub second_answer : {P K : Type 0} → ℕ → State P K → Result Fired StoreFault
 second_answer id s = if fits s.1 (Refuse id) then Err AlreadyCalled else Err Limit
 
--- after a firing, a second one is refused, and no record changes
+-- whether a further firing of a Deferred is swallowed
+abbrev pub guarded : {P K : Type 0} → ℕ → List (Record P K) → Bool
+guarded id rs = option_map_or (λ r. r.swallows) (slice_get rs id) false
+
+-- after a firing, a second one is refused unless the Deferred is guarded, and no record changes
 abbrev pub SecondFiringChangesNothing : Type 0 → Type 0 → Type 0
-SecondFiringChangesNothing P K = (id : ℕ) (first second : Value) (s : State P K) → id < length s.0 → (fire id first s).0 ≡ Ok tt →
+SecondFiringChangesNothing P K = (id : ℕ) (first second : Value) (s : State P K) → id < length s.0 → guarded id s.0 ≡ false → (fire id first s).0 ≡ Ok Set →
     ((fire id second (fire id first s).1).0 ≡ second_answer id (fire id first s).1) × ((fire id second (fire id first s).1).1.0 ≡ (fire id first s).1.0)
+
+-- a firing that is swallowed changes nothing but that the Deferred is guarded no more
+abbrev pub SwallowedFiringEndsTheGuard : Type 0 → Type 0 → Type 0
+SwallowedFiringEndsTheGuard P K = (id : ℕ) (value : Value) (s : State P K) → (fire id value s).0 ≡ Ok Swallowed →
+    ((fire id value s).1.0 ≡ changing id (with_guard false) s.0) × (guarded id (fire id value s).1.0 ≡ false)
 
 -- how many items of all Deferreds aren't used yet
 abbrev pub unused_items : {P K : Type 0} → List (Record P K) → ℕ

@@ -4,4 +4,5 @@ pub mod Fire
 pub mod Callbacks
 pub mod Chaining
 pub mod Pausing
+pub mod Cancelling
 pub mod Laws

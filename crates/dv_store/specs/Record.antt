@@ -10,7 +10,7 @@ use Rattle.dv_store.specs.declared.record.Record.{Record}
 -- a new Deferred is unfired, and has no pairs
 abbrev pub new_record : {P K : Type 0} → Option (List ℕ) → Option K → Record P K
 new_record name canceller =
-    record { name = name; fired = false; value = Null; items = []; pauses = 0; waits_for = None; running = false; canceller = canceller }
+    record { name = name; fired = false; value = Null; items = []; pauses = 0; waits_for = None; running = false; swallows = false; canceller = canceller }
 
 -- a Deferred is made after the others, and known by their number
 abbrev pub make : {P K : Type 0} → Option (List ℕ) → Option K → State P K → Told ℕ P K

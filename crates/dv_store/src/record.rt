@@ -29,6 +29,9 @@ pub struct Record<P, K> {
     pub waits_for: Option<DeferredId>,
     /// Whether a side of it runs (Twisted: `Deferred._runningCallbacks`).
     pub running: bool,
-    /// What a cancel of it does while it is unfired.
+    /// Whether its next firing after the first is swallowed instead of refused (Twisted:
+    /// `Deferred._suppressAlreadyCalled`).
+    pub swallows: bool,
+    /// What runs where it is cancelled while it is unfired (Twisted: `Deferred._canceller`).
     pub canceller: Option<K>,
 }

@@ -1,6 +1,7 @@
 ghost use Rattle.std.specs.Prelude.{◌≡◌, true, [], ◌∷◌, ◌++◌, ◌<◌, ◌^◌, ◌-◌, length, slice_get, IfOk, OnOk, OnErr};
 ghost use Rattle.std.specs.Option.{option_copied};
 ghost use Rattle.dv_journal.specs.Journal.{fits, with_entry};
+ghost use Rattle.dv_store.specs.Callbacks.{is_ready};
 ghost use Rattle.dv_store.specs.Chaining.{is_pending};
 
 use crate::error::{StoreFault, UnpauseFault};
@@ -30,6 +31,15 @@ pub enum Step<P> {
     Handed(DeferredId),
 }
 
+/// What became of a firing that wasn't refused.
+#[derive(Clone, Copy, Debug, PartialEq, Eq)]
+pub enum Fired {
+    /// The Deferred has the value.
+    Set,
+    /// The Deferred was fired already, and the value is dropped, since a cancel has asked for that.
+    Swallowed,
+}
+
 /// What became of a side that gave a Deferred.
 #[derive(Clone, Copy, Debug, PartialEq, Eq)]
 pub enum Placed {
@@ -42,7 +52,8 @@ pub enum Placed {
 /// The records of all Deferreds, in order of making.
 ///
 /// An id that isn't of this store means nothing to it: no call changes anything for it, `record` answers None, `step`
-/// answers Nothing, `put_deferred` answers Waits, and the others answer Ok.
+/// answers Nothing, `fire` answers Set, `put_deferred` answers Waits, `end_of_chain` answers the id, and the others
+/// answer Ok.
 #[derive(Debug, Drop)]
 pub struct Store<P, K> {
     alloc: Global,
@@ -65,7 +76,8 @@ impl<P, K> Model for Store<P, K> {
 impl<P: Sides + Drop, K: Drop> Store<P, K> {
     ghost use Rattle.dv_store.specs.Record.{make, append, changing};
     ghost use Rattle.dv_store.specs.Fire.{fire, FiresUnlessMemory};
-    ghost use Rattle.dv_store.specs.Callbacks.{step, put, with_handed, with_result};
+    ghost use Rattle.dv_store.specs.Callbacks.{step, hand_found, put, with_handed, with_result};
+    ghost use Rattle.dv_store.specs.Cancelling.{guard, link, end_of_chain};
     ghost use Rattle.dv_store.specs.Chaining.{put_deferred, with_wait, waiting, taking, value_at};
     ghost use Rattle.dv_store.specs.Pausing.{pauses_of, pause, unpause, UnpausesUnlessMemory};
     ghost use Rattle.dv_store.specs.Telling.{UnlessMemory, telling};
@@ -123,6 +135,7 @@ impl<P: Sides + Drop, K: Drop> Store<P, K> {
             pauses: 0,
             waits_for: None,
             running: false,
+            swallows: false,
             canceller,
         };
         self.records.push(record).unwrap();
@@ -153,21 +166,26 @@ impl<P: Sides + Drop, K: Drop> Store<P, K> {
     }
 
     /// Fires a Deferred, with a failure too, and uses no pair (Twisted: `Deferred.callback` and `Deferred.errback`, which
-    /// also run what they can). A Deferred that is fired already keeps its value: `refuse` is written, and the new value
-    /// is dropped.
+    /// also run what they can). A Deferred that is fired already keeps its value, and the new value is dropped: `refuse`
+    /// is written, or `swallow` where it is guarded, which it then is no more.
     pub fn fire(
         &mut self,
         journal: &mut Journal,
         id: DeferredId,
         value: Value,
-    ) -> Result<(), StoreFault>
+    ) -> Result<Fired, StoreFault>
         ensures { FiresUnlessMemory result (self.old, journal.old) (self.new, journal.new) (fire id value (self.old, journal.old)) }
     {
         let place = id.number() as usize;
         let Some(record) = self.records.get(place) else {
-            return Ok(());
+            return Ok(Fired::Set);
         };
         if record.fired {
+            if record.swallows {
+                journal.write(Entry::Swallow(id))?;
+                self.records[place].swallows = false;
+                return Ok(Fired::Swallowed);
+            }
             journal.write(Entry::Refuse(id))?;
             return Err(StoreFault::AlreadyCalled);
         }
@@ -179,7 +197,56 @@ impl<P: Sides + Drop, K: Drop> Store<P, K> {
         let record = &mut self.records[place];
         record.fired = true;
         record.value = value;
-        Ok(())
+        Ok(Fired::Set)
+    }
+
+    /// The next firing of a Deferred that is fired already is swallowed (Twisted: what `Deferred.cancel` asks for where
+    /// there is no canceller). It writes nothing.
+    pub fn guard(&mut self, id: DeferredId)
+        ensures { self.new ≡ guard id self.old }
+    {
+        let place = id.number() as usize;
+        if place < self.records.len() {
+            self.records[place].swallows = true;
+        }
+    }
+
+    /// The first Deferred that doesn't wait, from this one on along those that are waited for; None where the walk comes
+    /// to one for a second time (Twisted: `Deferred.cancel`, which follows `_chainedTo`). It takes as many steps as there
+    /// are on the walk, or three times as many on one that comes back.
+    #[tactic(auto, using(crate::proofs::ChainLemmas::leads_nowhere, crate::proofs::ChainLemmas::leads_on, crate::proofs::ChainLemmas::ends_here, crate::proofs::ChainLemmas::goes_on, crate::proofs::ChainLemmas::comes_back, crate::proofs::ChainLemmas::no_more))]
+    pub fn end_of_chain(&self, id: DeferredId) -> Option<DeferredId>
+        ensures { result ≡ end_of_chain id self.now }
+    {
+        let mut here = id;
+        let mut mark = id;
+        let mut until = 1;
+        let mut links = 0;
+        while links <= self.records.len() {
+            let Some(next) = self.link(here) else {
+                return Some(here);
+            };
+            if next.number() == mark.number() {
+                return None;
+            }
+            here = next;
+            links += 1;
+            if links == until {
+                mark = here;
+                until = links.saturating_mul(2);
+            }
+        }
+        None
+    }
+
+    /// The Deferred that one waits for.
+    fn link(&self, id: DeferredId) -> Option<DeferredId>
+        ensures { result ≡ link self.now id }
+    {
+        match self.records.get(id.number() as usize) {
+            None => None,
+            Some(record) => record.waits_for,
+        }
     }
 
     /// Uses the first unused item of a Deferred, where it is fired, no side of it runs, it isn't paused and it waits for
@@ -195,7 +262,7 @@ impl<P: Sides + Drop, K: Drop> Store<P, K> {
         let Some(record) = self.records.get(place) else {
             return Ok(Step::Nothing);
         };
-        if !record.fired || record.running || record.pauses != 0 || record.waits_for.is_some() {
+        if !is_ready(record) {
             return Ok(Step::Nothing);
         }
         match record.items.front() {
@@ -215,18 +282,33 @@ impl<P: Sides + Drop, K: Drop> Store<P, K> {
             }
             Some(Item::HandOver(to)) => {
                 let to = *to;
-                if !journal.fits_value(&record.value) {
-                    return Err(Stop::Limit);
-                }
-                let shown = record.value.copy(self.alloc)?;
-                journal.write(Entry::Hand(id, to, shown))?;
-                let record = &mut self.records[place];
-                let _ = record.items.pop_front();
-                let value = mem::replace(&mut record.value, Value::Null);
-                self.set_handed(to, value);
-                Ok(Step::Handed(to))
+                Ok(self.hand_over(journal, id, to)?)
             }
         }
+    }
+
+    /// Uses up the first item of a Deferred, which hands its value over to another.
+    fn hand_over(
+        &mut self,
+        journal: &mut Journal,
+        id: DeferredId,
+        to: DeferredId,
+    ) -> Result<Step<P>, Stop>
+        requires within { id < length self.old }
+        ensures { UnlessMemory result (self.old, journal.old) (self.new, journal.new) (hand_found id to (slice_get self.old id) (self.old, journal.old)) }
+    {
+        let place = id.number() as usize;
+        let value = &self.records[place].value;
+        if !journal.fits_value(value) {
+            return Err(Stop::Limit);
+        }
+        let shown = value.copy(self.alloc)?;
+        journal.write(Entry::Hand(id, to, shown))?;
+        let record = &mut self.records[place];
+        let _ = record.items.pop_front();
+        let value = mem::replace(&mut record.value, Value::Null);
+        self.set_handed(to, value);
+        Ok(Step::Handed(to))
     }
 
     /// Ends the running side of a Deferred with what it gave, a plain result or a failure, which becomes the value.
@@ -409,6 +491,13 @@ fn name_copy(alloc: Global, name: &Option<Text>) -> Result<Option<Text>, AllocEr
         None => Ok(None),
         Some(name) => Ok(Some(Text::of(alloc, name.as_str())?)),
     }
+}
+
+/// Whether a Deferred may use an item: it is fired, no side of it runs, it isn't paused and it waits for no other.
+fn is_ready<P, K>(record: &Record<P, K>) -> bool
+    ensures { result ≡ is_ready «record».now }
+{
+    record.fired && !record.running && record.pauses == 0 && record.waits_for.is_none()
 }
 
 /// Whether a Deferred that a side of another gave has no value to take yet.

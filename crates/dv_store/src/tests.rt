@@ -1,4 +1,5 @@
 mod callbacks;
+mod cancelling;
 mod chaining;
 mod faults;
 mod limits;
@@ -130,6 +131,19 @@ fn is_running(store: &Store<Pair, u8>, id: DeferredId) -> bool {
         Some(record) => record.running,
         None => false,
     }
+}
+
+/// Whether a Deferred's next firing after its first is swallowed.
+fn swallows(store: &Store<Pair, u8>, id: DeferredId) -> bool {
+    match store.record(id) {
+        Some(record) => record.swallows,
+        None => false,
+    }
+}
+
+/// The number of a Deferred's canceller, if it has one.
+fn canceller_of(store: &Store<Pair, u8>, id: DeferredId) -> Option<u8> {
+    store.record(id)?.canceller
 }
 
 /// How often a Deferred is paused.

@@ -28,6 +28,9 @@ overflow_error = 5
 abbrev pub already_called_error : ℕ
 already_called_error = 7
 
+abbrev pub cancelled_error : ℕ
+cancelled_error = 8
+
 abbrev pub scheduler_error : ℕ
 scheduler_error = 12
 

@@ -33,3 +33,15 @@ is_fault_step (Value-F.Fault f) = true
 -- a Deferred of this value has failed
 abbrev pub is_fault : Value → Bool
 is_fault v = is_fault_step (out-Value v)
+
+abbrev pub failure_in_step : Value-F Value → Option Failure
+failure_in_step Value-F.Null = None
+failure_in_step (Value-F.Bool b) = None
+failure_in_step (Value-F.Int n) = None
+failure_in_step (Value-F.Text t) = None
+failure_in_step (Value-F.List vs) = None
+failure_in_step (Value-F.Fault f) = Some f
+
+-- the failure that a value is
+abbrev pub failure_in : Value → Option Failure
+failure_in v = failure_in_step (out-Value v)

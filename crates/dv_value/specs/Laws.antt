@@ -3,7 +3,7 @@ use Rattle.std.specs.Prelude.{ℕ, ◌≡◌, ◌≢◌, ◌↔◌, ◌<◌, Lis
 use Rattle.std.specs.Option.{option_map_or}
 use Rattle.dv_value.specs.declared.classes.Class.{Class}
 use Rattle.dv_value.specs.Classes.{parent_of, path, find_class, name_of}
-use Rattle.dv_value.specs.Builtin.{builtin, type_error, name_error, assertion_error, overflow_error, already_called_error}
+use Rattle.dv_value.specs.Builtin.{builtin, type_error, name_error, assertion_error, overflow_error, already_called_error, cancelled_error}
 
 -- each class's parent stands before it
 abbrev pub ParentsStandBefore : List Class → Type 0
@@ -24,6 +24,7 @@ pub record BuiltinsHaveTheirPlaces : Type 0 where
   pub assertion_error : find_class (codes "AssertionError") builtin ≡ Some assertion_error
   pub overflow_error : find_class (codes "OverflowError") builtin ≡ Some overflow_error
   pub already_called_error : find_class (codes "AlreadyCalledError") builtin ≡ Some already_called_error
+  pub cancelled_error : find_class (codes "CancelledError") builtin ≡ Some cancelled_error
 
 -- the place of the first class of this name
 pub record IsFirstOf (name : List ℕ) (table : List Class) (c : ℕ) : Type 0 where

@@ -24,6 +24,13 @@ impl<T> Boxed<T> {
     {
         &self.held
     }
+
+    /// Moves what it holds out of it.
+    pub fn into_inner(self) -> T
+        ensures { result ≡ self }
+    {
+        Box::into_inner(self.held)
+    }
 }
 
 impl<T: Drop> Boxed<T> {

@@ -33,6 +33,8 @@ impl ClassId {
     pub const OVERFLOW_ERROR: ClassId = ClassId { place: 5 };
     /// For a second firing of a Deferred (Twisted: `defer.AlreadyCalledError`).
     pub const ALREADY_CALLED_ERROR: ClassId = ClassId { place: 7 };
+    /// What a Deferred is fired with that is cancelled (Twisted: `defer.CancelledError`).
+    pub const CANCELLED_ERROR: ClassId = ClassId { place: 8 };
     /// Above what a cooperative task raises (Twisted: `task.SchedulerError`).
     pub const SCHEDULER_ERROR: ClassId = ClassId { place: 12 };
     /// Above how a cooperative task has ended (Twisted: `task.TaskFinished`).

@@ -87,6 +87,7 @@ fn each_class_descends_from_those_above_it_alone(rt: HostRuntime) -> Result<(), 
         (ClassId::ASSERTION_ERROR, "AssertionError"),
         (ClassId::OVERFLOW_ERROR, "OverflowError"),
         (ClassId::ALREADY_CALLED_ERROR, "AlreadyCalledError"),
+        (ClassId::CANCELLED_ERROR, "CancelledError"),
         (ClassId::SCHEDULER_ERROR, "SchedulerError"),
         (ClassId::TASK_FINISHED, "TaskFinished"),
     ] {
@@ -201,6 +202,11 @@ fn each_value_has_its_size_and_its_texts(rt: HostRuntime) -> Result<(), Fail> {
         assert_eq!(rt; value.json(alloc, &classes)?.as_str(), *json);
         assert_eq!(rt; copy.outcome(alloc, &classes)?.as_str(), *outcome);
         assert_eq!(rt; copy.is_fault(), outcome.starts_with("fail "), "{json}");
+        assert_eq!(rt;
+            copy.into_failure().is_some(),
+            outcome.starts_with("fail "),
+            "{json}"
+        );
     }
     Ok(())
 }

@@ -1,6 +1,6 @@
 ghost use Rattle.std.specs.Prelude.{◌≡◌, ◌^◌, ◌-◌, IfOk, map, min, sum};
 ghost use Rattle.dv_value.specs.Size.{size};
-ghost use Rattle.dv_value.specs.Failure.{is_fault};
+ghost use Rattle.dv_value.specs.Failure.{is_fault, failure_in};
 
 use crate::boxed::Boxed;
 use crate::failure::Failure;
@@ -28,6 +28,16 @@ impl Value {
         match self {
             Value::Fault(_) => true,
             Value::Null | Value::Bool(_) | Value::Int(_) | Value::Text(_) | Value::List(_) => false,
+        }
+    }
+
+    /// The failure, where a Deferred of this value has failed.
+    pub fn into_failure(self) -> Option<Failure>
+        ensures { result ≡ failure_in self }
+    {
+        match self {
+            Value::Fault(failure) => Some(failure.into_inner()),
+            Value::Null | Value::Bool(_) | Value::Int(_) | Value::Text(_) | Value::List(_) => None,
         }
     }
 

@@ -2,19 +2,27 @@
 use Rattle.std.specs.Prelude.{ℕ, ℤ, pos, negsuc, ◌+ℤ◌, ◌^◌, Bool, nat_lt, if◌then◌else◌, List, Option, None, Some, codes}
 use Rattle.dv_value.specs.Builtin.{type_error, overflow_error}
 use Rattle.dv_value.specs.Classes.{check}
-use Rattle.dv_value.specs.Failure.{class_of, plain_failure}
+use Rattle.dv_value.specs.Failure.{class_of, plain_failure, failure_in}
 use Rattle.dv_value.specs.declared.classes.Class.{Class}
+use Rattle.dv_value.specs.declared.failure.Failure.{Failure}
 use Rattle.dv_value.specs.declared.value.Value.{Value, Int, Fault, out-Value}
 use Rattle.dv_value.specs.declared.value.Value.TheOpen.{Value-F}
 use Rattle.dv_script.specs.declared.body.End.{End}
 use Rattle.dv_script.specs.declared.body.End.TheVariants.{Return, Pass, Plus, Raise, Trap, Wait}
 use Rattle.dv_world.specs.World.{World, deferred_at, unbound}
 use Rattle.dv_world.specs.declared.performed.Performed.{Performed}
-use Rattle.dv_world.specs.declared.performed.Performed.TheVariants.{Gave, Awaits}
+use Rattle.dv_world.specs.declared.performed.Performed.TheVariants.{Done, Gave, Raised, Awaits}
 
 -- a failure of a class, with a message
 abbrev pub fault : ℕ → List ℕ → Value
 fault class message = Fault (plain_failure class message)
+
+-- the failure that a body came to, raised or given
+abbrev pub failed_with : Performed → Option Failure
+failed_with Done = None
+failed_with (Gave value) = failure_in value
+failed_with (Raised failure) = Some failure
+failed_with (Awaits e) = None
 
 -- an integer is one of 64 bits
 abbrev pub fits : ℤ → Bool

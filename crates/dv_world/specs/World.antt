@@ -1,15 +1,17 @@
 -- The world of a run: its Deferreds, their names, the classes of failures and the journal, and one step of each kind.
-use Rattle.std.specs.Prelude.{ℕ, Bool, true, false, if◌then◌else◌, List, [], Option, None, Some, Result, Ok, Err, slice_get, bytes_eq, codes}
+use Rattle.std.specs.Prelude.{ℕ, Bool, true, false, not, if◌then◌else◌, List, [], Option, None, Some, Result, Ok, Err, slice_get, bytes_eq, codes}
 use Rattle.std.specs.Option.{option_map_or}
-use Rattle.dv_value.specs.Builtin.{name_error, assertion_error, already_called_error}
+use Rattle.dv_value.specs.Builtin.{name_error, assertion_error, already_called_error, cancelled_error}
 use Rattle.dv_value.specs.Failure.{plain_failure}
 use Rattle.dv_value.specs.declared.classes.Class.{Class}
-use Rattle.dv_value.specs.declared.value.Value.{Value, Null}
+use Rattle.dv_value.specs.declared.value.Value.{Value, Null, Fault}
 use Rattle.dv_journal.specs.Journal.{Written, empty, fits, with_entry}
 use Rattle.dv_journal.specs.declared.entry.Entry.{Entry}
+use Rattle.dv_journal.specs.declared.entry.Entry.TheVariants as entry
 use Rattle.dv_journal.specs.declared.error.Stop.{Stop}
 use Rattle.dv_script.specs.declared.body.Body.{Body}
 use Rattle.dv_store.specs.Callbacks as callbacks
+use Rattle.dv_store.specs.Cancelling.{guard, end_of_chain}
 use Rattle.dv_store.specs.Chaining as chaining
 use Rattle.dv_store.specs.Fire as firing
 use Rattle.dv_store.specs.Pausing as pausing
@@ -20,13 +22,19 @@ use Rattle.dv_store.specs.declared.error.StoreFault.TheVariants as firing_fault
 use Rattle.dv_store.specs.declared.error.UnpauseFault.{UnpauseFault}
 use Rattle.dv_store.specs.declared.error.UnpauseFault.TheVariants as unpause_fault
 use Rattle.dv_store.specs.declared.record.Record.{Record}
+use Rattle.dv_store.specs.declared.store.Fired.{Fired}
+use Rattle.dv_store.specs.declared.store.Fired.TheVariants.{Set, Swallowed}
 use Rattle.dv_store.specs.declared.store.Step.{Step}
 use Rattle.dv_store.specs.declared.store.Step.TheVariants.{Nothing}
 use Rattle.dv_world.specs.Names.{Names, number_of, with_name}
 use Rattle.dv_world.specs.Pair.{passes}
+use Rattle.dv_world.specs.declared.follow.Follow.{Follow}
+use Rattle.dv_world.specs.declared.follow.Follow.TheVariants as follow
 use Rattle.dv_world.specs.declared.pair.Pair.{Pair}
 use Rattle.dv_world.specs.declared.performed.Performed.{Performed}
-use Rattle.dv_world.specs.declared.performed.Performed.TheVariants.{Done, Raised}
+use Rattle.dv_world.specs.declared.performed.Performed.TheVariants.{Raised}
+use Rattle.dv_world.specs.declared.reached.Reached.{Reached}
+use Rattle.dv_world.specs.declared.reached.Reached.TheVariants as reached
 
 -- the records of all Deferreds, in order of making
 abbrev pub Records : Type 0
@@ -109,37 +117,87 @@ abbrev pub named : List ℕ → Result ℕ Stop → State Pair Body → World �
 named name (Ok d) s w = record (with_state s w) { names = with_name name d w.names }
 named name (Err stop) s w = with_stop (with_state s w)
 
--- a Deferred is made, and its name is bound to it
-unfoldable pub make : List ℕ → World → World
-make name w =
+-- a Deferred is made, which may have a canceller, and its name is bound to it
+unfoldable pub make : List ℕ → Option Body → World → World
+make name canceller w =
     if w.stopped then w else
-    let told = records.make (Some name) None (state_of w) in named name told.0 told.1 w
+    let told = records.make (Some name) canceller (state_of w) in named name told.0 told.1 w
 
--- a second firing raises; one that can't be told stops the run
-abbrev pub fired : Result Unit StoreFault → State Pair Body → World → Performed × World
-fired (Ok done) s w = (Done, with_state s w)
-fired (Err firing_fault.AlreadyCalled) s w = (Raised (plain_failure already_called_error []), with_state s w)
-fired (Err firing_fault.Limit) s w = (Done, with_stop (with_state s w))
-fired (Err firing_fault.OutOfMemory) s w = (Done, with_stop (with_state s w))
+-- a further firing raises, unless it is swallowed; one that can't be told stops the run
+abbrev pub fired : Result Fired StoreFault → State Pair Body → World → Follow × World
+fired (Ok Set) s w = (follow.Settle, with_state s w)
+fired (Ok Swallowed) s w = (follow.Nothing, with_state s w)
+fired (Err firing_fault.AlreadyCalled) s w = (follow.Raise (plain_failure already_called_error []), with_state s w)
+fired (Err firing_fault.Limit) s w = (follow.Nothing, with_stop (with_state s w))
+fired (Err firing_fault.OutOfMemory) s w = (follow.Nothing, with_stop (with_state s w))
 
 -- d is fired, and not settled yet
-unfoldable pub fire : ℕ → Value → World → Performed × World
+unfoldable pub fire : ℕ → Value → World → Follow × World
 fire d value w =
-    if w.stopped then (Done, w) else
+    if w.stopped then (follow.Nothing, w) else
     let told = firing.fire d value (state_of w) in fired told.0 told.1 w
 
+-- what a Deferred is fired with that is cancelled
+abbrev pub cancelled : Value
+cancelled = Fault (plain_failure cancelled_error [])
+
+-- once its firing is told, the next one is swallowed; a firing that can't be told stops the run
+abbrev pub guarded : ℕ → Result Fired StoreFault → State Pair Body → World → World
+guarded d (Ok Set) s w = with_state (guard d s.0, s.1) w
+guarded d (Ok Swallowed) s w = with_state s w
+guarded d (Err firing_fault.AlreadyCalled) s w = with_state s w
+guarded d (Err firing_fault.Limit) s w = with_stop (with_state s w)
+guarded d (Err firing_fault.OutOfMemory) s w = with_stop (with_state s w)
+
+-- d is fired since it is cancelled and has no canceller, and not settled yet
+unfoldable pub fire_guarded : ℕ → World → World
+fire_guarded d w =
+    if w.stopped then w else
+    let told = firing.fire d cancelled (state_of w) in guarded d told.0 told.1 w
+
+-- whether a Deferred may still be fired
+abbrev pub is_unfired : ℕ → World → Bool
+is_unfired d w = option_map_or (λ r. not r.fired) (slice_get w.records d) false
+
 -- an unpausing of what isn't paused raises; one that can't be told stops the run
-abbrev pub unpaused : Result Unit UnpauseFault → State Pair Body → World → Performed × World
-unpaused (Ok done) s w = (Done, with_state s w)
-unpaused (Err unpause_fault.NotPaused) s w = (Raised (plain_failure assertion_error (codes "not paused")), with_state s w)
-unpaused (Err unpause_fault.Limit) s w = (Done, with_stop (with_state s w))
-unpaused (Err unpause_fault.OutOfMemory) s w = (Done, with_stop (with_state s w))
+abbrev pub unpaused : Result Unit UnpauseFault → State Pair Body → World → Follow × World
+unpaused (Ok done) s w = (follow.Settle, with_state s w)
+unpaused (Err unpause_fault.NotPaused) s w = (follow.Raise (plain_failure assertion_error (codes "not paused")), with_state s w)
+unpaused (Err unpause_fault.Limit) s w = (follow.Nothing, with_stop (with_state s w))
+unpaused (Err unpause_fault.OutOfMemory) s w = (follow.Nothing, with_stop (with_state s w))
 
 -- d is paused once less, and not settled yet
-unfoldable pub unpause : ℕ → World → Performed × World
+unfoldable pub unpause : ℕ → World → Follow × World
 unpause d w =
-    if w.stopped then (Done, w) else
+    if w.stopped then (follow.Nothing, w) else
     let told = pausing.unpause d (state_of w) in unpaused told.0 told.1 w
+
+-- an unfired Deferred is to be fired, or its canceller is to run
+abbrev pub unfired_reached : ℕ → Option Body → Reached
+unfired_reached d None = reached.Fire d
+unfired_reached d (Some canceller) = reached.Run d canceller
+
+-- nothing happens to one that is fired
+abbrev pub record_reached : ℕ → Option (Record Pair Body) → Reached
+record_reached d None = reached.Nothing
+record_reached d (Some r) = if r.fired then reached.Nothing else unfired_reached d r.canceller
+
+-- nothing happens where the walk comes back
+abbrev pub end_reached : Option ℕ → Records → Reached
+end_reached None rs = reached.Nothing
+end_reached (Some end) rs = record_reached end (slice_get rs end)
+
+-- whom a cancel of d reaches: the first on the walk along those that are waited for that doesn't wait
+abbrev pub reached_from : ℕ → Records → Reached
+reached_from d rs = end_reached (end_of_chain d rs) rs
+
+-- a cancel of d is told, and then reaches whom it reaches; one that can't be told stops the run
+unfoldable pub cancel : ℕ → World → Reached × World
+cancel d w =
+    if w.stopped then (reached.Nothing, w) else
+    if fits w.journal (entry.Cancel d)
+    then (reached_from d w.records, record w { journal = with_entry w.journal (entry.Cancel d) })
+    else (reached.Nothing, with_stop w)
 
 -- an entry that tells of no Deferred's change
 unfoldable pub tell : Entry → World → World

@@ -2,7 +2,39 @@
 
 use dv_script::action::Action;
 use dv_script::body::{Body, End};
+use dv_value::text::Text;
 use std::marker::Model;
+
+/// A name.
+#[derive(Drop)]
+pub struct NameRef<'s> {
+    name: &'s Text,
+}
+
+impl<'s> Model for NameRef<'s> {
+    ghost use Rattle.std.specs.Prelude.{List, ℕ};
+
+    ghost Value = { List ℕ };
+
+    ghost view = { λ n. n.name.now };
+}
+
+impl<'s> NameRef<'s> {
+    ghost use Rattle.std.specs.Prelude.{◌≡◌};
+
+    pub fn new(name: &'s Text) -> NameRef<'s>
+        ensures { result ≡ name.now }
+    {
+        NameRef { name }
+    }
+
+    /// The name, as long as the script is lent.
+    pub fn as_str(&self) -> &'s str
+        ensures { result.now ≡ self.now }
+    {
+        self.name.as_str()
+    }
+}
 
 /// A body.
 #[derive(Drop)]

@@ -2,8 +2,10 @@
 #![tactic(auto)]
 
 pub mod ending;
+pub mod follow;
 pub mod lent;
 mod names;
 pub mod pair;
 pub mod performed;
+pub mod reached;
 pub mod world;

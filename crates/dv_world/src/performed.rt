@@ -1,3 +1,5 @@
+ghost use Rattle.std.specs.Prelude.{◌≡◌};
+
 use dv_journal::deferred_id::DeferredId;
 use dv_value::failure::Failure;
 use dv_value::value::Value;
@@ -13,4 +15,19 @@ pub enum Performed {
     Raised(Failure),
     /// A body gave this Deferred.
     Awaits(DeferredId),
+}
+
+impl Performed {
+    ghost use Rattle.dv_world.specs.Ending.{failed_with};
+
+    /// The failure that it came to, where it raised one or gave one.
+    pub fn into_failure(self) -> Option<Failure>
+        ensures { result ≡ failed_with self }
+    {
+        match self {
+            Performed::Gave(value) => value.into_failure(),
+            Performed::Raised(failure) => Some(failure),
+            Performed::Done | Performed::Awaits(_) => None,
+        }
+    }
 }

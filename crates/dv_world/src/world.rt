@@ -1,19 +1,22 @@
 ghost use Rattle.std.specs.Prelude.{◌≡◌, ◌<◌, ◌^◌, ◌-◌, length, IfOk, OnOk};
 ghost use Rattle.dv_value.specs.Failure.{plain_failure};
-ghost use Rattle.dv_world.specs.World.{unbound};
-ghost use Rattle.dv_world.specs.declared.performed.Performed.TheVariants.{Raised};
+ghost use Rattle.dv_world.specs.World.{cancelled, unbound};
+ghost use Rattle.dv_world.specs.declared.follow.Follow.TheVariants.{Raise};
 
+use crate::follow::Follow;
 use crate::lent::BodyRef;
 use crate::names::Names;
 use crate::pair::Pair;
 use crate::performed::Performed;
+use crate::reached::Reached;
 use dv_journal::deferred_id::DeferredId;
 use dv_journal::entry::Entry;
 use dv_journal::error::Stop;
 use dv_journal::journal::Journal;
 use dv_store::error::{StoreFault, UnpauseFault};
 use dv_store::record::Record;
-use dv_store::store::{Step, Store};
+use dv_store::store::{Fired, Step, Store};
+use dv_value::boxed::Boxed;
 use dv_value::class_id::ClassId;
 use dv_value::classes::Classes;
 use dv_value::failure::Failure;
@@ -51,7 +54,7 @@ impl<'s> Model for World<'s> {
 
 impl<'s> World<'s> {
     ghost use Rattle.dv_store.specs.Pausing.{pauses_of};
-    ghost use Rattle.dv_world.specs.World.{first_world, value_of, deferred_at, step, put, put_deferred, append, make, fire, pause, unpause, tell};
+    ghost use Rattle.dv_world.specs.World.{first_world, value_of, deferred_at, step, put, put_deferred, append, make, fire, fire_guarded, is_unfired, reached_from, cancel, pause, unpause, tell};
 
     /// A world in which nothing is made, and whose journal takes so much weight.
     pub fn new(alloc: Global, classes: &'s Classes, limit: u64) -> World<'s>
@@ -168,17 +171,17 @@ impl<'s> World<'s> {
         }
     }
 
-    /// Makes a Deferred, and binds its name to it, also where that was bound to another.
+    /// Makes a Deferred, which may have a canceller, and binds its name to it, also where that was bound to another.
     #[tactic(auto, unfolding(crate::specs::World::make))]
-    pub fn make(&mut self, name: &str) -> Result<(), AllocError>
+    pub fn make(&mut self, name: &str, canceller: Option<BodyRef<'s>>) -> Result<(), AllocError>
         requires { length self.old.records < 2 ^ 32 - 1 }
-        ensures { OnOk result (self.new ≡ make name.now self.old) }
+        ensures { OnOk result (self.new ≡ make name.now canceller.entry self.old) }
     {
         if self.stopped {
             return Ok(());
         }
         let shown = Text::of(self.alloc, name)?;
-        match self.store.make(&mut self.journal, Some(shown), None) {
+        match self.store.make(&mut self.journal, Some(shown), canceller) {
             Ok(id) => self.names.bind(name, id),
             Err(Stop::Limit) => {
                 self.stopped = true;
@@ -188,22 +191,103 @@ impl<'s> World<'s> {
         }
     }
 
-    /// Fires a Deferred, and doesn't settle. A second firing raises AlreadyCalledError, and the value is dropped.
+    /// Fires a Deferred, and doesn't settle. A further firing raises AlreadyCalledError, unless a cancel has asked for it
+    /// to be swallowed, and the value is dropped.
     #[tactic(auto, unfolding(crate::specs::World::fire))]
-    pub fn fire(&mut self, id: DeferredId, value: Value) -> Result<Performed, AllocError>
-        ensures { IfOk result (λ performed. (performed, self.new) ≡ fire id value self.old) }
+    pub fn fire(&mut self, id: DeferredId, value: Value) -> Result<Follow, AllocError>
+        ensures { IfOk result (λ follow. (follow, self.new) ≡ fire id value self.old) }
     {
         if self.stopped {
-            return Ok(Performed::Done);
+            return Ok(Follow::Nothing);
         }
         match self.store.fire(&mut self.journal, id, value) {
-            Ok(()) => Ok(Performed::Done),
-            Err(StoreFault::AlreadyCalled) => raised(self.alloc, ClassId::ALREADY_CALLED_ERROR, ""),
+            Ok(Fired::Set) => Ok(Follow::Settle),
+            Ok(Fired::Swallowed) => Ok(Follow::Nothing),
+            Err(StoreFault::AlreadyCalled) => refused(
+                self.alloc,
+                ClassId::ALREADY_CALLED_ERROR,
+                "",
+            ),
             Err(StoreFault::Limit) => {
                 self.stopped = true;
-                Ok(Performed::Done)
+                Ok(Follow::Nothing)
             }
             Err(StoreFault::OutOfMemory) => Err(AllocError),
+        }
+    }
+
+    /// Fires a Deferred with CancelledError, has its next firing swallowed, and doesn't settle. It is for one that is
+    /// cancelled, unfired, and without a canceller (Twisted: `Deferred.cancel`).
+    #[tactic(auto, unfolding(crate::specs::World::fire_guarded))]
+    pub fn fire_guarded(&mut self, id: DeferredId) -> Result<(), AllocError>
+        ensures { OnOk result (self.new ≡ fire_guarded id self.old) }
+    {
+        if self.stopped {
+            return Ok(());
+        }
+        let value = cancelled(self.alloc)?;
+        match self.store.fire(&mut self.journal, id, value) {
+            Ok(Fired::Set) => {
+                self.store.guard(id);
+                Ok(())
+            }
+            Ok(Fired::Swallowed) => Ok(()),
+            Err(StoreFault::AlreadyCalled) => Ok(()),
+            Err(StoreFault::Limit) => {
+                self.stopped = true;
+                Ok(())
+            }
+            Err(StoreFault::OutOfMemory) => Err(AllocError),
+        }
+    }
+
+    /// Whether a Deferred may still be fired; a stranger may not.
+    pub fn is_unfired(&self, id: DeferredId) -> bool
+        ensures { result ≡ is_unfired id self.now }
+    {
+        match self.store.record(id) {
+            None => false,
+            Some(record) => !record.fired,
+        }
+    }
+
+    /// Tells of a cancel, and answers whom it reaches: the first unfired Deferred on the walk along those that are waited
+    /// for.
+    #[tactic(auto, unfolding(crate::specs::World::cancel))]
+    pub fn cancel(&mut self, id: DeferredId) -> Result<Reached<'s>, AllocError>
+        ensures { IfOk result (λ reached. (reached, self.new) ≡ cancel id self.old) }
+    {
+        if self.stopped {
+            return Ok(Reached::Nothing);
+        }
+        match self.journal.write(Entry::Cancel(id)) {
+            Ok(()) => Ok(self.reached(id)),
+            Err(Stop::Limit) => {
+                self.stopped = true;
+                Ok(Reached::Nothing)
+            }
+            Err(Stop::OutOfMemory) => Err(AllocError),
+        }
+    }
+
+    /// Whom a cancel reaches.
+    fn reached(&self, id: DeferredId) -> Reached<'s>
+        ensures { result ≡ reached_from id self.now.records }
+    {
+        let Some(end) = self.store.end_of_chain(id) else {
+            return Reached::Nothing;
+        };
+        match self.store.record(end) {
+            None => Reached::Nothing,
+            Some(record) => {
+                if record.fired {
+                    return Reached::Nothing;
+                }
+                match &record.canceller {
+                    None => Reached::Fire(end),
+                    Some(body) => Reached::Run(end, BodyRef::new(body.get())),
+                }
+            }
         }
     }
 
@@ -228,22 +312,22 @@ impl<'s> World<'s> {
 
     /// Pauses a Deferred once less, and doesn't settle. One that isn't paused raises AssertionError.
     #[tactic(auto, unfolding(crate::specs::World::unpause))]
-    pub fn unpause(&mut self, id: DeferredId) -> Result<Performed, AllocError>
-        ensures { IfOk result (λ performed. (performed, self.new) ≡ unpause id self.old) }
+    pub fn unpause(&mut self, id: DeferredId) -> Result<Follow, AllocError>
+        ensures { IfOk result (λ follow. (follow, self.new) ≡ unpause id self.old) }
     {
         if self.stopped {
-            return Ok(Performed::Done);
+            return Ok(Follow::Nothing);
         }
         match self.store.unpause(&mut self.journal, id) {
-            Ok(()) => Ok(Performed::Done),
-            Err(UnpauseFault::NotPaused) => raised(
+            Ok(()) => Ok(Follow::Settle),
+            Err(UnpauseFault::NotPaused) => refused(
                 self.alloc,
                 ClassId::ASSERTION_ERROR,
                 "not paused",
             ),
             Err(UnpauseFault::Limit) => {
                 self.stopped = true;
-                Ok(Performed::Done)
+                Ok(Follow::Nothing)
             }
             Err(UnpauseFault::OutOfMemory) => Err(AllocError),
         }
@@ -281,12 +365,28 @@ impl<'s> World<'s> {
 pub fn unbound(alloc: Global, name: &str) -> Result<Performed, AllocError>
     ensures { IfOk result (λ p. p ≡ unbound name.now) }
 {
-    raised(alloc, ClassId::NAME_ERROR, name)
+    let failure = failure(alloc, ClassId::NAME_ERROR, name)?;
+    Ok(Performed::Raised(failure))
 }
 
-/// A failure that was raised.
-fn raised(alloc: Global, class: ClassId, message: &str) -> Result<Performed, AllocError>
-    ensures { IfOk result (λ p. p ≡ Raised (plain_failure class message.now)) }
+/// What a change that is refused raises.
+fn refused(alloc: Global, class: ClassId, message: &str) -> Result<Follow, AllocError>
+    ensures { IfOk result (λ f. f ≡ Raise (plain_failure class message.now)) }
 {
-    Ok(Performed::Raised(Failure::new(class, Text::of(alloc, message)?)))
+    Ok(Follow::Raise(failure(alloc, class, message)?))
+}
+
+/// What a Deferred is fired with that is cancelled.
+pub fn cancelled(alloc: Global) -> Result<Value, AllocError>
+    ensures { IfOk result (λ v. v ≡ cancelled) }
+{
+    let failure = failure(alloc, ClassId::CANCELLED_ERROR, "")?;
+    Ok(Value::Fault(Boxed::new(alloc, failure)?))
+}
+
+/// A failure of a class, with a message.
+fn failure(alloc: Global, class: ClassId, message: &str) -> Result<Failure, AllocError>
+    ensures { IfOk result (λ f. f ≡ plain_failure class message.now) }
+{
+    Ok(Failure::new(class, Text::of(alloc, message)?))
 }

@@ -51,8 +51,8 @@ fn a_refused_script_writes_nothing(rt: HostRuntime) -> Result<(), Fail> {
 
 // a script for each action, event, body and key that isn't performed yet
 static UNPERFORMED: [&str; 33] = [
-    r#"{"version":1,"events":[["deferred","d",{}]]}"#,
-    r#"{"version":1,"events":[["cancel","d"]]}"#,
+    r#"{"version":1,"events":[["deferred","d",{"do":[["lock","l"]]}]]}"#,
+    r#"{"version":1,"events":[["deferred","d",{"do":[["cancel","@"],["deferred","e",{"do":[["cancelCall","c"]]}]]}]]}"#,
     r#"{"version":1,"events":[["list","d",[],[]]]}"#,
     r#"{"version":1,"events":[["gather","d",[],[]]]}"#,
     r#"{"version":1,"events":[["maybe","d",{}]]}"#,
@@ -77,8 +77,8 @@ static UNPERFORMED: [&str; 33] = [
     r#"{"version":1,"events":[["thread","d",0,["sum",1]]]}"#,
     r#"{"version":1,"events":[["advance",0]]}"#,
     r#"{"version":1,"events":[["drain",0]]}"#,
-    r#"{"version":1,"events":[["addCallback","d",{"do":[["note","x"],["cancel","d"]]}]]}"#,
-    r#"{"version":1,"events":[["addErrback","d",{"do":[["deferred","e",{}]]}]]}"#,
+    r#"{"version":1,"events":[["addCallback","d",{"do":[["note","x"],["cancel","d"],["release","l"]]}]]}"#,
+    r#"{"version":1,"events":[["addErrback","d",{"do":[["deferred","e",{"do":[["stopLoop","p"]]}]]}]]}"#,
     r#"{"version":1,"events":[["addBoth","d",{"do":[["addBoth","d",{"do":[["lock","l"]]}]]}]]}"#,
     r#"{"version":1,"events":[["addCallbacks","d",{"do":[["maybe","d",{}]]},{}]]}"#,
     r#"{"version":1,"events":[["addCallbacks","d",{},{"do":[["inline","d",[]]]}]]}"#,

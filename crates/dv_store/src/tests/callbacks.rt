@@ -1,5 +1,5 @@
 use crate::error::StoreFault;
-use crate::store::{Step, Store};
+use crate::store::{Fired, Step, Store};
 use crate::tests::{
     Pair, both, callback_alone, errback_alone, failed_with, int_of, lines_of, name_of, run_by,
     with_two_pairs,
@@ -15,7 +15,7 @@ fn a_second_firing_is_refused_and_keeps_the_value(rt: HostRuntime) -> Result<(),
     let mut journal = Journal::new(alloc, 2000);
     let mut store: Store<Pair, u8> = Store::new(alloc);
     let id = store.make(&mut journal, None, None)?;
-    store.fire(&mut journal, id, Value::Int(1))?;
+    assert_eq!(rt; store.fire(&mut journal, id, Value::Int(1)), Ok(Fired::Set));
     assert_eq!(rt;
         store.fire(&mut journal, id, Value::Int(2)),
         Err(StoreFault::AlreadyCalled)

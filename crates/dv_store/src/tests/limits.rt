@@ -1,8 +1,9 @@
 use crate::error::{StoreFault, UnpauseFault};
-use crate::store::{Placed, Step, Store};
+use crate::store::{Fired, Placed, Step, Store};
 use crate::tests::world::{WEIGHT, World};
 use crate::tests::{
-    Pair, both, errback_alone, failed_with, handed_by, int_of, run_by, shown, with_two_pairs,
+    Pair, both, errback_alone, failed_with, handed_by, int_of, run_by, shown, swallows,
+    with_two_pairs,
 };
 use dv_journal::error::Stop;
 use dv_journal::journal::Journal;
@@ -39,7 +40,7 @@ fn no_pair_is_added_past_the_limit(rt: HostRuntime) -> Result<(), Fail> {
 #[test]
 fn no_deferred_is_fired_past_the_limit(rt: HostRuntime) -> Result<(), Fail> {
     let alloc = rt.alloc();
-    for (limit, fired) in [(7, Err(StoreFault::Limit)), (8, Ok(()))] {
+    for (limit, fired) in [(7, Err(StoreFault::Limit)), (8, Ok(Fired::Set))] {
         let mut journal = Journal::new(alloc, limit);
         let (mut store, id) = with_two_pairs(alloc, &mut journal, both(1), both(2))?;
         let before = shown(alloc, &store, &journal)?;
@@ -77,6 +78,39 @@ fn a_second_firing_past_the_limit_answers_the_limit(rt: HostRuntime) -> Result<(
         Err(StoreFault::Limit)
     );
     assert_eq!(rt; shown(alloc, &store, &journal)?.as_str(), before.as_str());
+    Ok(())
+}
+
+#[test]
+fn no_firing_is_swallowed_past_the_limit(rt: HostRuntime) -> Result<(), Fail> {
+    let alloc = rt.alloc();
+    for (limit, fired) in [
+        (WEIGHT + 2, Err(StoreFault::Limit)),
+        (WEIGHT + 3, Ok(Fired::Swallowed)),
+    ] {
+        let mut world = World::new(alloc, limit)?;
+        let second = world.second;
+        world.fire(second, Value::Int(7))?;
+        world.guard(second);
+        let before = world.shown(alloc)?;
+        let late = failed_with(alloc, "of more than the limit")?;
+        assert_eq!(rt; world.fire(second, late), fired, "at {limit}");
+        assert_eq!(rt;
+            world.shown(alloc)?.as_str() == before.as_str(),
+            fired.is_err(),
+            "at {limit}"
+        );
+        assert_eq!(rt;
+            swallows(&world.store, second),
+            fired.is_err(),
+            "at {limit}"
+        );
+        assert_eq!(rt;
+            world.told(alloc)?.ends_with(b"swallow #1\n"),
+            fired.is_ok(),
+            "at {limit}"
+        );
+    }
     Ok(())
 }
 

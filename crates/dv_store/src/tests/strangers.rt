@@ -1,4 +1,4 @@
-use crate::store::{Placed, Step, Store};
+use crate::store::{Fired, Placed, Step, Store};
 use crate::tests::world::{WEIGHT, World};
 use crate::tests::{Pair, both, shown, with_two_pairs};
 use dv_journal::deferred_id::DeferredId;
@@ -16,7 +16,10 @@ fn an_unknown_id_changes_nothing_and_tells_nothing(rt: HostRuntime) -> Result<()
         let stranger = DeferredId::new(number);
         assert!(rt; store.record(stranger).is_none());
         assert_eq!(rt; store.append(&mut journal, stranger, both(3)), Ok(()));
-        assert_eq!(rt; store.fire(&mut journal, stranger, Value::Int(1)), Ok(()));
+        assert_eq!(rt;
+            store.fire(&mut journal, stranger, Value::Int(1)),
+            Ok(Fired::Set)
+        );
         assert!(rt; matches!(store.step(&mut journal, stranger)?, Step::Nothing));
         assert_eq!(rt; store.put(&mut journal, stranger, Value::Int(1)), Ok(()));
         assert_eq!(rt; shown(alloc, &store, &journal)?.as_str(), before.as_str());
@@ -31,7 +34,12 @@ fn an_unknown_id_is_told_of_in_no_full_journal_either(rt: HostRuntime) -> Result
     let mut store: Store<Pair, u8> = Store::new(alloc);
     let stranger = DeferredId::new(0);
     assert_eq!(rt; store.append(&mut journal, stranger, both(3)), Ok(()));
-    assert_eq!(rt; store.fire(&mut journal, stranger, Value::Int(1)), Ok(()));
+    assert_eq!(rt;
+        store.fire(&mut journal, stranger, Value::Int(1)),
+        Ok(Fired::Set)
+    );
+    store.guard(stranger);
+    assert_eq!(rt; store.end_of_chain(stranger), Some(stranger));
     assert!(rt; matches!(store.step(&mut journal, stranger)?, Step::Nothing));
     assert_eq!(rt; store.put(&mut journal, stranger, Value::Int(1)), Ok(()));
     assert!(rt; journal.entries().is_empty());
@@ -69,6 +77,38 @@ fn no_unknown_id_is_paused_or_unpaused(rt: HostRuntime) -> Result<(), Fail> {
             assert_eq!(rt; world.unpause(stranger), Ok(()));
             assert_eq!(rt; world.shown(alloc)?.as_str(), before.as_str());
         }
+    }
+    Ok(())
+}
+
+#[test]
+fn no_unknown_id_is_guarded_or_fired_where_another_is_guarded(rt: HostRuntime) -> Result<(), Fail> {
+    let alloc = rt.alloc();
+    for limit in [WEIGHT, 2000] {
+        let mut world = World::new(alloc, limit)?;
+        let first = world.first;
+        world.guard(first);
+        let before = world.shown(alloc)?;
+        for number in [3, u32::MAX] {
+            let stranger = DeferredId::new(number);
+            world.guard(stranger);
+            assert_eq!(rt; world.fire(stranger, Value::Int(1)), Ok(Fired::Set));
+            assert_eq!(rt; world.shown(alloc)?.as_str(), before.as_str());
+        }
+    }
+    Ok(())
+}
+
+#[test]
+fn an_unknown_id_is_the_end_of_its_own_chain(rt: HostRuntime) -> Result<(), Fail> {
+    let alloc = rt.alloc();
+    let mut world = World::new(alloc, 2000)?;
+    let (first, second) = (world.first, world.second);
+    world.put_deferred(first, second)?;
+    world.put_deferred(second, second)?;
+    for number in [3, 4, u32::MAX] {
+        let stranger = DeferredId::new(number);
+        assert_eq!(rt; world.store.end_of_chain(stranger), Some(stranger));
     }
     Ok(())
 }

@@ -1,5 +1,5 @@
 use crate::error::{StoreFault, UnpauseFault};
-use crate::store::{Placed, Step, Store};
+use crate::store::{Fired, Placed, Step, Store};
 use crate::tests::{Pair, both, lines_of, pauses_of, shown};
 use dv_journal::deferred_id::DeferredId;
 use dv_journal::error::Stop;
@@ -49,8 +49,12 @@ impl World {
         self.store.append(&mut self.journal, id, pair)
     }
 
-    pub fn fire(&mut self, id: DeferredId, value: Value) -> Result<(), StoreFault> {
+    pub fn fire(&mut self, id: DeferredId, value: Value) -> Result<Fired, StoreFault> {
         self.store.fire(&mut self.journal, id, value)
+    }
+
+    pub fn guard(&mut self, id: DeferredId) {
+        self.store.guard(id);
     }
 
     pub fn step(&mut self, id: DeferredId) -> Result<Step<Pair>, Stop> {
