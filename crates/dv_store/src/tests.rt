@@ -53,22 +53,6 @@ fn both(number: u8) -> Pair {
     }
 }
 
-fn callback_alone(number: u8) -> Pair {
-    Pair {
-        number,
-        has_callback: true,
-        has_errback: false,
-    }
-}
-
-fn errback_alone(number: u8) -> Pair {
-    Pair {
-        number,
-        has_callback: false,
-        has_errback: true,
-    }
-}
-
 /// The whole number that a Deferred is fired with, if it is one.
 fn int_of(store: &Store<Pair, u8>, id: DeferredId) -> Option<i64> {
     match store.record(id)?.value {
@@ -139,11 +123,6 @@ fn swallows(store: &Store<Pair, u8>, id: DeferredId) -> bool {
         Some(record) => record.swallows,
         None => false,
     }
-}
-
-/// The number of a Deferred's canceller, if it has one.
-fn canceller_of(store: &Store<Pair, u8>, id: DeferredId) -> Option<u8> {
-    store.record(id)?.canceller
 }
 
 /// How often a Deferred is paused.

@@ -1,85 +1,10 @@
 use crate::error::StoreFault;
-use crate::store::{Fired, Step, Store};
-use crate::tests::{
-    Pair, both, callback_alone, errback_alone, failed_with, int_of, lines_of, name_of, run_by,
-    with_two_pairs,
-};
+use crate::store::{Step, Store};
+use crate::tests::{Pair, both, failed_with, lines_of, name_of, run_by};
 use dv_journal::journal::Journal;
 use dv_value::text::Text;
 use dv_value::value::Value;
 use std::test::Fail;
-
-#[test]
-fn a_second_firing_is_refused_and_keeps_the_value(rt: HostRuntime) -> Result<(), Fail> {
-    let alloc = rt.alloc();
-    let mut journal = Journal::new(alloc, 2000);
-    let mut store: Store<Pair, u8> = Store::new(alloc);
-    let id = store.make(&mut journal, None, None)?;
-    assert_eq!(rt; store.fire(&mut journal, id, Value::Int(1)), Ok(Fired::Set));
-    assert_eq!(rt;
-        store.fire(&mut journal, id, Value::Int(2)),
-        Err(StoreFault::AlreadyCalled)
-    );
-    assert_eq!(rt; int_of(&store, id), Some(1));
-    assert_eq!(rt;
-        lines_of(alloc, &journal)?.as_slice(),
-        b"new #0 -\nfire #0 ok 1\nrefuse #0\n".as_slice()
-    );
-    Ok(())
-}
-
-#[test]
-fn a_missing_side_passes_the_value_on_untold(rt: HostRuntime) -> Result<(), Fail> {
-    let alloc = rt.alloc();
-    let mut journal = Journal::new(alloc, 2000);
-    let (mut store, id) = with_two_pairs(alloc, &mut journal, errback_alone(1), both(2))?;
-    store.fire(&mut journal, id, Value::Int(1))?;
-    assert!(rt; matches!(store.step(&mut journal, id)?, Step::Passed));
-    assert_eq!(rt; journal.entries().len(), 4, "a pair that passes");
-    assert_eq!(rt; run_by(store.step(&mut journal, id)?), Some(2));
-    assert_eq!(rt;
-        lines_of(alloc, &journal)?.as_slice(),
-        b"new #0 -\nadd #0\nadd #0\nfire #0 ok 1\nrun #0\n".as_slice()
-    );
-    Ok(())
-}
-
-#[test]
-fn a_failure_passes_a_pair_without_an_errback(rt: HostRuntime) -> Result<(), Fail> {
-    let alloc = rt.alloc();
-    let mut journal = Journal::new(alloc, 2000);
-    let (mut store, id) = with_two_pairs(alloc, &mut journal, callback_alone(1), both(2))?;
-    store.fire(&mut journal, id, failed_with(alloc, "boom")?)?;
-    assert!(rt; matches!(store.step(&mut journal, id)?, Step::Passed));
-    assert_eq!(rt; run_by(store.step(&mut journal, id)?), Some(2));
-    Ok(())
-}
-
-#[test]
-fn no_pair_is_used_while_a_side_runs(rt: HostRuntime) -> Result<(), Fail> {
-    let alloc = rt.alloc();
-    let mut journal = Journal::new(alloc, 2000);
-    let (mut store, id) = with_two_pairs(alloc, &mut journal, both(1), both(2))?;
-    assert!(rt;
-        matches!(store.step(&mut journal, id)?, Step::Nothing),
-        "unfired"
-    );
-    store.fire(&mut journal, id, Value::Int(1))?;
-    assert_eq!(rt; run_by(store.step(&mut journal, id)?), Some(1));
-    assert!(rt;
-        matches!(store.step(&mut journal, id)?, Step::Nothing),
-        "a side runs"
-    );
-    store.put(&mut journal, id, Value::Int(7))?;
-    assert_eq!(rt; int_of(&store, id), Some(7));
-    assert_eq!(rt; run_by(store.step(&mut journal, id)?), Some(2));
-    store.put(&mut journal, id, Value::Int(8))?;
-    assert!(rt;
-        matches!(store.step(&mut journal, id)?, Step::Nothing),
-        "no pair"
-    );
-    Ok(())
-}
 
 #[test]
 fn records_come_out_in_order_of_making(rt: HostRuntime) -> Result<(), Fail> {

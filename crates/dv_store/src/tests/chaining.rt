@@ -1,10 +1,6 @@
-use crate::error::StoreFault;
 use crate::store::{Placed, Step};
 use crate::tests::world::World;
-use crate::tests::{
-    both, failed_with, handed_by, hands_to, int_of, is_null, is_running, pauses_of, run_by,
-    waits_for,
-};
+use crate::tests::{both, handed_by, hands_to, int_of, is_null, is_running, run_by, waits_for};
 use dv_value::value::Value;
 use std::alloc::Global;
 use std::test::Fail;
@@ -60,39 +56,6 @@ fn a_value_that_is_taken_leaves_null_behind(rt: HostRuntime) -> Result<(), Fail>
 }
 
 #[test]
-fn a_value_is_taken_once(rt: HostRuntime) -> Result<(), Fail> {
-    let alloc = rt.alloc();
-    let mut world = World::new(alloc, 2000)?;
-    let (first, second) = (world.first, world.second);
-    world.fire(second, Value::Int(7))?;
-    world.put_deferred(first, second)?;
-    let _ = world.step(first)?;
-    assert_eq!(rt; world.put_deferred(first, second), Ok(Placed::Taken));
-    assert!(rt; is_null(&world.store, first));
-    assert!(rt; is_null(&world.store, second));
-    assert_eq!(rt;
-        world.told(alloc)?.as_slice(),
-        b"fire #1 ok 7\ntake #0 #1 ok 7\nrun #0\ntake #0 #1 ok null\n".as_slice()
-    );
-    Ok(())
-}
-
-#[test]
-fn a_failure_that_is_taken_is_the_value(rt: HostRuntime) -> Result<(), Fail> {
-    let alloc = rt.alloc();
-    let mut world = World::new(alloc, 2000)?;
-    let (first, second) = (world.first, world.second);
-    world.fire(second, failed_with(alloc, "no")?)?;
-    assert_eq!(rt; world.put_deferred(first, second), Ok(Placed::Taken));
-    assert!(rt; is_null(&world.store, second));
-    assert_eq!(rt;
-        world.told(alloc)?.as_slice(),
-        b"fire #1 fail ValueError \"no\"\ntake #0 #1 fail ValueError \"no\"\n".as_slice()
-    );
-    Ok(())
-}
-
-#[test]
 fn a_deferred_without_a_value_to_take_is_waited_for(rt: HostRuntime) -> Result<(), Fail> {
     let alloc = rt.alloc();
     for pending in [Pending::Unfired, Pending::Paused, Pending::Waiting] {
@@ -129,50 +92,6 @@ fn a_deferred_without_a_value_to_take_is_waited_for(rt: HostRuntime) -> Result<(
     Ok(())
 }
 
-#[test]
-fn a_deferred_that_gave_itself_waits_for_good(rt: HostRuntime) -> Result<(), Fail> {
-    let alloc = rt.alloc();
-    let mut world = World::new(alloc, 2000)?;
-    let first = world.first;
-    assert_eq!(rt; world.put_deferred(first, first), Ok(Placed::Waits));
-    assert_eq!(rt; waits_for(&world.store, first), Some(0));
-    assert_eq!(rt; int_of(&world.store, first), Some(1));
-    assert!(rt; !is_running(&world.store, first));
-    assert!(rt; matches!(world.step(first)?, Step::Nothing));
-    assert_eq!(rt;
-        world.fire(first, Value::Int(2)),
-        Err(StoreFault::AlreadyCalled)
-    );
-    assert!(rt; matches!(world.step(first)?, Step::Nothing));
-    assert_eq!(rt;
-        world.told(alloc)?.as_slice(),
-        b"wait #0 #0\nrefuse #0\n".as_slice()
-    );
-    Ok(())
-}
-
-#[test]
-fn a_hand_over_gives_the_value_and_ends_the_wait(rt: HostRuntime) -> Result<(), Fail> {
-    let alloc = rt.alloc();
-    let mut world = World::new(alloc, 2000)?;
-    let (first, second) = (world.first, world.second);
-    world.put_deferred(first, second)?;
-    assert!(rt; matches!(world.step(second)?, Step::Nothing), "unfired");
-    world.fire(second, Value::Int(7))?;
-    assert_eq!(rt; handed_by(world.step(second)?), Some(0));
-    assert_eq!(rt; int_of(&world.store, first), Some(7));
-    assert!(rt; is_null(&world.store, second));
-    assert_eq!(rt; waits_for(&world.store, first), None);
-    assert_eq!(rt; hands_to(&world.store, second), None);
-    assert!(rt; matches!(world.step(second)?, Step::Nothing), "no item");
-    assert_eq!(rt; run_by(world.step(first)?), Some(2));
-    assert_eq!(rt;
-        world.told(alloc)?.as_slice(),
-        b"wait #0 #1\nfire #1 ok 7\nhand #1 #0 ok 7\nrun #0\n".as_slice()
-    );
-    Ok(())
-}
-
 const PAIRS_AROUND_A_HAND_OVER: &str = r#"add #1
 wait #0 #1
 add #1
@@ -182,31 +101,6 @@ set #1 fail ValueError "boom"
 hand #1 #0 fail ValueError "boom"
 run #1
 "#;
-
-#[test]
-fn a_hand_over_comes_in_its_turn(rt: HostRuntime) -> Result<(), Fail> {
-    let alloc = rt.alloc();
-    let mut world = World::new(alloc, 2000)?;
-    let (first, second) = (world.first, world.second);
-    world.append(second, both(3))?;
-    world.put_deferred(first, second)?;
-    world.append(second, both(4))?;
-    world.fire(second, Value::Int(7))?;
-    assert_eq!(rt; run_by(world.step(second)?), Some(3));
-    assert_eq!(rt; waits_for(&world.store, first), Some(1));
-    world.put(second, failed_with(alloc, "boom")?)?;
-    assert_eq!(rt; handed_by(world.step(second)?), Some(0));
-    assert_eq!(rt; run_by(world.step(second)?), Some(4));
-    assert!(rt;
-        is_null(&world.store, second),
-        "what the last pair is given"
-    );
-    assert_eq!(rt;
-        world.told(alloc)?.as_slice(),
-        PAIRS_AROUND_A_HAND_OVER.as_bytes()
-    );
-    Ok(())
-}
 
 #[test]
 fn a_value_is_handed_down_a_chain(rt: HostRuntime) -> Result<(), Fail> {
@@ -221,42 +115,5 @@ fn a_value_is_handed_down_a_chain(rt: HostRuntime) -> Result<(), Fail> {
     assert_eq!(rt; int_of(&world.store, first), Some(9));
     assert!(rt; is_null(&world.store, second));
     assert!(rt; is_null(&world.store, third));
-    Ok(())
-}
-
-#[test]
-fn a_hand_over_to_a_paused_deferred_keeps_the_value(rt: HostRuntime) -> Result<(), Fail> {
-    let alloc = rt.alloc();
-    let mut world = World::new(alloc, 2000)?;
-    let (first, second) = (world.first, world.second);
-    world.put_deferred(first, second)?;
-    world.pause(first)?;
-    world.fire(second, Value::Int(7))?;
-    assert_eq!(rt; handed_by(world.step(second)?), Some(0));
-    assert_eq!(rt; waits_for(&world.store, first), None);
-    assert_eq!(rt; pauses_of(&world.store, first), 1);
-    assert!(rt; matches!(world.step(first)?, Step::Nothing), "paused");
-    assert_eq!(rt; int_of(&world.store, first), Some(7));
-    world.unpause(first)?;
-    assert_eq!(rt; run_by(world.step(first)?), Some(2));
-    assert_eq!(rt; int_of(&world.store, first), Some(7));
-    Ok(())
-}
-
-#[test]
-fn what_is_shown_has_the_waits_the_pauses_and_the_hand_overs(rt: HostRuntime) -> Result<(), Fail> {
-    let alloc = rt.alloc();
-    let mut world = World::new(alloc, 2000)?;
-    let (first, second) = (world.first, world.second);
-    world.put_deferred(first, second)?;
-    world.pause(second)?;
-    let shown = format!(in alloc; "{:?}", world.store)?;
-    for part in [
-        "HandOver(DeferredId(0))",
-        "pauses: 1",
-        "waits_for: Some(DeferredId(1))",
-    ] {
-        assert!(rt; shown.contains(part), "{part} in {shown}");
-    }
     Ok(())
 }

@@ -1,8 +1,7 @@
 use crate::error::UnpauseFault;
 use crate::store::Step;
-use crate::tests::world::{WEIGHT, World};
+use crate::tests::world::World;
 use crate::tests::{both, int_of, pauses_of, run_by};
-use dv_journal::error::Stop;
 use dv_value::value::Value;
 use std::test::Fail;
 
@@ -67,44 +66,5 @@ fn one_that_is_not_paused_is_not_unpaused(rt: HostRuntime) -> Result<(), Fail> {
         world.told(alloc)?.as_slice(),
         b"pause #1\nunpause #1\npause #1\nunpause #1\n".as_slice()
     );
-    Ok(())
-}
-
-#[test]
-fn a_pause_stops_no_side_that_runs(rt: HostRuntime) -> Result<(), Fail> {
-    let alloc = rt.alloc();
-    let mut world = World::new(alloc, 2000)?;
-    let first = world.first;
-    world.pause(first)?;
-    assert_eq!(rt; world.put(first, Value::Int(5)), Ok(()));
-    assert_eq!(rt; int_of(&world.store, first), Some(5));
-    assert!(rt; matches!(world.step(first)?, Step::Nothing), "paused");
-    world.unpause(first)?;
-    assert_eq!(rt; run_by(world.step(first)?), Some(2));
-    Ok(())
-}
-
-#[test]
-fn pauses_are_counted_each_for_its_own_deferred(rt: HostRuntime) -> Result<(), Fail> {
-    let alloc = rt.alloc();
-    let mut world = World::new(alloc, 2000)?;
-    let (first, second, third) = (world.first, world.second, world.third);
-    world.pause(second)?;
-    world.pause(third)?;
-    world.pause(third)?;
-    assert_eq!(rt; pauses_of(&world.store, first), 0);
-    assert_eq!(rt; pauses_of(&world.store, second), 1);
-    assert_eq!(rt; pauses_of(&world.store, third), 2);
-    assert_eq!(rt; world.unpause(first), Err(UnpauseFault::NotPaused));
-    Ok(())
-}
-
-#[test]
-fn one_that_is_not_paused_is_called_so_in_a_full_journal_too(rt: HostRuntime) -> Result<(), Fail> {
-    let alloc = rt.alloc();
-    let mut world = World::new(alloc, WEIGHT)?;
-    let second = world.second;
-    assert_eq!(rt; world.pause(second), Err(Stop::Limit));
-    assert_eq!(rt; world.unpause(second), Err(UnpauseFault::NotPaused));
     Ok(())
 }

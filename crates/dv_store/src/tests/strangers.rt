@@ -1,6 +1,6 @@
-use crate::store::{Fired, Placed, Step, Store};
-use crate::tests::world::{WEIGHT, World};
-use crate::tests::{Pair, both, shown, with_two_pairs};
+use crate::store::{Fired, Step};
+use crate::tests::world::World;
+use crate::tests::{both, shown, with_two_pairs};
 use dv_journal::deferred_id::DeferredId;
 use dv_journal::journal::Journal;
 use dv_value::value::Value;
@@ -23,78 +23,6 @@ fn an_unknown_id_changes_nothing_and_tells_nothing(rt: HostRuntime) -> Result<()
         assert!(rt; matches!(store.step(&mut journal, stranger)?, Step::Nothing));
         assert_eq!(rt; store.put(&mut journal, stranger, Value::Int(1)), Ok(()));
         assert_eq!(rt; shown(alloc, &store, &journal)?.as_str(), before.as_str());
-    }
-    Ok(())
-}
-
-#[test]
-fn an_unknown_id_is_told_of_in_no_full_journal_either(rt: HostRuntime) -> Result<(), Fail> {
-    let alloc = rt.alloc();
-    let mut journal = Journal::new(alloc, 0);
-    let mut store: Store<Pair, u8> = Store::new(alloc);
-    let stranger = DeferredId::new(0);
-    assert_eq!(rt; store.append(&mut journal, stranger, both(3)), Ok(()));
-    assert_eq!(rt;
-        store.fire(&mut journal, stranger, Value::Int(1)),
-        Ok(Fired::Set)
-    );
-    store.guard(stranger);
-    assert_eq!(rt; store.end_of_chain(stranger), Some(stranger));
-    assert!(rt; matches!(store.step(&mut journal, stranger)?, Step::Nothing));
-    assert_eq!(rt; store.put(&mut journal, stranger, Value::Int(1)), Ok(()));
-    assert!(rt; journal.entries().is_empty());
-    assert_eq!(rt; store.len(), 0);
-    Ok(())
-}
-
-#[test]
-fn no_side_gives_or_gets_an_unknown_id(rt: HostRuntime) -> Result<(), Fail> {
-    let alloc = rt.alloc();
-    for limit in [WEIGHT, 2000] {
-        let mut world = World::new(alloc, limit)?;
-        let first = world.first;
-        let before = world.shown(alloc)?;
-        for number in [3, u32::MAX] {
-            let stranger = DeferredId::new(number);
-            for (id, given) in [(first, stranger), (stranger, first), (stranger, stranger)] {
-                assert_eq!(rt; world.put_deferred(id, given), Ok(Placed::Waits));
-                assert_eq!(rt; world.shown(alloc)?.as_str(), before.as_str());
-            }
-        }
-    }
-    Ok(())
-}
-
-#[test]
-fn no_unknown_id_is_paused_or_unpaused(rt: HostRuntime) -> Result<(), Fail> {
-    let alloc = rt.alloc();
-    for limit in [WEIGHT, 2000] {
-        let mut world = World::new(alloc, limit)?;
-        let before = world.shown(alloc)?;
-        for number in [3, u32::MAX] {
-            let stranger = DeferredId::new(number);
-            assert_eq!(rt; world.pause(stranger), Ok(()));
-            assert_eq!(rt; world.unpause(stranger), Ok(()));
-            assert_eq!(rt; world.shown(alloc)?.as_str(), before.as_str());
-        }
-    }
-    Ok(())
-}
-
-#[test]
-fn no_unknown_id_is_guarded_or_fired_where_another_is_guarded(rt: HostRuntime) -> Result<(), Fail> {
-    let alloc = rt.alloc();
-    for limit in [WEIGHT, 2000] {
-        let mut world = World::new(alloc, limit)?;
-        let first = world.first;
-        world.guard(first);
-        let before = world.shown(alloc)?;
-        for number in [3, u32::MAX] {
-            let stranger = DeferredId::new(number);
-            world.guard(stranger);
-            assert_eq!(rt; world.fire(stranger, Value::Int(1)), Ok(Fired::Set));
-            assert_eq!(rt; world.shown(alloc)?.as_str(), before.as_str());
-        }
     }
     Ok(())
 }
