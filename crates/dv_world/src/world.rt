@@ -251,8 +251,8 @@ impl<'s> World<'s> {
         }
     }
 
-    /// Tells of a cancel, and answers whom it reaches: the first unfired Deferred on the walk along those that are waited
-    /// for.
+    /// Tells of a cancel, and answers whom it reaches: the first Deferred that doesn't wait, on the walk along those that
+    /// are waited for, where there is one and it is unfired.
     #[tactic(auto, unfolding(crate::specs::World::cancel))]
     pub fn cancel(&mut self, id: DeferredId) -> Result<Reached<'s>, AllocError>
         ensures { IfOk result (λ reached. (reached, self.new) ≡ cancel id self.old) }
