@@ -3,6 +3,7 @@ ghost use Rattle.dv_value.specs.Failure.{plain_failure};
 ghost use Rattle.dv_world.specs.World.{cancelled, unbound};
 ghost use Rattle.dv_world.specs.declared.follow.Follow.TheVariants.{Raise};
 
+use crate::ending::fault;
 use crate::follow::Follow;
 use crate::lent::BodyRef;
 use crate::names::Names;
@@ -16,7 +17,6 @@ use dv_journal::journal::Journal;
 use dv_store::error::{StoreFault, UnpauseFault};
 use dv_store::record::Record;
 use dv_store::store::{Fired, Step, Store};
-use dv_value::boxed::Boxed;
 use dv_value::class_id::ClassId;
 use dv_value::classes::Classes;
 use dv_value::failure::Failure;
@@ -380,8 +380,7 @@ fn refused(alloc: Global, class: ClassId, message: &str) -> Result<Follow, Alloc
 pub fn cancelled(alloc: Global) -> Result<Value, AllocError>
     ensures { IfOk result (λ v. v ≡ cancelled) }
 {
-    let failure = failure(alloc, ClassId::CANCELLED_ERROR, "")?;
-    Ok(Value::Fault(Boxed::new(alloc, failure)?))
+    fault(alloc, ClassId::CANCELLED_ERROR, "")
 }
 
 /// A failure of a class, with a message.
