@@ -102,6 +102,15 @@ def nested_cancels(n):
     return script([["deferred", "d", {"do": [["cancel", "@"]]}], ["cancel", "d"]], n)
 
 
+def stop_inside_long_bodies(n):
+    return script([["deferred", "d", {"do": [["cancel", "@"]] + [["note", ""] for _ in range(1000)]}], ["cancel", "d"]], n)
+
+
+def refused_firings_of_a_long_list(n):
+    events = [["deferred", "e"], ["callback", "e", 1], ["deferred", "d", {"do": [["callback", "e", list(range(10000))]]}]]
+    return script(events + [["cancel", "d"] for _ in range(n)])
+
+
 def swallowed_firings(n):
     return script([event for _ in range(n) for event in (["deferred", "d"], ["cancel", "d"], ["callback", "d", 1])])
 
@@ -118,6 +127,8 @@ BENCHES = [
     ("cancels of a circle", cancels_of_a_circle, 1000),
     ("nested cancels", nested_cancels, 25000),
     ("swallowed firings", swallowed_firings, 700),
+    ("a stop inside long bodies", stop_inside_long_bodies, 10000),
+    ("refused firings of a list", refused_firings_of_a_long_list, 1000),
     ("pairs that pass", pairs_that_pass, 2000),
     ("refused firings", refused_firings, 2000),
     ("many notes", many_notes, 2600),

@@ -1,7 +1,8 @@
-//! Runs the script on standard input, and prints the outcome of each Deferred.
+//! Runs the script on standard input, and prints its journal and the outcome of each Deferred.
 #![tactic(auto)]
 
 use dv_journal::io_sink::IoSink;
+use dv_run::error::RunFault;
 use dv_run::exit::exit_of;
 use dv_run::io_source::IoSource;
 use dv_run::run::run;
@@ -10,26 +11,24 @@ use std::rt::Env;
 use std::{env, io};
 
 fn main(rt: HostRuntime) -> ExitCode {
-    match words(&rt) {
+    let (status, text) = match words(&rt) {
         Ok(0) => {
             let mut reader = IoSource::new(rt.stdin());
             let mut writer = IoSink::new(rt.stdout());
-            let (status, text) = exit_of(&run(rt.alloc(), &mut reader, &mut writer));
-            exit(&rt, status, text)
+            exit_of(&run(rt.alloc(), &mut reader, &mut writer))
         }
-        Err(error) if error.kind() == io::ErrorKind::OutOfMemory => exit(&rt, 3, "out of memory"),
-        Ok(_) | Err(_) => exit(&rt, 64, "usage: deferreds [WORKERS]"),
-    }
-}
-
-// how many words come after the program's name; an error for a word that isn't text
-fn words(rt: &(impl Env + Alloc)) -> io::Result<usize> {
-    Ok(env::args(rt)?.skip(1).count())
-}
-
-fn exit(rt: &impl Eprint, status: u8, text: &str) -> ExitCode {
+        Err(error) if error.kind() == io::ErrorKind::OutOfMemory => {
+            exit_of(&Err(RunFault::OutOfMemory))
+        }
+        Ok(_) | Err(_) => (64, "usage: deferreds [WORKERS]"),
+    };
     if !text.is_empty() {
         let _ = eprintln!(rt; "{text}");
     }
     ExitCode::from(status)
+}
+
+/// How many words come after the program's name. A word that isn't text is an error.
+fn words(rt: &(impl Env + Alloc)) -> io::Result<usize> {
+    Ok(env::args(rt)?.skip(1).count())
 }

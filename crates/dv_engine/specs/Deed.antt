@@ -3,16 +3,15 @@ use Rattle.dv_script.specs.declared.action.Action.{Action}
 use Rattle.dv_script.specs.declared.action.Action.TheOpen.{Action-F}
 use Rattle.dv_script.specs.declared.body.Body.{Body}
 use Rattle.dv_script.specs.declared.body.Statement.{Statement}
-use Rattle.dv_world.specs.Ending.{fault}
 use Rattle.dv_world.specs.Pair.{callback, errback, both}
 use Rattle.dv_engine.specs.declared.deed.Deed.{Deed}
-use Rattle.dv_engine.specs.declared.deed.Deed.TheVariants.{Idle, NoteOf, Make, FireWith, AddTo, ChainTo, PauseOf, UnpauseOf, CancelOf}
+use Rattle.dv_engine.specs.declared.deed.Deed.TheVariants.{Idle, NoteOf, Make, FireWith, FailWith, AddTo, ChainTo, PauseOf, UnpauseOf, CancelOf}
 
 -- what an action comes to; a pair of `addBoth` has the same body on both sides
 abbrev pub deed_of : Action-F Action Statement Body → Deed
 deed_of (Action-F.Deferred name canceller) = Make name canceller
 deed_of (Action-F.Callback name value) = FireWith name value
-deed_of (Action-F.Errback name class message) = FireWith name (fault class message)
+deed_of (Action-F.Errback name class message) = FailWith name class message
 deed_of (Action-F.AddCallback name body) = AddTo name (callback body)
 deed_of (Action-F.AddErrback name body) = AddTo name (errback body)
 deed_of (Action-F.AddBoth name body) = AddTo name (both body body)

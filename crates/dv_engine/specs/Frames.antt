@@ -1,5 +1,5 @@
 -- The stack of what is still to be done: how one turn of the runner goes on with the frame on top, and what a stack leads to. The first frame of a list is on top.
-use Rattle.std.specs.Prelude.{ℕ, ◌≡◌, if◌then◌else◌, List, [], ◌∷◌, Option, None, Some}
+use Rattle.std.specs.Prelude.{ℕ, ◌≡◌, true, if◌then◌else◌, List, [], ◌∷◌, Option, None, Some}
 use Rattle.dv_value.specs.Failure.{is_fault}
 use Rattle.dv_value.specs.declared.failure.Failure.{Failure}
 use Rattle.dv_value.specs.declared.value.Value.{Value, Null}
@@ -12,14 +12,14 @@ use Rattle.dv_store.specs.declared.store.Step.TheVariants.{Nothing, Passed, Run,
 use Rattle.dv_engine.specs.Cancelling.{canceller_ended_by}
 use Rattle.dv_engine.specs.Deed.{deed_of}
 use Rattle.dv_engine.specs.declared.deed.Deed.{Deed}
-use Rattle.dv_engine.specs.declared.deed.Deed.TheVariants.{Idle, NoteOf, Make, FireWith, AddTo, ChainTo, PauseOf, UnpauseOf, CancelOf}
+use Rattle.dv_engine.specs.declared.deed.Deed.TheVariants.{Idle, NoteOf, Make, FireWith, FailWith, AddTo, ChainTo, PauseOf, UnpauseOf, CancelOf}
 use Rattle.dv_engine.specs.Meaning.{meaning, Gives}
 use Rattle.dv_engine.specs.Settling.{place}
-use Rattle.dv_engine.specs.Task.{Settle, Perform}
+use Rattle.dv_engine.specs.Task.{Settle, Perform, Act}
 use Rattle.dv_engine.specs.declared.frame.Frame.{Frame}
 use Rattle.dv_engine.specs.declared.frame.Frame.TheVariants as frame
 use Rattle.dv_engine.specs.declared.frame.Rest.{Rest}
-use Rattle.dv_world.specs.Ending.{ended, failed_with}
+use Rattle.dv_world.specs.Ending.{fault, ended, failed_with}
 use Rattle.dv_world.specs.Pair.{side_for, chain}
 use Rattle.dv_world.specs.World.{World, deferred_at, step, make, fire, fire_guarded, is_unfired, cancelled, cancel, append, pause, unpause, tell, unbound, value_of}
 use Rattle.dv_world.specs.declared.follow.Follow.{Follow}
@@ -82,6 +82,8 @@ begun itself (NoteOf text) w below = (below, Done, tell (entry.Note text) w)
 begun itself (Make name canceller) w below = (below, Done, make name canceller w)
 begun itself (FireWith name value) w below =
     with_deferred (deferred_at itself name w) name w below (λ d. settle_next d (fire d value w).0 (fire d value w).1 below)
+begun itself (FailWith name class message) w below =
+    with_deferred (deferred_at itself name w) name w below (λ d. settle_next d (fire d (fault class message) w).0 (fire d (fault class message) w).1 below)
 begun itself (AddTo name pair) w below =
     with_deferred (deferred_at itself name w) name w below (λ d. (frame.Settle d ∷ below, Done, append d pair w))
 begun itself (ChainTo name next) w below =
@@ -137,3 +139,13 @@ Leads (frame.Canceller d) o w p u = CancellerLeads d (failed_with o) w p u
 abbrev pub AllLead : List Frame → Performed → World → Performed → World → Type 0
 AllLead [] o w p u = (p ≡ o) × (u ≡ w)
 AllLead (f ∷ below) o w p u = (q : Performed) × (v : World) × Leads f o w q v × AllLead below q v p u
+
+-- what a stack leads to, unless the run has stopped: then nobody asks what was come to
+abbrev pub LeadsUnlessStopped : List Frame → Performed → World → Option Performed → World → Type 0
+LeadsUnlessStopped stack o w (Some p) u = AllLead stack o w p u
+LeadsUnlessStopped stack o w None u = (u.stopped ≡ true) × (p : Performed) × AllLead stack o w p u
+
+-- what an action gives, in which `@` isn't bound, unless the run has stopped
+abbrev pub GivesUnlessStopped : Action → World → Option Performed → World → Type 0
+GivesUnlessStopped action w (Some p) u = Gives (Act None action) w p u
+GivesUnlessStopped action w None u = (u.stopped ≡ true) × (p : Performed) × Gives (Act None action) w p u

@@ -4,10 +4,9 @@ ghost use Rattle.dv_engine.specs.Deed.{deed_of};
 
 use dv_script::action::Action;
 use dv_script::body::Body;
+use dv_value::class_id::ClassId;
 use dv_value::text::Text;
-use dv_value::value::Value;
-use dv_world::ending::fault;
-use dv_world::lent::{BodyRef, NameRef};
+use dv_world::lent::{BodyRef, TextRef, ValueRef};
 use dv_world::pair::Pair;
 use std::alloc::{AllocError, Global};
 
@@ -19,19 +18,21 @@ pub enum Deed<'s> {
     /// A text is noted.
     NoteOf(Text),
     /// A Deferred is made, which may have a canceller.
-    Make(NameRef<'s>, Option<BodyRef<'s>>),
-    /// A Deferred is fired with a value, a failure too.
-    FireWith(NameRef<'s>, Value),
+    Make(TextRef<'s>, Option<BodyRef<'s>>),
+    /// A Deferred is fired with a value.
+    FireWith(TextRef<'s>, ValueRef<'s>),
+    /// A Deferred is fired with a failure of a class, with a message.
+    FailWith(TextRef<'s>, ClassId, TextRef<'s>),
     /// A pair is added to a Deferred.
-    AddTo(NameRef<'s>, Pair<'s>),
+    AddTo(TextRef<'s>, Pair<'s>),
     /// A pair is added to a Deferred that fires another.
-    ChainTo(NameRef<'s>, NameRef<'s>),
+    ChainTo(TextRef<'s>, TextRef<'s>),
     /// A Deferred is paused once more.
-    PauseOf(NameRef<'s>),
+    PauseOf(TextRef<'s>),
     /// A Deferred is paused once less.
-    UnpauseOf(NameRef<'s>),
+    UnpauseOf(TextRef<'s>),
     /// A Deferred is cancelled.
-    CancelOf(NameRef<'s>),
+    CancelOf(TextRef<'s>),
 }
 
 impl<'s> Deed<'s> {
@@ -41,33 +42,32 @@ impl<'s> Deed<'s> {
     {
         match action {
             Action::Deferred(name, canceller) => {
-                Ok(Deed::Make(NameRef::new(name), canceller_of(canceller)))
+                Ok(Deed::Make(TextRef::new(name), canceller_of(canceller)))
             }
             Action::Callback(name, value) => {
-                Ok(Deed::FireWith(NameRef::new(name), value.copy(alloc)?))
+                Ok(Deed::FireWith(TextRef::new(name), ValueRef::new(value)))
             }
             Action::Errback(name, class, message) => {
-                let value = fault(alloc, *class, message.as_str())?;
-                Ok(Deed::FireWith(NameRef::new(name), value))
+                Ok(Deed::FailWith(TextRef::new(name), *class, TextRef::new(message)))
             }
             Action::AddCallback(name, body) => {
-                Ok(Deed::AddTo(NameRef::new(name), Pair::callback(body)))
+                Ok(Deed::AddTo(TextRef::new(name), Pair::callback(body)))
             }
             Action::AddErrback(name, body) => {
-                Ok(Deed::AddTo(NameRef::new(name), Pair::errback(body)))
+                Ok(Deed::AddTo(TextRef::new(name), Pair::errback(body)))
             }
             Action::AddBoth(name, body) => {
-                Ok(Deed::AddTo(NameRef::new(name), Pair::both(body, body)))
+                Ok(Deed::AddTo(TextRef::new(name), Pair::both(body, body)))
             }
             Action::AddCallbacks(name, callback, errback) => {
-                Ok(Deed::AddTo(NameRef::new(name), Pair::both(callback, errback)))
+                Ok(Deed::AddTo(TextRef::new(name), Pair::both(callback, errback)))
             }
             Action::Chain(name, next) => {
-                Ok(Deed::ChainTo(NameRef::new(name), NameRef::new(next)))
+                Ok(Deed::ChainTo(TextRef::new(name), TextRef::new(next)))
             }
-            Action::Pause(name) => Ok(Deed::PauseOf(NameRef::new(name))),
-            Action::Unpause(name) => Ok(Deed::UnpauseOf(NameRef::new(name))),
-            Action::Cancel(name) => Ok(Deed::CancelOf(NameRef::new(name))),
+            Action::Pause(name) => Ok(Deed::PauseOf(TextRef::new(name))),
+            Action::Unpause(name) => Ok(Deed::UnpauseOf(TextRef::new(name))),
+            Action::Cancel(name) => Ok(Deed::CancelOf(TextRef::new(name))),
             Action::Note(text) => Ok(Deed::NoteOf(text.copy(alloc)?)),
             Action::List(_, _, _)
             | Action::Gather(_, _, _)

@@ -147,14 +147,16 @@ pub fn perform(alloc: Global, script: &Script) -> Result<Report, AllocError>
 }
 
 /// Performs an event, and tells of a failure that leaves it.
+#[tactic(auto, using(crate::proofs::Stopped::stopped_happens))]
 fn happen<'s>(alloc: Global, world: &mut World<'s>, event: &'s Event) -> Result<(), AllocError>
     requires bounded { Bounded world.old }
     ensures { OnOk result (Happens event.now world.old world.new) }
 {
     match event {
         Event::Action(action) => match act(alloc, world, action)? {
-            Performed::Done | Performed::Gave(_) | Performed::Awaits(_) => Ok(()),
-            Performed::Raised(failure) => world.tell(Entry::Unhandled(failure)),
+            None => Ok(()),
+            Some(Performed::Done | Performed::Gave(_) | Performed::Awaits(_)) => Ok(()),
+            Some(Performed::Raised(failure)) => world.tell(Entry::Unhandled(failure)),
         },
         Event::Advance(_) | Event::Drain(_) => Ok(()),
     }

@@ -1,8 +1,6 @@
-ghost use Rattle.std.specs.Prelude.{◌≡◌, None, [], ◌∷◌, IfOk};
+ghost use Rattle.std.specs.Prelude.{◌≡◌, [], ◌∷◌, IfOk};
 ghost use Rattle.dv_engine.specs.Bounds.{Bounded};
-ghost use Rattle.dv_engine.specs.Frames.{gone_on, rest_turned, turned, AllLead};
-ghost use Rattle.dv_engine.specs.Meaning.{Gives};
-ghost use Rattle.dv_engine.specs.Task.{Act};
+ghost use Rattle.dv_engine.specs.Frames.{gone_on, rest_turned, turned, LeadsUnlessStopped, GivesUnlessStopped};
 
 use crate::acting::begin;
 use crate::cancelling::end_canceller;
@@ -15,38 +13,46 @@ use dv_world::performed::Performed;
 use dv_world::world::World;
 use std::alloc::{AllocError, Global};
 
-/// Performs an action, in which `@` isn't bound, with all that follows from it. It is one loop over a stack of what is
-/// still to be done, so that what a run nests isn't on the machine's stack.
-#[tactic(auto, using(crate::proofs::FrameLaws::act_leads, crate::proofs::Turns::begun_bounded))]
+/// Performs an action, in which `@` isn't bound, with all that follows from it; nothing where the run has stopped, or
+/// does by it. It is one loop over a stack of what is still to be done, so that what a run nests isn't on the machine's
+/// stack.
+#[tactic(auto, using(crate::proofs::Stopped::act_leads_unless, crate::proofs::Stopped::act_stopped, crate::proofs::Turns::begun_bounded))]
 pub fn act<'s>(
     alloc: Global,
     world: &mut World<'s>,
     action: &'s Action,
-) -> Result<Performed, AllocError>
+) -> Result<Option<Performed>, AllocError>
     requires bounded { Bounded world.old }
-    ensures { IfOk result (λ performed. Gives (Act None action.now) world.old performed world.new) }
+    ensures { IfOk result (λ performed. GivesUnlessStopped action.now world.old performed world.new) }
 {
+    if world.is_stopped() {
+        return Ok(None);
+    }
     let mut stack = Stack::new(alloc);
     let performed = begin(alloc, world, &mut stack, None, action)?;
     Ok(run(alloc, world, stack, performed)?)
 }
 
-/// Goes on until the stack is empty.
+/// Goes on until the stack is empty, or the run has stopped: then what is left on the stack would change nothing.
+#[tactic(auto, using(crate::proofs::Stopped::loop_stopped))]
 fn run<'s>(
     alloc: Global,
     world: &mut World<'s>,
     stack: Stack<Frame<'s>>,
     performed: Performed,
-) -> Result<Performed, AllocError>
+) -> Result<Option<Performed>, AllocError>
     requires bounded { Bounded world.old }
-    ensures { IfOk result (λ last. AllLead stack.entry performed world.old last world.new) }
+    ensures { IfOk result (λ last. LeadsUnlessStopped stack.entry performed world.old last world.new) }
 {
     let mut stack = stack;
     let mut last = performed;
-    while let Some(frame) = stack.pop() {
+    'turns: while !world.is_stopped() {
+        let Some(frame) = stack.pop() else {
+            return Ok(Some(last));
+        };
         last = turn(alloc, world, &mut stack, frame, last)?;
     }
-    Ok(last)
+    Ok(None)
 }
 
 /// Goes on with the frame that was on top, which gets what was come to above it.

@@ -49,5 +49,11 @@ prefix_next a b c text part rest after so_far next more =
     let (left, (taken, grew, whole)) = more in
     (left ++ after, but_next a b c text taken rest (left ++ after) so_far (next ∙ ap (λ (l : List ℕ). l ++ after) whole ∙ append_assoc taken left after) grew)
 
+-- of the next part of the text all was taken but for a rest of it
+pub but_cut : (a b c : Option (List ℕ)) (text part left after : List ℕ) →
+    AppendsBut a b text (part ++ after) → AppendsBut b c part left → AppendsBut a c text (left ++ after)
+but_cut a b c text part left after so_far more =
+    but_next a b c text more.0 (part ++ after) (left ++ after) so_far (ap (λ (l : List ℕ). l ++ after) more.2 ∙ append_assoc more.0 left after) more.1
+
 -- what the goals of a loop over writes cite
 pub ruleset pieces = (but_kept, but_all, but_nothing, fails)

@@ -28,6 +28,10 @@ AppendsBut old new text rest = (part : List ℕ) × Appends old new part × (tex
 abbrev pub AppendsPrefix : Option (List ℕ) → Option (List ℕ) → List ℕ → Type 0
 AppendsPrefix old new text = (rest : List ℕ) × AppendsBut old new text rest
 
+-- how many bytes of lines are gathered before they are written
+abbrev pub piece_size : ℕ
+piece_size = 4096
+
 -- a writer or a reader of std, and how often it has failed
 pub record Counted (T : Type 0) : Type 0 where
   pub inner : T

@@ -8,6 +8,7 @@ pub enum Stop {
     /// The entry would pass the journal's limit.
     #[error("journal limit reached")]
     Limit,
+    /// Memory was refused.
     #[error("out of memory")]
     OutOfMemory,
 }
@@ -29,6 +30,7 @@ pub enum PrintFault {
     /// The sink failed, or took no byte.
     #[error("write failed")]
     WriteFault,
+    /// Memory was refused. The sink hasn't failed.
     #[error("out of memory")]
     OutOfMemory,
 }

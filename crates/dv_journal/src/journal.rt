@@ -8,15 +8,12 @@ ghost use Rattle.dv_journal.specs.Line.{text_of};
 use crate::entry::Entry;
 use crate::error::{PrintFault, Stop};
 use crate::line::write_line;
-use crate::sink::{Sink, write_all};
+use crate::sink::{Sink, write_all, write_when_full};
 use dv_value::classes::Classes;
 use dv_value::items::Items;
 use dv_value::value::Value;
 use std::alloc::Global;
 use std::marker::Model;
-
-// how many bytes of lines are gathered before they are written
-const PIECE: usize = 4096;
 
 /// What happened in a run, in order, up to a limit.
 #[derive(Debug, Drop)]
@@ -123,14 +120,12 @@ impl Journal {
         ensures kept { OnOk result (W.failures sink.new ≡ W.failures sink.old) }
         ensures err { OnErr result (AppendsPrefix (W.taken sink.old) (W.taken sink.new) (text_of classes.now self.now.entries)) }
         ensures cause { IsErrOf result PrintFault.WriteFault → HasFailed (W.failures sink.old) (W.failures sink.new) }
+        ensures memory { IsErrOf result PrintFault.OutOfMemory → W.failures sink.new ≡ W.failures sink.old }
     {
         let mut gathered = String::new(self.alloc);
         for entry in self.entries.as_slice() {
             write_line(self.alloc, classes, &mut gathered, entry)?;
-            if gathered.len() >= PIECE {
-                write_all(sink, gathered.as_bytes())?;
-                gathered.clear();
-            }
+            write_when_full(sink, &mut gathered)?;
         }
         write_all(sink, gathered.as_bytes())?;
         Ok(())

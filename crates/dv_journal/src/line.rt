@@ -1,13 +1,18 @@
-ghost use Rattle.std.specs.Prelude.{◌≡◌, ◌++◌, OnOk, string_bytes};
-ghost use Rattle.dv_journal.specs.Line.{name_text, bound_text, words_of, line_of};
+ghost use Rattle.std.specs.Fmt.{decimal};
+ghost use Rattle.std.specs.Prelude.{◌≡◌, ◌++◌, OnOk, codes, string_bytes};
+ghost use Rattle.dv_value.specs.ValueText.{outcome};
+ghost use Rattle.dv_journal.specs.Line.{hash, name_text, bound_text, words_of, line_of};
 
+use crate::deferred_id::DeferredId;
 use crate::entry::Entry;
 use dv_value::classes::Classes;
 use dv_value::text::Text;
+use dv_value::value::Value;
 use dv_value::value_text::{write_failure, write_json, write_outcome, write_string};
 use std::alloc::{AllocError, Global};
 
-fn shown_name(name: &Option<Text>) -> &str
+/// What a line shows of a Deferred's name: a dash where it has none.
+pub fn shown_name(name: &Option<Text>) -> &str
     ensures { result.now ≡ name_text name.now }
 {
     match name {
@@ -25,6 +30,127 @@ fn write_bound(out: &mut String, most: Option<u32>) -> Result<(), AllocError>
     }
 }
 
+/// Adds a word and a Deferred.
+fn write_id(out: &mut String, word: &str, id: DeferredId) -> Result<(), AllocError>
+    ensures { OnOk result (string_bytes out.new ≡ string_bytes out.old ++ (word.now ++ hash id)) }
+{
+    write!(out, "{word}#{}", id.number())
+}
+
+/// Adds a word and two Deferreds.
+fn write_ids(
+    out: &mut String,
+    word: &str,
+    id: DeferredId,
+    other: DeferredId,
+) -> Result<(), AllocError>
+    ensures { OnOk result (string_bytes out.new ≡ string_bytes out.old ++ (word.now ++ hash id ++ codes " " ++ hash other)) }
+{
+    write!(out, "{word}#{} #{}", id.number(), other.number())
+}
+
+/// Adds a word, a Deferred, and the name that it has.
+fn write_id_and_name(
+    out: &mut String,
+    word: &str,
+    id: DeferredId,
+    name: &Option<Text>,
+) -> Result<(), AllocError>
+    ensures { OnOk result (string_bytes out.new ≡ string_bytes out.old ++ (word.now ++ hash id ++ codes " " ++ name_text name.now)) }
+{
+    write!(out, "{word}#{} {}", id.number(), shown_name(name))
+}
+
+/// Adds a word, a Deferred, and what it has.
+fn write_id_and_outcome(
+    alloc: Global,
+    classes: &Classes,
+    out: &mut String,
+    word: &str,
+    id: DeferredId,
+    value: &Value,
+) -> Result<(), AllocError>
+    ensures { OnOk result (string_bytes out.new ≡ string_bytes out.old ++ (word.now ++ hash id ++ codes " " ++ outcome classes.now value.now)) }
+{
+    write!(out, "{word}#{} ", id.number())?;
+    write_outcome(alloc, classes, out, value)
+}
+
+/// Adds a word, two Deferreds, and what the second has from the first, or the first from the second.
+fn write_ids_and_outcome(
+    alloc: Global,
+    classes: &Classes,
+    out: &mut String,
+    word: &str,
+    ids: (DeferredId, DeferredId),
+    value: &Value,
+) -> Result<(), AllocError>
+    ensures { OnOk result (string_bytes out.new ≡ string_bytes out.old ++ (word.now ++ hash ids.0 ++ codes " " ++ hash ids.1 ++ codes " " ++ outcome classes.now value.now)) }
+{
+    write!(out, "{word}#{} #{} ", ids.0.number(), ids.1.number())?;
+    write_outcome(alloc, classes, out, value)
+}
+
+/// Adds a word and the name of another object.
+fn write_named(out: &mut String, word: &str, name: &Text) -> Result<(), AllocError>
+    ensures { OnOk result (string_bytes out.new ≡ string_bytes out.old ++ (word.now ++ name.now)) }
+{
+    write!(out, "{word}{}", name.as_str())
+}
+
+/// Adds a word, the name of another object, and a Deferred.
+fn write_named_and_id(
+    out: &mut String,
+    word: &str,
+    name: &Text,
+    id: DeferredId,
+) -> Result<(), AllocError>
+    ensures { OnOk result (string_bytes out.new ≡ string_bytes out.old ++ (word.now ++ name.now ++ codes " " ++ hash id)) }
+{
+    write!(out, "{word}{} #{}", name.as_str(), id.number())
+}
+
+/// Adds a word, the name of another object, and a number.
+fn write_named_and_number(
+    out: &mut String,
+    word: &str,
+    name: &Text,
+    number: u64,
+) -> Result<(), AllocError>
+    ensures { OnOk result (string_bytes out.new ≡ string_bytes out.old ++ (word.now ++ name.now ++ codes " " ++ decimal number)) }
+{
+    write!(out, "{word}{} {number}", name.as_str())
+}
+
+/// Adds a word and a number.
+fn write_number(out: &mut String, word: &str, number: u64) -> Result<(), AllocError>
+    ensures { OnOk result (string_bytes out.new ≡ string_bytes out.old ++ (word.now ++ decimal number)) }
+{
+    write!(out, "{word}{number}")
+}
+
+/// Adds a word and two numbers.
+fn write_numbers(out: &mut String, word: &str, number: u64, other: u64) -> Result<(), AllocError>
+    ensures { OnOk result (string_bytes out.new ≡ string_bytes out.old ++ (word.now ++ decimal number ++ codes " " ++ decimal other)) }
+{
+    write!(out, "{word}{number} {other}")
+}
+
+/// Adds the bounds of a queue.
+fn write_queue(
+    out: &mut String,
+    name: &Text,
+    most_stored: Option<u32>,
+    most_waiting: Option<u32>,
+) -> Result<(), AllocError>
+    ensures { OnOk result (string_bytes out.new ≡ string_bytes out.old ++ (codes "queue " ++ name.now ++ codes " " ++ bound_text most_stored ++ codes " " ++ bound_text most_waiting)) }
+{
+    write!(out, "queue {} ", name.as_str())?;
+    write_bound(out, most_stored)?;
+    write!(out, " ")?;
+    write_bound(out, most_waiting)
+}
+
 fn write_words(
     alloc: Global,
     classes: &Classes,
@@ -34,32 +160,24 @@ fn write_words(
     ensures { OnOk result (string_bytes out.new ≡ string_bytes out.old ++ words_of classes.now entry.now) }
 {
     match entry {
-        Entry::New(id, name) => write!(out, "new #{} {}", id.number(), shown_name(name)),
-        Entry::Name(id, name) => write!(out, "name #{} {}", id.number(), shown_name(name)),
-        Entry::Add(id) => write!(out, "add #{}", id.number()),
-        Entry::Fire(id, value) => {
-            write!(out, "fire #{} ", id.number())?;
-            write_outcome(alloc, classes, out, value)
-        }
-        Entry::Swallow(id) => write!(out, "swallow #{}", id.number()),
-        Entry::Refuse(id) => write!(out, "refuse #{}", id.number()),
-        Entry::Run(id) => write!(out, "run #{}", id.number()),
-        Entry::Set(id, value) => {
-            write!(out, "set #{} ", id.number())?;
-            write_outcome(alloc, classes, out, value)
-        }
+        Entry::New(id, name) => write_id_and_name(out, "new ", *id, name),
+        Entry::Name(id, name) => write_id_and_name(out, "name ", *id, name),
+        Entry::Add(id) => write_id(out, "add ", *id),
+        Entry::Fire(id, value) => write_id_and_outcome(alloc, classes, out, "fire ", *id, value),
+        Entry::Swallow(id) => write_id(out, "swallow ", *id),
+        Entry::Refuse(id) => write_id(out, "refuse ", *id),
+        Entry::Run(id) => write_id(out, "run ", *id),
+        Entry::Set(id, value) => write_id_and_outcome(alloc, classes, out, "set ", *id, value),
         Entry::Take(id, from, value) => {
-            write!(out, "take #{} #{} ", id.number(), from.number())?;
-            write_outcome(alloc, classes, out, value)
+            write_ids_and_outcome(alloc, classes, out, "take ", (*id, *from), value)
         }
-        Entry::Wait(id, on) => write!(out, "wait #{} #{}", id.number(), on.number()),
+        Entry::Wait(id, on) => write_ids(out, "wait ", *id, *on),
         Entry::Hand(from, id, value) => {
-            write!(out, "hand #{} #{} ", from.number(), id.number())?;
-            write_outcome(alloc, classes, out, value)
+            write_ids_and_outcome(alloc, classes, out, "hand ", (*from, *id), value)
         }
-        Entry::Pause(id) => write!(out, "pause #{}", id.number()),
-        Entry::Unpause(id) => write!(out, "unpause #{}", id.number()),
-        Entry::Cancel(id) => write!(out, "cancel #{}", id.number()),
+        Entry::Pause(id) => write_id(out, "pause ", *id),
+        Entry::Unpause(id) => write_id(out, "unpause ", *id),
+        Entry::Cancel(id) => write_id(out, "cancel ", *id),
         Entry::Note(text) => {
             write!(out, "note ")?;
             write_string(alloc, out, text.as_str())
@@ -68,47 +186,51 @@ fn write_words(
             write!(out, "unhandled ")?;
             write_failure(alloc, classes, out, failure)
         }
-        Entry::Lock(name) => write!(out, "lock {}", name.as_str()),
-        Entry::Semaphore(name, tokens) => write!(out, "semaphore {} {tokens}", name.as_str()),
-        Entry::Acquire(name, id) => write!(out, "acquire {} #{}", name.as_str(), id.number()),
-        Entry::Release(name) => write!(out, "release {}", name.as_str()),
+        Entry::Lock(name) => write_named(out, "lock ", name),
+        Entry::Semaphore(name, tokens) => {
+            write_named_and_number(out, "semaphore ", name, u64::from(*tokens))
+        }
+        Entry::Acquire(name, id) => write_named_and_id(out, "acquire ", name, *id),
+        Entry::Release(name) => write_named(out, "release ", name),
         Entry::Queue(name, most_stored, most_waiting) => {
-            write!(out, "queue {} ", name.as_str())?;
-            write_bound(out, *most_stored)?;
-            write!(out, " ")?;
-            write_bound(out, *most_waiting)
+            write_queue(out, name, *most_stored, *most_waiting)
         }
         Entry::Put(name, value) => {
             write!(out, "put {} ", name.as_str())?;
             write_json(alloc, classes, out, value)
         }
-        Entry::Get(name, id) => write!(out, "get {} #{}", name.as_str(), id.number()),
-        Entry::LaterCall(name, due) => write!(out, "later call {} {due}", name.as_str()),
-        Entry::LaterLoop(name, due) => write!(out, "later loop {} {due}", name.as_str()),
-        Entry::LaterTick(due) => write!(out, "later tick {due}"),
-        Entry::LaterJob(job, due) => write!(out, "later job {job} {due}"),
-        Entry::Uncall(name) => write!(out, "uncall {}", name.as_str()),
-        Entry::Call(name) => write!(out, "call {}", name.as_str()),
+        Entry::Get(name, id) => write_named_and_id(out, "get ", name, *id),
+        Entry::LaterCall(name, due) => write_named_and_number(out, "later call ", name, *due),
+        Entry::LaterLoop(name, due) => write_named_and_number(out, "later loop ", name, *due),
+        Entry::LaterTick(due) => write_number(out, "later tick ", *due),
+        Entry::LaterJob(job, due) => write_numbers(out, "later job ", u64::from(*job), *due),
+        Entry::Uncall(name) => write_named(out, "uncall ", name),
+        Entry::Call(name) => write_named(out, "call ", name),
         Entry::Tick => write!(out, "tick"),
-        Entry::Deliver(job) => write!(out, "deliver {job}"),
-        Entry::Loop(name, id) => write!(out, "loop {} #{}", name.as_str(), id.number()),
-        Entry::Turn(name) => write!(out, "turn {}", name.as_str()),
-        Entry::Stop(name) => write!(out, "stop {}", name.as_str()),
-        Entry::Task(name) => write!(out, "task {}", name.as_str()),
-        Entry::Step(name) => write!(out, "step {}", name.as_str()),
-        Entry::Hold(name, id) => write!(out, "hold {} #{}", name.as_str(), id.number()),
+        Entry::Deliver(job) => write_number(out, "deliver ", u64::from(*job)),
+        Entry::Loop(name, id) => write_named_and_id(out, "loop ", name, *id),
+        Entry::Turn(name) => write_named(out, "turn ", name),
+        Entry::Stop(name) => write_named(out, "stop ", name),
+        Entry::Task(name) => write_named(out, "task ", name),
+        Entry::Step(name) => write_named(out, "step ", name),
+        Entry::Hold(name, id) => write_named_and_id(out, "hold ", name, *id),
         Entry::End(name, value) => {
             write!(out, "end {} ", name.as_str())?;
             write_outcome(alloc, classes, out, value)
         }
-        Entry::PauseTask(name) => write!(out, "pausetask {}", name.as_str()),
-        Entry::ResumeTask(name) => write!(out, "resumetask {}", name.as_str()),
-        Entry::WhenDone(name, id) => write!(out, "whendone {} #{}", name.as_str(), id.number()),
-        Entry::Await(id, on) => write!(out, "await #{} #{}", id.number(), on.number()),
-        Entry::Job(job, id) => write!(out, "job {job} #{}", id.number()),
-        Entry::Advance(time) => write!(out, "advance {time}"),
+        Entry::PauseTask(name) => write_named(out, "pausetask ", name),
+        Entry::ResumeTask(name) => write_named(out, "resumetask ", name),
+        Entry::WhenDone(name, id) => write_named_and_id(out, "whendone ", name, *id),
+        Entry::Await(id, on) => write_ids(out, "await ", *id, *on),
+        Entry::Job(job, id) => {
+            write_number(out, "job ", u64::from(*job))?;
+            write_id(out, " ", *id)
+        }
+        Entry::Advance(time) => write_number(out, "advance ", *time),
         Entry::Drain => write!(out, "drain"),
-        Entry::Post(caller, index) => write!(out, "post {caller} {index}"),
+        Entry::Post(caller, index) => {
+            write_numbers(out, "post ", u64::from(*caller), u64::from(*index))
+        }
     }
 }
 

@@ -1,14 +1,11 @@
 -- How a run ends, by how its parts do.
-use Rattle.std.proofs.Common.{◌≡◌, ◌≢◌, ℕ, true, false, List, ◌++◌, inl, inr, refl, ap, ◌∙◌}
+use Rattle.std.proofs.Common.{◌≡◌, ◌≢◌, ℕ, true, false, List, Ok, Err, inl, inr, refl}
 use Rattle.std.proofs.KnownBytes.{Keeps-refl}
 use Rattle.std.specs.Io.KnownBytes.{Appends}
 use Rattle.dv_engine.specs.Performs.{performs}
 use Rattle.dv_engine.specs.Report.{Reports}
-use Rattle.dv_engine.specs.declared.report.Outcome.{Outcome}
 use Rattle.dv_engine.specs.declared.report.Report.{Report}
-use Rattle.dv_journal.specs.Journal.{Written}
-use Rattle.dv_journal.specs.Line.{text_of}
-use Rattle.dv_journal.specs.Sink.{AppendsPrefix}
+use Rattle.dv_journal.specs.Sink.{AppendsPrefix, HasFailed}
 use Rattle.dv_journal.specs.declared.error.PrintFault.{PrintFault}
 use Rattle.dv_journal.specs.declared.error.PrintFault.TheVariants as printing
 use Rattle.dv_script.specs.Refusal.{Says, Refuses}
@@ -16,11 +13,10 @@ use Rattle.dv_script.specs.declared.error.ScriptFault.{ScriptFault}
 use Rattle.dv_script.specs.declared.error.ScriptFault.TheVariants as script
 use Rattle.dv_script.specs.declared.script.Script.{Script}
 use Rattle.dv_run.specs.Faults.{of_read, of_script, of_print}
-use Rattle.dv_run.specs.Output.{output, report_text}
-use Rattle.dv_run.specs.Run.{Told, most_read, ended_by, SaysText, Prints, RefusesInput, GivesUp}
+use Rattle.dv_run.specs.Output.{report_text}
+use Rattle.dv_run.specs.Run.{Told, most_read, SaysReport, Prints, RefusesInput, GivesUp, ReaderFailed, WriterFailed}
 use Rattle.dv_run.specs.Source.{IsFrontOf}
 use Rattle.dv_run.specs.declared.error.RunFault.TheVariants.{ScriptRefused, OutOfMemory}
-use Rattle.dv_run.specs.declared.run.Ended.{Ended}
 use Rattle.dv_run.specs.declared.source.ReadError.{ReadError}
 use Rattle.dv_run.specs.declared.source.ReadError.TheVariants as reading
 
@@ -29,6 +25,7 @@ pub after_read : (input old : Told) (error : ReadError) → GivesUp (of_read err
 after_read input old reading.ReadFault = Keeps-refl old
 after_read input old reading.OutOfMemory = inl (Keeps-refl old)
 
+-- bytes that are refused, for a reason other than want of memory: nothing was written
 refused_as : (input old : Told) (bytes : List ℕ) (fault : ScriptFault) → IsFrontOf input most_read bytes → Refuses fault bytes → fault ≢ script.OutOfMemory → RefusesInput input old old fault
 refused_as input old bytes fault front refused reason = record { bytes = bytes; read = front; refused = inl refused; reason = reason; written = Keeps-refl old }
 
@@ -52,37 +49,98 @@ after_script input old bytes script.OutOfMemory front refused = inl (Keeps-refl 
 pub after_perform : (input old : Told) → GivesUp OutOfMemory input old old
 after_perform input old = inl (Keeps-refl old)
 
--- the text of the script that the input says
-says_text : (input : Told) (bytes : List ℕ) (read : Script) (report : Report) → IsFrontOf input most_read bytes → Says bytes read → performs read ≡ true → Reports read report
-    → SaysText input (report_text read.classes report) (ended_by report.stopped)
-says_text input bytes read report front says performed reports = record {
-  bytes = bytes;
-  script = read;
-  read = front;
-  says = says;
-  performed = performed;
-  is = record {
-    world = reports.world;
-    means = reports.means;
-    lines =
-        ap (λ (j : Written). text_of read.classes j.entries ++ output read.classes report.outcomes) reports.tells.journal
-        ∙ ap (λ (o : List Outcome). text_of read.classes reports.world.journal.entries ++ output read.classes o) reports.tells.outcomes;
-    how = ap ended_by reports.tells.stopped;
-  };
-}
+-- the report of the script that the input says
+says_report : (input : Told) (bytes : List ℕ) (read : Script) (report : Report) → IsFrontOf input most_read bytes → Says bytes read → performs read ≡ true → Reports read report → SaysReport input read report
+says_report input bytes read report front says performed reports =
+    record { bytes = bytes; read = front; says = says; performed = performed; reports = reports }
 
 -- a print that gave up: a prefix was written
 pub after_print : (input old new : Told) (bytes : List ℕ) (read : Script) (report : Report) (fault : PrintFault) → IsFrontOf input most_read bytes → Says bytes read → performs read ≡ true → Reports read report
     → AppendsPrefix old new (report_text read.classes report) → GivesUp (of_print fault) input old new
 after_print input old new bytes read report printing.WriteFault front says performed reports written =
-    record { text = _; ended = _; says = says_text input bytes read report front says performed reports; written = written }
+    record { script = read; report = report; says = says_report input bytes read report front says performed reports; written = written }
 after_print input old new bytes read report printing.OutOfMemory front says performed reports written =
-    inr (record { text = _; ended = _; says = says_text input bytes read report front says performed reports; written = written })
+    inr (record { script = read; report = report; says = says_report input bytes read report front says performed reports; written = written })
 
 -- all was written
-pub after_all : (input old new : Told) (bytes : List ℕ) (read : Script) (report : Report) (ended : Ended) → IsFrontOf input most_read bytes → Says bytes read → performs read ≡ true → Reports read report
-    → Appends old new (report_text read.classes report) → ended ≡ ended_by report.stopped → Prints input old new ended
-after_all input old new bytes read report ended front says performed reports written is =
-    rw is (record { text = _; says = says_text input bytes read report front says performed reports; written = written })
+pub after_all : (input old new : Told) (bytes : List ℕ) (read : Script) (report : Report) → IsFrontOf input most_read bytes → Says bytes read → performs read ≡ true → Reports read report
+    → Appends old new (report_text read.classes report) → Prints input old new report
+after_all input old new bytes read report front says performed reports written =
+    record { script = read; says = says_report input bytes read report front says performed reports; written = written }
 
-pub ruleset run_rules = (after_read, after_script, after_more, after_perform, after_print, after_all)
+-- what the reader's count says after a read that gave up
+pub reader_after_read : (error : ReadError) (old new : ℕ) → ((error ≡ reading.ReadFault) → HasFailed old new) → ((error ≡ reading.OutOfMemory) → new ≡ old) → ReaderFailed (Err (of_read error)) old new
+unfolding ReaderFailed
+reader_after_read reading.ReadFault old new failed kept = failed refl
+reader_after_read reading.OutOfMemory old new failed kept = kept refl
+
+-- and the writer's: it hasn't failed
+pub writer_after_read : (error : ReadError) (old : ℕ) → WriterFailed (Err (of_read error)) old old
+unfolding WriterFailed
+writer_after_read reading.ReadFault old = refl
+writer_after_read reading.OutOfMemory old = refl
+
+-- where a script is refused, the reader hasn't failed
+pub reader_after_script : (fault : ScriptFault) (old new : ℕ) → new ≡ old → ReaderFailed (Err (of_script fault)) old new
+unfolding ReaderFailed
+reader_after_script script.TooLong old new kept = kept
+reader_after_script script.NotJson old new kept = kept
+reader_after_script script.BadVersion old new kept = kept
+reader_after_script script.BadShape old new kept = kept
+reader_after_script script.TooMany old new kept = kept
+reader_after_script script.BadName old new kept = kept
+reader_after_script script.BadClass old new kept = kept
+reader_after_script script.OutOfMemory old new kept = kept
+
+-- nor has the writer
+pub writer_after_script : (fault : ScriptFault) (old : ℕ) → WriterFailed (Err (of_script fault)) old old
+unfolding WriterFailed
+writer_after_script script.TooLong old = refl
+writer_after_script script.NotJson old = refl
+writer_after_script script.BadVersion old = refl
+writer_after_script script.BadShape old = refl
+writer_after_script script.TooMany old = refl
+writer_after_script script.BadName old = refl
+writer_after_script script.BadClass old = refl
+writer_after_script script.OutOfMemory old = refl
+
+-- where a print gave up, the reader hasn't failed
+pub reader_after_print : (fault : PrintFault) (old new : ℕ) → new ≡ old → ReaderFailed (Err (of_print fault)) old new
+unfolding ReaderFailed
+reader_after_print printing.WriteFault old new kept = kept
+reader_after_print printing.OutOfMemory old new kept = kept
+
+-- and the writer's count says what the print said of it
+pub writer_after_print : (fault : PrintFault) (old new : ℕ) → ((fault ≡ printing.WriteFault) → HasFailed old new) → ((fault ≡ printing.OutOfMemory) → new ≡ old) → WriterFailed (Err (of_print fault)) old new
+unfolding WriterFailed
+writer_after_print printing.WriteFault old new failed kept = failed refl
+writer_after_print printing.OutOfMemory old new failed kept = kept refl
+
+-- a script that uses what isn't performed yet is refused, and neither has failed
+pub reader_after_more : (fault : ScriptFault) (old new : ℕ) → new ≡ old → ReaderFailed (Err (ScriptRefused fault)) old new
+unfolding ReaderFailed
+reader_after_more fault old new kept = kept
+
+pub writer_after_more : (fault : ScriptFault) (old : ℕ) → WriterFailed (Err (ScriptRefused fault)) old old
+unfolding WriterFailed
+writer_after_more fault old = refl
+
+-- nor has either where a script isn't performed for want of memory
+pub reader_after_perform : (old new : ℕ) → new ≡ old → ReaderFailed (Err OutOfMemory) old new
+unfolding ReaderFailed
+reader_after_perform old new kept = kept
+
+pub writer_after_perform : (old : ℕ) → WriterFailed (Err OutOfMemory) old old
+unfolding WriterFailed
+writer_after_perform old = refl
+
+-- nor where all was written
+pub reader_after_all : (report : Report) (old new : ℕ) → new ≡ old → ReaderFailed (Ok report) old new
+unfolding ReaderFailed
+reader_after_all report old new kept = kept
+
+pub writer_after_all : (report : Report) (old new : ℕ) → new ≡ old → WriterFailed (Ok report) old new
+unfolding WriterFailed
+writer_after_all report old new kept = kept
+
+pub ruleset run_rules = (after_read, after_script, after_more, after_perform, after_print, after_all, reader_after_read, writer_after_read, reader_after_script, writer_after_script, reader_after_more, writer_after_more, reader_after_perform, writer_after_perform, reader_after_print, writer_after_print, reader_after_all, writer_after_all)

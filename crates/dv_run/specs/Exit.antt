@@ -1,22 +1,21 @@
 -- How a program tells how its run ended: its exit status, and what it writes to standard error.
-use Rattle.std.specs.Prelude.{ℕ, List, [], Result, Ok, Err, codes}
+use Rattle.std.specs.Prelude.{ℕ, if◌then◌else◌, List, [], Result, Ok, Err, codes}
+use Rattle.dv_engine.specs.declared.report.Report.{Report}
 use Rattle.dv_script.specs.declared.error.ScriptFault.{ScriptFault}
 use Rattle.dv_script.specs.declared.error.ScriptFault.TheVariants as script
 use Rattle.dv_run.specs.declared.error.RunFault.{RunFault}
 use Rattle.dv_run.specs.declared.error.RunFault.TheVariants.{ScriptRefused, OutOfMemory, ReadFault, WriteFault}
-use Rattle.dv_run.specs.declared.run.Ended.{Ended}
-use Rattle.dv_run.specs.declared.run.Ended.TheVariants.{All, Stopped}
 
+-- 2 for a script that is refused, 3 for want of memory, 4 for a reader or a writer that failed
 abbrev pub fault_status : RunFault → ℕ
 fault_status (ScriptRefused fault) = 2
 fault_status OutOfMemory = 3
 fault_status ReadFault = 4
 fault_status WriteFault = 4
 
--- the exit status
-abbrev pub status : Result Ended RunFault → ℕ
-status (Ok All) = 0
-status (Ok Stopped) = 1
+-- the exit status: 1 where the run stopped at the limit of its journal, 0 where all events were performed, and otherwise that of the fault
+abbrev pub status : Result Report RunFault → ℕ
+status (Ok report) = if report.stopped then 1 else 0
 status (Err fault) = fault_status fault
 
 -- each refusal by its number and its name
@@ -30,6 +29,7 @@ refusal_text script.BadName = codes "script refused: 6 BadName"
 refusal_text script.BadClass = codes "script refused: 7 BadClass"
 refusal_text script.OutOfMemory = codes "script refused: 8 OutOfMemory"
 
+-- what each fault is called; a refused script is said to be, with its reason
 abbrev pub fault_text : RunFault → List ℕ
 fault_text (ScriptRefused fault) = refusal_text fault
 fault_text OutOfMemory = codes "out of memory"
@@ -37,7 +37,6 @@ fault_text ReadFault = codes "read failed"
 fault_text WriteFault = codes "write failed"
 
 -- what goes to standard error, as a line where it isn't empty
-abbrev pub error_text : Result Ended RunFault → List ℕ
-error_text (Ok All) = []
-error_text (Ok Stopped) = []
+abbrev pub error_text : Result Report RunFault → List ℕ
+error_text (Ok report) = []
 error_text (Err fault) = fault_text fault

@@ -8,6 +8,7 @@ use Rattle.dv_run.specs.declared.error.RunFault.TheVariants.{ScriptRefused, OutO
 use Rattle.dv_run.specs.declared.source.ReadError.{ReadError}
 use Rattle.dv_run.specs.declared.source.ReadError.TheVariants as reading
 
+-- a reader that failed is a read fault, and want of memory stays that
 abbrev pub of_read : ReadError → RunFault
 of_read reading.ReadFault = ReadFault
 of_read reading.OutOfMemory = OutOfMemory
@@ -23,6 +24,7 @@ of_script script.BadName = ScriptRefused script.BadName
 of_script script.BadClass = ScriptRefused script.BadClass
 of_script script.OutOfMemory = OutOfMemory
 
+-- a writer that failed is a write fault, and want of memory stays that
 abbrev pub of_print : PrintFault → RunFault
 of_print printing.WriteFault = WriteFault
 of_print printing.OutOfMemory = OutOfMemory

@@ -1,5 +1,5 @@
 -- The lines that tell the outcomes of a run.
-use Rattle.std.specs.Prelude.{ℕ, suc, nat_eq, if◌then◌else◌, List, [], ◌∷◌, ◌++◌, Option, None, Some, codes}
+use Rattle.std.specs.Prelude.{ℕ, suc, nat_eq, if◌then◌else◌, List, [], ◌∷◌, ◌++◌, codes}
 use Rattle.dv_value.specs.ValueText.{outcome}
 use Rattle.dv_value.specs.declared.classes.Class.{Class}
 use Rattle.dv_journal.specs.Line.{text_of, hash, name_text}
@@ -22,6 +22,7 @@ pauses_text pauses = if nat_eq pauses 0 then [] else codes "paused "
 abbrev pub outcome_line : List Class → ℕ → Outcome → List ℕ
 outcome_line table number o = hash number ++ codes " " ++ name_text o.name ++ codes " " ++ pauses_text o.pauses ++ state_text table o.state ++ codes "\n"
 
+-- a line for each outcome, numbered from this number on
 abbrev pub lines_from : List Class → ℕ → List Outcome → List ℕ
 lines_from table number [] = []
 lines_from table number (o ∷ outcomes) = outcome_line table number o ++ lines_from table (suc number) outcomes

@@ -1,23 +1,28 @@
-ghost use Rattle.std.specs.Prelude.{◌≡◌};
+ghost use Rattle.std.specs.Prelude.{◌≡◌, if◌then◌else◌};
 ghost use Rattle.dv_run.specs.Exit.{status, fault_status, error_text, fault_text, refusal_text};
 
 use crate::error::RunFault;
-use crate::run::Ended;
+use dv_engine::report::Report;
 use dv_script::error::ScriptFault;
 
 /// The exit status of a run, and what goes to standard error: a line of this text, or nothing where it is empty.
 ///
-/// The status is 0 where all events were performed, 1 where the run stopped at the limit of its journal, 2 where the script is refused, 3 for want of memory, and 4 where
-/// the reader or the writer failed.
-pub fn exit_of(ended: &Result<Ended, RunFault>) -> (u8, &'static str)
+/// The status is 0 where all events were performed, 1 where the run stopped at the limit of its journal, 2 where the
+/// script is refused, 3 for want of memory, and 4 where the reader or the writer failed.
+pub fn exit_of(ended: &Result<Report, RunFault>) -> (u8, &'static str)
     ensures status { result.0 ≡ status ended.now }
     ensures text { result.1.now ≡ error_text ended.now }
 {
     match ended {
-        Ok(Ended::All) => (0, ""),
-        Ok(Ended::Stopped) => (1, ""),
+        Ok(report) => (status_of(report.stopped), ""),
         Err(fault) => (fault_status(*fault), fault_text(*fault)),
     }
+}
+
+fn status_of(stopped: bool) -> u8
+    ensures { result ≡ if stopped then 1 else 0 }
+{
+    if stopped { 1 } else { 0 }
 }
 
 fn fault_status(fault: RunFault) -> u8

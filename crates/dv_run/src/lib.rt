@@ -1,4 +1,4 @@
-//! Runs a script: reads it, performs it and prints its outcomes.
+//! Runs a script: reads it, performs it, and prints its journal and its outcomes.
 #![tactic(auto)]
 
 pub mod error;

@@ -55,7 +55,7 @@ impl<'a> MemorySource<'a> {
         self
     }
 
-    // whether this call fails; later calls are one nearer to theirs
+    /// Whether this call fails. Later calls are one nearer to theirs.
     fn next_fails(&mut self) -> bool
         ensures value { result ≡ fails_here self.old.failure }
         ensures ahead { self.new ≡ record self.old { failure = failure_ahead self.old.failure } }

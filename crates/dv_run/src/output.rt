@@ -1,25 +1,15 @@
 ghost use Rattle.std.specs.Prelude.{◌≡◌, ◌++◌, OnOk, OnErr, IsErrOf, string_bytes};
 ghost use Rattle.std.specs.Io.KnownBytes.{Appends};
 ghost use Rattle.dv_journal.specs.Sink.{HasFailed, AppendsPrefix};
-ghost use Rattle.dv_journal.specs.Line.{name_text};
 ghost use Rattle.dv_run.specs.Output.{pauses_text, state_text, outcome_line, output, report_text};
 
 use dv_engine::report::{Outcome, Report, State};
 use dv_journal::error::PrintFault;
-use dv_journal::sink::{Sink, write_all};
+use dv_journal::line::shown_name;
+use dv_journal::sink::{Sink, write_all, write_when_full};
 use dv_value::classes::Classes;
-use dv_value::text::Text;
 use dv_value::value_text::write_outcome;
 use std::alloc::{AllocError, Global};
-
-fn name_text(name: &Option<Text>) -> &str
-    ensures { result.now ≡ name_text name.now }
-{
-    match name {
-        None => "-",
-        Some(name) => name.as_str(),
-    }
-}
 
 fn pauses_text(pauses: u32) -> &'static str
     ensures { result.now ≡ pauses_text pauses }
@@ -54,15 +44,15 @@ fn write_line(
     write!(
         line,
         "#{number} {} {}",
-        name_text(&outcome.name),
+        shown_name(&outcome.name),
         pauses_text(outcome.pauses)
     )?;
     write_state(alloc, classes, line, &outcome.state)?;
     write!(line, "\n")
 }
 
-/// Writes a line for each outcome, with one buffer for all lines. Where it gives up, what was written is a prefix of
-/// the text.
+/// Writes a line for each outcome, some kilobytes at a time, with one buffer for all. Where it gives up, what was
+/// written is a prefix of the text.
 fn print_outcomes<W: Sink>(
     alloc: Global,
     classes: &Classes,
@@ -73,13 +63,14 @@ fn print_outcomes<W: Sink>(
     ensures kept { OnOk result (W.failures sink.new ≡ W.failures sink.old) }
     ensures err { OnErr result (AppendsPrefix (W.taken sink.old) (W.taken sink.new) (output classes.now outcomes.now)) }
     ensures cause { IsErrOf result PrintFault.WriteFault → HasFailed (W.failures sink.old) (W.failures sink.new) }
+    ensures memory { IsErrOf result PrintFault.OutOfMemory → W.failures sink.new ≡ W.failures sink.old }
 {
-    let mut line = String::new(alloc);
-    'lines: for number in 0..outcomes.len() {
-        line.clear();
-        write_line(alloc, classes, &mut line, number, &outcomes[number])?;
-        write_all(sink, line.as_bytes())?;
+    let mut gathered = String::new(alloc);
+    for (number, outcome) in outcomes.iter().enumerate() {
+        write_line(alloc, classes, &mut gathered, number, outcome)?;
+        write_when_full(sink, &mut gathered)?;
     }
+    write_all(sink, gathered.as_bytes())?;
     Ok(())
 }
 
@@ -95,6 +86,7 @@ pub fn print_report<W: Sink>(
     ensures kept { OnOk result (W.failures sink.new ≡ W.failures sink.old) }
     ensures err { OnErr result (AppendsPrefix (W.taken sink.old) (W.taken sink.new) (report_text classes.now report.now)) }
     ensures cause { IsErrOf result PrintFault.WriteFault → HasFailed (W.failures sink.old) (W.failures sink.new) }
+    ensures memory { IsErrOf result PrintFault.OutOfMemory → W.failures sink.new ≡ W.failures sink.old }
 {
     report.journal.print(classes, sink)?;
     print_outcomes(alloc, classes, report.outcomes.as_slice(), sink)?;

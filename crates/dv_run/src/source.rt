@@ -31,8 +31,10 @@ pub trait Source {
 /// Why a read gave up.
 #[derive(Clone, Copy, Debug, PartialEq, Eq, Drop, Error)]
 pub enum ReadError {
+    /// The source failed.
     #[error("the source failed")]
     ReadFault,
+    /// Memory was refused. The source hasn't failed.
     #[error("out of memory")]
     OutOfMemory,
 }

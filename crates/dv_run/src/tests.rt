@@ -1,5 +1,6 @@
 mod cancels;
 mod chains;
+mod engine;
 mod exit;
 mod faults;
 mod refusals;
@@ -8,13 +9,19 @@ mod sources;
 
 use crate::error::RunFault;
 use crate::memory_source::MemorySource;
-use crate::run::{Ended, run};
+use crate::run::run;
+use dv_engine::report::Report;
 use dv_journal::memory_sink::MemorySink;
 use std::alloc::{AllocError, Global};
 
-/// How a run over these bytes ended, and what it wrote.
-fn ran(alloc: Global, input: &[u8]) -> Result<(Result<Ended, RunFault>, MemorySink), AllocError> {
+/// Whether a run stopped at its limit, or why it gave up.
+fn stops(answer: Result<Report, RunFault>) -> Result<bool, RunFault> {
+    Ok(answer?.stopped)
+}
+
+/// Whether a run over these bytes stopped at its limit, or why it gave up; and what it wrote.
+fn ran(alloc: Global, input: &[u8]) -> Result<(Result<bool, RunFault>, MemorySink), AllocError> {
     let mut sink = MemorySink::new(alloc, 1000, 4096)?;
-    let ended = run(alloc, &mut MemorySource::new(input, 4096), &mut sink);
-    Ok((ended, sink))
+    let answer = run(alloc, &mut MemorySource::new(input, 4096), &mut sink);
+    Ok((stops(answer), sink))
 }

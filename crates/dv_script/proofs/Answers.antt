@@ -1,7 +1,7 @@
 -- What the passes answer is what the bytes say.
-use Rattle.std.proofs.Common.{◌≡◌, ℕ, ◌≤◌, List, length, Option, Some, None, Result, Ok, Err, IfOk, IfErr, Bool, true, false, ◌&&◌, refl, sym, ap, arith}
+use Rattle.std.proofs.Common.{◌≡◌, ℕ, ◌≤◌, List, length, Option, Some, None, Result, Ok, Err, IfOk, IfErr, true, sym, ap, arith}
 use Rattle.serde_json.specs.Data.{Data}
-use Rattle.std.proofs.lemmas.Bool.{leb-true}
+use Rattle.std.proofs.lemmas.Bool.{and_parts, leb-true}
 use Rattle.serde_json.proofs.Nesting.{depth-read}
 use Rattle.dv_script.specs.declared.draft.Draft.{Draft}
 use Rattle.dv_script.specs.declared.script.Script.{Script}
@@ -57,17 +57,12 @@ refuses bytes (Err BadClass) h =
     let j = h.4 in (h.0, j.0, shaped bytes h.0 j.0 (document bytes (Err BadClass) h) j.1 j.2, j.3, j.4, j.5)
 refuses bytes (Err OutOfMemory) h = tt
 
--- the first of two tests that hold
-first_of : (a b : Bool) → (a && b) ≡ true → a ≡ true
-first_of true b e = refl
-first_of false b e = cc
-
 pub few : (bytes : List ℕ) (r : Result Script ScriptFault) → Passes bytes r → IfOk r (λ s. length s.events ≤ most_nodes)
 few bytes (Ok s) h =
     let j = h.4 in
     let same : length s.events ≡ length j.0.script.events = ap (λ (x : Script). length x.events) (sym j.3) in
     let few_events : length j.0.script.events ≤ nodes h.0 = events_few h.0 j.0 (sound_script h.0 j.0 j.2) in
-    let few_nodes : nodes h.0 ≤ most_nodes = leb-true (nodes h.0) most_nodes (first_of _ _ (first_of _ _ (first_of _ _ (first_of _ _ j.4)))) in
+    let few_nodes : nodes h.0 ≤ most_nodes = leb-true (nodes h.0) most_nodes (and_parts _ _ (and_parts _ _ (and_parts _ _ (and_parts _ _ j.4).0).0).0).0 in
     omega (arith, same, few_events, few_nodes)
 few bytes (Err fault) h = tt
 

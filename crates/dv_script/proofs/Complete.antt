@@ -1,6 +1,5 @@
 -- What the grammar relates is read.
-use Rattle.std.proofs.Common.{◌≡◌, ℕ, zero, suc, ◌≤◌, ◌^◌, Bool, nat_cmp, List, [], ◌∷◌, Option, Some, None, option_and_then, refl, ap, arith, codes, Ordering, Less, Equal, Greater, ◌⊎◌, inl, inr}
-use Rattle.std.specs.Ordering.{match_ordering}
+use Rattle.std.proofs.Common.{◌≡◌, ℕ, zero, suc, ◌≤◌, ◌^◌, Bool, nat_cmp, List, [], ◌∷◌, Option, Some, None, option_and_then, refl, ap, arith, codes, inl, inr}
 use Rattle.std.specs.Cmp.Lexicographic.{slice_cmp}
 use Rattle.std.proofs.lemmas.Bool.{le-leb}
 use Rattle.serde_json.specs.Data.{Data, Items, no_items, item, Members, no_members, member, depth, items_depth, members_depth}
@@ -24,7 +23,7 @@ use Rattle.dv_script.specs.Forms.{Each, IsList, Field, Key, IsText, IsNumber, Is
 use Rattle.dv_script.specs.Table.{table_of}
 use Rattle.dv_script.specs.Grammar.{plain_cooperator, IsEnd, returns, passes, adds, raises, traps, waits, IsWork, gives, fails, sums, IsListFlag, fires_on_callback, fires_on_errback, consumes_errors, IsGatherFlag, gathers_errors, IsBound, no_bound, a_bound, IsAction, deferred, deferred_with, callback, errback, add_callback, add_errback, add_both, add_callbacks, chain, pause, unpause, cancel, note, list, gather, maybe, lock, semaphore, acquire, release, run_with, queue, put, get, later, cancel_call, loop, stop_loop, cooperate, when_done, pause_task, stop_task, resume_task, inline, thread, AreActions, no_actions, more_actions, IsDo, does_nothing, does, IsBody, body, AreBodies, no_bodies, more_bodies, IsStatement, performs, awaits, tries, leaves, AreStatements, no_statements, more_statements, IsEvent, acts, advances, drains, IsDeclaration, declares, IsCooperator, IsScript}
 use Rattle.dv_script.specs.Shape.{value_at, values_at, each, list_at, text_at, number_at, within, bound_at, class_at, list_flag_at, gather_flag_at, call_at, none, first, if_any, one, one_or_two, two, three, five, fields_at, field, end_at, end_of, leave_at, work_at, work_of, action_by, action_of, deferred_of, object_of, task_of, body_by, statement_by, statement_of, readers, body_at, statement_at, action_at, event_at, event_of, other_event, declaration_at, cooperator_at, caller_at, table_for, script_at}
-use Rattle.dv_script.proofs.Steps.{some_injective}
+use Rattle.dv_script.proofs.Steps.{picked}
 
 -- ---- values, lists, leaves
 
@@ -104,11 +103,6 @@ complete_work table _ _ (fails c class text h) = rw (complete_class table c clas
 complete_work table _ _ (sums d n h) = rw (complete_number 0 1000000 d n h) refl
 
 -- ---- how deep members lie
-
-picked : (o : Ordering) (rest : Option Data) (e d : Data) → match_ordering o rest (Some e) rest ≡ Some d → (rest ≡ Some d) ⊎ (e ≡ d)
-picked Less rest e d h = inl h
-picked Equal rest e d h = inr (some_injective h)
-picked Greater rest e d h = inl h
 
 -- a member is no deeper than the members
 depth-get_member : (key : List ℕ) (ms : Members) (d : Data) → get_member key ms ≡ Some d → depth d ≤ members_depth ms

@@ -1,6 +1,5 @@
 -- A script has no more events than nodes.
-use Rattle.std.proofs.Common.{◌≡◌, ℕ, ◌+◌, ◌≤◌, List, [], ◌∷◌, length, Option, Some, None, Ordering, Less, Equal, Greater, nat_cmp, ◌⊎◌, inl, inr, refl, ap, arith, codes}
-use Rattle.std.specs.Ordering.{match_ordering}
+use Rattle.std.proofs.Common.{◌≡◌, ℕ, ◌+◌, ◌≤◌, List, [], ◌∷◌, length, Option, Some, None, nat_cmp, inl, inr, refl, ap, arith, codes}
 use Rattle.std.specs.Cmp.Lexicographic.{slice_cmp}
 use Rattle.serde_json.specs.Data.{Data, null, boolean, number, string, array, object, Items, no_items, item, Members, no_members, member}
 use Rattle.serde_json.specs.Find.{get_member}
@@ -8,12 +7,7 @@ use Rattle.dv_script.specs.declared.draft.Draft.{Draft}
 use Rattle.dv_script.specs.Forms.{Each, IsList, Key}
 use Rattle.dv_script.specs.Grammar.{IsEvent, IsScript}
 use Rattle.dv_script.specs.Limits.{nodes, item_nodes, member_nodes}
-use Rattle.dv_script.proofs.Steps.{some_injective}
-
-picked : (o : Ordering) (rest : Option Data) (e d : Data) → match_ordering o rest (Some e) rest ≡ Some d → (rest ≡ Some d) ⊎ (e ≡ d)
-picked Less rest e d h = inl h
-picked Equal rest e d h = inr (some_injective h)
-picked Greater rest e d h = inl h
+use Rattle.dv_script.proofs.Steps.{picked}
 
 -- a member has no more nodes than the members
 member_nodes-get : (key : List ℕ) (ms : Members) (d : Data) → get_member key ms ≡ Some d → nodes d ≤ member_nodes ms

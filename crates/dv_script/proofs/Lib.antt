@@ -4,5 +4,6 @@ pub mod Count
 pub mod Documents
 pub mod Sound
 pub mod Steps
+pub mod TableLemmas
 pub mod Version
 pub mod WordsLemmas

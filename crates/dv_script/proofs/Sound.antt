@@ -1,8 +1,8 @@
 -- What is read is in the grammar.
-use Rattle.std.proofs.Common.{◌≡◌, ◌^◌, ℕ, zero, suc, ◌≤◌, ℤ, Bool, true, false, ◌&&◌, nat_le, cond, List, [], ◌∷◌, Option, Some, None, option_and_then, bytes_eq, refl, sym, ap, ◌∙◌, codes, ◌⊎◌, inl, inr}
+use Rattle.std.proofs.Common.{◌≡◌, ◌^◌, ℕ, zero, suc, ◌≤◌, ℤ, Bool, true, ◌&&◌, nat_le, cond, List, [], ◌∷◌, Option, Some, None, option_and_then, bytes_eq, refl, sym, ap, ◌∙◌, codes, ◌⊎◌, inl, inr}
 use Rattle.std.specs.Prelude.{⊤}
 use Rattle.std.proofs.lemmas.Slice.Eq.{bytes_eq-Decides}
-use Rattle.std.proofs.lemmas.Bool.{leb-true}
+use Rattle.std.proofs.lemmas.Bool.{and_parts, leb-true}
 use Rattle.serde_json.specs.Data.{unsigned, negative, float, Data, null, boolean, number, string, array, object, Items, no_items, item, Members}
 use Rattle.serde_json.specs.Find.{as_i64, as_bool, as_array, get_member}
 use Rattle.serde_json.specs.Read.{max_depth}
@@ -146,15 +146,10 @@ integer_is : (d : Data) (n : ℤ) → integer_at d ≡ Some n → IsInteger d n
 integer_is (number x) n e = (x, refl, e)
 integer_is _ n e = cc
 
-both : (a b : Bool) → (a && b) ≡ true → (a ≡ true) × (b ≡ true)
-both true true e = (refl, refl)
-both true false e = cc
-both false b e = cc
-
 within_is : (low high n m : ℕ) → within low high n ≡ Some m → (n ≡ m) × (low ≤ m) × (m ≤ high)
 within_is low high n m e = elim (chosen (nat_le low n && nat_le n high) (Some n) None (Some m) e) [
   | inl h ↦
-      let bounds = both (nat_le low n) (nat_le n high) h.0 in
+      let bounds = and_parts (nat_le low n) (nat_le n high) h.0 in
       (some_injective h.1, rw (← some_injective h.1) (leb-true low n bounds.0), rw (← some_injective h.1) (leb-true n high bounds.1))
   | inr h ↦ cc
 ]

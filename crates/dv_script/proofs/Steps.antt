@@ -1,5 +1,6 @@
 -- Steps of a reader, taken apart.
-use Rattle.std.proofs.Common.{◌≡◌, Bool, true, false, cond, Option, Some, None, option_and_then, option_map, refl, ◌⊎◌, inl, inr}
+use Rattle.std.proofs.Common.{◌≡◌, Bool, true, false, cond, Option, Some, None, option_and_then, option_map, refl, ◌⊎◌, inl, inr, Ordering, Less, Equal, Greater}
+use Rattle.std.specs.Ordering.{match_ordering}
 
 pub some_injective : {A : Type 0} {x y : A} → Some x ≡ Some y → x ≡ y
 some_injective h = cc
@@ -15,3 +16,8 @@ mapped None f y e k = cc
 pub chosen : {A : Type 0} (b : Bool) (x y z : A) → cond b x y ≡ z → ((b ≡ true) × (x ≡ z)) ⊎ (y ≡ z)
 chosen true x y z e = inl (refl, e)
 chosen false x y z e = inr e
+
+pub picked : {A : Type 0} (o : Ordering) (rest : Option A) (x y : A) → match_ordering o rest (Some x) rest ≡ Some y → (rest ≡ Some y) ⊎ (x ≡ y)
+picked Less rest x y e = inl e
+picked Equal rest x y e = inr (some_injective e)
+picked Greater rest x y e = inl e

@@ -1,6 +1,7 @@
 -- Laws of what documents say.
 use Rattle.std.specs.Prelude.{◌≡◌, ◌≢◌, ◌⊎◌, ℕ, List}
 use Rattle.serde_json.specs.Data.{Data}
+use Rattle.dv_value.specs.Laws.{ParentsStandBefore, PathsGoUp}
 use Rattle.dv_script.specs.declared.script.Script.{Script}
 use Rattle.dv_script.specs.declared.error.ScriptFault.{ScriptFault}
 use Rattle.dv_script.specs.declared.error.ScriptFault.TheVariants.{OutOfMemory}
@@ -21,3 +22,11 @@ IsRefused bytes = (fault : ScriptFault) × (fault ≢ OutOfMemory) × Refuses fa
 -- each document says a script or is refused
 abbrev pub SaysOrIsRefused : Type 0
 SaysOrIsRefused = (bytes : List ℕ) (d : Data) → IsDocument bytes d → ((s : Script) × Says bytes s) ⊎ IsRefused bytes
+
+-- in the table of a script each class's parent stands before it
+abbrev pub ParentsOfScriptsStandBefore : Type 0
+ParentsOfScriptsStandBefore = (bytes : List ℕ) (s : Script) → Says bytes s → ParentsStandBefore s.classes
+
+-- and the path of each class is the class, then the path of its parent
+abbrev pub PathsOfScriptsGoUp : Type 0
+PathsOfScriptsGoUp = (bytes : List ℕ) (s : Script) → Says bytes s → PathsGoUp s.classes

@@ -13,7 +13,7 @@ mod passes;
 mod reading;
 pub mod script;
 mod suits;
-#[cfg(test)]
-mod tests;
 mod words;
 pub mod work;
+
+pub use limits::MOST_BYTES;

@@ -27,6 +27,18 @@ pub const MOST_POSTS: usize = 256;
 /// The most ticks by which a script advances the clock in all.
 pub const MOST_TICKS: u64 = 1_000_000_000_000_000;
 
+/// The most ticks of a delay or of an interval.
+pub const MOST_DELAY: u64 = 1_000_000_000_000;
+
+/// The most tokens of a semaphore, and the most that a queue's size or backlog may be.
+pub const MOST_PLACES: u32 = 65_536;
+
+/// To how many levels bodies and statements may nest: as many as JSON may, so that no script is refused for it.
+pub const MOST_LEVELS: u32 = 127;
+
+/// The most that a script may let its journal weigh.
+pub const MOST_LIMIT: u64 = 200_000;
+
 /// How many nodes the value has, to the last number of 64 bits.
 #[cycle(nodes)]
 fn nodes(json: &Json) -> u64
@@ -71,9 +83,8 @@ fn ticks_of(event: &Event) -> u64
     ensures { result ≡ ticks_of event.now }
 {
     match event {
-        Event::Action(_) => 0,
+        Event::Action(_) | Event::Drain(_) => 0,
         Event::Advance(n) => *n,
-        Event::Drain(_) => 0,
     }
 }
 

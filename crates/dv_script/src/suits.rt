@@ -64,9 +64,7 @@ fn suits_end(wanted: Wanted, end: &End) -> bool
     ensures { result ≡ suits_end wanted end.now }
 {
     match end {
-        End::Return(_) => true,
-        End::Pass => true,
-        End::Plus(_) => true,
+        End::Return(_) | End::Pass | End::Plus(_) => true,
         End::Raise(class, _) => suits_class(wanted, *class),
         End::Trap(listed, _) => suit_classes(wanted, listed.as_slice()),
         End::Wait(name) => suits_deferred(wanted, name),
@@ -77,9 +75,8 @@ fn suits_work(wanted: Wanted, work: &Work) -> bool
     ensures { result ≡ suits_work wanted work.now }
 {
     match work {
-        Work::Value(_) => true,
+        Work::Value(_) | Work::Sum(_) => true,
         Work::Raise(class, _) => suits_class(wanted, *class),
-        Work::Sum(_) => true,
     }
 }
 
@@ -203,8 +200,7 @@ fn suits_event(wanted: Wanted, event: &Event) -> bool
 {
     match event {
         Event::Action(action) => suits_action(wanted, action),
-        Event::Advance(_) => true,
-        Event::Drain(_) => true,
+        Event::Advance(_) | Event::Drain(_) => true,
     }
 }
 

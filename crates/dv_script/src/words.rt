@@ -94,6 +94,7 @@ pub enum WorkWord {
 }
 
 impl DeferredWord {
+    /// The action on Deferreds that this word names, letter for letter, if it names one.
     pub fn named(text: &str) -> Option<DeferredWord>
         ensures { result ≡ deferred_word text.now }
     {
@@ -115,6 +116,7 @@ impl DeferredWord {
 }
 
 impl ObjectWord {
+    /// The action on lists, locks, semaphores or queues, or the note, that this word names, letter for letter.
     pub fn named(text: &str) -> Option<ObjectWord>
         ensures { result ≡ object_word text.now }
     {
@@ -137,6 +139,7 @@ impl ObjectWord {
 }
 
 impl TaskWord {
+    /// The action on delayed calls, loops, tasks, inline bodies or threads that this word names, letter for letter.
     pub fn named(text: &str) -> Option<TaskWord>
         ensures { result ≡ task_word text.now }
     {
@@ -158,6 +161,7 @@ impl TaskWord {
 }
 
 impl ActionWord {
+    /// The action that this word names, letter for letter, whatever it works on.
     pub fn named(text: &str) -> Option<ActionWord>
         ensures { result ≡ action_word text.now }
     {
@@ -175,6 +179,7 @@ impl ActionWord {
 }
 
 impl EventWord {
+    /// The event that this word names, letter for letter, if that is no action.
     pub fn named(text: &str) -> Option<EventWord>
         ensures { result ≡ event_word text.now }
     {
@@ -187,6 +192,7 @@ impl EventWord {
 }
 
 impl EndWord {
+    /// The end that this word names, letter for letter.
     pub fn named(text: &str) -> Option<EndWord>
         ensures { result ≡ end_word text.now }
     {
@@ -203,6 +209,7 @@ impl EndWord {
 }
 
 impl StatementWord {
+    /// The statement that this word names, letter for letter.
     pub fn named(text: &str) -> Option<StatementWord>
         ensures { result ≡ statement_word text.now }
     {
@@ -217,6 +224,7 @@ impl StatementWord {
 }
 
 impl WorkWord {
+    /// The work that this word names, letter for letter.
     pub fn named(text: &str) -> Option<WorkWord>
         ensures { result ≡ work_word text.now }
     {

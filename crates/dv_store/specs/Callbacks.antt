@@ -42,6 +42,7 @@ module _ {P K : Type 0} (passes_at : P → Bool → Bool) where
       then untold Passed (slice_set s.0 id (record r { items = rest }), s.1)
       else telling (entry.Run id) (Run pair) (slice_set s.0 id (record r { items = rest; running = true })) s
 
+  -- a pair is run or passes the value on, and a hand-over hands it over
   abbrev pub use_item : ℕ → Record P K → Item P → List (Item P) → State P K → Stepped P K
   use_item id r (item.Pair pair) rest s = use_pair id r pair rest s
   use_item id r (item.HandOver c) rest s = hand id c r rest s

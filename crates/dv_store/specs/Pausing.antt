@@ -28,6 +28,7 @@ abbrev pub pause_found : {P K : Type 0} → ℕ → Option (Record P K) → Stat
 pause_found id None s = untold tt s
 pause_found id (Some r) s = telling (entry.Pause id) tt (slice_set s.0 id (with_pauses (r.pauses + 1) r)) s
 
+-- a Deferred is paused once more
 abbrev pub pause : {P K : Type 0} → ℕ → State P K → Told Unit P K
 pause id s = pause_found id (slice_get s.0 id) s
 
@@ -47,12 +48,13 @@ abbrev pub unpause_found : {P K : Type 0} → ℕ → Option (Record P K) → St
 unpause_found id None s = (Ok tt, s)
 unpause_found id (Some r) s = if nat_eq r.pauses 0 then (Err NotPaused, s) else less_paused id r s
 
+-- a Deferred is paused once less
 abbrev pub unpause : {P K : Type 0} → ℕ → State P K → Unpaused P K
 unpause id s = unpause_found id (slice_get s.0 id) s
 
--- an unpausing did what the rule says, or memory was refused where the rule's entry fits, and nothing changed
+-- an unpausing did what the rule says, or memory was refused where the rule has no other reason to refuse it, and nothing changed
 abbrev pub UnpausesUnlessMemory : {P K : Type 0} → Result Unit UnpauseFault → State P K → State P K → Unpaused P K → Type 0
 UnpausesUnlessMemory (Ok done) before after rule = (Ok done, after) ≡ rule
 UnpausesUnlessMemory (Err NotPaused) before after rule = (Err NotPaused, after) ≡ rule
 UnpausesUnlessMemory (Err Limit) before after rule = (Err Limit, after) ≡ rule
-UnpausesUnlessMemory (Err OutOfMemory) before after rule = (rule.0 ≢ Err Limit) × (after ≡ before)
+UnpausesUnlessMemory (Err OutOfMemory) before after rule = (rule.0 ≢ Err NotPaused) × (rule.0 ≢ Err Limit) × (after ≡ before)

@@ -29,10 +29,11 @@ append_found id pair (Some r) s = telling (Add id) tt (slice_set s.0 id (with_it
 abbrev pub append : {P K : Type 0} → ℕ → P → State P K → Told Unit P K
 append id pair s = append_found id pair (slice_get s.0 id) s
 
--- one record is changed; an id of no record changes nothing
+-- the record that is found is changed; an id of no record changes nothing
 abbrev pub changed : {P K : Type 0} → ℕ → (Record P K → Record P K) → Option (Record P K) → List (Record P K) → List (Record P K)
 changed id change None rs = rs
 changed id change (Some r) rs = slice_set rs id (change r)
 
+-- one record is changed
 abbrev pub changing : {P K : Type 0} → ℕ → (Record P K → Record P K) → List (Record P K) → List (Record P K)
 changing id change rs = changed id change (slice_get rs id) rs

@@ -15,6 +15,7 @@ pub enum Item<P> {
 /// What is kept of one Deferred.
 #[derive(Debug, Drop)]
 pub struct Record<P, K> {
+    /// The name that it was made with, where it has one.
     pub name: Option<Text>,
     /// Whether it has been fired (Twisted: `Deferred.called`).
     pub fired: bool,

@@ -205,9 +205,8 @@ impl<P: Sides + Drop, K: Drop> Store<P, K> {
     pub fn guard(&mut self, id: DeferredId)
         ensures { self.new ≡ guard id self.old }
     {
-        let place = id.number() as usize;
-        if place < self.records.len() {
-            self.records[place].swallows = true;
+        if let Some(record) = self.records.get_mut(id.number() as usize) {
+            record.swallows = true;
         }
     }
 
@@ -226,7 +225,7 @@ impl<P: Sides + Drop, K: Drop> Store<P, K> {
             let Some(next) = self.link(here) else {
                 return Some(here);
             };
-            if next.number() == mark.number() {
+            if next == mark {
                 return None;
             }
             here = next;
@@ -243,10 +242,7 @@ impl<P: Sides + Drop, K: Drop> Store<P, K> {
     fn link(&self, id: DeferredId) -> Option<DeferredId>
         ensures { result ≡ link self.now id }
     {
-        match self.records.get(id.number() as usize) {
-            None => None,
-            Some(record) => record.waits_for,
-        }
+        self.record(id)?.waits_for
     }
 
     /// Uses the first unused item of a Deferred, where it is fired, no side of it runs, it isn't paused and it waits for
@@ -346,18 +342,16 @@ impl<P: Sides + Drop, K: Drop> Store<P, K> {
     ) -> Result<Placed, Stop>
         ensures { UnlessMemory result (self.old, journal.old) (self.new, journal.new) (put_deferred id given (self.old, journal.old)) }
     {
-        match self.records.get(id.number() as usize) {
-            None => Ok(Placed::Waits),
-            Some(_) => match self.records.get(given.number() as usize) {
-                None => Ok(Placed::Waits),
-                Some(record) => {
-                    if is_pending(id, given, record) {
-                        Ok(self.wait_for(journal, id, given)?)
-                    } else {
-                        Ok(self.take_from(journal, id, given)?)
-                    }
-                }
-            },
+        let Some(_) = self.records.get(id.number() as usize) else {
+            return Ok(Placed::Waits);
+        };
+        let Some(record) = self.records.get(given.number() as usize) else {
+            return Ok(Placed::Waits);
+        };
+        if is_pending(id, given, record) {
+            Ok(self.wait_for(journal, id, given)?)
+        } else {
+            Ok(self.take_from(journal, id, given)?)
         }
     }
 
@@ -411,9 +405,7 @@ impl<P: Sides + Drop, K: Drop> Store<P, K> {
     fn set_handed(&mut self, id: DeferredId, value: Value)
         ensures { self.new ≡ changing id (with_handed value) self.old }
     {
-        let place = id.number() as usize;
-        if place < self.records.len() {
-            let record = &mut self.records[place];
+        if let Some(record) = self.records.get_mut(id.number() as usize) {
             record.value = value;
             record.waits_for = None;
         }
@@ -423,9 +415,7 @@ impl<P: Sides + Drop, K: Drop> Store<P, K> {
     fn set_waiting(&mut self, id: DeferredId, given: DeferredId)
         ensures { self.new ≡ changing id (with_wait given) self.old }
     {
-        let place = id.number() as usize;
-        if place < self.records.len() {
-            let record = &mut self.records[place];
+        if let Some(record) = self.records.get_mut(id.number() as usize) {
             record.waits_for = Some(given);
             record.running = false;
         }
@@ -435,9 +425,7 @@ impl<P: Sides + Drop, K: Drop> Store<P, K> {
     fn set_result(&mut self, id: DeferredId, value: Value)
         ensures { self.new ≡ changing id (with_result value) self.old }
     {
-        let place = id.number() as usize;
-        if place < self.records.len() {
-            let record = &mut self.records[place];
+        if let Some(record) = self.records.get_mut(id.number() as usize) {
             record.value = value;
             record.running = false;
         }
@@ -489,7 +477,7 @@ fn name_copy(alloc: Global, name: &Option<Text>) -> Result<Option<Text>, AllocEr
 {
     match name {
         None => Ok(None),
-        Some(name) => Ok(Some(Text::of(alloc, name.as_str())?)),
+        Some(name) => Ok(Some(name.copy(alloc)?)),
     }
 }
 
@@ -504,10 +492,7 @@ fn is_ready<P, K>(record: &Record<P, K>) -> bool
 fn is_pending<P, K>(id: DeferredId, given: DeferredId, record: &Record<P, K>) -> bool
     ensures { result ≡ is_pending id given «record».now }
 {
-    id.number() == given.number()
-        || !record.fired
-        || record.pauses != 0
-        || record.waits_for.is_some()
+    id == given || !record.fired || record.pauses != 0 || record.waits_for.is_some()
 }
 
 /// Adds an item after the others, and tells of it.

@@ -1,4 +1,3 @@
 pub mod Names
 pub mod Paths
 pub mod Quoted
-pub mod SizeLemmas

@@ -4,7 +4,7 @@ use Rattle.std.proofs.lemmas.List.Quantifiers.{position-Some}
 use Rattle.std.proofs.lemmas.List.Sums.{position_or_len_is}
 use Rattle.std.proofs.lemmas.Option.{slice_get-get_or}
 use Rattle.std.proofs.lemmas.Slice.Eq.{bytes_eq-Decides}
-use Rattle.std.proofs.lemmas.Bool.{eqb-true, false_from_ne_true}
+use Rattle.std.proofs.lemmas.Bool.{and_parts, eqb-true, false_from_ne_true}
 use Rattle.std.proofs.lemmas.Bool.Decides.{not_from_Decides, Decides-ltb}
 use Rattle.std.specs.List.{position_or_len}
 use Rattle.std.proofs.Math.Path.{sym, ◌∙◌}
@@ -29,7 +29,7 @@ is_no_name text name h = not_from_Decides (bytes_eq text name) (bytes_eq-Decides
 differs : (text name : List ℕ) → text ≢ name → bytes_eq text name ≡ false
 differs text name h = false_from_ne_true (bytes_eq text name) (λ t. h (is_name text name t))
 
-found_is_first : (name : List ℕ) (table : List Class) (c : ℕ) → find_class name table ≡ Some c → IsFirstOf name table c
+pub found_is_first : (name : List ℕ) (table : List Class) (c : ℕ) → find_class name table ≡ Some c → IsFirstOf name table c
 found_is_first name table c e =
     let found = position-Some (λ (class : Class). bytes_eq class.name name) table c nameless e in
     record {
@@ -64,23 +64,15 @@ all_found : List Class → ℕ → List Class → Bool
 all_found whole k [] = true
 all_found whole k (class ∷ classes) = is_at k (find_class class.name whole) && all_found whole (suc k) classes
 
-left_of : (a b : Bool) → (a && b) ≡ true → a ≡ true
-left_of true b h = refl
-left_of false b h = cc
-
-right_of : (a b : Bool) → (a && b) ≡ true → b ≡ true
-right_of true b h = h
-right_of false b h = cc
-
 found_in_place : (whole classes : List Class) (k c : ℕ) → all_found whole k classes ≡ true → c < length classes → find_class (name_of classes c) whole ≡ Some (k + c)
 unfolding all_found
 found_in_place whole [] k c h within = absurd (omega (arith, within))
 found_in_place whole (class ∷ classes) k zero h within =
     let same : k + 0 ≡ k = omega arith in
-    rw same (found_at k _ (left_of _ _ h))
+    rw same (found_at k _ (and_parts _ _ h).0)
 found_in_place whole (class ∷ classes) k (suc c) h within =
     let same : k + suc c ≡ suc k + c = omega arith in
-    rw same (found_in_place whole classes (suc k) c (right_of _ _ h) (omega (arith, within)))
+    rw same (found_in_place whole classes (suc k) c (and_parts _ _ h).1 (omega (arith, within)))
 
 pub builtin_names_are_distinct : NamesAreDistinct builtin
 unfolding builtin all_found is_at

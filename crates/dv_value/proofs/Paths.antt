@@ -1,11 +1,12 @@
 -- Paths in a table of classes.
-use Rattle.std.proofs.Common.{◌≡◌, ℕ, zero, suc, ◌+◌, ◌-◌, ◌<◌, Bool, true, false, ◌&&◌, nat_lt, List, [], ◌∷◌, Option, None, Some, refl, arith, ap}
+use Rattle.std.proofs.Common.{◌≡◌, ℕ, zero, suc, ◌+◌, ◌-◌, ◌<◌, ◌⊎◌, inl, inr, Bool, true, ◌&&◌, nat_lt, List, [], ◌∷◌, ◌++◌, Option, None, Some, length, refl, arith, ap}
 use Rattle.std.specs.Option.{option_map_or}
-use Rattle.std.proofs.lemmas.Bool.{ltb-true}
+use Rattle.std.proofs.lemmas.Bool.{and_parts, ltb-true}
 use Rattle.dv_value.specs.declared.classes.Class.{Class}
 use Rattle.dv_value.specs.Builtin.{builtin}
 use Rattle.dv_value.specs.Classes.{path, path_within, parent_of}
-use Rattle.dv_value.specs.Laws.{ParentsStandBefore, PathsGoUp}
+use Rattle.dv_value.specs.Laws.{ParentsStandBefore, PathsGoUp, DeclaredClassesKeepTheOrder}
+use Rattle.dv_value.proofs.Names.{found_is_first}
 
 -- one step of a path
 pub path_step : (n : ℕ) (table : List Class) (c : ℕ) → 0 < n → path_within n table c ≡ c ∷ option_map_or (path_within (n - 1) table) (parent_of table c) []
@@ -48,14 +49,6 @@ all_before : ℕ → List Class → Bool
 all_before c [] = true
 all_before c (class ∷ classes) = before c class.parent && all_before (suc c) classes
 
-both_left : (a b : Bool) → (a && b) ≡ true → a ≡ true
-both_left true b h = refl
-both_left false b h = cc
-
-both_right : (a b : Bool) → (a && b) ≡ true → b ≡ true
-both_right true b h = h
-both_right false b h = cc
-
 stands_before : (c k : ℕ) (p : Option ℕ) (q : ℕ) → before k p ≡ true → p ≡ Some q → q < k
 unfolding before
 stands_before c k None q h e = cc
@@ -66,12 +59,28 @@ stands_before c k (Some p) q h e =
 all_stand_before : (classes : List Class) (k c q : ℕ) → all_before k classes ≡ true → parent_of classes c ≡ Some q → q < c + k
 unfolding all_before
 all_stand_before [] k c q h e = cc
-all_stand_before (class ∷ classes) k zero q h e = omega (arith, stands_before 0 k class.parent q (both_left _ _ h) e)
-all_stand_before (class ∷ classes) k (suc c) q h e = omega (arith, all_stand_before classes (suc k) c q (both_right _ _ h) e)
+all_stand_before (class ∷ classes) k zero q h e = omega (arith, stands_before 0 k class.parent q (and_parts _ _ h).0 e)
+all_stand_before (class ∷ classes) k (suc c) q h e = omega (arith, all_stand_before classes (suc k) c q (and_parts _ _ h).1 e)
 
-builtin_ordered : ParentsStandBefore builtin
+pub builtin_ordered : ParentsStandBefore builtin
 unfolding builtin all_before before
 builtin_ordered c p e = omega (arith, all_stand_before builtin 0 c p refl e)
 
 pub builtin_paths_go_up : PathsGoUp builtin
 builtin_paths_go_up = paths_go_up builtin builtin_ordered
+
+-- a parent in a table with one class more is one of the table, or that of the last class
+parent_in_longer : (table : List Class) (last : Class) (c p : ℕ) → parent_of (table ++ last ∷ []) c ≡ Some p → (parent_of table c ≡ Some p) ⊎ ((c ≡ length table) × (last.parent ≡ Some p))
+parent_in_longer [] last zero p e = inr (refl, e)
+parent_in_longer [] last (suc c) p e = cc
+parent_in_longer (class ∷ table) last zero p e = inl e
+parent_in_longer (class ∷ table) last (suc c) p e = elim (parent_in_longer table last c p e) [
+  | inl h ↦ inl h
+  | inr h ↦ inr (ap suc h.0, h.1)
+]
+
+pub declared_ordered : DeclaredClassesKeepTheOrder
+declared_ordered table name parent ordered c p e = elim (parent_in_longer table _ c p e) [
+  | inl h ↦ ordered c p h
+  | inr h ↦ omega (arith, h.0, (found_is_first parent table p h.1).within)
+]

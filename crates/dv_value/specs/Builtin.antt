@@ -37,11 +37,13 @@ scheduler_error = 12
 abbrev pub task_finished : ℕ
 task_finished = 15
 
+-- the names of those right below the root
 abbrev pub of_exception : List (List ℕ)
 of_exception =
     codes "ValueError" ∷ codes "TypeError" ∷ codes "NameError" ∷ codes "AssertionError" ∷ codes "OverflowError" ∷ codes "RuntimeError"
     ∷ codes "AlreadyCalledError" ∷ codes "CancelledError" ∷ codes "FirstError" ∷ codes "QueueOverflow" ∷ codes "QueueUnderflow" ∷ codes "SchedulerError" ∷ []
 
+-- the root, and below it a line for each class that has children
 unfoldable pub builtin : List Class
 builtin =
     children_of None (codes "Exception" ∷ [])

@@ -14,6 +14,7 @@ plain_failure class message = roll-Failure (record { class = class; message = me
 abbrev pub class_of : Failure → ℕ
 class_of f = (out-Failure f).class
 
+-- by the class that was found: that class, or the failure where there is none
 abbrev pub trap_by : Option ℕ → Failure → Result ℕ Failure
 trap_by (Some class) f = Ok class
 trap_by None f = Err f
@@ -22,6 +23,7 @@ trap_by None f = Err f
 abbrev pub trap : List Class → Failure → List ℕ → Result ℕ Failure
 trap table f listed = trap_by (check table (class_of f) listed) f
 
+-- by the kind of the value: only a failure is one
 abbrev pub is_fault_step : Value-F Value → Bool
 is_fault_step Value-F.Null = false
 is_fault_step (Value-F.Bool b) = false
@@ -34,6 +36,7 @@ is_fault_step (Value-F.Fault f) = true
 abbrev pub is_fault : Value → Bool
 is_fault v = is_fault_step (out-Value v)
 
+-- by the kind of the value: a failure is itself, and no other value is one
 abbrev pub failure_in_step : Value-F Value → Option Failure
 failure_in_step Value-F.Null = None
 failure_in_step (Value-F.Bool b) = None

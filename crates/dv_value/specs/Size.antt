@@ -15,6 +15,7 @@ sub_size (Some inside) = inside
 abbrev pub failure_size_step : Failure-F ℕ ℕ → ℕ
 failure_size_step f = 1 + length f.message + sub_size f.sub
 
+-- how much a failure weighs, with those inside
 abbrev pub failure_size : Failure → ℕ
 failure_size = fold-Failure ℕ ℕ failure_size_step (λ sub. sub.failure)
 
@@ -27,5 +28,6 @@ size_step (Value-F.Text t) = 1 + length t
 size_step (Value-F.List vs) = 1 + sum vs
 size_step (Value-F.Fault f) = failure_size f
 
+-- how much a value weighs, with those inside
 abbrev pub size : Value → ℕ
 size = fold-Value ℕ size_step

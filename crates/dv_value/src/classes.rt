@@ -102,10 +102,8 @@ impl Classes {
         };
         let class = child_of(self.alloc, Some(above), name)?;
         let id = ClassId::new(self.count());
-        match self.classes.push(class) {
-            Ok(()) => Ok(id),
-            Err(_) => Err(ClassFault::OutOfMemory),
-        }
+        self.classes.push(class).map_err(AllocError::from)?;
+        Ok(id)
     }
 
     /// The first class of this name, byte for byte, if there is one.

@@ -1,7 +1,7 @@
 //! Laws of the table of classes, each a function with an empty body whose clause is the law.
 
 ghost use Rattle.dv_value.specs.Builtin.{builtin};
-ghost use Rattle.dv_value.specs.Laws.{PathsOfOrderedTablesGoUp, PathsGoUp, BuiltinsHaveTheirPlaces, FindsTheFirst, NamesAreDistinct};
+ghost use Rattle.dv_value.specs.Laws.{DeclaredClassesKeepTheOrder, PathsOfOrderedTablesGoUp, PathsGoUp, BuiltinsHaveTheirPlaces, FindsTheFirst, NamesAreDistinct};
 
 /// Where each class's parent stands before it, the path of a class is the class and then the path of its parent.
 pub fn paths_go_up()
@@ -11,6 +11,11 @@ pub fn paths_go_up()
 /// The classes that every script has are such a table.
 pub fn builtin_paths_go_up()
     ensures { PathsGoUp builtin }
+{}
+
+/// A table in which each class's parent stands before it is such a table still once a class is declared.
+pub fn declared_classes_keep_the_order()
+    ensures { DeclaredClassesKeepTheOrder }
 {}
 
 /// The classes that rules name stand where the rules look for them.

@@ -1,6 +1,6 @@
 ghost use Rattle.std.specs.Prelude.{◌≡◌, ◌+ℤ◌, IfOk};
 ghost use Rattle.dv_value.specs.Classes.{check};
-ghost use Rattle.dv_value.specs.Failure.{class_of};
+ghost use Rattle.dv_value.specs.Failure.{class_of, plain_failure};
 ghost use Rattle.dv_world.specs.Ending.{fault, sum_or_overflow, plus_to, trap_of, trapped_by, ended};
 ghost use Rattle.dv_value.specs.declared.value.Value.{out-Value};
 
@@ -16,12 +16,19 @@ use dv_value::text::Text;
 use dv_value::value::Value;
 use std::alloc::{AllocError, Global};
 
+/// A failure of a class, with a message.
+pub(crate) fn failure(alloc: Global, class: ClassId, message: &str) -> Result<Failure, AllocError>
+    ensures { IfOk result (λ f. f ≡ plain_failure class message.now) }
+{
+    Ok(Failure::new(class, Text::of(alloc, message)?))
+}
+
 /// A failure as a value.
 pub fn fault(alloc: Global, class: ClassId, message: &str) -> Result<Value, AllocError>
     ensures { IfOk result (λ v. v ≡ fault class message.now) }
 {
-    let message = Text::of(alloc, message)?;
-    Ok(Value::Fault(Boxed::new(alloc, Failure::new(class, message))?))
+    let failure = failure(alloc, class, message)?;
+    Ok(Value::Fault(Boxed::new(alloc, failure)?))
 }
 
 /// What an end comes to for an input. The name of a `Wait` is looked up here, `@` as the Deferred that is given, where

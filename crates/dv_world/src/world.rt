@@ -1,9 +1,9 @@
-ghost use Rattle.std.specs.Prelude.{◌≡◌, ◌<◌, ◌^◌, ◌-◌, length, IfOk, OnOk};
+ghost use Rattle.std.specs.Prelude.{◌≡◌, ◌<◌, ◌^◌, ◌-◌, length, IfOk, OnOk, OnErr};
 ghost use Rattle.dv_value.specs.Failure.{plain_failure};
 ghost use Rattle.dv_world.specs.World.{cancelled, unbound};
 ghost use Rattle.dv_world.specs.declared.follow.Follow.TheVariants.{Raise};
 
-use crate::ending::fault;
+use crate::ending::{failure, fault};
 use crate::follow::Follow;
 use crate::lent::BodyRef;
 use crate::names::Names;
@@ -19,7 +19,6 @@ use dv_store::record::Record;
 use dv_store::store::{Fired, Step, Store};
 use dv_value::class_id::ClassId;
 use dv_value::classes::Classes;
-use dv_value::failure::Failure;
 use dv_value::text::Text;
 use dv_value::value::Value;
 use std::alloc::{AllocError, Global};
@@ -27,6 +26,9 @@ use std::marker::Model;
 
 /// The world of a run: its Deferreds, their names, the classes of failures and the journal. Once an entry doesn't fit
 /// into the journal the run has stopped: from then on nothing changes.
+///
+/// Where a call answers AllocError, nothing is promised of what the world holds then: its clauses speak of the other
+/// answers only. An engine that was refused memory asks no more of its world.
 #[derive(Drop)]
 pub struct World<'s> {
     alloc: Global,
@@ -54,7 +56,7 @@ impl<'s> Model for World<'s> {
 
 impl<'s> World<'s> {
     ghost use Rattle.dv_store.specs.Pausing.{pauses_of};
-    ghost use Rattle.dv_world.specs.World.{first_world, value_of, deferred_at, step, put, put_deferred, append, make, fire, fire_guarded, is_unfired, reached_from, cancel, pause, unpause, tell};
+    ghost use Rattle.dv_world.specs.World.{first_world, value_of, deferred_at, step, put, put_deferred, append, make, fire, fire_guarded, is_unfired, reached_from, cancel, pause, unpause, tell, with_stop};
 
     /// A world in which nothing is made, and whose journal takes so much weight.
     pub fn new(alloc: Global, classes: &'s Classes, limit: u64) -> World<'s>
@@ -76,6 +78,13 @@ impl<'s> World<'s> {
         ensures { result.now ≡ self.now.classes }
     {
         self.classes
+    }
+
+    /// Whether an entry didn't fit into the journal, so that nothing changes any more.
+    pub fn is_stopped(&self) -> bool
+        ensures { result ≡ self.now.stopped }
+    {
+        self.stopped
     }
 
     /// The Deferred that a name stands for; `@` is the one that is given, where one is.
@@ -109,11 +118,7 @@ impl<'s> World<'s> {
         }
         match self.store.step(&mut self.journal, id) {
             Ok(move_made) => Ok(move_made),
-            Err(Stop::Limit) => {
-                self.stopped = true;
-                Ok(Step::Nothing)
-            }
-            Err(Stop::OutOfMemory) => Err(AllocError),
+            Err(stop) => self.stopped_by(stop, Step::Nothing),
         }
     }
 
@@ -127,11 +132,7 @@ impl<'s> World<'s> {
         }
         match self.store.put(&mut self.journal, id, value) {
             Ok(()) => Ok(()),
-            Err(Stop::Limit) => {
-                self.stopped = true;
-                Ok(())
-            }
-            Err(Stop::OutOfMemory) => Err(AllocError),
+            Err(stop) => self.stopped_by(stop, ()),
         }
     }
 
@@ -145,11 +146,7 @@ impl<'s> World<'s> {
         }
         match self.store.put_deferred(&mut self.journal, id, given) {
             Ok(_) => Ok(()),
-            Err(Stop::Limit) => {
-                self.stopped = true;
-                Ok(())
-            }
-            Err(Stop::OutOfMemory) => Err(AllocError),
+            Err(stop) => self.stopped_by(stop, ()),
         }
     }
 
@@ -163,11 +160,7 @@ impl<'s> World<'s> {
         }
         match self.store.append(&mut self.journal, id, pair) {
             Ok(()) => Ok(()),
-            Err(Stop::Limit) => {
-                self.stopped = true;
-                Ok(())
-            }
-            Err(Stop::OutOfMemory) => Err(AllocError),
+            Err(stop) => self.stopped_by(stop, ()),
         }
     }
 
@@ -180,14 +173,10 @@ impl<'s> World<'s> {
         if self.stopped {
             return Ok(());
         }
-        let shown = Text::of(self.alloc, name)?;
-        match self.store.make(&mut self.journal, Some(shown), canceller) {
+        let kept = Text::of(self.alloc, name)?;
+        match self.store.make(&mut self.journal, Some(kept), canceller) {
             Ok(id) => self.names.bind(name, id),
-            Err(Stop::Limit) => {
-                self.stopped = true;
-                Ok(())
-            }
-            Err(Stop::OutOfMemory) => Err(AllocError),
+            Err(stop) => self.stopped_by(stop, ()),
         }
     }
 
@@ -262,11 +251,7 @@ impl<'s> World<'s> {
         }
         match self.journal.write(Entry::Cancel(id)) {
             Ok(()) => Ok(self.reached(id)),
-            Err(Stop::Limit) => {
-                self.stopped = true;
-                Ok(Reached::Nothing)
-            }
-            Err(Stop::OutOfMemory) => Err(AllocError),
+            Err(stop) => self.stopped_by(stop, Reached::Nothing),
         }
     }
 
@@ -302,11 +287,7 @@ impl<'s> World<'s> {
         }
         match self.store.pause(&mut self.journal, id) {
             Ok(()) => Ok(()),
-            Err(Stop::Limit) => {
-                self.stopped = true;
-                Ok(())
-            }
-            Err(Stop::OutOfMemory) => Err(AllocError),
+            Err(stop) => self.stopped_by(stop, ()),
         }
     }
 
@@ -343,11 +324,22 @@ impl<'s> World<'s> {
         }
         match self.journal.write(entry) {
             Ok(()) => Ok(()),
-            Err(Stop::Limit) => {
+            Err(stop) => self.stopped_by(stop, ()),
+        }
+    }
+
+    /// What a change that couldn't be told answers: the run stops, and it is this, or memory was refused.
+    fn stopped_by<T: Drop>(&mut self, stop: Stop, otherwise: T) -> Result<T, AllocError>
+        ensures stopped { OnOk result ((stop ≡ Stop.Limit) × (self.new ≡ with_stop self.old)) }
+        ensures value { IfOk result (λ x. x ≡ otherwise) }
+        ensures err { OnErr result ((stop ≡ Stop.OutOfMemory) × (self.new ≡ self.old)) }
+    {
+        match stop {
+            Stop::Limit => {
                 self.stopped = true;
-                Ok(())
+                Ok(otherwise)
             }
-            Err(Stop::OutOfMemory) => Err(AllocError),
+            Stop::OutOfMemory => Err(AllocError),
         }
     }
 
@@ -381,11 +373,4 @@ pub fn cancelled(alloc: Global) -> Result<Value, AllocError>
     ensures { IfOk result (λ v. v ≡ cancelled) }
 {
     fault(alloc, ClassId::CANCELLED_ERROR, "")
-}
-
-/// A failure of a class, with a message.
-fn failure(alloc: Global, class: ClassId, message: &str) -> Result<Failure, AllocError>
-    ensures { IfOk result (λ f. f ≡ plain_failure class message.now) }
-{
-    Ok(Failure::new(class, Text::of(alloc, message)?))
 }

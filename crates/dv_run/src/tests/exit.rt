@@ -1,54 +1,66 @@
 use crate::error::RunFault;
 use crate::exit::exit_of;
-use crate::run::Ended;
+use dv_engine::report::Report;
+use dv_journal::journal::Journal;
 use dv_script::error::ScriptFault;
+use dv_value::items::Items;
 
-static EXITS: [(Result<Ended, RunFault>, u8, &str); 12] = [
-    (Ok(Ended::All), 0, ""),
-    (Ok(Ended::Stopped), 1, ""),
+static FAULTS: [(RunFault, u8, &str); 10] = [
     (
-        Err(RunFault::ScriptRefused(ScriptFault::TooLong)),
+        RunFault::ScriptRefused(ScriptFault::TooLong),
         2,
         "script refused: 1 TooLong",
     ),
     (
-        Err(RunFault::ScriptRefused(ScriptFault::NotJson)),
+        RunFault::ScriptRefused(ScriptFault::NotJson),
         2,
         "script refused: 2 NotJson",
     ),
     (
-        Err(RunFault::ScriptRefused(ScriptFault::BadVersion)),
+        RunFault::ScriptRefused(ScriptFault::BadVersion),
         2,
         "script refused: 3 BadVersion",
     ),
     (
-        Err(RunFault::ScriptRefused(ScriptFault::BadShape)),
+        RunFault::ScriptRefused(ScriptFault::BadShape),
         2,
         "script refused: 4 BadShape",
     ),
     (
-        Err(RunFault::ScriptRefused(ScriptFault::TooMany)),
+        RunFault::ScriptRefused(ScriptFault::TooMany),
         2,
         "script refused: 5 TooMany",
     ),
     (
-        Err(RunFault::ScriptRefused(ScriptFault::BadName)),
+        RunFault::ScriptRefused(ScriptFault::BadName),
         2,
         "script refused: 6 BadName",
     ),
     (
-        Err(RunFault::ScriptRefused(ScriptFault::BadClass)),
+        RunFault::ScriptRefused(ScriptFault::BadClass),
         2,
         "script refused: 7 BadClass",
     ),
-    (Err(RunFault::OutOfMemory), 3, "out of memory"),
-    (Err(RunFault::ReadFault), 4, "read failed"),
-    (Err(RunFault::WriteFault), 4, "write failed"),
+    (RunFault::OutOfMemory, 3, "out of memory"),
+    (RunFault::ReadFault, 4, "read failed"),
+    (RunFault::WriteFault, 4, "write failed"),
 ];
 
 #[test]
-fn each_end_has_its_status_and_its_text(rt: HostRuntime) {
-    for (ended, status, text) in &EXITS {
-        assert_eq!(rt; exit_of(ended), (*status, *text), "{ended:?}");
+fn each_fault_has_its_status_and_its_text(rt: HostRuntime) {
+    for (fault, status, text) in &FAULTS {
+        assert_eq!(rt; exit_of(&Err(*fault)), (*status, *text), "{fault:?}");
+    }
+}
+
+#[test]
+fn a_report_has_a_status_by_whether_its_run_stopped(rt: HostRuntime) {
+    for (stopped, status) in [(false, 0), (true, 1)] {
+        let report = Report {
+            journal: Journal::new(rt.alloc(), 0),
+            outcomes: Items::new(rt.alloc()),
+            stopped,
+        };
+        assert_eq!(rt; exit_of(&Ok(report)), (status, ""), "{stopped}");
     }
 }

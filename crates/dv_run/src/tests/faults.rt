@@ -1,13 +1,14 @@
 use crate::error::RunFault;
 use crate::io_source::IoSource;
 use crate::memory_source::MemorySource;
-use crate::run::{Ended, run};
+use crate::run::run;
+use crate::tests::stops;
 use dv_journal::io_sink::IoSink;
 use dv_journal::memory_sink::{MemorySink, Trouble};
 use std::io::{self, Read};
 use std::test::Fail;
 
-// a script of 77 bytes, whose text has 54 bytes in five lines
+/// A script of 77 bytes, whose text has 54 bytes in five lines.
 const SCRIPT: &[u8] =
     br#"{"version":1,"events":[["deferred","a"],["deferred","b"],["callback","a",1]]}"#;
 
@@ -20,7 +21,7 @@ fn a_reader_that_fails_at_any_call_is_a_read_fault(rt: HostRuntime) -> Result<()
         let mut source = MemorySource::new(SCRIPT, 10).with_failure(calls_before);
         let mut sink = MemorySink::new(rt.alloc(), 100, 100)?;
         assert_eq!(rt;
-            run(rt.alloc(), &mut source, &mut sink),
+            stops(run(rt.alloc(), &mut source, &mut sink)),
             Err(RunFault::ReadFault),
             "after {calls_before}"
         );
@@ -34,8 +35,8 @@ fn a_byte_a_call_gives_the_same_text(rt: HostRuntime) -> Result<(), Fail> {
     for (read, written) in [(1usize, 1usize), (1, 100), (4096, 1), (7, 3)] {
         let mut source = MemorySource::new(SCRIPT, read);
         let mut sink = MemorySink::new(rt.alloc(), 100, written)?;
-        let ended = run(rt.alloc(), &mut source, &mut sink);
-        assert_eq!(rt; ended, Ok(Ended::All), "{read} and {written}");
+        let answer = run(rt.alloc(), &mut source, &mut sink);
+        assert_eq!(rt; stops(answer), Ok(false), "{read} and {written}");
         assert_eq!(rt; sink.bytes(), TEXT, "{read} and {written}");
     }
     Ok(())
@@ -51,7 +52,7 @@ fn a_writer_that_fails_at_any_call_has_a_prefix(rt: HostRuntime) -> Result<(), F
                 trouble,
             );
             assert_eq!(rt;
-                run(rt.alloc(), &mut source, &mut sink),
+                stops(run(rt.alloc(), &mut source, &mut sink)),
                 Err(RunFault::WriteFault),
                 "{trouble:?} after {calls_before}"
             );
@@ -66,12 +67,34 @@ fn a_writer_that_fails_at_any_call_has_a_prefix(rt: HostRuntime) -> Result<(), F
 }
 
 #[test]
+fn the_journal_and_the_outcomes_are_written_in_one_call_each(rt: HostRuntime) -> Result<(), Fail> {
+    for (calls_before, answer, len) in [
+        (0, Err(RunFault::WriteFault), 0),
+        (1, Err(RunFault::WriteFault), 31),
+        (2, Ok(false), TEXT.len()),
+    ] {
+        let mut source = MemorySource::new(SCRIPT, 100);
+        let mut sink = MemorySink::new(rt.alloc(), 100, 100)?.with_trouble(
+            calls_before,
+            Trouble::Fails,
+        );
+        assert_eq!(rt;
+            stops(run(rt.alloc(), &mut source, &mut sink)),
+            answer,
+            "after {calls_before}"
+        );
+        assert_eq!(rt; sink.bytes(), &TEXT[..len], "after {calls_before}");
+    }
+    Ok(())
+}
+
+#[test]
 fn a_full_sink_is_a_write_fault_with_a_prefix(rt: HostRuntime) -> Result<(), Fail> {
     for room in 0..TEXT.len() {
         let mut source = MemorySource::new(SCRIPT, 100);
         let mut sink = MemorySink::new(rt.alloc(), room, 100)?;
         assert_eq!(rt;
-            run(rt.alloc(), &mut source, &mut sink),
+            stops(run(rt.alloc(), &mut source, &mut sink)),
             Err(RunFault::WriteFault),
             "room for {room}"
         );
@@ -92,16 +115,16 @@ impl io::Read for Broken {
 #[test]
 fn a_reader_and_a_writer_of_std_serve_a_run(rt: HostRuntime) -> Result<(), Fail> {
     let mut text = Vec::new(rt.alloc());
-    let ended = run(
+    let answer = run(
         rt.alloc(),
         &mut IoSource::new(SCRIPT),
         &mut IoSink::new(&mut text),
     );
-    assert_eq!(rt; ended, Ok(Ended::All));
+    assert_eq!(rt; stops(answer), Ok(false));
     assert_eq!(rt; text.as_slice(), TEXT);
     let mut broken = IoSource::new(SCRIPT.chain(Broken));
-    let ended = run(rt.alloc(), &mut broken, &mut IoSink::new(&mut text));
-    assert_eq!(rt; ended, Err(RunFault::ReadFault));
+    let answer = run(rt.alloc(), &mut broken, &mut IoSink::new(&mut text));
+    assert_eq!(rt; stops(answer), Err(RunFault::ReadFault));
     assert_eq!(rt; text.as_slice(), TEXT);
     Ok(())
 }

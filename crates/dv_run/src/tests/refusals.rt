@@ -1,5 +1,4 @@
 use crate::error::RunFault;
-use crate::run::Ended;
 use crate::tests::ran;
 use dv_script::error::ScriptFault;
 use std::alloc::{AllocError, Global};
@@ -42,14 +41,14 @@ static REFUSED: [(&str, &str, ScriptFault); 7] = [
 #[test]
 fn a_refused_script_writes_nothing(rt: HostRuntime) -> Result<(), Fail> {
     for (name, script, refusal) in &REFUSED {
-        let (ended, sink) = ran(rt.alloc(), script.as_bytes())?;
-        assert_eq!(rt; ended, Err(RunFault::ScriptRefused(*refusal)), "{name}");
+        let (stops, sink) = ran(rt.alloc(), script.as_bytes())?;
+        assert_eq!(rt; stops, Err(RunFault::ScriptRefused(*refusal)), "{name}");
         assert!(rt; sink.bytes().is_empty(), "{name}");
     }
     Ok(())
 }
 
-// a script for each action, event, body and key that isn't performed yet
+/// A script for each action, event, body and key that isn't performed yet.
 static UNPERFORMED: [&str; 33] = [
     r#"{"version":1,"events":[["deferred","d",{"do":[["lock","l"]]}]]}"#,
     r#"{"version":1,"events":[["deferred","d",{"do":[["cancel","@"],["deferred","e",{"do":[["cancelCall","c"]]}]]}]]}"#,
@@ -89,9 +88,9 @@ static UNPERFORMED: [&str; 33] = [
 #[test]
 fn a_script_of_what_is_not_performed_yet_has_a_bad_shape(rt: HostRuntime) -> Result<(), Fail> {
     for script in &UNPERFORMED {
-        let (ended, sink) = ran(rt.alloc(), script.as_bytes())?;
+        let (stops, sink) = ran(rt.alloc(), script.as_bytes())?;
         assert_eq!(rt;
-            ended,
+            stops,
             Err(RunFault::ScriptRefused(ScriptFault::BadShape)),
             "{script}"
         );
@@ -100,7 +99,7 @@ fn a_script_of_what_is_not_performed_yet_has_a_bad_shape(rt: HostRuntime) -> Res
     Ok(())
 }
 
-// a script of one Deferred, with spaces behind it up to this many bytes
+/// A script of one Deferred, with spaces behind it up to this many bytes.
 fn padded(alloc: Global, len: usize) -> Result<Vec<u8>, AllocError> {
     let mut bytes = r#"{"version":1,"events":[["deferred","d"]]}"#
         .as_bytes()
@@ -112,16 +111,16 @@ fn padded(alloc: Global, len: usize) -> Result<Vec<u8>, AllocError> {
 #[test]
 fn a_script_of_a_mebibyte_runs_and_one_byte_more_is_refused(rt: HostRuntime) -> Result<(), Fail> {
     let alloc = rt.alloc();
-    let (ended, sink) = ran(alloc, padded(alloc, 1_048_576)?.as_slice())?;
-    assert_eq!(rt; ended, Ok(Ended::All));
+    let (stops, sink) = ran(alloc, padded(alloc, 1_048_576)?.as_slice())?;
+    assert_eq!(rt; stops, Ok(false));
     assert_eq!(rt; sink.bytes(), b"new #0 d\n#0 d unfired\n".as_slice());
-    let (ended, sink) = ran(alloc, padded(alloc, 1_048_577)?.as_slice())?;
-    assert_eq!(rt; ended, Err(RunFault::ScriptRefused(ScriptFault::TooLong)));
+    let (stops, sink) = ran(alloc, padded(alloc, 1_048_577)?.as_slice())?;
+    assert_eq!(rt; stops, Err(RunFault::ScriptRefused(ScriptFault::TooLong)));
     assert!(rt; sink.bytes().is_empty());
     Ok(())
 }
 
-// a script of eleven nodes that makes a Deferred and fires it, and as many nodes more as zeros
+/// A script of eleven nodes that makes a Deferred and fires it, and as many nodes more as zeros.
 fn with_zeros(alloc: Global, zeros: usize) -> Result<Vec<u8>, AllocError> {
     let mut bytes = r#"{"version":1,"events":[["deferred","d"],["callback","d",[null"#
         .as_bytes()
@@ -136,8 +135,8 @@ fn with_zeros(alloc: Global, zeros: usize) -> Result<Vec<u8>, AllocError> {
 #[test]
 fn a_script_of_too_many_nodes_is_refused(rt: HostRuntime) -> Result<(), Fail> {
     let alloc = rt.alloc();
-    let (ended, sink) = ran(alloc, with_zeros(alloc, 65_526)?.as_slice())?;
-    assert_eq!(rt; ended, Err(RunFault::ScriptRefused(ScriptFault::TooMany)));
+    let (stops, sink) = ran(alloc, with_zeros(alloc, 65_526)?.as_slice())?;
+    assert_eq!(rt; stops, Err(RunFault::ScriptRefused(ScriptFault::TooMany)));
     assert!(rt; sink.bytes().is_empty());
     Ok(())
 }

@@ -5,6 +5,7 @@ ghost use Rattle.dv_script.specs.Shape.{action_at, action_of, deferred_of, objec
 
 use crate::action::Action;
 use crate::body::Body;
+use crate::limits::{MOST_DELAY, MOST_PLACES};
 use crate::reading::body::{bodies, body};
 use crate::reading::leaf::{
     array, boolean, bound, call, class, five, gather_flags_in, list_flags_in, number, one,
@@ -178,7 +179,7 @@ fn object_of(
         ObjectWord::Semaphore => {
             let (name, json) = two(arguments)?;
             let name = text(alloc, name)?;
-            Ok(Action::Semaphore(name, small(json, 1, 65_536)?))
+            Ok(Action::Semaphore(name, small(json, 1, MOST_PLACES)?))
         }
         ObjectWord::Acquire => {
             let (name, json) = two(arguments)?;
@@ -226,7 +227,7 @@ fn task_of(
         TaskWord::Later => {
             let (name, delay, json) = three(arguments)?;
             let name = text(alloc, name)?;
-            let delay = number(delay, 0, 1_000_000_000_000)?;
+            let delay = number(delay, 0, MOST_DELAY)?;
             Ok(Action::Later(name, delay, body(alloc, classes, levels, json)?))
         }
         TaskWord::CancelCall => Ok(Action::CancelCall(text(alloc, one(arguments)?)?)),
@@ -234,7 +235,7 @@ fn task_of(
             let (name, deferred, interval, at_once, json) = five(arguments)?;
             let name = text(alloc, name)?;
             let deferred = text(alloc, deferred)?;
-            let interval = number(interval, 1, 1_000_000_000_000)?;
+            let interval = number(interval, 1, MOST_DELAY)?;
             let at_once = boolean(at_once)?;
             let body = body(alloc, classes, levels, json)?;
             Ok(Action::Loop(name, deferred, interval, at_once, body))
@@ -261,7 +262,7 @@ fn task_of(
         TaskWord::Thread => {
             let (name, delay, json) = three(arguments)?;
             let name = text(alloc, name)?;
-            let delay = number(delay, 0, 1_000_000_000_000)?;
+            let delay = number(delay, 0, MOST_DELAY)?;
             Ok(Action::Thread(name, delay, work(alloc, classes, json)?))
         }
     }

@@ -4,6 +4,7 @@ ghost use Rattle.dv_script.specs.Answer.{Reads};
 ghost use Rattle.dv_script.specs.Shape.{cooperator_at, number_at, field};
 ghost use Rattle.dv_script.specs.Grammar.{plain_cooperator};
 
+use crate::limits::MOST_DELAY;
 use crate::reading::leaf::{fields, number, small};
 use crate::reading::stop::Stop;
 use crate::script::Cooperator;
@@ -43,6 +44,6 @@ fn delay(json: Option<&Json>) -> Result<u64, Stop>
 {
     match json {
         None => Err(Stop::BadShape),
-        Some(json) => Ok(number(json, 1, 1_000_000_000_000)?),
+        Some(json) => Ok(number(json, 1, MOST_DELAY)?),
     }
 }

@@ -3,6 +3,7 @@ ghost use Rattle.dv_script.specs.Answer.{Reads};
 ghost use Rattle.dv_script.specs.Shape.{event_at, event_of, other_event, each};
 
 use crate::event::Event;
+use crate::limits::{MOST_LEVELS, MOST_TICKS};
 use crate::reading::action::action;
 use crate::reading::leaf::{call, number, one, small};
 use crate::reading::stop::Stop;
@@ -17,7 +18,7 @@ use std::alloc::Global;
 fn event(alloc: Global, classes: &Classes, json: &Json) -> Result<Event, Stop>
     ensures { Reads result (event_at classes.now (view json.now)) }
 {
-    match action(alloc, classes, 127, json) {
+    match action(alloc, classes, MOST_LEVELS, json) {
         Ok(action) => Ok(Event::Action(action)),
         Err(Stop::BadShape) => Ok(other_event(json)?),
         Err(Stop::OutOfMemory) => Err(Stop::OutOfMemory),
@@ -40,11 +41,7 @@ fn event_of(word: EventWord, arguments: &[Json]) -> Result<Event, Stop>
     ensures { Reads result (event_of word (items_view arguments.now)) }
 {
     match word {
-        EventWord::Advance => Ok(Event::Advance(number(
-            one(arguments)?,
-            0,
-            1_000_000_000_000_000,
-        )?)),
+        EventWord::Advance => Ok(Event::Advance(number(one(arguments)?, 0, MOST_TICKS)?)),
         EventWord::Drain => Ok(Event::Drain(small(one(arguments)?, 0, 2_048)?)),
     }
 }

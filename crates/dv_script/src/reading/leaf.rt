@@ -1,4 +1,4 @@
-ghost use Rattle.std.specs.Prelude.{◌≡◌, map, option_map, bytes_eq};
+ghost use Rattle.std.specs.Prelude.{◌≡◌, ◌≤◌, map, option_map, bytes_eq, IfOk};
 ghost use Rattle.std.specs.List.{list_any};
 ghost use Rattle.serde_json.specs.View.{view, items_view, members_view};
 ghost use Rattle.serde_json.specs.Find.{as_array, as_bool};
@@ -7,6 +7,7 @@ ghost use Rattle.dv_script.specs.Answer.{Reads, Gives};
 ghost use Rattle.dv_script.specs.Shape.{text_at, integer_at, number_at, bound_at, class_at, list_flag, list_flag_at, gather_flag_named, gather_flag_at, list_at, each, call_at, none, first, if_any, one, one_or_two, two, three, five, fields_at};
 
 use crate::action::{GatherFlag, ListFlag};
+use crate::limits::MOST_PLACES;
 use crate::reading::stop::Stop;
 use dv_value::class_id::ClassId;
 use dv_value::classes::Classes;
@@ -29,15 +30,13 @@ pub fn text(alloc: Global, json: &Json) -> Result<Text, Stop>
 pub fn integer(json: &Json) -> Result<i64, Stop>
     ensures { Reads result (integer_at (view json.now)) }
 {
-    match json.as_i64() {
-        Some(n) => Ok(n),
-        None => Err(Stop::BadShape),
-    }
+    json.as_i64().ok_or(Stop::BadShape)
 }
 
 /// An integer from `low` to `high`.
 pub fn number(json: &Json, low: u64, high: u64) -> Result<u64, Stop>
-    ensures { Reads result (number_at low high (view json.now)) }
+    ensures read { Reads result (number_at low high (view json.now)) }
+    ensures most { IfOk result (λ n. n ≤ high) }
 {
     match json.as_u64() {
         Some(n) => if low <= n && n <= high {
@@ -53,24 +52,14 @@ pub fn number(json: &Json, low: u64, high: u64) -> Result<u64, Stop>
 pub fn small(json: &Json, low: u32, high: u32) -> Result<u32, Stop>
     ensures { Reads result (number_at low high (view json.now)) }
 {
-    match json.as_u64() {
-        Some(n) => if u64::from(low) <= n && n <= u64::from(high) {
-            Ok(n as u32)
-        } else {
-            Err(Stop::BadShape)
-        },
-        None => Err(Stop::BadShape),
-    }
+    Ok(number(json, u64::from(low), u64::from(high))? as u32)
 }
 
 /// A boolean.
 pub fn boolean(json: &Json) -> Result<bool, Stop>
     ensures { Reads result (as_bool (view json.now)) }
 {
-    match json.as_bool() {
-        Some(b) => Ok(b),
-        None => Err(Stop::BadShape),
-    }
+    json.as_bool().ok_or(Stop::BadShape)
 }
 
 /// A bound of a queue, or none.
@@ -79,7 +68,7 @@ pub fn bound(json: &Json) -> Result<Option<u32>, Stop>
 {
     match json {
         Json::Null => Ok(None),
-        Json::Number(_) => Ok(Some(small(json, 0, 65_536)?)),
+        Json::Number(_) => Ok(Some(small(json, 0, MOST_PLACES)?)),
         Json::Bool(_) | Json::String(_) | Json::Array(_) | Json::Object(_) => Err(Stop::BadShape),
     }
 }
@@ -91,10 +80,8 @@ pub fn class(classes: &Classes, json: &Json) -> Result<ClassId, Stop>
     let Json::String(name) = json else {
         return Err(Stop::BadShape);
     };
-    match classes.find(name.as_str()) {
-        Some(class) => Ok(class),
-        None => Ok(ClassId::new(classes.count())),
-    }
+    let past_the_last = ClassId::new(classes.count());
+    Ok(classes.find(name.as_str()).unwrap_or(past_the_last))
 }
 
 /// An array of classes.
@@ -148,10 +135,7 @@ fn list_flag(json: &Json) -> Result<ListFlag, Stop>
     let Json::String(word) = json else {
         return Err(Stop::BadShape);
     };
-    match list_flag_named(word.as_str()) {
-        Some(flag) => Ok(flag),
-        None => Err(Stop::BadShape),
-    }
+    list_flag_named(word.as_str()).ok_or(Stop::BadShape)
 }
 
 /// An array of flags of a list.
@@ -186,10 +170,7 @@ fn gather_flag(json: &Json) -> Result<GatherFlag, Stop>
     let Json::String(word) = json else {
         return Err(Stop::BadShape);
     };
-    match gather_flag_named(word.as_str()) {
-        Some(flag) => Ok(flag),
-        None => Err(Stop::BadShape),
-    }
+    gather_flag_named(word.as_str()).ok_or(Stop::BadShape)
 }
 
 /// An array of flags of what is gathered.

@@ -6,6 +6,7 @@ ghost use Rattle.dv_script.specs.Shape.{caller_at, event_at, each, field, list_a
 use crate::body::Body;
 use crate::draft::Draft;
 use crate::event::Event;
+use crate::limits::{MOST_LEVELS, MOST_LIMIT};
 use crate::reading::body::bodies;
 use crate::reading::cooperator::cooperator_or_plain;
 use crate::reading::event::events;
@@ -23,7 +24,7 @@ fn limit(json: Option<&Json>) -> Result<u64, Stop>
 {
     match json {
         None => Ok(2_000),
-        Some(json) => Ok(number(json, 0, 200_000)?),
+        Some(json) => Ok(number(json, 0, MOST_LIMIT)?),
     }
 }
 
@@ -53,7 +54,7 @@ fn each_caller(alloc: Global, classes: &Classes, items: &[Json]) -> Result<Items
 fn caller(alloc: Global, classes: &Classes, json: &Json) -> Result<Items<Body>, Stop>
     ensures { Reads result (caller_at classes.now (view json.now)) }
 {
-    Ok(bodies(alloc, classes, 127, array(json)?)?)
+    Ok(bodies(alloc, classes, MOST_LEVELS, array(json)?)?)
 }
 
 fn all_events(alloc: Global, classes: &Classes, json: Option<&Json>) -> Result<Items<Event>, Stop>

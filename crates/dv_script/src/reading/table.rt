@@ -75,8 +75,7 @@ fn declare(classes: &mut Classes, declaration: &Declaration) -> Result<bool, Sto
     }
     match classes.declare(declaration.name.as_str(), declaration.parent.as_str()) {
         Ok(_) => Ok(true),
-        Err(ClassFault::Taken) => Ok(false),
-        Err(ClassFault::NoParent) => Ok(false),
+        Err(ClassFault::Taken | ClassFault::NoParent) => Ok(false),
         Err(ClassFault::OutOfMemory) => Err(Stop::OutOfMemory),
     }
 }

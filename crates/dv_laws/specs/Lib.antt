@@ -1,0 +1,3 @@
+pub mod ReadBack
+pub mod Once
+pub mod Examples
