@@ -9,5 +9,3 @@ pub mod journal;
 pub mod line;
 pub mod memory_sink;
 pub mod sink;
-#[cfg(test)]
-mod tests;

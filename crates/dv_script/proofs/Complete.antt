@@ -22,7 +22,7 @@ use Rattle.dv_script.specs.declared.draft.Draft.{Draft}
 use Rattle.dv_script.specs.Forms.{Each, IsList, Field, Key, IsText, IsNumber, IsClass, IsValue, a_null, a_bool, an_int, a_text, a_list, AreValues, no_values, more_values}
 use Rattle.dv_script.specs.Table.{table_of}
 use Rattle.dv_script.specs.Grammar.{plain_cooperator, IsEnd, returns, passes, adds, raises, traps, waits, IsWork, gives, fails, sums, IsListFlag, fires_on_callback, fires_on_errback, consumes_errors, IsGatherFlag, gathers_errors, IsBound, no_bound, a_bound, IsAction, deferred, deferred_with, callback, errback, add_callback, add_errback, add_both, add_callbacks, chain, pause, unpause, cancel, note, list, gather, maybe, lock, semaphore, acquire, release, run_with, queue, put, get, later, cancel_call, loop, stop_loop, cooperate, when_done, pause_task, stop_task, resume_task, inline, thread, AreActions, no_actions, more_actions, IsDo, does_nothing, does, IsBody, body, AreBodies, no_bodies, more_bodies, IsStatement, performs, awaits, tries, leaves, AreStatements, no_statements, more_statements, IsEvent, acts, advances, drains, IsDeclaration, declares, IsCooperator, IsScript}
-use Rattle.dv_script.specs.Shape.{value_at, values_at, each, list_at, text_at, number_at, within, bound_at, class_at, list_flag_at, gather_flag_at, call_at, none, first, if_any, one, one_or_two, two, three, five, fields_at, field, end_at, end_of, leave_at, work_at, work_of, action_by, action_of, deferred_of, object_of, task_of, body_by, statement_by, statement_of, readers, body_at, statement_at, action_at, event_at, event_of, other_event, declaration_at, cooperator_at, caller_at, table_for, script_at}
+use Rattle.dv_script.specs.Shape.{value_at, values_at, each, list_at, text_at, number_at, within, bound_at, class_at, list_flag_at, gather_flag_at, call_at, none, first, if_any, one, one_or_two, two, three, five, sole, pair, triple, fields_at, field, end_at, end_of, leave_at, work_at, work_of, action_by, action_of, new_deferred_of, deferred_of, object_of, loop_of, task_of, body_by, statement_by, statement_of, readers, body_at, statement_at, action_at, event_at, event_of, other_event, declaration_at, cooperator_at, caller_at, table_for, script_at}
 use Rattle.dv_script.proofs.Steps.{picked}
 
 -- ---- values, lists, leaves
@@ -88,7 +88,7 @@ complete_gather_flag : (d : Data) (flag : GatherFlag) → IsGatherFlag d flag �
 complete_gather_flag _ _ gathers_errors = refl
 
 complete_end : (table : List Class) (d : Data) (e : End) → IsEnd table d e → end_at table d ≡ Some e
-unfolding end_at end_of call_at none first one two
+unfolding end_at end_of call_at none first one two sole pair
 complete_end table _ _ (returns d v h) = rw (complete_value h) refl
 complete_end table _ _ passes = refl
 complete_end table _ _ (adds d n h) = rw (h.1, h.2) refl
@@ -97,7 +97,7 @@ complete_end table _ _ (traps c classes d v h g) = rw (complete_classes table c 
 complete_end table _ _ (waits name) = refl
 
 complete_work : (table : List Class) (d : Data) (w : Work) → IsWork table d w → work_at table d ≡ Some w
-unfolding work_at work_of call_at none first one two
+unfolding work_at work_of call_at none first one two sole pair
 complete_work table _ _ (gives d v h) = rw (complete_value h) refl
 complete_work table _ _ (fails c class text h) = rw (complete_class table c class h) refl
 complete_work table _ _ (sums d n h) = rw (complete_number 0 1000000 d n h) refl
@@ -115,7 +115,7 @@ depth-get_member key (member k c ms) d e = elim (picked (slice_cmp nat_cmp key k
 -- ---- actions, bodies, statements
 
 mutual
-  unfolding action_by action_of deferred_of object_of task_of call_at none first if_any one one_or_two two three five readers body_by fields_at statement_by statement_of leave_at
+  unfolding action_by action_of new_deferred_of deferred_of object_of loop_of task_of call_at none first if_any one one_or_two two three five sole pair triple readers body_by fields_at statement_by statement_of leave_at
 
   complete_action : (table : List Class) {d : Data} {a : Action} (n : ℕ) → IsAction table d a → depth d ≤ n → action_at table n d ≡ Some a
   complete_action table n (deferred name) h = refl
@@ -192,7 +192,7 @@ mutual
 -- ---- events, posts, scripts
 
 complete_event : (table : List Class) (d : Data) (e : Event) → depth d ≤ max_depth → IsEvent table d e → event_at table d ≡ Some e
-unfolding event_at event_of other_event action_by call_at none first one
+unfolding event_at event_of other_event action_by call_at none first one sole
 complete_event table d _ h (acts _ a g) = rw (complete_action table max_depth g h) refl
 complete_event table _ _ h (advances d n g) = rw (complete_number 0 (10 ^ 15) d n g) refl
 complete_event table _ _ h (drains d n g) = rw (complete_number 0 2048 d n g) refl
@@ -215,7 +215,7 @@ complete_caller : (table : List Class) (d : Data) (posts : List Body) → depth 
 complete_caller table = complete_list_deep (IsBody table) (body_at table max_depth) (λ d b deep h. complete_body table max_depth h deep)
 
 complete_declaration : (d : Data) (c : Declaration) → IsDeclaration d c → declaration_at d ≡ Some c
-unfolding declaration_at none first one two
+unfolding declaration_at none first one two pair
 complete_declaration _ _ (declares name parent) = refl
 
 complete_cooperator : (d : Data) (c : Cooperator) → IsCooperator d c → cooperator_at d ≡ Some c

@@ -44,7 +44,7 @@ use Rattle.dv_script.specs.Words.{action_word, event_word, end_word, statement_w
 use Rattle.dv_script.specs.Forms.{call, Each, IsList, Field, Key, has_only, IsText, IsInteger, IsNumber, IsClass, IsValue, a_null, a_bool, an_int, a_text, a_list, AreValues, no_values, more_values}
 use Rattle.dv_script.specs.Table.{table_of}
 use Rattle.dv_script.specs.Grammar.{body_keys, cooperator_keys, script_keys, may_leave, plain_cooperator, IsEnd, returns, passes, adds, raises, traps, waits, IsWork, gives, fails, sums, IsListFlag, fires_on_callback, fires_on_errback, consumes_errors, IsGatherFlag, gathers_errors, IsBound, no_bound, a_bound, IsAction, deferred, deferred_with, callback, errback, add_callback, add_errback, add_both, add_callbacks, chain, pause, unpause, cancel, note, list, gather, maybe, lock, semaphore, acquire, release, run_with, queue, put, get, later, cancel_call, loop, stop_loop, cooperate, when_done, pause_task, stop_task, resume_task, inline, thread, AreActions, no_actions, more_actions, IsDo, does_nothing, does, IsBody, body, AreBodies, no_bodies, more_bodies, IsStatement, performs, awaits, tries, leaves, AreStatements, no_statements, more_statements, IsEvent, acts, advances, drains, IsDeclaration, declares, IsCooperator, IsScript}
-use Rattle.dv_script.specs.Shape.{value_at, values_at, each, list_at, text_at, integer_at, number_at, within, bound_at, class_at, list_flag_at, gather_flag_at, call_at, none, first, if_any, one, one_or_two, two, three, five, one_of, two_of, three_of, fields_at, field, if_there, end_at, end_of, leave_at, work_at, work_of, Readers, action_with, action_by, action_of, deferred_of, object_of, task_of, body_by, statement_by, statement_of, readers, body_at, action_at, event_by, event_at, event_of, other_event, declaration_at, cooperator_at, caller_at, table_for, script_at}
+use Rattle.dv_script.specs.Shape.{value_at, values_at, each, list_at, text_at, integer_at, number_at, within, bound_at, class_at, list_flag_at, gather_flag_at, call_at, none, first, if_any, one, one_or_two, two, three, five, sole, pair, triple, one_of, two_of, three_of, fields_at, field, if_there, end_at, end_of, leave_at, work_at, work_of, Readers, action_with, action_by, action_of, new_deferred_of, deferred_of, object_of, loop_of, task_of, body_by, statement_by, statement_of, readers, body_at, action_at, event_by, event_at, event_of, other_event, declaration_at, cooperator_at, caller_at, table_for, script_at}
 use Rattle.dv_script.proofs.Steps.{some_injective, bind, mapped, chosen}
 use Rattle.dv_script.proofs.WordsLemmas.{deferred_text, object_text, task_text, action_text, action_word_is, event_text, event_word_is, end_text, end_word_is, statement_text, statement_word_is, work_text, work_word_is}
 
@@ -103,30 +103,35 @@ call_is _ c e = cc
 -- what one item makes
 one_read : {A X P : Type 0} (at : Data → Option A) (make : A → X) (ds : Items) (x : X) → one_of at make ds ≡ Some x
     → ((d : Data) (a : A) → ds ≡ item d no_items → at d ≡ Some a → make a ≡ x → P) → P
+unfolding sole
 one_read at make ds x e k =
-    bind (one ds) _ x e (λ d d_is d_then.
-    bind (at d) _ x d_then (λ a a_is a_then.
-    k d a (one_is ds d d_is) a_is (some_injective a_then)))
+    mapped (sole at ds) make x e (λ a a_is made.
+    bind (one ds) at a a_is (λ d d_is d_then.
+    k d a (one_is ds d d_is) d_then made))
 
 -- what two items make
 two_read : {A B X P : Type 0} (at : Data → Option A) (bt : Data → Option B) (make : A → B → X) (ds : Items) (x : X) → two_of at bt make ds ≡ Some x
     → ((d f : Data) (a : A) (b : B) → ds ≡ item d (item f no_items) → at d ≡ Some a → bt f ≡ Some b → make a b ≡ x → P) → P
+unfolding pair
 two_read at bt make ds x e k =
-    bind (two ds) _ x e (λ p p_is p_then.
-    bind (at p.0) _ x p_then (λ a a_is a_then.
-    bind (bt p.1) _ x a_then (λ b b_is b_then.
-    k p.0 p.1 a b (two_is ds p p_is) a_is b_is (some_injective b_then))))
+    mapped (pair at bt ds) _ x e (λ q q_is made.
+    bind (two ds) _ q q_is (λ p p_is p_then.
+    bind (at p.0) _ q p_then (λ a a_is a_then.
+    bind (bt p.1) _ q a_then (λ b b_is b_then.
+    k p.0 p.1 a b (two_is ds p p_is) a_is b_is (rw (← some_injective b_then) at made)))))
 
 -- what three items make
 three_read : {A B C X P : Type 0} (at : Data → Option A) (bt : Data → Option B) (ct : Data → Option C) (make : A → B → C → X) (ds : Items) (x : X)
     → three_of at bt ct make ds ≡ Some x
     → ((d f g : Data) (a : A) (b : B) (c : C) → ds ≡ item d (item f (item g no_items)) → at d ≡ Some a → bt f ≡ Some b → ct g ≡ Some c → make a b c ≡ x → P) → P
+unfolding triple
 three_read at bt ct make ds x e k =
-    bind (three ds) _ x e (λ p p_is p_then.
-    bind (at p.0) _ x p_then (λ a a_is a_then.
-    bind (bt p.1) _ x a_then (λ b b_is b_then.
-    bind (ct p.2) _ x b_then (λ c c_is c_then.
-    k p.0 p.1 p.2 a b c (three_is ds p p_is) a_is b_is c_is (some_injective c_then)))))
+    mapped (triple at bt ct ds) _ x e (λ q q_is made.
+    bind (three ds) _ q q_is (λ p p_is p_then.
+    bind (at p.0) _ q p_then (λ a a_is a_then.
+    bind (bt p.1) _ q a_then (λ b b_is b_then.
+    bind (ct p.2) _ q b_then (λ c c_is c_then.
+    k p.0 p.1 p.2 a b c (three_is ds p p_is) a_is b_is c_is (rw (← some_injective c_then) at made))))))
 
 -- ---- leaves
 
@@ -361,9 +366,9 @@ module _ (table : List Class) (r : Readers) (sound : AreSound table r) where
     | inr h ↦ mapped (r.body d) Some b g (λ x x_is x_then. rw (h.1, ← some_injective h.2, ← x_then) (deferred_with name d x (sound.body d x x_is)))
   ]
 
-  maker_read : (ds : Items) (x : Action) → deferred_of table r.body deferred_words.Deferred ds ≡ Some x
+  maker_read : (ds : Items) (x : Action) → new_deferred_of r.body ds ≡ Some x
       → IsAction table (array (item (string (codes "deferred")) ds)) x
-  unfolding deferred_of one_or_two
+  unfolding new_deferred_of one_or_two
   maker_read ds x e =
       bind (one_or_two ds) _ x e (λ p p_is p_then.
       bind (first ds) _ p p_is (λ a a_is a_then.
@@ -426,9 +431,9 @@ module _ (table : List Class) (r : Readers) (sound : AreSound table r) where
   sound_object_of object_words.Get ds x e =
       named_twice table Get (codes "get") get ds x e
 
-  loop_read : (ds : Items) (x : Action) → task_of table r.body r.statement task_words.Loop ds ≡ Some x
+  loop_read : (ds : Items) (x : Action) → loop_of r.body ds ≡ Some x
       → IsAction table (array (item (string (codes "loop")) ds)) x
-  unfolding task_of
+  unfolding loop_of
   loop_read ds x e =
       bind (five ds) _ x e (λ p p_is p_then.
       bind (text_at p.0) _ x p_then (λ n n_is n_then.

@@ -173,29 +173,38 @@ five ds = do
   c ← three b.1
   Some (a.0, b.0, c.0, c.1, c.2)
 
--- what one item makes
-abbrev pub one_of : {A X : Type 0} → (Data → Option A) → (A → X) → Items → Option X
-one_of at make ds = do
-  d ← one ds
-  a ← at d
-  Some (make a)
+-- an item, as it is read
+unfoldable pub sole : {A : Type 0} → (Data → Option A) → Items → Option A
+sole at ds = one ds >>= at
 
--- what two items make
-abbrev pub two_of : {A B X : Type 0} → (Data → Option A) → (Data → Option B) → (A → B → X) → Items → Option X
-two_of at bt make ds = do
+-- two items, as they are read
+unfoldable pub pair : {A B : Type 0} → (Data → Option A) → (Data → Option B) → Items → Option (A × B)
+pair at bt ds = do
   p ← two ds
   a ← at p.0
   b ← bt p.1
-  Some (make a b)
+  Some (a, b)
 
--- what three items make
-abbrev pub three_of : {A B C X : Type 0} → (Data → Option A) → (Data → Option B) → (Data → Option C) → (A → B → C → X) → Items → Option X
-three_of at bt ct make ds = do
+-- three items, as they are read
+unfoldable pub triple : {A B C : Type 0} → (Data → Option A) → (Data → Option B) → (Data → Option C) → Items → Option (A × B × C)
+triple at bt ct ds = do
   p ← three ds
   a ← at p.0
   b ← bt p.1
   c ← ct p.2
-  Some (make a b c)
+  Some (a, b, c)
+
+-- what one item makes
+abbrev pub one_of : {A X : Type 0} → (Data → Option A) → (A → X) → Items → Option X
+one_of at make ds = option_map make (sole at ds)
+
+-- what two items make
+abbrev pub two_of : {A B X : Type 0} → (Data → Option A) → (Data → Option B) → (A → B → X) → Items → Option X
+two_of at bt make ds = option_map (λ p. make p.0 p.1) (pair at bt ds)
+
+-- what three items make
+abbrev pub three_of : {A B C X : Type 0} → (Data → Option A) → (Data → Option B) → (Data → Option C) → (A → B → C → X) → Items → Option X
+three_of at bt ct make ds = option_map (λ p. make p.0 p.1 p.2) (triple at bt ct ds)
 
 -- an object with no other keys than these
 unfoldable pub fields_at : List (List ℕ) → Data → Option ⊤
@@ -249,13 +258,17 @@ work_at table d = do
   word ← work_word c.0
   work_of table word c.1
 
--- an action on Deferreds alone, whose bodies are read so
-unfoldable pub deferred_of : List Class → (Data → Option Body) → DeferredWord → Items → Option Action
-deferred_of table body deferred.Deferred ds = do
+-- a Deferred, whose canceller is read so
+unfoldable pub new_deferred_of : (Data → Option Body) → Items → Option Action
+new_deferred_of body ds = do
   p ← one_or_two ds
   name ← text_at p.0
   canceller ← if_there body p.1
   Some (Deferred name canceller)
+
+-- an action on Deferreds alone, whose bodies are read so
+unfoldable pub deferred_of : List Class → (Data → Option Body) → DeferredWord → Items → Option Action
+deferred_of table body deferred.Deferred ds = new_deferred_of body ds
 deferred_of table body deferred.Callback ds = two_of text_at value_at Callback ds
 deferred_of table body deferred.Errback ds = three_of text_at (class_at table) text_at Errback ds
 deferred_of table body deferred.AddCallback ds = two_of text_at body AddCallback ds
@@ -282,11 +295,9 @@ object_of body of_object.Queue ds = three_of text_at bound_at bound_at Queue ds
 object_of body of_object.Put ds = two_of text_at value_at Put ds
 object_of body of_object.Get ds = two_of text_at text_at Get ds
 
--- an action on delayed calls, loops, tasks, inline bodies and threads
-unfoldable pub task_of : List Class → (Data → Option Body) → (Data → Option Statement) → TaskWord → Items → Option Action
-task_of table body statement task.Later ds = three_of text_at (number_at 0 (10 ^ 12)) body Later ds
-task_of table body statement task.CancelCall ds = one_of text_at CancelCall ds
-task_of table body statement task.Loop ds = do
+-- a loop, whose body is read so
+unfoldable pub loop_of : (Data → Option Body) → Items → Option Action
+loop_of body ds = do
   p ← five ds
   name ← text_at p.0
   deferred ← text_at p.1
@@ -294,6 +305,12 @@ task_of table body statement task.Loop ds = do
   at_once ← as_bool p.3
   b ← body p.4
   Some (Loop name deferred interval at_once b)
+
+-- an action on delayed calls, loops, tasks, inline bodies and threads
+unfoldable pub task_of : List Class → (Data → Option Body) → (Data → Option Statement) → TaskWord → Items → Option Action
+task_of table body statement task.Later ds = three_of text_at (number_at 0 (10 ^ 12)) body Later ds
+task_of table body statement task.CancelCall ds = one_of text_at CancelCall ds
+task_of table body statement task.Loop ds = loop_of body ds
 task_of table body statement task.StopLoop ds = one_of text_at StopLoop ds
 task_of table body statement task.Cooperate ds = two_of text_at (list_at body) Cooperate ds
 task_of table body statement task.WhenDone ds = two_of text_at text_at WhenDone ds

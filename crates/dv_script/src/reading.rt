@@ -1,6 +1,7 @@
 //! The readers: each takes a part of a JSON value apart, by its shape alone.
 
 pub mod action;
+pub mod arguments;
 pub mod body;
 pub mod cooperator;
 pub mod end;

@@ -6,5 +6,3 @@ pub mod laws;
 pub mod record;
 pub mod sides;
 pub mod store;
-#[cfg(test)]
-mod tests;

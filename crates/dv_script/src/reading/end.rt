@@ -5,9 +5,11 @@ ghost use Rattle.dv_script.specs.Grammar.{may_leave};
 ghost use Rattle.dv_script.specs.Shape.{end_at, end_of, leave_at};
 
 use crate::body::End;
-use crate::reading::leaf::{call, class, classes_in, integer, none, one, text, two};
+use crate::reading::arguments::{
+    class_and_message, classes_and_value, one_integer, one_text, one_value,
+};
+use crate::reading::leaf::{call, none};
 use crate::reading::stop::Stop;
-use crate::reading::value::value;
 use crate::words::EndWord;
 use dv_value::classes::Classes;
 use serde_json::Value as Json;
@@ -30,23 +32,21 @@ fn end_of(alloc: Global, classes: &Classes, word: EndWord, arguments: &[Json]) -
     ensures { Reads result (end_of classes.now word (items_view arguments.now)) }
 {
     match word {
-        EndWord::Return => Ok(End::Return(value(alloc, one(arguments)?)?)),
+        EndWord::Return => Ok(End::Return(one_value(alloc, arguments)?)),
         EndWord::Pass => {
             none(arguments)?;
             Ok(End::Pass)
         }
-        EndWord::Plus => Ok(End::Plus(integer(one(arguments)?)?)),
+        EndWord::Plus => Ok(End::Plus(one_integer(arguments)?)),
         EndWord::Raise => {
-            let (name, message) = two(arguments)?;
-            let class = class(classes, name)?;
-            Ok(End::Raise(class, text(alloc, message)?))
+            let (class, message) = class_and_message(alloc, classes, arguments)?;
+            Ok(End::Raise(class, message))
         }
         EndWord::Trap => {
-            let (names, json) = two(arguments)?;
-            let listed = classes_in(alloc, classes, names)?;
-            Ok(End::Trap(listed, value(alloc, json)?))
+            let (listed, value) = classes_and_value(alloc, classes, arguments)?;
+            Ok(End::Trap(listed, value))
         }
-        EndWord::Wait => Ok(End::Wait(text(alloc, one(arguments)?)?)),
+        EndWord::Wait => Ok(End::Wait(one_text(alloc, arguments)?)),
     }
 }
 

@@ -5,7 +5,8 @@ ghost use Rattle.dv_script.specs.Shape.{event_at, event_of, other_event, each};
 use crate::event::Event;
 use crate::limits::{MOST_LEVELS, MOST_TICKS};
 use crate::reading::action::action;
-use crate::reading::leaf::{call, number, one, small};
+use crate::reading::arguments::{one_number, one_small};
+use crate::reading::leaf::call;
 use crate::reading::stop::Stop;
 use crate::words::EventWord;
 use dv_value::classes::Classes;
@@ -41,8 +42,8 @@ fn event_of(word: EventWord, arguments: &[Json]) -> Result<Event, Stop>
     ensures { Reads result (event_of word (items_view arguments.now)) }
 {
     match word {
-        EventWord::Advance => Ok(Event::Advance(number(one(arguments)?, 0, MOST_TICKS)?)),
-        EventWord::Drain => Ok(Event::Drain(small(one(arguments)?, 0, 2_048)?)),
+        EventWord::Advance => Ok(Event::Advance(one_number(arguments, 0, MOST_TICKS)?)),
+        EventWord::Drain => Ok(Event::Drain(one_small(arguments, 0, 2_048)?)),
     }
 }
 

@@ -1,13 +1,15 @@
 ghost use Rattle.serde_json.specs.View.{view, items_view};
 ghost use Rattle.dv_script.specs.Answer.{Reads};
-ghost use Rattle.dv_script.specs.Shape.{action_at, statement_at, statement_of, each};
+ghost use Rattle.dv_script.specs.Shape.{action_at, class_at, statement_at, statement_of, list_at, triple, each};
 
 use crate::body::Statement;
 use crate::reading::action::action;
+use crate::reading::arguments::one_text;
 use crate::reading::end::leave;
-use crate::reading::leaf::{array, call, classes_in, one, text, three};
+use crate::reading::leaf::{array, call, classes_in, one, three};
 use crate::reading::stop::Stop;
 use crate::words::StatementWord;
+use dv_value::class_id::ClassId;
 use dv_value::classes::Classes;
 use dv_value::items::Items;
 use serde_json::Value as Json;
@@ -35,7 +37,7 @@ pub fn statement(
 }
 
 #[cycle(shape)]
-#[tactic(auto, unfolding(crate::specs::Shape::statement_of))]
+#[tactic(auto, unfolding(crate::specs::Shape::statement_of, crate::specs::Shape::sole))]
 fn statement_of(
     alloc: Global,
     classes: &Classes,
@@ -47,16 +49,31 @@ fn statement_of(
 {
     match word {
         StatementWord::Do => Ok(Statement::Do(action(alloc, classes, levels, one(arguments)?)?)),
-        StatementWord::Await => Ok(Statement::Await(text(alloc, one(arguments)?)?)),
+        StatementWord::Await => Ok(Statement::Await(one_text(alloc, arguments)?)),
         StatementWord::Try => {
-            let (body, names, handler) = three(arguments)?;
-            let body = statements(alloc, classes, levels, array(body)?)?;
-            let listed = classes_in(alloc, classes, names)?;
-            let handler = statements(alloc, classes, levels, array(handler)?)?;
+            let (body, listed, handler) = tried(alloc, classes, levels, arguments)?;
             Ok(Statement::Try(body, listed, handler))
         }
         StatementWord::End => Ok(Statement::End(leave(alloc, classes, one(arguments)?)?)),
     }
+}
+
+/// What is tried, the classes that are caught, and what then runs.
+#[cycle(shape)]
+#[tactic(auto, unfolding(crate::specs::Shape::triple))]
+fn tried(
+    alloc: Global,
+    classes: &Classes,
+    levels: u32,
+    arguments: &[Json],
+) -> Result<(Items<Statement>, Items<ClassId>, Items<Statement>), Stop>
+    ensures { Reads result (triple (list_at (statement_at classes.now levels)) (list_at (class_at classes.now)) (list_at (statement_at classes.now levels)) (items_view arguments.now)) }
+{
+    let (body, names, handler) = three(arguments)?;
+    let body = statements(alloc, classes, levels, array(body)?)?;
+    let listed = classes_in(alloc, classes, names)?;
+    let handler = statements(alloc, classes, levels, array(handler)?)?;
+    Ok((body, listed, handler))
 }
 
 /// The items of an array of statements.

@@ -6,7 +6,8 @@ ghost use Rattle.dv_script.specs.Table.{can_declare, with_declared};
 
 use crate::draft::Declaration;
 use crate::limits::MOST_CLASSES;
-use crate::reading::leaf::{array, text, two};
+use crate::reading::arguments::two_texts;
+use crate::reading::leaf::array;
 use crate::reading::stop::Stop;
 use dv_value::class_fault::ClassFault;
 use dv_value::classes::Classes;
@@ -38,12 +39,8 @@ fn each_declaration(alloc: Global, items: &[Json]) -> Result<Items<Declaration>,
 fn declaration(alloc: Global, json: &Json) -> Result<Declaration, Stop>
     ensures { Reads result (declaration_at (view json.now)) }
 {
-    let (name, parent) = two(array(json)?)?;
-    let name = text(alloc, name)?;
-    Ok(Declaration {
-        name,
-        parent: text(alloc, parent)?,
-    })
+    let (name, parent) = two_texts(alloc, array(json)?)?;
+    Ok(Declaration { name, parent })
 }
 
 /// The table of a script that declares these classes, and whether each of them may be declared.

@@ -10,12 +10,12 @@ mod world;
 ghost use Rattle.std.specs.Prelude.{◌≡◌, if◌then◌else◌, not};
 ghost use Rattle.dv_store.specs.Pausing.{pauses_of};
 
-use crate::record::{Item, Record};
-use crate::sides::Sides;
-use crate::store::{Step, Store};
 use dv_journal::deferred_id::DeferredId;
 use dv_journal::io_sink::IoSink;
 use dv_journal::journal::Journal;
+use dv_store::record::{Item, Record};
+use dv_store::sides::Sides;
+use dv_store::store::{Step, Store};
 use dv_value::boxed::Boxed;
 use dv_value::class_id::ClassId;
 use dv_value::classes::Classes;

@@ -1,7 +1,7 @@
-use crate::error::StoreFault;
-use crate::store::{Step, Store};
 use crate::tests::{Pair, both, failed_with, lines_of, name_of, run_by};
 use dv_journal::journal::Journal;
+use dv_store::error::StoreFault;
+use dv_store::store::{Step, Store};
 use dv_value::text::Text;
 use dv_value::value::Value;
 use std::test::Fail;

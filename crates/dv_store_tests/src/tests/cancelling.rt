@@ -1,9 +1,9 @@
-use crate::error::StoreFault;
-use crate::store::{Fired, Placed, Store};
 use crate::tests::world::World;
 use crate::tests::{Pair, both, failed_with, int_of, run_by, swallows};
 use dv_journal::deferred_id::DeferredId;
 use dv_journal::journal::Journal;
+use dv_store::error::StoreFault;
+use dv_store::store::{Fired, Placed, Store};
 use dv_value::value::Value;
 use std::alloc::{AllocError, Global};
 use std::process::Abort;

@@ -1,9 +1,9 @@
-use crate::error::{StoreFault, UnpauseFault};
-use crate::store::{Fired, Placed, Step, Store};
 use crate::tests::{Pair, both, lines_of, pauses_of, shown};
 use dv_journal::deferred_id::DeferredId;
 use dv_journal::error::Stop;
 use dv_journal::journal::Journal;
+use dv_store::error::{StoreFault, UnpauseFault};
+use dv_store::store::{Fired, Placed, Step, Store};
 use dv_value::value::Value;
 use std::alloc::{AllocError, Global};
 use std::test::Fail;

@@ -1,7 +1,7 @@
-use crate::error::UnpauseFault;
-use crate::store::Step;
 use crate::tests::world::World;
 use crate::tests::{both, int_of, pauses_of, run_by};
+use dv_store::error::UnpauseFault;
+use dv_store::store::Step;
 use dv_value::value::Value;
 use std::test::Fail;
 

@@ -1,8 +1,8 @@
-use crate::deferred_id::DeferredId;
-use crate::entry::Entry;
-use crate::error::Stop;
-use crate::io_sink::IoSink;
-use crate::journal::Journal;
+use dv_journal::deferred_id::DeferredId;
+use dv_journal::entry::Entry;
+use dv_journal::error::Stop;
+use dv_journal::io_sink::IoSink;
+use dv_journal::journal::Journal;
 use dv_value::boxed::Boxed;
 use dv_value::class_id::ClassId;
 use dv_value::classes::Classes;

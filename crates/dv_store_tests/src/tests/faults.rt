@@ -1,4 +1,4 @@
-use crate::error::{StoreFault, UnpauseFault};
+use dv_store::error::{StoreFault, UnpauseFault};
 use std::test::Fail;
 
 #[test]

@@ -1,6 +1,6 @@
-use crate::io_sink::IoSink;
-use crate::memory_sink::{MemorySink, Trouble};
-use crate::sink::{SinkFault, write_all};
+use dv_journal::io_sink::IoSink;
+use dv_journal::memory_sink::{MemorySink, Trouble};
+use dv_journal::sink::{SinkFault, write_all};
 use std::test::Fail;
 
 #[test]

@@ -1,9 +1,9 @@
-use crate::deferred_id::DeferredId;
-use crate::entry::Entry;
-use crate::error::{PrintFault, Stop};
-use crate::io_sink::IoSink;
-use crate::journal::Journal;
-use crate::memory_sink::{MemorySink, Trouble};
+use dv_journal::deferred_id::DeferredId;
+use dv_journal::entry::Entry;
+use dv_journal::error::{PrintFault, Stop};
+use dv_journal::io_sink::IoSink;
+use dv_journal::journal::Journal;
+use dv_journal::memory_sink::{MemorySink, Trouble};
 use dv_value::class_id::ClassId;
 use dv_value::classes::Classes;
 use dv_value::failure::Failure;

@@ -1,9 +1,9 @@
-use crate::error::StoreFault;
-use crate::store::{Fired, Store};
 use crate::tests::world::{WEIGHT, World};
 use crate::tests::{Pair, failed_with, handed_by, shown, swallows};
 use dv_journal::error::Stop;
 use dv_journal::journal::Journal;
+use dv_store::error::StoreFault;
+use dv_store::store::{Fired, Store};
 use dv_value::text::Text;
 use dv_value::value::Value;
 use std::test::Fail;

@@ -1,8 +1,8 @@
-use crate::store::{Fired, Step};
 use crate::tests::world::World;
 use crate::tests::{both, shown, with_two_pairs};
 use dv_journal::deferred_id::DeferredId;
 use dv_journal::journal::Journal;
+use dv_store::store::{Fired, Step};
 use dv_value::value::Value;
 use std::test::Fail;
 

@@ -1,6 +1,6 @@
-use crate::store::{Placed, Step};
 use crate::tests::world::World;
 use crate::tests::{both, handed_by, hands_to, int_of, is_null, is_running, run_by, waits_for};
+use dv_store::store::{Placed, Step};
 use dv_value::value::Value;
 use std::alloc::Global;
 use std::test::Fail;
