@@ -111,6 +111,12 @@ def refused_firings_of_a_long_list(n):
     return script(events + [["cancel", "d"] for _ in range(n)])
 
 
+def cancellers_that_give_a_long_list(n):
+    gives = ["deferred", "e", {"end": ["return", list(range(10000))]}]
+    events = [["deferred", "d", {"do": [gives, ["cancel", "e"], ["callback", "nobody", 1]]}]]
+    return script(events + [["cancel", "d"] for _ in range(n)])
+
+
 def swallowed_firings(n):
     return script([event for _ in range(n) for event in (["deferred", "d"], ["cancel", "d"], ["callback", "d", 1])])
 
@@ -129,6 +135,7 @@ BENCHES = [
     ("swallowed firings", swallowed_firings, 700),
     ("a stop inside long bodies", stop_inside_long_bodies, 10000),
     ("refused firings of a list", refused_firings_of_a_long_list, 1000),
+    ("cancellers' lists", cancellers_that_give_a_long_list, 1000),
     ("pairs that pass", pairs_that_pass, 2000),
     ("refused firings", refused_firings, 2000),
     ("many notes", many_notes, 2600),

@@ -10,12 +10,12 @@ use Rattle.dv_engine.specs.Acting.{with_deferred, do_by}
 use Rattle.dv_engine.specs.Cancelling.{canceller_ended_by, cancelled_by}
 use Rattle.dv_engine.specs.Deed.{deed_of}
 use Rattle.dv_engine.specs.declared.deed.Deed.{Deed}
-use Rattle.dv_engine.specs.declared.deed.Deed.TheVariants.{Idle, NoteOf, Make, FireWith, FailWith, AddTo, ChainTo, PauseOf, UnpauseOf, CancelOf}
+use Rattle.dv_engine.specs.declared.deed.Deed.TheVariants.{Idle, NoteOf, Make, FireWith, AddTo, ChainTo, PauseOf, UnpauseOf, CancelOf}
 use Rattle.dv_engine.specs.Meaning.{task_by, meaning, Gives}
 use Rattle.dv_engine.specs.Performing.{rest_by, perform_by}
 use Rattle.dv_engine.specs.Settling.{settled_by, side_by, settle_by}
 use Rattle.dv_engine.specs.Task.{Task, Settle, Perform, Act, Answer, Meant, ◌>>=◌}
-use Rattle.dv_world.specs.Ending.{fault, failed_with}
+use Rattle.dv_world.specs.Ending.{failed_with}
 use Rattle.dv_world.specs.Pair.{chain}
 use Rattle.dv_world.specs.World.{World, deferred_at, append, fire, is_unfired, cancelled, cancel, unpause}
 use Rattle.dv_world.specs.declared.follow.Follow.{Follow}
@@ -89,8 +89,6 @@ module _ (f g : Meant) (e : Extends f g) where
   do_extends itself (NoteOf text) w r h = h
   do_extends itself (Make name canceller) w r h = h
   do_extends itself (FireWith name value) w r h = with_extends (deferred_at itself name w) name w _ _ r (λ d. settled_extends d (fire d value w).0 (fire d value w).1 r) h
-  do_extends itself (FailWith name class message) w r h =
-      with_extends (deferred_at itself name w) name w _ _ r (λ d. settled_extends d (fire d (fault class message) w).0 (fire d (fault class message) w).1 r) h
   do_extends itself (AddTo name pair) w r h = with_extends (deferred_at itself name w) name w _ _ r (λ d. e.at (Settle d) (append d pair w) r) h
   do_extends itself (ChainTo name next) w r h =
       with_extends (deferred_at itself name w) name w _ _ r (λ d. with_extends (deferred_at itself next w) next w _ _ r (λ c. e.at (Settle d) (append d (chain c) w) r)) h

@@ -9,7 +9,7 @@ use Rattle.dv_store.specs.declared.store.Step.{Step}
 use Rattle.dv_store.specs.declared.store.Step.TheVariants.{Nothing, Passed, Run, Handed}
 use Rattle.dv_engine.specs.Deed.{deed_of}
 use Rattle.dv_engine.specs.declared.deed.Deed.{Deed}
-use Rattle.dv_engine.specs.declared.deed.Deed.TheVariants.{Idle, NoteOf, Make, FireWith, FailWith, AddTo, ChainTo, PauseOf, UnpauseOf, CancelOf}
+use Rattle.dv_engine.specs.declared.deed.Deed.TheVariants.{Idle, NoteOf, Make, FireWith, AddTo, ChainTo, PauseOf, UnpauseOf, CancelOf}
 use Rattle.dv_engine.specs.Frames.{Turned, settle_next, side_begun, settled, with_deferred, cancel_begun, canceller_ended, CancellerLeads, begun, gone_on, rest_turned, turned, RestLeads, Leads, AllLead}
 use Rattle.dv_engine.specs.Meaning.{Gives}
 use Rattle.dv_engine.specs.Task.{Settle, Perform, Act}
@@ -17,7 +17,7 @@ use Rattle.dv_engine.specs.declared.frame.Frame.{Frame}
 use Rattle.dv_engine.specs.declared.frame.Frame.TheVariants as frame
 use Rattle.dv_engine.specs.declared.frame.Rest.{Rest}
 use Rattle.dv_engine.proofs.Rules.{SettledGives, SideGives, RestGives, CancelGives, DeedGives, settle_nothing, settle_passed, settle_run, settle_handed, perform_end, perform_on, cancel_run, act_by_deed}
-use Rattle.dv_world.specs.Ending.{fault, failed_with}
+use Rattle.dv_world.specs.Ending.{failed_with}
 use Rattle.dv_world.specs.Pair.{side_for, chain}
 use Rattle.dv_world.specs.World.{World, deferred_at, step, make, fire, is_unfired, cancelled, cancel, append, pause, unpause, unbound, value_of}
 use Rattle.dv_world.specs.declared.follow.Follow.{Follow}
@@ -66,13 +66,6 @@ fire_leads : (itself : Option ℕ) (name : List ℕ) (value : Value) (w : World)
 fire_leads itself name value w below None e q v h = (unbound name, w, record { depth = 0; ends = rw e refl }, h)
 fire_leads itself name value w below (Some d) e q v h =
     let s = next_leads d (fire d value w).0 (fire d value w).1 below q v h in
-    (s.0, s.1, record { depth = s.2.depth; ends = rw e s.2.ends }, s.3)
-
-fail_leads : (itself : Option ℕ) (name : List ℕ) (class : ℕ) (message : List ℕ) (w : World) (below : List Frame) (o : Option ℕ) → deferred_at itself name w ≡ o
-    → LeadsBy (DeedGives itself (FailWith name class message) w) below (with_deferred o name w below (λ d. settle_next d (fire d (fault class message) w).0 (fire d (fault class message) w).1 below))
-fail_leads itself name class message w below None e q v h = (unbound name, w, record { depth = 0; ends = rw e refl }, h)
-fail_leads itself name class message w below (Some d) e q v h =
-    let s = next_leads d (fire d (fault class message) w).0 (fire d (fault class message) w).1 below q v h in
     (s.0, s.1, record { depth = s.2.depth; ends = rw e s.2.ends }, s.3)
 
 add_leads : (itself : Option ℕ) (name : List ℕ) (pair : Pair) (w : World) (below : List Frame) (o : Option ℕ) → deferred_at itself name w ≡ o
@@ -129,7 +122,6 @@ begun_leads itself Idle w below q v h = (Done, w, record { depth = 0; ends = ref
 begun_leads itself (NoteOf text) w below q v h = (Done, _, record { depth = 0; ends = refl }, h)
 begun_leads itself (Make name canceller) w below q v h = (Done, make name canceller w, record { depth = 0; ends = refl }, h)
 begun_leads itself (FireWith name value) w below q v h = fire_leads itself name value w below _ refl q v h
-begun_leads itself (FailWith name class message) w below q v h = fail_leads itself name class message w below _ refl q v h
 begun_leads itself (AddTo name pair) w below q v h = add_leads itself name pair w below _ refl q v h
 begun_leads itself (ChainTo name next) w below q v h = chain_leads itself name next w below _ _ refl refl q v h
 begun_leads itself (PauseOf name) w below q v h = pause_leads itself name w below _ refl q v h

@@ -10,7 +10,7 @@ use Rattle.dv_store.specs.declared.store.Step.{Step}
 use Rattle.dv_store.specs.declared.store.Step.TheVariants.{Nothing, Passed, Run, Handed}
 use Rattle.dv_engine.specs.Deed.{deed_of}
 use Rattle.dv_engine.specs.declared.deed.Deed.{Deed}
-use Rattle.dv_engine.specs.declared.deed.Deed.TheVariants.{Idle, NoteOf, Make, FireWith, FailWith, AddTo, ChainTo, PauseOf, UnpauseOf, CancelOf}
+use Rattle.dv_engine.specs.declared.deed.Deed.TheVariants.{Idle, NoteOf, Make, FireWith, AddTo, ChainTo, PauseOf, UnpauseOf, CancelOf}
 use Rattle.dv_engine.specs.Frames.{Turned, settle_next, rest_of, side_begun, settled, with_deferred, cancel_begun, canceller_ended, begun, gone_on, rest_turned, turned}
 use Rattle.dv_engine.specs.Settling.{place}
 use Rattle.dv_engine.specs.declared.frame.Frame.{Frame}
@@ -18,7 +18,7 @@ use Rattle.dv_engine.specs.declared.frame.Frame.TheVariants as frame
 use Rattle.dv_engine.specs.declared.frame.Rest.{Rest}
 use Rattle.dv_engine.proofs.Budget.{Spares, budget, spares, step_took, reaches, cancel_took}
 use Rattle.dv_engine.proofs.Lasting.{run, begun_keeps, place_keeps}
-use Rattle.dv_world.specs.Ending.{fault, ended, failed_with}
+use Rattle.dv_world.specs.Ending.{ended, failed_with}
 use Rattle.dv_world.specs.Pair.{side_for, chain}
 use Rattle.dv_world.specs.World.{World, state_of, deferred_at, step, append, fire, fire_guarded, is_unfired, cancelled, cancel, pause, unpause, unbound, value_of}
 use Rattle.dv_world.specs.declared.follow.Follow.{Follow}
@@ -180,9 +180,6 @@ module _ (n m : ℕ) (k : Lower n m) where
   begun_reaches itself (FireWith name value) w b q =
       with_reaches (deferred_at itself name w) name w (λ below d. settle_next d (fire d value w).0 (fire d value w).1 below)
       (λ d. next_reaches d (fire d value w).0 w (fire d value w).1 (fire_pays d value w) (k.same (frame.Settle d) Done (fire d value w).1 (omega (arith, fire_pays d value w, b)) q))
-  begun_reaches itself (FailWith name class message) w b q =
-      with_reaches (deferred_at itself name w) name w (λ below d. settle_next d (fire d (fault class message) w).0 (fire d (fault class message) w).1 below)
-      (λ d. next_reaches d (fire d (fault class message) w).0 w (fire d (fault class message) w).1 (fire_pays d (fault class message) w) (k.same (frame.Settle d) Done (fire d (fault class message) w).1 (omega (arith, fire_pays d (fault class message) w, b)) q))
   begun_reaches itself (AddTo name pair) w b q =
       with_reaches (deferred_at itself name w) name w (λ below d. (frame.Settle d ∷ below, Done, append d pair w))
       (λ d. reach_then (frame.Settle d) Done w (append d pair w) (append_pays d pair w) (k.same (frame.Settle d) Done (append d pair w) (omega (arith, append_pays d pair w, b)) q))

@@ -11,14 +11,14 @@ use Rattle.dv_store.specs.declared.store.Step.{Step}
 use Rattle.dv_store.specs.declared.store.Step.TheVariants.{Nothing, Passed, Run, Handed}
 use Rattle.dv_engine.specs.Deed.{deed_of}
 use Rattle.dv_engine.specs.declared.deed.Deed.{Deed}
-use Rattle.dv_engine.specs.declared.deed.Deed.TheVariants.{Idle, NoteOf, Make, FireWith, FailWith, AddTo, ChainTo, PauseOf, UnpauseOf, CancelOf}
+use Rattle.dv_engine.specs.declared.deed.Deed.TheVariants.{Idle, NoteOf, Make, FireWith, AddTo, ChainTo, PauseOf, UnpauseOf, CancelOf}
 use Rattle.dv_engine.specs.Frames.{Turned, settle_next, side_begun, settled, with_deferred, cancel_begun, canceller_ended, begun, gone_on, rest_turned, turned}
 use Rattle.dv_engine.specs.Meaning.{told_of}
 use Rattle.dv_engine.specs.Settling.{place}
 use Rattle.dv_engine.specs.declared.frame.Frame.{Frame}
 use Rattle.dv_engine.specs.declared.frame.Frame.TheVariants as frame
 use Rattle.dv_engine.specs.declared.frame.Rest.{Rest}
-use Rattle.dv_world.specs.Ending.{fault, failed_with}
+use Rattle.dv_world.specs.Ending.{failed_with}
 use Rattle.dv_world.specs.Pair.{side_for, chain}
 use Rattle.dv_world.specs.World.{World, deferred_at, step, put, put_deferred, append, make, fire, fire_guarded, is_unfired, cancelled, cancel, pause, unpause, tell, value_of}
 use Rattle.dv_world.specs.declared.follow.Follow.{Follow}
@@ -104,8 +104,6 @@ module _ (R : World → World → Type 0) (l : Lasting R) where
   begun_keeps itself (Make name canceller) w below = l.by_make name canceller w
   begun_keeps itself (FireWith name value) w below =
       with_keeps (deferred_at itself name w) name w below _ (λ d. next_keeps d (fire d value w).0 w (fire d value w).1 below (l.by_fire d value w))
-  begun_keeps itself (FailWith name class message) w below =
-      with_keeps (deferred_at itself name w) name w below _ (λ d. next_keeps d (fire d (fault class message) w).0 w (fire d (fault class message) w).1 below (l.by_fire d (fault class message) w))
   begun_keeps itself (AddTo name pair) w below = with_keeps (deferred_at itself name w) name w below _ (λ d. l.by_append d pair w)
   begun_keeps itself (ChainTo name next) w below =
       with_keeps (deferred_at itself name w) name w below _ (λ d. with_keeps (deferred_at itself next w) next w below _ (λ c. l.by_append d (chain c) w))

@@ -3,10 +3,9 @@ use Rattle.std.specs.Prelude.{ℕ, List, Option, None, Some}
 use Rattle.dv_journal.specs.declared.entry.Entry.TheVariants as entry
 use Rattle.dv_engine.specs.Cancelling.{cancelled_by}
 use Rattle.dv_engine.specs.declared.deed.Deed.{Deed}
-use Rattle.dv_engine.specs.declared.deed.Deed.TheVariants.{Idle, NoteOf, Make, FireWith, FailWith, AddTo, ChainTo, PauseOf, UnpauseOf, CancelOf}
+use Rattle.dv_engine.specs.declared.deed.Deed.TheVariants.{Idle, NoteOf, Make, FireWith, AddTo, ChainTo, PauseOf, UnpauseOf, CancelOf}
 use Rattle.dv_engine.specs.Settling.{settled_by}
 use Rattle.dv_engine.specs.Task.{Settle, Answer, Meant}
-use Rattle.dv_world.specs.Ending.{fault}
 use Rattle.dv_world.specs.Pair.{chain}
 use Rattle.dv_world.specs.World.{World, deferred_at, make, fire, cancel, append, pause, unpause, tell, unbound}
 use Rattle.dv_world.specs.declared.performed.Performed.TheVariants.{Done}
@@ -23,8 +22,6 @@ do_by go itself (NoteOf text) w = Some (Done, tell (entry.Note text) w)
 do_by go itself (Make name canceller) w = Some (Done, make name canceller w)
 do_by go itself (FireWith name value) w =
     with_deferred (deferred_at itself name w) name w (λ d. settled_by go d (fire d value w).0 (fire d value w).1)
-do_by go itself (FailWith name class message) w =
-    with_deferred (deferred_at itself name w) name w (λ d. settled_by go d (fire d (fault class message) w).0 (fire d (fault class message) w).1)
 do_by go itself (AddTo name pair) w =
     with_deferred (deferred_at itself name w) name w (λ d. go (Settle d) (append d pair w))
 do_by go itself (ChainTo name next) w =

@@ -12,14 +12,14 @@ use Rattle.dv_store.specs.declared.store.Step.TheVariants.{Nothing, Passed, Run,
 use Rattle.dv_engine.specs.Cancelling.{canceller_ended_by}
 use Rattle.dv_engine.specs.Deed.{deed_of}
 use Rattle.dv_engine.specs.declared.deed.Deed.{Deed}
-use Rattle.dv_engine.specs.declared.deed.Deed.TheVariants.{Idle, NoteOf, Make, FireWith, FailWith, AddTo, ChainTo, PauseOf, UnpauseOf, CancelOf}
+use Rattle.dv_engine.specs.declared.deed.Deed.TheVariants.{Idle, NoteOf, Make, FireWith, AddTo, ChainTo, PauseOf, UnpauseOf, CancelOf}
 use Rattle.dv_engine.specs.Meaning.{meaning, Gives}
 use Rattle.dv_engine.specs.Settling.{place}
 use Rattle.dv_engine.specs.Task.{Settle, Perform, Act}
 use Rattle.dv_engine.specs.declared.frame.Frame.{Frame}
 use Rattle.dv_engine.specs.declared.frame.Frame.TheVariants as frame
 use Rattle.dv_engine.specs.declared.frame.Rest.{Rest}
-use Rattle.dv_world.specs.Ending.{fault, ended, failed_with}
+use Rattle.dv_world.specs.Ending.{ended, failed_with}
 use Rattle.dv_world.specs.Pair.{side_for, chain}
 use Rattle.dv_world.specs.World.{World, deferred_at, step, make, fire, fire_guarded, is_unfired, cancelled, cancel, append, pause, unpause, tell, unbound, value_of}
 use Rattle.dv_world.specs.declared.follow.Follow.{Follow}
@@ -82,8 +82,6 @@ begun itself (NoteOf text) w below = (below, Done, tell (entry.Note text) w)
 begun itself (Make name canceller) w below = (below, Done, make name canceller w)
 begun itself (FireWith name value) w below =
     with_deferred (deferred_at itself name w) name w below (λ d. settle_next d (fire d value w).0 (fire d value w).1 below)
-begun itself (FailWith name class message) w below =
-    with_deferred (deferred_at itself name w) name w below (λ d. settle_next d (fire d (fault class message) w).0 (fire d (fault class message) w).1 below)
 begun itself (AddTo name pair) w below =
     with_deferred (deferred_at itself name w) name w below (λ d. (frame.Settle d ∷ below, Done, append d pair w))
 begun itself (ChainTo name next) w below =

@@ -3,9 +3,8 @@ ghost use Rattle.dv_script.specs.declared.action.Action.{out-Action};
 ghost use Rattle.dv_engine.specs.Bounds.{Bounded};
 ghost use Rattle.dv_engine.specs.Deed.{deed_of};
 ghost use Rattle.dv_engine.specs.Frames.{begun};
-ghost use Rattle.dv_engine.specs.declared.deed.Deed.TheVariants.{FireWith, FailWith, AddTo, ChainTo, PauseOf, UnpauseOf, CancelOf};
+ghost use Rattle.dv_engine.specs.declared.deed.Deed.TheVariants.{FireWith, AddTo, ChainTo, PauseOf, UnpauseOf, CancelOf};
 ghost use Rattle.dv_engine.specs.declared.frame.Frame.{Frame as Seen};
-ghost use Rattle.dv_world.specs.Ending.{fault};
 ghost use Rattle.dv_world.specs.World.{fire};
 
 use crate::cancelling::cancel;
@@ -16,9 +15,8 @@ use crate::stack::Stack;
 use dv_journal::deferred_id::DeferredId;
 use dv_journal::entry::Entry;
 use dv_script::action::Action;
-use dv_value::class_id::ClassId;
 use dv_value::value::Value;
-use dv_world::ending::fault;
+use dv_world::given::Given;
 use dv_world::pair::Pair;
 use dv_world::performed::Performed;
 use dv_world::world::{World, unbound};
@@ -33,7 +31,7 @@ pub fn begin<'s>(
     stack: &mut Stack<Frame<'s>>,
     itself: Option<DeferredId>,
     action: &'s Action,
-) -> Result<Performed, AllocError>
+) -> Result<Performed<'s>, AllocError>
     requires bounded { Bounded world.old }
     ensures { IfOk result (λ performed. (stack.new, performed, world.new) ≡ begun itself (deed_of (out-Action action.now)) world.old stack.old) }
 {
@@ -48,7 +46,7 @@ fn begin_deed<'s>(
     stack: &mut Stack<Frame<'s>>,
     itself: Option<DeferredId>,
     deed: Deed<'s>,
-) -> Result<Performed, AllocError>
+) -> Result<Performed<'s>, AllocError>
     requires bounded { Bounded world.old }
     ensures { IfOk result (λ performed. (stack.new, performed, world.new) ≡ begun itself deed.entry world.old stack.old) }
 {
@@ -62,19 +60,8 @@ fn begin_deed<'s>(
             world.make(name.as_str(), canceller)?;
             Ok(Performed::Done)
         }
-        Deed::FireWith(name, value) => {
-            Ok(fire(alloc, world, stack, itself, name.as_str(), value.get())?)
-        }
-        Deed::FailWith(name, class, message) => {
-            Ok(fail(
-                alloc,
-                world,
-                stack,
-                itself,
-                name.as_str(),
-                class,
-                message.as_str(),
-            )?)
+        Deed::FireWith(name, given) => {
+            Ok(fire(alloc, world, stack, itself, name.as_str(), given)?)
         }
         Deed::AddTo(name, pair) => Ok(add(alloc, world, stack, itself, name.as_str(), pair)?),
         Deed::ChainTo(name, next) => {
@@ -86,81 +73,40 @@ fn begin_deed<'s>(
     }
 }
 
-/// Fires a Deferred by its name with a value (Twisted: `Deferred.callback`). The value is copied only where it is kept.
+/// Fires a Deferred by its name (Twisted: `Deferred.callback`, and `Deferred.errback` where the value is a failure).
 fn fire<'s>(
     alloc: Global,
     world: &mut World<'s>,
     stack: &mut Stack<Frame<'s>>,
     itself: Option<DeferredId>,
     name: &str,
-    value: &Value,
-) -> Result<Performed, AllocError>
-    ensures { IfOk result (λ performed. (stack.new, performed, world.new) ≡ begun itself (FireWith name.now value.now) world.old stack.old) }
+    given: Given<'s>,
+) -> Result<Performed<'s>, AllocError>
+    ensures { IfOk result (λ performed. (stack.new, performed, world.new) ≡ begun itself (FireWith name.now given.entry) world.old stack.old) }
 {
     match world.find(itself, name) {
         None => Ok(unbound(alloc, name)?),
         Some(id) => {
-            let kept = kept(alloc, world, id, value)?;
+            let kept = kept(alloc, world, id, given)?;
             let fired = world.fire(id, kept)?;
             Ok(settle_next(stack, id, fired)?)
         }
     }
 }
 
-/// Fires a Deferred by its name with a failure of a class (Twisted: `Deferred.errback`). The failure is made only where
-/// it is kept.
-fn fail<'s>(
-    alloc: Global,
-    world: &mut World<'s>,
-    stack: &mut Stack<Frame<'s>>,
-    itself: Option<DeferredId>,
-    name: &str,
-    class: ClassId,
-    message: &str,
-) -> Result<Performed, AllocError>
-    ensures { IfOk result (λ performed. (stack.new, performed, world.new) ≡ begun itself (FailWith name.now class message.now) world.old stack.old) }
-{
-    match world.find(itself, name) {
-        None => Ok(unbound(alloc, name)?),
-        Some(id) => {
-            let kept = kept_failure(alloc, world, id, class, message)?;
-            let fired = world.fire(id, kept)?;
-            Ok(settle_next(stack, id, fired)?)
-        }
-    }
-}
-
-/// A copy of a value that a Deferred is to be fired with; null where the firing is refused or swallowed, since no value is
-/// kept then.
+/// The value that a Deferred is to be fired with; null where the firing is refused or swallowed, since no value is kept
+/// then.
 #[tactic(auto, using(crate::proofs::FireLemmas::fires_alike))]
 fn kept<'s>(
     alloc: Global,
     world: &World<'s>,
     id: DeferredId,
-    value: &Value,
+    given: Given<'s>,
 ) -> Result<Value, AllocError>
-    ensures { IfOk result (λ kept. fire id kept world.now ≡ fire id value.now world.now) }
+    ensures { IfOk result (λ kept. fire id kept world.now ≡ fire id given.entry world.now) }
 {
     if world.is_unfired(id) {
-        Ok(value.copy(alloc)?)
-    } else {
-        Ok(Value::Null)
-    }
-}
-
-/// The same of a failure.
-#[tactic(auto, using(crate::proofs::FireLemmas::fires_alike))]
-fn kept_failure<'s>(
-    alloc: Global,
-    world: &World<'s>,
-    id: DeferredId,
-    class: ClassId,
-    message: &str,
-) -> Result<Value, AllocError>
-    ensures { IfOk result (λ kept. fire id kept world.now ≡ fire id (fault class message.now) world.now) }
-{
-    if world.is_unfired(id) {
-        Ok(fault(alloc, class, message)?)
+        Ok(given.make(alloc)?)
     } else {
         Ok(Value::Null)
     }
@@ -174,7 +120,7 @@ fn add<'s>(
     itself: Option<DeferredId>,
     name: &str,
     pair: Pair<'s>,
-) -> Result<Performed, AllocError>
+) -> Result<Performed<'s>, AllocError>
     ensures { IfOk result (λ performed. (stack.new, performed, world.new) ≡ begun itself (AddTo name.now pair.entry) world.old stack.old) }
 {
     match world.find(itself, name) {
@@ -195,7 +141,7 @@ fn chain<'s>(
     itself: Option<DeferredId>,
     name: &str,
     next: &str,
-) -> Result<Performed, AllocError>
+) -> Result<Performed<'s>, AllocError>
     ensures { IfOk result (λ performed. (stack.new, performed, world.new) ≡ begun itself (ChainTo name.now next.now) world.old stack.old) }
 {
     match world.find(itself, name) {
@@ -218,7 +164,7 @@ fn pause<'s>(
     world: &mut World<'s>,
     itself: Option<DeferredId>,
     name: &str,
-) -> Result<Performed, AllocError>
+) -> Result<Performed<'s>, AllocError>
     requires bounded { Bounded world.old }
     ensures { IfOk result (λ performed. (below : List Seen) → (below, performed, world.new) ≡ begun itself (PauseOf name.now) world.old below) }
 {
@@ -238,7 +184,7 @@ fn unpause<'s>(
     stack: &mut Stack<Frame<'s>>,
     itself: Option<DeferredId>,
     name: &str,
-) -> Result<Performed, AllocError>
+) -> Result<Performed<'s>, AllocError>
     ensures { IfOk result (λ performed. (stack.new, performed, world.new) ≡ begun itself (UnpauseOf name.now) world.old stack.old) }
 {
     match world.find(itself, name) {
@@ -257,7 +203,7 @@ fn cancel_named<'s>(
     stack: &mut Stack<Frame<'s>>,
     itself: Option<DeferredId>,
     name: &str,
-) -> Result<Performed, AllocError>
+) -> Result<Performed<'s>, AllocError>
     ensures { IfOk result (λ performed. (stack.new, performed, world.new) ≡ begun itself (CancelOf name.now) world.old stack.old) }
 {
     match world.find(itself, name) {

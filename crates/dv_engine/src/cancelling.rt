@@ -18,7 +18,7 @@ pub fn cancel<'s>(
     world: &mut World<'s>,
     stack: &mut Stack<Frame<'s>>,
     id: DeferredId,
-) -> Result<Performed, AllocError>
+) -> Result<Performed<'s>, AllocError>
     ensures { IfOk result (λ performed. (stack.new, performed, world.new) ≡ cancel_begun (cancel id world.old).0 (cancel id world.old).1 stack.old) }
 {
     match world.cancel(id)? {
@@ -43,11 +43,11 @@ pub fn end_canceller<'s>(
     world: &mut World<'s>,
     stack: &mut Stack<Frame<'s>>,
     id: DeferredId,
-    performed: Performed,
-) -> Result<Performed, AllocError>
-    ensures { IfOk result (λ next. (stack.new, next, world.new) ≡ canceller_ended id (failed_with performed) world.old stack.old) }
+    performed: Performed<'s>,
+) -> Result<Performed<'s>, AllocError>
+    ensures { IfOk result (λ next. (stack.new, next, world.new) ≡ canceller_ended id (failed_with performed.entry) world.old stack.old) }
 {
-    match performed.into_failure() {
+    match performed.into_failure(alloc)? {
         Some(failure) => Ok(Performed::Raised(failure)),
         None => {
             if !world.is_unfired(id) {

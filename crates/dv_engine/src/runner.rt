@@ -21,7 +21,7 @@ pub fn act<'s>(
     alloc: Global,
     world: &mut World<'s>,
     action: &'s Action,
-) -> Result<Option<Performed>, AllocError>
+) -> Result<Option<Performed<'s>>, AllocError>
     requires bounded { Bounded world.old }
     ensures { IfOk result (λ performed. GivesUnlessStopped action.now world.old performed world.new) }
 {
@@ -39,10 +39,10 @@ fn run<'s>(
     alloc: Global,
     world: &mut World<'s>,
     stack: Stack<Frame<'s>>,
-    performed: Performed,
-) -> Result<Option<Performed>, AllocError>
+    performed: Performed<'s>,
+) -> Result<Option<Performed<'s>>, AllocError>
     requires bounded { Bounded world.old }
-    ensures { IfOk result (λ last. LeadsUnlessStopped stack.entry performed world.old last world.new) }
+    ensures { IfOk result (λ last. LeadsUnlessStopped stack.entry performed.entry world.old last world.new) }
 {
     let mut stack = stack;
     let mut last = performed;
@@ -61,10 +61,10 @@ fn turn<'s>(
     world: &mut World<'s>,
     stack: &mut Stack<Frame<'s>>,
     frame: Frame<'s>,
-    performed: Performed,
-) -> Result<Performed, AllocError>
+    performed: Performed<'s>,
+) -> Result<Performed<'s>, AllocError>
     requires bounded { Bounded world.old }
-    ensures { IfOk result (λ next. (stack.new, next, world.new) ≡ turned frame.entry performed world.old stack.old) }
+    ensures { IfOk result (λ next. (stack.new, next, world.new) ≡ turned frame.entry performed.entry world.old stack.old) }
 {
     match frame {
         Frame::Settle(id) => Ok(settle(world, stack, id)?),
@@ -84,10 +84,10 @@ fn go_on_unless_raised<'s>(
     world: &mut World<'s>,
     stack: &mut Stack<Frame<'s>>,
     rest: Rest<'s>,
-    performed: Performed,
-) -> Result<Performed, AllocError>
+    performed: Performed<'s>,
+) -> Result<Performed<'s>, AllocError>
     requires bounded { Bounded world.old }
-    ensures { IfOk result (λ next. (stack.new, next, world.new) ≡ rest_turned rest.entry performed world.old stack.old) }
+    ensures { IfOk result (λ next. (stack.new, next, world.new) ≡ rest_turned rest.entry performed.entry world.old stack.old) }
 {
     match performed {
         Performed::Raised(failure) => Ok(Performed::Raised(failure)),
@@ -103,7 +103,7 @@ fn go_on<'s>(
     world: &mut World<'s>,
     stack: &mut Stack<Frame<'s>>,
     rest: Rest<'s>,
-) -> Result<Performed, AllocError>
+) -> Result<Performed<'s>, AllocError>
     requires bounded { Bounded world.old }
     ensures { IfOk result (λ next. (stack.new, next, world.new) ≡ gone_on rest.entry.itself rest.entry.actions rest.entry.end rest.entry.input world.old stack.old) }
 {

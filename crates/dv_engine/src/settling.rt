@@ -12,6 +12,7 @@ use dv_store::store::Step;
 use dv_value::boxed::Boxed;
 use dv_value::value::Value;
 use dv_world::follow::Follow;
+use dv_world::given::Given;
 use dv_world::lent::{Actions, BodyRef, EndRef};
 use dv_world::pair::{Pair, Side};
 use dv_world::performed::Performed;
@@ -24,7 +25,7 @@ pub fn settle<'s>(
     world: &mut World<'s>,
     stack: &mut Stack<Frame<'s>>,
     id: DeferredId,
-) -> Result<Performed, AllocError>
+) -> Result<Performed<'s>, AllocError>
     ensures { IfOk result (λ performed. (stack.new, performed, world.new) ≡ settled id (step id world.old).0 (step id world.old).1 stack.old) }
 {
     match world.step(id)? {
@@ -53,11 +54,11 @@ fn begin_side<'s>(
     id: DeferredId,
     pair: Pair<'s>,
     input: Value,
-) -> Result<Performed, AllocError>
+) -> Result<Performed<'s>, AllocError>
     ensures { IfOk result (λ performed. (stack.new, performed, world.new) ≡ side_begun id (side_for pair.entry (is_fault input)) input world.old stack.old) }
 {
     match pair.into_side(input.is_fault()) {
-        None => Ok(Performed::Gave(input)),
+        None => Ok(Performed::Gave(Given::own(input))),
         Some(side) => Ok(begin(world, stack, id, side, input)?),
     }
 }
@@ -69,7 +70,7 @@ fn begin<'s>(
     id: DeferredId,
     side: Side<'s>,
     input: Value,
-) -> Result<Performed, AllocError>
+) -> Result<Performed<'s>, AllocError>
     ensures { IfOk result (λ performed. (stack.new, performed, world.new) ≡ side_begun id (Some side.entry) input world.old stack.old) }
 {
     match side {
@@ -102,7 +103,7 @@ pub fn settle_next<'s>(
     stack: &mut Stack<Frame<'s>>,
     id: DeferredId,
     follow: Follow,
-) -> Result<Performed, AllocError>
+) -> Result<Performed<'s>, AllocError>
     ensures { IfOk result (λ next. (w : Seen) → (stack.new, next, w) ≡ settle_next id follow w stack.old) }
 {
     match follow {
@@ -120,13 +121,13 @@ pub fn place<'s>(
     alloc: Global,
     world: &mut World<'s>,
     id: DeferredId,
-    performed: Performed,
+    performed: Performed<'s>,
 ) -> Result<(), AllocError>
-    ensures { OnOk result (world.new ≡ place id performed world.old) }
+    ensures { OnOk result (world.new ≡ place id performed.entry world.old) }
 {
     match performed {
         Performed::Done => world.put(id, Value::Null),
-        Performed::Gave(value) => world.put(id, value),
+        Performed::Gave(given) => world.put(id, given.make(alloc)?),
         Performed::Raised(failure) => world.put(id, Value::Fault(Boxed::new(alloc, failure)?)),
         Performed::Awaits(given) => world.put_deferred(id, given),
     }

@@ -39,7 +39,8 @@ use Rattle.dv_store.specs.declared.store.Step.{Step}
 use Rattle.dv_store.specs.declared.store.Step.TheVariants.{Nothing, Passed, Run, Handed}
 use Rattle.dv_engine.specs.declared.frame.Frame.{Frame}
 use Rattle.dv_engine.specs.declared.frame.Frame.TheVariants as frame
-use Rattle.dv_world.specs.Ending.{fault, ended, failed_with}
+use Rattle.dv_world.specs.Ending.{ended, failed_with}
+use Rattle.dv_world.specs.Given.{fault}
 use Rattle.dv_world.specs.Names.{Names, with_name}
 use Rattle.dv_world.specs.World.{World, value_of, deferred_at, cancelled, is_unfired, unbound}
 use Rattle.dv_world.specs.declared.follow.Follow.{Follow}

@@ -55,7 +55,8 @@ use Rattle.dv_engine.specs.Meaning.{Gives, told_of, Runs}
 use Rattle.dv_engine.specs.Settling.{place}
 use Rattle.dv_engine.specs.Task.{Act}
 use Rattle.dv_engine.specs.declared.frame.Frame.TheVariants as frame
-use Rattle.dv_world.specs.Ending.{fault, failed_with}
+use Rattle.dv_world.specs.Ending.{failed_with}
+use Rattle.dv_world.specs.Given.{fault}
 use Rattle.dv_world.specs.Pair.{passes, side_for}
 use Rattle.dv_world.specs.World.{World, value_of, deferred_at, after, moved, named, fired, cancelled, guarded, is_unfired, unpaused, step, put, put_deferred, append, pause, make, fire, fire_guarded, unpause, unfired_reached, record_reached, end_reached, reached_from, cancel, tell}
 use Rattle.dv_world.specs.declared.follow.Follow.{Follow}

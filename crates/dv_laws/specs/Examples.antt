@@ -16,7 +16,7 @@ use Rattle.dv_engine.specs.Report.{outcomes_of}
 use Rattle.dv_engine.specs.declared.report.Outcome.{Outcome}
 use Rattle.dv_engine.specs.declared.report.State.{State}
 use Rattle.dv_engine.specs.declared.report.State.TheVariants.{Unfired, Waiting, Fired}
-use Rattle.dv_world.specs.Ending.{fault}
+use Rattle.dv_world.specs.Given.{fault}
 use Rattle.dv_world.specs.World.{World}
 
 -- a script of these actions, with the classes that every script has

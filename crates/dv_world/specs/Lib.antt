@@ -2,3 +2,4 @@ pub mod Names
 pub mod Pair
 pub mod World
 pub mod Ending
+pub mod Given

@@ -2,7 +2,9 @@
 #![tactic(auto)]
 
 pub mod ending;
+mod fault;
 pub mod follow;
+pub mod given;
 pub mod lent;
 mod names;
 pub mod pair;

@@ -1,33 +1,34 @@
-ghost use Rattle.std.specs.Prelude.{◌≡◌};
+ghost use Rattle.std.specs.Prelude.{◌≡◌, IfOk};
 
+use crate::given::Given;
 use dv_journal::deferred_id::DeferredId;
 use dv_value::failure::Failure;
-use dv_value::value::Value;
+use std::alloc::{AllocError, Global};
 
 /// What performing something came to.
-#[derive(Debug, Drop)]
-pub enum Performed {
+#[derive(Drop)]
+pub enum Performed<'s> {
     /// It is done, and gives nothing.
     Done,
     /// A body gave this, a failure where its value is one.
-    Gave(Value),
+    Gave(Given<'s>),
     /// It raised this, and the rest of it is left out.
     Raised(Failure),
     /// A body gave this Deferred.
     Awaits(DeferredId),
 }
 
-impl Performed {
+impl<'s> Performed<'s> {
     ghost use Rattle.dv_world.specs.Ending.{failed_with};
 
     /// The failure that it came to, where it raised one or gave one.
-    pub fn into_failure(self) -> Option<Failure>
-        ensures { result ≡ failed_with self }
+    pub fn into_failure(self, alloc: Global) -> Result<Option<Failure>, AllocError>
+        ensures { IfOk result (λ f. f ≡ failed_with self.entry) }
     {
         match self {
-            Performed::Gave(value) => value.into_failure(),
-            Performed::Raised(failure) => Some(failure),
-            Performed::Done | Performed::Awaits(_) => None,
+            Performed::Gave(value) => Ok(value.into_failure(alloc)?),
+            Performed::Raised(failure) => Ok(Some(failure)),
+            Performed::Done | Performed::Awaits(_) => Ok(None),
         }
     }
 }

@@ -3,7 +3,7 @@ ghost use Rattle.dv_value.specs.Failure.{plain_failure};
 ghost use Rattle.dv_world.specs.World.{cancelled, unbound};
 ghost use Rattle.dv_world.specs.declared.follow.Follow.TheVariants.{Raise};
 
-use crate::ending::{failure, fault};
+use crate::fault::{failure, fault};
 use crate::follow::Follow;
 use crate::lent::BodyRef;
 use crate::names::Names;
@@ -354,7 +354,7 @@ impl<'s> World<'s> {
 }
 
 /// What a name that isn't bound raises.
-pub fn unbound(alloc: Global, name: &str) -> Result<Performed, AllocError>
+pub fn unbound<'s>(alloc: Global, name: &str) -> Result<Performed<'s>, AllocError>
     ensures { IfOk result (λ p. p ≡ unbound name.now) }
 {
     let failure = failure(alloc, ClassId::NAME_ERROR, name)?;
