@@ -8,5 +8,3 @@ pub mod memory_source;
 pub mod output;
 pub mod run;
 pub mod source;
-#[cfg(test)]
-mod tests;

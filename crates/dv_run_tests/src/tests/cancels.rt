@@ -1,8 +1,8 @@
-use crate::memory_source::MemorySource;
-use crate::run::run;
 use crate::tests::rows::{Row, assert_rows};
 use crate::tests::stops;
 use dv_journal::memory_sink::MemorySink;
+use dv_run::memory_source::MemorySource;
+use dv_run::run::run;
 use std::test::Fail;
 
 static CANCELS: [Row; 19] = [

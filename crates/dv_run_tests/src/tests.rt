@@ -7,11 +7,11 @@ mod refusals;
 mod rows;
 mod sources;
 
-use crate::error::RunFault;
-use crate::memory_source::MemorySource;
-use crate::run::run;
 use dv_engine::report::Report;
 use dv_journal::memory_sink::MemorySink;
+use dv_run::error::RunFault;
+use dv_run::memory_source::MemorySource;
+use dv_run::run::run;
 use std::alloc::{AllocError, Global};
 
 /// Whether a run stopped at its limit, or why it gave up.

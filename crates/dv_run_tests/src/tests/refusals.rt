@@ -1,5 +1,5 @@
-use crate::error::RunFault;
 use crate::tests::ran;
+use dv_run::error::RunFault;
 use dv_script::error::ScriptFault;
 use std::alloc::{AllocError, Global};
 use std::test::Fail;

@@ -1,7 +1,7 @@
-use crate::error::RunFault;
-use crate::exit::exit_of;
 use dv_engine::report::Report;
 use dv_journal::journal::Journal;
+use dv_run::error::RunFault;
+use dv_run::exit::exit_of;
 use dv_script::error::ScriptFault;
 use dv_value::items::Items;
 

@@ -1,5 +1,5 @@
-use crate::memory_source::MemorySource;
-use crate::source::{ReadError, read_up_to};
+use dv_run::memory_source::MemorySource;
+use dv_run::source::{ReadError, read_up_to};
 use std::test::Fail;
 
 const TEXT: &[u8] = b"{\"version\":3}";

@@ -1,10 +1,10 @@
-use crate::error::RunFault;
-use crate::io_source::IoSource;
-use crate::memory_source::MemorySource;
-use crate::run::run;
 use crate::tests::stops;
 use dv_journal::io_sink::IoSink;
 use dv_journal::memory_sink::{MemorySink, Trouble};
+use dv_run::error::RunFault;
+use dv_run::io_source::IoSource;
+use dv_run::memory_source::MemorySource;
+use dv_run::run::run;
 use std::io::{self, Read};
 use std::test::Fail;
 
