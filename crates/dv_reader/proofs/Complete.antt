@@ -22,7 +22,7 @@ use Rattle.dv_reader.specs.declared.draft.Draft.{Draft}
 use Rattle.dv_reader.specs.Forms.{Each, IsList, Field, Key, IsText, IsNumber, IsClass, IsValue, a_null, a_bool, an_int, a_text, a_list, AreValues, no_values, more_values}
 use Rattle.dv_reader.specs.Table.{table_of}
 use Rattle.dv_reader.specs.Grammar.{plain_cooperator, IsEnd, returns, passes, adds, raises, traps, waits, IsWork, gives, fails, sums, IsListFlag, fires_on_callback, fires_on_errback, consumes_errors, IsGatherFlag, gathers_errors, IsBound, no_bound, a_bound, IsAction, deferred, deferred_with, callback, errback, add_callback, add_errback, add_both, add_callbacks, chain, pause, unpause, cancel, note, list, gather, maybe, lock, semaphore, acquire, release, run_with, queue, put, get, later, cancel_call, loop, stop_loop, cooperate, when_done, pause_task, stop_task, resume_task, inline, thread, AreActions, no_actions, more_actions, IsDo, does_nothing, does, IsBody, body, AreBodies, no_bodies, more_bodies, IsStatement, performs, awaits, tries, leaves, AreStatements, no_statements, more_statements, IsEvent, acts, advances, drains, IsDeclaration, declares, IsCooperator, IsScript}
-use Rattle.dv_reader.specs.Shape.{value_at, values_at, each, list_at, text_at, number_at, within, bound_at, class_at, list_flag_at, gather_flag_at, call_at, none, first, if_any, one, one_or_two, two, three, five, sole, pair, triple, fields_at, field, end_at, end_of, leave_at, work_at, work_of, action_by, action_of, new_deferred_of, deferred_of, object_of, loop_of, task_of, body_by, statement_by, statement_of, readers, body_at, statement_at, action_at, event_at, event_of, other_event, declaration_at, cooperator_at, caller_at, table_for, script_at}
+use Rattle.dv_reader.specs.Shape.{value_at, values_at, each, list_at, text_at, number_at, within, bound_at, class_at, list_flag_at, gather_flag_at, call_at, none, first, if_any, one, one_or_two, two, three, five, sole, pair, triple, fields_at, field, end_at, end_of, leave_at, work_at, work_of, action_by, action_of, new_deferred_of, plain_of, loop_of, nesting_of, body_by, statement_by, statement_of, readers, body_at, statement_at, action_at, event_at, event_of, other_event, declaration_at, cooperator_at, caller_at, table_for, script_at}
 use Rattle.dv_reader.proofs.Steps.{picked}
 
 -- ---- values, lists, leaves
@@ -115,7 +115,7 @@ depth-get_member key (member k c ms) d e = elim (picked (slice_cmp nat_cmp key k
 -- ---- actions, bodies, statements
 
 mutual
-  unfolding action_by action_of new_deferred_of deferred_of object_of loop_of task_of call_at none first if_any one one_or_two two three five sole pair triple readers body_by fields_at statement_by statement_of leave_at
+  unfolding action_by action_of new_deferred_of plain_of loop_of nesting_of call_at none first if_any one one_or_two two three five sole pair triple readers body_by fields_at statement_by statement_of leave_at
 
   complete_action : (table : List Class) {d : Data} {a : Action} (n : ℕ) → IsAction table d a → depth d ≤ n → action_at table n d ≡ Some a
   complete_action table n (deferred name) h = refl
@@ -257,9 +257,9 @@ complete_script d draft deep h =
     let events : option_and_then (list_at (event_at (table_of draft.declared))) (get_member (codes "events") h.members) ≡ Some draft.script.events =
     complete_events (table_of draft.declared) draft.script.events (get_member (codes "events") h.members) (within (codes "events")) (rw h.table at h.events) in
     rw h.whole (rw h.only (rw (
-      complete_field [] draft.declared (IsList IsDeclaration) (list_at declaration_at) (complete_list IsDeclaration declaration_at complete_declaration) (get_member (codes "classes") h.members) h.declared,
       complete_field 2000 draft.script.limit (IsNumber 0 200000) (number_at 0 200000) (complete_number 0 200000) (get_member (codes "limit") h.members) h.limit,
       complete_field plain_cooperator draft.script.cooperator IsCooperator cooperator_at complete_cooperator (get_member (codes "cooperator") h.members) h.cooperator,
+      complete_field [] draft.declared (IsList IsDeclaration) (list_at declaration_at) (complete_list IsDeclaration declaration_at complete_declaration) (get_member (codes "classes") h.members) h.declared,
       callers,
       events,
     ) (ap Some (same_draft draft _ _ h.table h.all_declared))))

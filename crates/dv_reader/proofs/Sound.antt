@@ -24,14 +24,18 @@ use Rattle.dv_script.specs.declared.event.Event.TheVariants as happens
 use Rattle.dv_script.specs.declared.script.Cooperator.{Cooperator}
 use Rattle.dv_reader.specs.declared.draft.Declaration.{Declaration}
 use Rattle.dv_reader.specs.declared.draft.Draft.{Draft}
-use Rattle.dv_reader.specs.declared.words.DeferredWord.{DeferredWord}
-use Rattle.dv_reader.specs.declared.words.DeferredWord.TheVariants as deferred_words
-use Rattle.dv_reader.specs.declared.words.ObjectWord.{ObjectWord}
-use Rattle.dv_reader.specs.declared.words.ObjectWord.TheVariants as object_words
-use Rattle.dv_reader.specs.declared.words.TaskWord.{TaskWord}
-use Rattle.dv_reader.specs.declared.words.TaskWord.TheVariants as task_words
+use Rattle.dv_reader.specs.declared.words.NameWord.{NameWord}
+use Rattle.dv_reader.specs.declared.words.NameWord.TheVariants as of_name
+use Rattle.dv_reader.specs.declared.words.NamesWord.{NamesWord}
+use Rattle.dv_reader.specs.declared.words.NamesWord.TheVariants as of_names
+use Rattle.dv_reader.specs.declared.words.BodyWord.{BodyWord}
+use Rattle.dv_reader.specs.declared.words.BodyWord.TheVariants as of_body
+use Rattle.dv_reader.specs.declared.words.PlainWord.{PlainWord}
+use Rattle.dv_reader.specs.declared.words.PlainWord.TheVariants as plain
+use Rattle.dv_reader.specs.declared.words.NestingWord.{NestingWord}
+use Rattle.dv_reader.specs.declared.words.NestingWord.TheVariants as nesting
 use Rattle.dv_reader.specs.declared.words.ActionWord.{ActionWord}
-use Rattle.dv_reader.specs.declared.words.ActionWord.TheVariants.{OfDeferred, OfObject, OfTask}
+use Rattle.dv_reader.specs.declared.words.ActionWord.TheVariants.{OfName, OfNames, OfBody, Plain, Nesting}
 use Rattle.dv_reader.specs.declared.words.EventWord.{EventWord}
 use Rattle.dv_reader.specs.declared.words.EventWord.TheVariants as event_words
 use Rattle.dv_reader.specs.declared.words.EndWord.{EndWord}
@@ -44,9 +48,9 @@ use Rattle.dv_reader.specs.Words.{action_word, event_word, end_word, statement_w
 use Rattle.dv_reader.specs.Forms.{call, Each, IsList, Field, Key, has_only, IsText, IsInteger, IsNumber, IsClass, IsValue, a_null, a_bool, an_int, a_text, a_list, AreValues, no_values, more_values}
 use Rattle.dv_reader.specs.Table.{table_of}
 use Rattle.dv_reader.specs.Grammar.{body_keys, cooperator_keys, script_keys, may_leave, plain_cooperator, IsEnd, returns, passes, adds, raises, traps, waits, IsWork, gives, fails, sums, IsListFlag, fires_on_callback, fires_on_errback, consumes_errors, IsGatherFlag, gathers_errors, IsBound, no_bound, a_bound, IsAction, deferred, deferred_with, callback, errback, add_callback, add_errback, add_both, add_callbacks, chain, pause, unpause, cancel, note, list, gather, maybe, lock, semaphore, acquire, release, run_with, queue, put, get, later, cancel_call, loop, stop_loop, cooperate, when_done, pause_task, stop_task, resume_task, inline, thread, AreActions, no_actions, more_actions, IsDo, does_nothing, does, IsBody, body, AreBodies, no_bodies, more_bodies, IsStatement, performs, awaits, tries, leaves, AreStatements, no_statements, more_statements, IsEvent, acts, advances, drains, IsDeclaration, declares, IsCooperator, IsScript}
-use Rattle.dv_reader.specs.Shape.{value_at, values_at, each, list_at, text_at, integer_at, number_at, within, bound_at, class_at, list_flag_at, gather_flag_at, call_at, none, first, if_any, one, one_or_two, two, three, five, sole, pair, triple, one_of, two_of, three_of, fields_at, field, if_there, end_at, end_of, leave_at, work_at, work_of, Readers, action_with, action_by, action_of, new_deferred_of, deferred_of, object_of, loop_of, task_of, body_by, statement_by, statement_of, readers, body_at, action_at, event_by, event_at, event_of, other_event, declaration_at, cooperator_at, caller_at, table_for, script_at}
+use Rattle.dv_reader.specs.Shape.{value_at, values_at, each, list_at, text_at, integer_at, number_at, within, bound_at, class_at, list_flag_at, gather_flag_at, call_at, none, first, if_any, one, one_or_two, two, three, five, sole, pair, triple, one_of, two_of, three_of, fields_at, field, if_there, end_at, end_of, leave_at, work_at, work_of, Readers, action_with, action_by, action_of, with_name, with_names, with_body, new_deferred_of, plain_of, loop_of, nesting_of, body_by, statement_by, statement_of, readers, body_at, action_at, event_by, event_at, event_of, other_event, declaration_at, cooperator_at, caller_at, table_for, script_at}
 use Rattle.dv_reader.proofs.Steps.{some_injective, bind, mapped, chosen}
-use Rattle.dv_reader.proofs.WordsLemmas.{deferred_text, object_text, task_text, action_text, action_word_is, event_text, event_word_is, end_text, end_word_is, statement_text, statement_word_is, work_text, work_word_is}
+use Rattle.dv_reader.proofs.WordsLemmas.{name_text, names_text, body_text, plain_text, nesting_text, action_text, action_word_is, event_text, event_word_is, end_text, end_word_is, statement_text, statement_word_is, work_text, work_word_is}
 
 -- ---- items
 
@@ -378,58 +382,57 @@ module _ (table : List Class) (r : Readers) (sound : AreSound table r) where
       rw (first_is ds a a_is, ← some_injective b_then, ap (λ q. q.0) (some_injective o_then), text_is p.0 n n_is)
       (sound_deferred a.1 n p.1 b (o_is ∙ ap (λ q. Some q.1) (some_injective o_then)) b_is))))))
 
-  sound_deferred_of : (word : DeferredWord) (ds : Items) (x : Action) → deferred_of table r.body word ds ≡ Some x
-      → IsAction table (array (item (string (deferred_text word)) ds)) x
-  unfolding deferred_of
-  sound_deferred_of deferred_words.Deferred ds x e = maker_read ds x e
-  sound_deferred_of deferred_words.Callback ds x e =
-      named_with table value_at IsValue sound_value Callback (codes "callback") callback ds x e
-  sound_deferred_of deferred_words.Errback ds x e =
-      named_with_two table (class_at table) (IsClass table) (class_is table) text_at IsText text_is Errback (codes "errback") (λ n c f class text c_is f_is. rw f_is (errback n c class text c_is)) ds x e
-  sound_deferred_of deferred_words.AddCallback ds x e =
-      named_with table r.body (IsBody table) sound.body AddCallback (codes "addCallback") add_callback ds x e
-  sound_deferred_of deferred_words.AddErrback ds x e =
-      named_with table r.body (IsBody table) sound.body AddErrback (codes "addErrback") add_errback ds x e
-  sound_deferred_of deferred_words.AddBoth ds x e =
-      named_with table r.body (IsBody table) sound.body AddBoth (codes "addBoth") add_both ds x e
-  sound_deferred_of deferred_words.AddCallbacks ds x e =
-      named_with_two table r.body (IsBody table) sound.body r.body (IsBody table) sound.body AddCallbacks (codes "addCallbacks") add_callbacks ds x e
-  sound_deferred_of deferred_words.Chain ds x e =
-      named_twice table Chain (codes "chain") chain ds x e
-  sound_deferred_of deferred_words.Pause ds x e =
-      named table Pause (codes "pause") pause ds x e
-  sound_deferred_of deferred_words.Unpause ds x e =
-      named table Unpause (codes "unpause") unpause ds x e
-  sound_deferred_of deferred_words.Cancel ds x e =
-      named table Cancel (codes "cancel") cancel ds x e
+  sound_name : (word : NameWord) (ds : Items) (x : Action) → one_of text_at (with_name word) ds ≡ Some x
+      → IsAction table (array (item (string (name_text word)) ds)) x
+  sound_name of_name.Pause ds x e = named table Pause (codes "pause") pause ds x e
+  sound_name of_name.Unpause ds x e = named table Unpause (codes "unpause") unpause ds x e
+  sound_name of_name.Cancel ds x e = named table Cancel (codes "cancel") cancel ds x e
+  sound_name of_name.Note ds x e = named table Note (codes "note") note ds x e
+  sound_name of_name.Lock ds x e = named table Lock (codes "lock") lock ds x e
+  sound_name of_name.Release ds x e = named table Release (codes "release") release ds x e
+  sound_name of_name.CancelCall ds x e = named table CancelCall (codes "cancelCall") cancel_call ds x e
+  sound_name of_name.StopLoop ds x e = named table StopLoop (codes "stopLoop") stop_loop ds x e
+  sound_name of_name.PauseTask ds x e = named table PauseTask (codes "pauseTask") pause_task ds x e
+  sound_name of_name.StopTask ds x e = named table StopTask (codes "stopTask") stop_task ds x e
+  sound_name of_name.ResumeTask ds x e = named table ResumeTask (codes "resumeTask") resume_task ds x e
 
-  sound_object_of : (word : ObjectWord) (ds : Items) (x : Action) → object_of r.body word ds ≡ Some x
-      → IsAction table (array (item (string (object_text word)) ds)) x
-  unfolding object_of
-  sound_object_of object_words.Note ds x e =
-      named table Note (codes "note") note ds x e
-  sound_object_of object_words.List ds x e =
-      named_with_two table (list_at text_at) (IsList IsText) (sound_list IsText text_at text_is) (list_at list_flag_at) (IsList IsListFlag) (sound_list IsListFlag list_flag_at list_flag_is) ListOf (codes "list") list ds x e
-  sound_object_of object_words.Gather ds x e =
-      named_with_two table (list_at text_at) (IsList IsText) (sound_list IsText text_at text_is) (list_at gather_flag_at) (IsList IsGatherFlag) (sound_list IsGatherFlag gather_flag_at gather_flag_is) Gather (codes "gather") gather ds x e
-  sound_object_of object_words.Maybe ds x e =
+  sound_names : (word : NamesWord) (ds : Items) (x : Action) → two_of text_at text_at (with_names word) ds ≡ Some x
+      → IsAction table (array (item (string (names_text word)) ds)) x
+  sound_names of_names.Chain ds x e = named_twice table Chain (codes "chain") chain ds x e
+  sound_names of_names.Acquire ds x e = named_twice table Acquire (codes "acquire") acquire ds x e
+  sound_names of_names.Get ds x e = named_twice table Get (codes "get") get ds x e
+  sound_names of_names.WhenDone ds x e = named_twice table WhenDone (codes "whenDone") when_done ds x e
+
+  sound_with_body : (word : BodyWord) (ds : Items) (x : Action) → two_of text_at r.body (with_body word) ds ≡ Some x
+      → IsAction table (array (item (string (body_text word)) ds)) x
+  sound_with_body of_body.AddCallback ds x e =
+      named_with table r.body (IsBody table) sound.body AddCallback (codes "addCallback") add_callback ds x e
+  sound_with_body of_body.AddErrback ds x e =
+      named_with table r.body (IsBody table) sound.body AddErrback (codes "addErrback") add_errback ds x e
+  sound_with_body of_body.AddBoth ds x e =
+      named_with table r.body (IsBody table) sound.body AddBoth (codes "addBoth") add_both ds x e
+  sound_with_body of_body.Maybe ds x e =
       named_with table r.body (IsBody table) sound.body Maybe (codes "maybe") maybe ds x e
-  sound_object_of object_words.Lock ds x e =
-      named table Lock (codes "lock") lock ds x e
-  sound_object_of object_words.Semaphore ds x e =
-      named_with table (number_at 1 65536) (IsNumber 1 65536) (number_is 1 65536) Semaphore (codes "semaphore") semaphore ds x e
-  sound_object_of object_words.Acquire ds x e =
-      named_twice table Acquire (codes "acquire") acquire ds x e
-  sound_object_of object_words.Release ds x e =
-      named table Release (codes "release") release ds x e
-  sound_object_of object_words.RunWith ds x e =
-      named_with_two table text_at IsText text_is r.body (IsBody table) sound.body RunWith (codes "runWith") (λ n c f l b c_is b_is. rw c_is (run_with n l f b b_is)) ds x e
-  sound_object_of object_words.Queue ds x e =
-      named_with_two table bound_at IsBound bound_is bound_at IsBound bound_is Queue (codes "queue") queue ds x e
-  sound_object_of object_words.Put ds x e =
+
+  sound_plain_of : (word : PlainWord) (ds : Items) (x : Action) → plain_of table word ds ≡ Some x
+      → IsAction table (array (item (string (plain_text word)) ds)) x
+  unfolding plain_of
+  sound_plain_of plain.Callback ds x e =
+      named_with table value_at IsValue sound_value Callback (codes "callback") callback ds x e
+  sound_plain_of plain.Errback ds x e =
+      named_with_two table (class_at table) (IsClass table) (class_is table) text_at IsText text_is Errback (codes "errback") (λ n c f class text c_is f_is. rw f_is (errback n c class text c_is)) ds x e
+  sound_plain_of plain.Put ds x e =
       named_with table value_at IsValue sound_value Put (codes "put") put ds x e
-  sound_object_of object_words.Get ds x e =
-      named_twice table Get (codes "get") get ds x e
+  sound_plain_of plain.List ds x e =
+      named_with_two table (list_at text_at) (IsList IsText) (sound_list IsText text_at text_is) (list_at list_flag_at) (IsList IsListFlag) (sound_list IsListFlag list_flag_at list_flag_is) ListOf (codes "list") list ds x e
+  sound_plain_of plain.Gather ds x e =
+      named_with_two table (list_at text_at) (IsList IsText) (sound_list IsText text_at text_is) (list_at gather_flag_at) (IsList IsGatherFlag) (sound_list IsGatherFlag gather_flag_at gather_flag_is) Gather (codes "gather") gather ds x e
+  sound_plain_of plain.Semaphore ds x e =
+      named_with table (number_at 1 65536) (IsNumber 1 65536) (number_is 1 65536) Semaphore (codes "semaphore") semaphore ds x e
+  sound_plain_of plain.Queue ds x e =
+      named_with_two table bound_at IsBound bound_is bound_at IsBound bound_is Queue (codes "queue") queue ds x e
+  sound_plain_of plain.Thread ds x e =
+      named_with_two table (number_at 0 (10 ^ 12)) (IsNumber 0 (10 ^ 12)) (number_is 0 (10 ^ 12)) (work_at table) (IsWork table) (sound_work table) Thread (codes "thread") thread ds x e
 
   loop_read : (ds : Items) (x : Action) → loop_of r.body ds ≡ Some x
       → IsAction table (array (item (string (codes "loop")) ds)) x
@@ -444,37 +447,30 @@ module _ (table : List Class) (r : Readers) (sound : AreSound table r) where
       rw (five_is ds p p_is, text_is p.0 n n_is, text_is p.1 m m_is, boolean_is p.3 c c_is, ← some_injective b_then)
       (loop n m p.2 k c p.4 b (number_is 1 (10 ^ 12) p.2 k k_is) (sound.body p.4 b b_is))))))))
 
-  sound_task_of : (word : TaskWord) (ds : Items) (x : Action) → task_of table r.body r.statement word ds ≡ Some x
-      → IsAction table (array (item (string (task_text word)) ds)) x
-  unfolding task_of
-  sound_task_of task_words.Later ds x e =
+  sound_nesting_of : (word : NestingWord) (ds : Items) (x : Action) → nesting_of r.body r.statement word ds ≡ Some x
+      → IsAction table (array (item (string (nesting_text word)) ds)) x
+  unfolding nesting_of
+  sound_nesting_of nesting.Deferred ds x e = maker_read ds x e
+  sound_nesting_of nesting.AddCallbacks ds x e =
+      named_with_two table r.body (IsBody table) sound.body r.body (IsBody table) sound.body AddCallbacks (codes "addCallbacks") add_callbacks ds x e
+  sound_nesting_of nesting.RunWith ds x e =
+      named_with_two table text_at IsText text_is r.body (IsBody table) sound.body RunWith (codes "runWith") (λ n c f l b c_is b_is. rw c_is (run_with n l f b b_is)) ds x e
+  sound_nesting_of nesting.Later ds x e =
       named_with_two table (number_at 0 (10 ^ 12)) (IsNumber 0 (10 ^ 12)) (number_is 0 (10 ^ 12)) r.body (IsBody table) sound.body Later (codes "later") later ds x e
-  sound_task_of task_words.CancelCall ds x e =
-      named table CancelCall (codes "cancelCall") cancel_call ds x e
-  sound_task_of task_words.Loop ds x e = loop_read ds x e
-  sound_task_of task_words.StopLoop ds x e =
-      named table StopLoop (codes "stopLoop") stop_loop ds x e
-  sound_task_of task_words.Cooperate ds x e =
+  sound_nesting_of nesting.Loop ds x e = loop_read ds x e
+  sound_nesting_of nesting.Cooperate ds x e =
       named_with table (list_at r.body) (IsBodies table) bodies_in Cooperate (codes "cooperate") (λ n d bs h. rw h.1 (cooperate n h.0 bs h.2)) ds x e
-  sound_task_of task_words.WhenDone ds x e =
-      named_twice table WhenDone (codes "whenDone") when_done ds x e
-  sound_task_of task_words.PauseTask ds x e =
-      named table PauseTask (codes "pauseTask") pause_task ds x e
-  sound_task_of task_words.StopTask ds x e =
-      named table StopTask (codes "stopTask") stop_task ds x e
-  sound_task_of task_words.ResumeTask ds x e =
-      named table ResumeTask (codes "resumeTask") resume_task ds x e
-  sound_task_of task_words.Inline ds x e =
+  sound_nesting_of nesting.Inline ds x e =
       named_with table (list_at r.statement) (IsStatements table) statements_in Inline (codes "inline") (λ n d ss h. rw h.1 (inline n h.0 ss h.2)) ds x e
-  sound_task_of task_words.Thread ds x e =
-      named_with_two table (number_at 0 (10 ^ 12)) (IsNumber 0 (10 ^ 12)) (number_is 0 (10 ^ 12)) (work_at table) (IsWork table) (sound_work table) Thread (codes "thread") thread ds x e
 
   sound_action_of : (word : ActionWord) (ds : Items) (x : Action) → action_of table r.body r.statement word ds ≡ Some x
       → IsAction table (array (item (string (action_text word)) ds)) x
   unfolding action_of
-  sound_action_of (OfDeferred word) ds x e = sound_deferred_of word ds x e
-  sound_action_of (OfObject word) ds x e = sound_object_of word ds x e
-  sound_action_of (OfTask word) ds x e = sound_task_of word ds x e
+  sound_action_of (OfName word) ds x e = sound_name word ds x e
+  sound_action_of (OfNames word) ds x e = sound_names word ds x e
+  sound_action_of (OfBody word) ds x e = sound_with_body word ds x e
+  sound_action_of (Plain word) ds x e = sound_plain_of word ds x e
+  sound_action_of (Nesting word) ds x e = sound_nesting_of word ds x e
 
   sound_action : (d : Data) (x : Action) → action_with table r d ≡ Some x → IsAction table d x
   unfolding action_by
@@ -597,10 +593,10 @@ pub sound_script : (d : Data) (draft : Draft) → script_at d ≡ Some draft →
 unfolding script_at fields_at table_for
 sound_script (object ms) draft e =
     bind (fields_at script_keys (object ms)) _ draft e (λ t t_is t_then.
-    bind (field [] (list_at declaration_at) (get_member (codes "classes") ms)) _ draft t_then (λ c c_is c_then.
-    bind (field 2000 (number_at 0 200000) (get_member (codes "limit") ms)) _ draft c_then (λ l l_is l_then.
+    bind (field 2000 (number_at 0 200000) (get_member (codes "limit") ms)) _ draft t_then (λ l l_is l_then.
     bind (field plain_cooperator cooperator_at (get_member (codes "cooperator") ms)) _ draft l_then (λ o o_is o_then.
-    bind (field [] (list_at (caller_at (table_of c))) (get_member (codes "callers") ms)) _ draft o_then (λ p p_is p_then.
+    bind (field [] (list_at declaration_at) (get_member (codes "classes") ms)) _ draft o_then (λ c c_is c_then.
+    bind (field [] (list_at (caller_at (table_of c))) (get_member (codes "callers") ms)) _ draft c_then (λ p p_is p_then.
     bind (option_and_then (list_at (event_at (table_of c))) (get_member (codes "events") ms)) _ draft p_then (λ y y_is y_then.
     rw (← some_injective y_then) (record {
       members = ms;

@@ -1,12 +1,16 @@
 -- A word that is found is the text that it is found by.
 use Rattle.std.proofs.Common.{◌≡◌, ℕ, cond, List, Option, Some, None, bytes_eq, refl, sym, ap, ◌∙◌, codes, inl, inr}
 use Rattle.std.proofs.lemmas.Slice.Eq.{bytes_eq-Decides}
-use Rattle.dv_reader.specs.declared.words.DeferredWord.{DeferredWord}
-use Rattle.dv_reader.specs.declared.words.DeferredWord.TheVariants as deferred
-use Rattle.dv_reader.specs.declared.words.ObjectWord.{ObjectWord}
-use Rattle.dv_reader.specs.declared.words.ObjectWord.TheVariants as of_object
-use Rattle.dv_reader.specs.declared.words.TaskWord.{TaskWord}
-use Rattle.dv_reader.specs.declared.words.TaskWord.TheVariants as task
+use Rattle.dv_reader.specs.declared.words.NameWord.{NameWord}
+use Rattle.dv_reader.specs.declared.words.NameWord.TheVariants as of_name
+use Rattle.dv_reader.specs.declared.words.NamesWord.{NamesWord}
+use Rattle.dv_reader.specs.declared.words.NamesWord.TheVariants as of_names
+use Rattle.dv_reader.specs.declared.words.BodyWord.{BodyWord}
+use Rattle.dv_reader.specs.declared.words.BodyWord.TheVariants as of_body
+use Rattle.dv_reader.specs.declared.words.PlainWord.{PlainWord}
+use Rattle.dv_reader.specs.declared.words.PlainWord.TheVariants as plain
+use Rattle.dv_reader.specs.declared.words.NestingWord.{NestingWord}
+use Rattle.dv_reader.specs.declared.words.NestingWord.TheVariants as nesting
 use Rattle.dv_reader.specs.declared.words.EventWord.{EventWord}
 use Rattle.dv_reader.specs.declared.words.EventWord.TheVariants as event
 use Rattle.dv_reader.specs.declared.words.EndWord.{EndWord}
@@ -16,8 +20,8 @@ use Rattle.dv_reader.specs.declared.words.StatementWord.TheVariants as statement
 use Rattle.dv_reader.specs.declared.words.WorkWord.{WorkWord}
 use Rattle.dv_reader.specs.declared.words.WorkWord.TheVariants as work
 use Rattle.dv_reader.specs.declared.words.ActionWord.{ActionWord}
-use Rattle.dv_reader.specs.declared.words.ActionWord.TheVariants.{OfDeferred, OfObject, OfTask}
-use Rattle.dv_reader.specs.Words.{deferred_word, object_word, task_word, event_word, end_word, statement_word, work_word, action_word, or_else}
+use Rattle.dv_reader.specs.declared.words.ActionWord.TheVariants.{OfName, OfNames, OfBody, Plain, Nesting}
+use Rattle.dv_reader.specs.Words.{name_word, names_word, body_word, plain_word, nesting_word, event_word, end_word, statement_word, work_word, action_word, or_else}
 use Rattle.dv_reader.proofs.Steps.{some_injective, mapped, chosen}
 
 word_step : {W : Type 0} (text_of : W → List ℕ) (text key : List ℕ) (word found : W) (rest : Option W) → text_of word ≡ key
@@ -27,88 +31,98 @@ word_step text_of text key word found rest is otherwise e = elim (chosen (bytes_
   | inr h ↦ otherwise h
 ]
 
-abbrev pub deferred_text : DeferredWord → List ℕ
-deferred_text deferred.Deferred = codes "deferred"
-deferred_text deferred.Callback = codes "callback"
-deferred_text deferred.Errback = codes "errback"
-deferred_text deferred.AddCallback = codes "addCallback"
-deferred_text deferred.AddErrback = codes "addErrback"
-deferred_text deferred.AddBoth = codes "addBoth"
-deferred_text deferred.AddCallbacks = codes "addCallbacks"
-deferred_text deferred.Chain = codes "chain"
-deferred_text deferred.Pause = codes "pause"
-deferred_text deferred.Unpause = codes "unpause"
-deferred_text deferred.Cancel = codes "cancel"
+abbrev pub name_text : NameWord → List ℕ
+name_text of_name.Pause = codes "pause"
+name_text of_name.Unpause = codes "unpause"
+name_text of_name.Cancel = codes "cancel"
+name_text of_name.Note = codes "note"
+name_text of_name.Lock = codes "lock"
+name_text of_name.Release = codes "release"
+name_text of_name.CancelCall = codes "cancelCall"
+name_text of_name.StopLoop = codes "stopLoop"
+name_text of_name.PauseTask = codes "pauseTask"
+name_text of_name.StopTask = codes "stopTask"
+name_text of_name.ResumeTask = codes "resumeTask"
 
-pub deferred_word_is : (text : List ℕ) (word : DeferredWord) → deferred_word text ≡ Some word → text ≡ deferred_text word
-deferred_word_is text word =
-    word_step deferred_text text (codes "deferred") deferred.Deferred word _ refl (
-    word_step deferred_text text (codes "callback") deferred.Callback word _ refl (
-    word_step deferred_text text (codes "errback") deferred.Errback word _ refl (
-    word_step deferred_text text (codes "addCallback") deferred.AddCallback word _ refl (
-    word_step deferred_text text (codes "addErrback") deferred.AddErrback word _ refl (
-    word_step deferred_text text (codes "addBoth") deferred.AddBoth word _ refl (
-    word_step deferred_text text (codes "addCallbacks") deferred.AddCallbacks word _ refl (
-    word_step deferred_text text (codes "chain") deferred.Chain word _ refl (
-    word_step deferred_text text (codes "pause") deferred.Pause word _ refl (
-    word_step deferred_text text (codes "unpause") deferred.Unpause word _ refl (
-    word_step deferred_text text (codes "cancel") deferred.Cancel word _ refl (λ e. cc)))))))))))
+pub name_word_is : (text : List ℕ) (word : NameWord) → name_word text ≡ Some word → text ≡ name_text word
+name_word_is text word =
+    word_step name_text text (codes "pause") of_name.Pause word _ refl (
+    word_step name_text text (codes "unpause") of_name.Unpause word _ refl (
+    word_step name_text text (codes "cancel") of_name.Cancel word _ refl (
+    word_step name_text text (codes "note") of_name.Note word _ refl (
+    word_step name_text text (codes "lock") of_name.Lock word _ refl (
+    word_step name_text text (codes "release") of_name.Release word _ refl (
+    word_step name_text text (codes "cancelCall") of_name.CancelCall word _ refl (
+    word_step name_text text (codes "stopLoop") of_name.StopLoop word _ refl (
+    word_step name_text text (codes "pauseTask") of_name.PauseTask word _ refl (
+    word_step name_text text (codes "stopTask") of_name.StopTask word _ refl (
+    word_step name_text text (codes "resumeTask") of_name.ResumeTask word _ refl (λ e. cc)))))))))))
 
-abbrev pub object_text : ObjectWord → List ℕ
-object_text of_object.Note = codes "note"
-object_text of_object.List = codes "list"
-object_text of_object.Gather = codes "gather"
-object_text of_object.Maybe = codes "maybe"
-object_text of_object.Lock = codes "lock"
-object_text of_object.Semaphore = codes "semaphore"
-object_text of_object.Acquire = codes "acquire"
-object_text of_object.Release = codes "release"
-object_text of_object.RunWith = codes "runWith"
-object_text of_object.Queue = codes "queue"
-object_text of_object.Put = codes "put"
-object_text of_object.Get = codes "get"
+abbrev pub names_text : NamesWord → List ℕ
+names_text of_names.Chain = codes "chain"
+names_text of_names.Acquire = codes "acquire"
+names_text of_names.Get = codes "get"
+names_text of_names.WhenDone = codes "whenDone"
 
-pub object_word_is : (text : List ℕ) (word : ObjectWord) → object_word text ≡ Some word → text ≡ object_text word
-object_word_is text word =
-    word_step object_text text (codes "note") of_object.Note word _ refl (
-    word_step object_text text (codes "list") of_object.List word _ refl (
-    word_step object_text text (codes "gather") of_object.Gather word _ refl (
-    word_step object_text text (codes "maybe") of_object.Maybe word _ refl (
-    word_step object_text text (codes "lock") of_object.Lock word _ refl (
-    word_step object_text text (codes "semaphore") of_object.Semaphore word _ refl (
-    word_step object_text text (codes "acquire") of_object.Acquire word _ refl (
-    word_step object_text text (codes "release") of_object.Release word _ refl (
-    word_step object_text text (codes "runWith") of_object.RunWith word _ refl (
-    word_step object_text text (codes "queue") of_object.Queue word _ refl (
-    word_step object_text text (codes "put") of_object.Put word _ refl (
-    word_step object_text text (codes "get") of_object.Get word _ refl (λ e. cc))))))))))))
+pub names_word_is : (text : List ℕ) (word : NamesWord) → names_word text ≡ Some word → text ≡ names_text word
+names_word_is text word =
+    word_step names_text text (codes "chain") of_names.Chain word _ refl (
+    word_step names_text text (codes "acquire") of_names.Acquire word _ refl (
+    word_step names_text text (codes "get") of_names.Get word _ refl (
+    word_step names_text text (codes "whenDone") of_names.WhenDone word _ refl (λ e. cc))))
 
-abbrev pub task_text : TaskWord → List ℕ
-task_text task.Later = codes "later"
-task_text task.CancelCall = codes "cancelCall"
-task_text task.Loop = codes "loop"
-task_text task.StopLoop = codes "stopLoop"
-task_text task.Cooperate = codes "cooperate"
-task_text task.WhenDone = codes "whenDone"
-task_text task.PauseTask = codes "pauseTask"
-task_text task.StopTask = codes "stopTask"
-task_text task.ResumeTask = codes "resumeTask"
-task_text task.Inline = codes "inline"
-task_text task.Thread = codes "thread"
+abbrev pub body_text : BodyWord → List ℕ
+body_text of_body.AddCallback = codes "addCallback"
+body_text of_body.AddErrback = codes "addErrback"
+body_text of_body.AddBoth = codes "addBoth"
+body_text of_body.Maybe = codes "maybe"
 
-pub task_word_is : (text : List ℕ) (word : TaskWord) → task_word text ≡ Some word → text ≡ task_text word
-task_word_is text word =
-    word_step task_text text (codes "later") task.Later word _ refl (
-    word_step task_text text (codes "cancelCall") task.CancelCall word _ refl (
-    word_step task_text text (codes "loop") task.Loop word _ refl (
-    word_step task_text text (codes "stopLoop") task.StopLoop word _ refl (
-    word_step task_text text (codes "cooperate") task.Cooperate word _ refl (
-    word_step task_text text (codes "whenDone") task.WhenDone word _ refl (
-    word_step task_text text (codes "pauseTask") task.PauseTask word _ refl (
-    word_step task_text text (codes "stopTask") task.StopTask word _ refl (
-    word_step task_text text (codes "resumeTask") task.ResumeTask word _ refl (
-    word_step task_text text (codes "inline") task.Inline word _ refl (
-    word_step task_text text (codes "thread") task.Thread word _ refl (λ e. cc)))))))))))
+pub body_word_is : (text : List ℕ) (word : BodyWord) → body_word text ≡ Some word → text ≡ body_text word
+body_word_is text word =
+    word_step body_text text (codes "addCallback") of_body.AddCallback word _ refl (
+    word_step body_text text (codes "addErrback") of_body.AddErrback word _ refl (
+    word_step body_text text (codes "addBoth") of_body.AddBoth word _ refl (
+    word_step body_text text (codes "maybe") of_body.Maybe word _ refl (λ e. cc))))
+
+abbrev pub plain_text : PlainWord → List ℕ
+plain_text plain.Callback = codes "callback"
+plain_text plain.Errback = codes "errback"
+plain_text plain.Put = codes "put"
+plain_text plain.List = codes "list"
+plain_text plain.Gather = codes "gather"
+plain_text plain.Semaphore = codes "semaphore"
+plain_text plain.Queue = codes "queue"
+plain_text plain.Thread = codes "thread"
+
+pub plain_word_is : (text : List ℕ) (word : PlainWord) → plain_word text ≡ Some word → text ≡ plain_text word
+plain_word_is text word =
+    word_step plain_text text (codes "callback") plain.Callback word _ refl (
+    word_step plain_text text (codes "errback") plain.Errback word _ refl (
+    word_step plain_text text (codes "put") plain.Put word _ refl (
+    word_step plain_text text (codes "list") plain.List word _ refl (
+    word_step plain_text text (codes "gather") plain.Gather word _ refl (
+    word_step plain_text text (codes "semaphore") plain.Semaphore word _ refl (
+    word_step plain_text text (codes "queue") plain.Queue word _ refl (
+    word_step plain_text text (codes "thread") plain.Thread word _ refl (λ e. cc))))))))
+
+abbrev pub nesting_text : NestingWord → List ℕ
+nesting_text nesting.Deferred = codes "deferred"
+nesting_text nesting.AddCallbacks = codes "addCallbacks"
+nesting_text nesting.RunWith = codes "runWith"
+nesting_text nesting.Later = codes "later"
+nesting_text nesting.Loop = codes "loop"
+nesting_text nesting.Cooperate = codes "cooperate"
+nesting_text nesting.Inline = codes "inline"
+
+pub nesting_word_is : (text : List ℕ) (word : NestingWord) → nesting_word text ≡ Some word → text ≡ nesting_text word
+nesting_word_is text word =
+    word_step nesting_text text (codes "deferred") nesting.Deferred word _ refl (
+    word_step nesting_text text (codes "addCallbacks") nesting.AddCallbacks word _ refl (
+    word_step nesting_text text (codes "runWith") nesting.RunWith word _ refl (
+    word_step nesting_text text (codes "later") nesting.Later word _ refl (
+    word_step nesting_text text (codes "loop") nesting.Loop word _ refl (
+    word_step nesting_text text (codes "cooperate") nesting.Cooperate word _ refl (
+    word_step nesting_text text (codes "inline") nesting.Inline word _ refl (λ e. cc)))))))
 
 abbrev pub event_text : EventWord → List ℕ
 event_text event.Advance = codes "advance"
@@ -161,9 +175,11 @@ work_word_is text word =
     word_step work_text text (codes "sum") work.Sum word _ refl (λ e. cc)))
 
 abbrev pub action_text : ActionWord → List ℕ
-action_text (OfDeferred word) = deferred_text word
-action_text (OfObject word) = object_text word
-action_text (OfTask word) = task_text word
+action_text (OfName word) = name_text word
+action_text (OfNames word) = names_text word
+action_text (OfBody word) = body_text word
+action_text (Plain word) = plain_text word
+action_text (Nesting word) = nesting_text word
 
 else_read : {X P : Type 0} (o other : Option X) (x : X) → or_else o other ≡ Some x → (o ≡ Some x → P) → (other ≡ Some x → P) → P
 else_read (Some y) other x e k l = k e
@@ -171,6 +187,8 @@ else_read None other x e k l = l e
 
 pub action_word_is : (text : List ℕ) (word : ActionWord) → action_word text ≡ Some word → text ≡ action_text word
 action_word_is text word e =
-    else_read _ _ word e (λ f. mapped (deferred_word text) OfDeferred word f (λ w is then. rw (← then) (deferred_word_is text w is))) (λ f.
-    else_read _ _ word f (λ g. mapped (object_word text) OfObject word g (λ w is then. rw (← then) (object_word_is text w is))) (λ g.
-    mapped (task_word text) OfTask word g (λ w is then. rw (← then) (task_word_is text w is))))
+    else_read _ _ word e (λ f. mapped (name_word text) OfName word f (λ w is then. rw (← then) (name_word_is text w is))) (λ f.
+    else_read _ _ word f (λ g. mapped (names_word text) OfNames word g (λ w is then. rw (← then) (names_word_is text w is))) (λ g.
+    else_read _ _ word g (λ h. mapped (body_word text) OfBody word h (λ w is then. rw (← then) (body_word_is text w is))) (λ h.
+    else_read _ _ word h (λ k. mapped (plain_word text) Plain word k (λ w is then. rw (← then) (plain_word_is text w is))) (λ k.
+    mapped (nesting_word text) Nesting word k (λ w is then. rw (← then) (nesting_word_is text w is))))))

@@ -27,6 +27,18 @@ is_one (Some n) = nat_eq n 1
 abbrev pub is_version : Data → Bool
 is_version d = is_one (option_and_then as_u64 (option_and_then as_number (get (codes "version") d)))
 
+-- what the last passes find of a draft of a JSON value
+abbrev pub Accepts : Data → Draft → Result ⊤ ScriptFault → Type 0
+Accepts d draft (Ok t) = (is_small d draft ≡ true) × (are_named draft ≡ true) × (are_known draft ≡ true)
+Accepts d draft (Err TooLong) = ⊥
+Accepts d draft (Err NotJson) = ⊥
+Accepts d draft (Err BadVersion) = ⊥
+Accepts d draft (Err BadShape) = ⊥
+Accepts d draft (Err TooMany) = is_small d draft ≡ false
+Accepts d draft (Err BadName) = (is_small d draft ≡ true) × (are_named draft ≡ false)
+Accepts d draft (Err BadClass) = (is_small d draft ≡ true) × (are_named draft ≡ true) × (are_known draft ≡ false)
+Accepts d draft (Err OutOfMemory) = ⊥
+
 -- what the passes find of a JSON value
 abbrev pub Judged : Data → Result Script ScriptFault → Type 0
 Judged d (Ok s) =

@@ -21,14 +21,18 @@ use Rattle.dv_script.specs.declared.event.Event.TheVariants as happens
 use Rattle.dv_script.specs.declared.script.Cooperator.{Cooperator}
 use Rattle.dv_reader.specs.declared.draft.Declaration.{Declaration}
 use Rattle.dv_reader.specs.declared.draft.Draft.{Draft}
-use Rattle.dv_reader.specs.declared.words.DeferredWord.{DeferredWord}
-use Rattle.dv_reader.specs.declared.words.DeferredWord.TheVariants as deferred
-use Rattle.dv_reader.specs.declared.words.ObjectWord.{ObjectWord}
-use Rattle.dv_reader.specs.declared.words.ObjectWord.TheVariants as of_object
-use Rattle.dv_reader.specs.declared.words.TaskWord.{TaskWord}
-use Rattle.dv_reader.specs.declared.words.TaskWord.TheVariants as task
+use Rattle.dv_reader.specs.declared.words.NameWord.{NameWord}
+use Rattle.dv_reader.specs.declared.words.NameWord.TheVariants as of_name
+use Rattle.dv_reader.specs.declared.words.NamesWord.{NamesWord}
+use Rattle.dv_reader.specs.declared.words.NamesWord.TheVariants as of_names
+use Rattle.dv_reader.specs.declared.words.BodyWord.{BodyWord}
+use Rattle.dv_reader.specs.declared.words.BodyWord.TheVariants as of_body
+use Rattle.dv_reader.specs.declared.words.PlainWord.{PlainWord}
+use Rattle.dv_reader.specs.declared.words.PlainWord.TheVariants as plain
+use Rattle.dv_reader.specs.declared.words.NestingWord.{NestingWord}
+use Rattle.dv_reader.specs.declared.words.NestingWord.TheVariants as nesting
 use Rattle.dv_reader.specs.declared.words.ActionWord.{ActionWord}
-use Rattle.dv_reader.specs.declared.words.ActionWord.TheVariants.{OfDeferred, OfObject, OfTask}
+use Rattle.dv_reader.specs.declared.words.ActionWord.TheVariants.{OfName, OfNames, OfBody, Plain, Nesting}
 use Rattle.dv_reader.specs.declared.words.EventWord.{EventWord}
 use Rattle.dv_reader.specs.declared.words.EventWord.TheVariants as event
 use Rattle.dv_reader.specs.declared.words.EndWord.{EndWord}
@@ -266,34 +270,44 @@ new_deferred_of body ds = do
   canceller ← if_there body p.1
   Some (Deferred name canceller)
 
--- an action on Deferreds alone, whose bodies are read so
-unfoldable pub deferred_of : List Class → (Data → Option Body) → DeferredWord → Items → Option Action
-deferred_of table body deferred.Deferred ds = new_deferred_of body ds
-deferred_of table body deferred.Callback ds = two_of text_at value_at Callback ds
-deferred_of table body deferred.Errback ds = three_of text_at (class_at table) text_at Errback ds
-deferred_of table body deferred.AddCallback ds = two_of text_at body AddCallback ds
-deferred_of table body deferred.AddErrback ds = two_of text_at body AddErrback ds
-deferred_of table body deferred.AddBoth ds = two_of text_at body AddBoth ds
-deferred_of table body deferred.AddCallbacks ds = three_of text_at body body AddCallbacks ds
-deferred_of table body deferred.Chain ds = two_of text_at text_at Chain ds
-deferred_of table body deferred.Pause ds = one_of text_at Pause ds
-deferred_of table body deferred.Unpause ds = one_of text_at Unpause ds
-deferred_of table body deferred.Cancel ds = one_of text_at Cancel ds
+-- an action with its one text
+abbrev pub with_name : NameWord → List ℕ → Action
+with_name of_name.Pause name = Pause name
+with_name of_name.Unpause name = Unpause name
+with_name of_name.Cancel name = Cancel name
+with_name of_name.Note text = Note text
+with_name of_name.Lock name = Lock name
+with_name of_name.Release name = Release name
+with_name of_name.CancelCall name = CancelCall name
+with_name of_name.StopLoop name = StopLoop name
+with_name of_name.PauseTask name = PauseTask name
+with_name of_name.StopTask name = StopTask name
+with_name of_name.ResumeTask name = ResumeTask name
 
--- an action on lists, locks, semaphores and queues, or a note
-unfoldable pub object_of : (Data → Option Body) → ObjectWord → Items → Option Action
-object_of body of_object.Note ds = one_of text_at Note ds
-object_of body of_object.List ds = three_of text_at (list_at text_at) (list_at list_flag_at) ListOf ds
-object_of body of_object.Gather ds = three_of text_at (list_at text_at) (list_at gather_flag_at) Gather ds
-object_of body of_object.Maybe ds = two_of text_at body Maybe ds
-object_of body of_object.Lock ds = one_of text_at Lock ds
-object_of body of_object.Semaphore ds = two_of text_at (number_at 1 65536) Semaphore ds
-object_of body of_object.Acquire ds = two_of text_at text_at Acquire ds
-object_of body of_object.Release ds = one_of text_at Release ds
-object_of body of_object.RunWith ds = three_of text_at text_at body RunWith ds
-object_of body of_object.Queue ds = three_of text_at bound_at bound_at Queue ds
-object_of body of_object.Put ds = two_of text_at value_at Put ds
-object_of body of_object.Get ds = two_of text_at text_at Get ds
+-- an action with its two names
+abbrev pub with_names : NamesWord → List ℕ → List ℕ → Action
+with_names of_names.Chain name other = Chain name other
+with_names of_names.Acquire name other = Acquire name other
+with_names of_names.Get name other = Get name other
+with_names of_names.WhenDone name other = WhenDone name other
+
+-- an action with its name and its body
+abbrev pub with_body : BodyWord → List ℕ → Body → Action
+with_body of_body.AddCallback name body = AddCallback name body
+with_body of_body.AddErrback name body = AddErrback name body
+with_body of_body.AddBoth name body = AddBoth name body
+with_body of_body.Maybe name body = Maybe name body
+
+-- another action, in which there is no body
+unfoldable pub plain_of : List Class → PlainWord → Items → Option Action
+plain_of table plain.Callback ds = two_of text_at value_at Callback ds
+plain_of table plain.Errback ds = three_of text_at (class_at table) text_at Errback ds
+plain_of table plain.Put ds = two_of text_at value_at Put ds
+plain_of table plain.List ds = three_of text_at (list_at text_at) (list_at list_flag_at) ListOf ds
+plain_of table plain.Gather ds = three_of text_at (list_at text_at) (list_at gather_flag_at) Gather ds
+plain_of table plain.Semaphore ds = two_of text_at (number_at 1 65536) Semaphore ds
+plain_of table plain.Queue ds = three_of text_at bound_at bound_at Queue ds
+plain_of table plain.Thread ds = three_of text_at (number_at 0 (10 ^ 12)) (work_at table) Thread ds
 
 -- a loop, whose body is read so
 unfoldable pub loop_of : (Data → Option Body) → Items → Option Action
@@ -306,25 +320,23 @@ loop_of body ds = do
   b ← body p.4
   Some (Loop name deferred interval at_once b)
 
--- an action on delayed calls, loops, tasks, inline bodies and threads
-unfoldable pub task_of : List Class → (Data → Option Body) → (Data → Option Statement) → TaskWord → Items → Option Action
-task_of table body statement task.Later ds = three_of text_at (number_at 0 (10 ^ 12)) body Later ds
-task_of table body statement task.CancelCall ds = one_of text_at CancelCall ds
-task_of table body statement task.Loop ds = loop_of body ds
-task_of table body statement task.StopLoop ds = one_of text_at StopLoop ds
-task_of table body statement task.Cooperate ds = two_of text_at (list_at body) Cooperate ds
-task_of table body statement task.WhenDone ds = two_of text_at text_at WhenDone ds
-task_of table body statement task.PauseTask ds = one_of text_at PauseTask ds
-task_of table body statement task.StopTask ds = one_of text_at StopTask ds
-task_of table body statement task.ResumeTask ds = one_of text_at ResumeTask ds
-task_of table body statement task.Inline ds = two_of text_at (list_at statement) Inline ds
-task_of table body statement task.Thread ds = three_of text_at (number_at 0 (10 ^ 12)) (work_at table) Thread ds
+-- another action, whose bodies and statements are read so
+unfoldable pub nesting_of : (Data → Option Body) → (Data → Option Statement) → NestingWord → Items → Option Action
+nesting_of body statement nesting.Deferred ds = new_deferred_of body ds
+nesting_of body statement nesting.AddCallbacks ds = three_of text_at body body AddCallbacks ds
+nesting_of body statement nesting.RunWith ds = three_of text_at text_at body RunWith ds
+nesting_of body statement nesting.Later ds = three_of text_at (number_at 0 (10 ^ 12)) body Later ds
+nesting_of body statement nesting.Loop ds = loop_of body ds
+nesting_of body statement nesting.Cooperate ds = two_of text_at (list_at body) Cooperate ds
+nesting_of body statement nesting.Inline ds = two_of text_at (list_at statement) Inline ds
 
 -- an action, by its word
 unfoldable pub action_of : List Class → (Data → Option Body) → (Data → Option Statement) → ActionWord → Items → Option Action
-action_of table body statement (OfDeferred word) ds = deferred_of table body word ds
-action_of table body statement (OfObject word) ds = object_of body word ds
-action_of table body statement (OfTask word) ds = task_of table body statement word ds
+action_of table body statement (OfName word) ds = one_of text_at (with_name word) ds
+action_of table body statement (OfNames word) ds = two_of text_at text_at (with_names word) ds
+action_of table body statement (OfBody word) ds = two_of text_at body (with_body word) ds
+action_of table body statement (Plain word) ds = plain_of table word ds
+action_of table body statement (Nesting word) ds = nesting_of body statement word ds
 
 -- an action, whose bodies and statements are read so
 unfoldable pub action_by : List Class → (Data → Option Body) → (Data → Option Statement) → Data → Option Action
@@ -431,9 +443,9 @@ caller_at table = list_at (body_at table max_depth)
 unfoldable pub script_at : Data → Option Draft
 script_at d = do
   _ ← fields_at script_keys d
-  declared ← field [] (list_at declaration_at) (get (codes "classes") d)
   limit ← field 2000 (number_at 0 200000) (get (codes "limit") d)
   cooperator ← field plain_cooperator cooperator_at (get (codes "cooperator") d)
+  declared ← field [] (list_at declaration_at) (get (codes "classes") d)
   table ← table_for declared
   callers ← field [] (list_at (caller_at table.0)) (get (codes "callers") d)
   events ← get (codes "events") d >>= list_at (event_at table.0)

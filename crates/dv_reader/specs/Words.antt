@@ -1,11 +1,15 @@
 -- The words of actions, events, ends, statements and works.
 use Rattle.std.specs.Prelude.{ℕ, List, if◌then◌else◌, Option, Some, None, option_map, bytes_eq, codes}
-use Rattle.dv_reader.specs.declared.words.DeferredWord.{DeferredWord}
-use Rattle.dv_reader.specs.declared.words.DeferredWord.TheVariants as deferred
-use Rattle.dv_reader.specs.declared.words.ObjectWord.{ObjectWord}
-use Rattle.dv_reader.specs.declared.words.ObjectWord.TheVariants as object
-use Rattle.dv_reader.specs.declared.words.TaskWord.{TaskWord}
-use Rattle.dv_reader.specs.declared.words.TaskWord.TheVariants as task
+use Rattle.dv_reader.specs.declared.words.NameWord.{NameWord}
+use Rattle.dv_reader.specs.declared.words.NameWord.TheVariants as of_name
+use Rattle.dv_reader.specs.declared.words.NamesWord.{NamesWord}
+use Rattle.dv_reader.specs.declared.words.NamesWord.TheVariants as of_names
+use Rattle.dv_reader.specs.declared.words.BodyWord.{BodyWord}
+use Rattle.dv_reader.specs.declared.words.BodyWord.TheVariants as of_body
+use Rattle.dv_reader.specs.declared.words.PlainWord.{PlainWord}
+use Rattle.dv_reader.specs.declared.words.PlainWord.TheVariants as plain
+use Rattle.dv_reader.specs.declared.words.NestingWord.{NestingWord}
+use Rattle.dv_reader.specs.declared.words.NestingWord.TheVariants as nesting
 use Rattle.dv_reader.specs.declared.words.EventWord.{EventWord}
 use Rattle.dv_reader.specs.declared.words.EventWord.TheVariants as event
 use Rattle.dv_reader.specs.declared.words.EndWord.{EndWord}
@@ -15,53 +19,61 @@ use Rattle.dv_reader.specs.declared.words.StatementWord.TheVariants as statement
 use Rattle.dv_reader.specs.declared.words.WorkWord.{WorkWord}
 use Rattle.dv_reader.specs.declared.words.WorkWord.TheVariants as work
 use Rattle.dv_reader.specs.declared.words.ActionWord.{ActionWord}
-use Rattle.dv_reader.specs.declared.words.ActionWord.TheVariants.{OfDeferred, OfObject, OfTask}
+use Rattle.dv_reader.specs.declared.words.ActionWord.TheVariants.{OfName, OfNames, OfBody, Plain, Nesting}
 
--- the word of an action on Deferreds alone
-abbrev pub deferred_word : List ℕ → Option DeferredWord
-deferred_word text =
-    if bytes_eq text (codes "deferred") then Some deferred.Deferred else
-    if bytes_eq text (codes "callback") then Some deferred.Callback else
-    if bytes_eq text (codes "errback") then Some deferred.Errback else
-    if bytes_eq text (codes "addCallback") then Some deferred.AddCallback else
-    if bytes_eq text (codes "addErrback") then Some deferred.AddErrback else
-    if bytes_eq text (codes "addBoth") then Some deferred.AddBoth else
-    if bytes_eq text (codes "addCallbacks") then Some deferred.AddCallbacks else
-    if bytes_eq text (codes "chain") then Some deferred.Chain else
-    if bytes_eq text (codes "pause") then Some deferred.Pause else
-    if bytes_eq text (codes "unpause") then Some deferred.Unpause else
-    if bytes_eq text (codes "cancel") then Some deferred.Cancel else None
+-- the word of an action that has one text
+abbrev pub name_word : List ℕ → Option NameWord
+name_word text =
+    if bytes_eq text (codes "pause") then Some of_name.Pause else
+    if bytes_eq text (codes "unpause") then Some of_name.Unpause else
+    if bytes_eq text (codes "cancel") then Some of_name.Cancel else
+    if bytes_eq text (codes "note") then Some of_name.Note else
+    if bytes_eq text (codes "lock") then Some of_name.Lock else
+    if bytes_eq text (codes "release") then Some of_name.Release else
+    if bytes_eq text (codes "cancelCall") then Some of_name.CancelCall else
+    if bytes_eq text (codes "stopLoop") then Some of_name.StopLoop else
+    if bytes_eq text (codes "pauseTask") then Some of_name.PauseTask else
+    if bytes_eq text (codes "stopTask") then Some of_name.StopTask else
+    if bytes_eq text (codes "resumeTask") then Some of_name.ResumeTask else None
 
--- the word of an action on lists, locks, semaphores and queues, or of a note
-abbrev pub object_word : List ℕ → Option ObjectWord
-object_word text =
-    if bytes_eq text (codes "note") then Some object.Note else
-    if bytes_eq text (codes "list") then Some object.List else
-    if bytes_eq text (codes "gather") then Some object.Gather else
-    if bytes_eq text (codes "maybe") then Some object.Maybe else
-    if bytes_eq text (codes "lock") then Some object.Lock else
-    if bytes_eq text (codes "semaphore") then Some object.Semaphore else
-    if bytes_eq text (codes "acquire") then Some object.Acquire else
-    if bytes_eq text (codes "release") then Some object.Release else
-    if bytes_eq text (codes "runWith") then Some object.RunWith else
-    if bytes_eq text (codes "queue") then Some object.Queue else
-    if bytes_eq text (codes "put") then Some object.Put else
-    if bytes_eq text (codes "get") then Some object.Get else None
+-- the word of an action that has two names
+abbrev pub names_word : List ℕ → Option NamesWord
+names_word text =
+    if bytes_eq text (codes "chain") then Some of_names.Chain else
+    if bytes_eq text (codes "acquire") then Some of_names.Acquire else
+    if bytes_eq text (codes "get") then Some of_names.Get else
+    if bytes_eq text (codes "whenDone") then Some of_names.WhenDone else None
 
--- the word of an action on delayed calls, loops, tasks, inline bodies and threads
-abbrev pub task_word : List ℕ → Option TaskWord
-task_word text =
-    if bytes_eq text (codes "later") then Some task.Later else
-    if bytes_eq text (codes "cancelCall") then Some task.CancelCall else
-    if bytes_eq text (codes "loop") then Some task.Loop else
-    if bytes_eq text (codes "stopLoop") then Some task.StopLoop else
-    if bytes_eq text (codes "cooperate") then Some task.Cooperate else
-    if bytes_eq text (codes "whenDone") then Some task.WhenDone else
-    if bytes_eq text (codes "pauseTask") then Some task.PauseTask else
-    if bytes_eq text (codes "stopTask") then Some task.StopTask else
-    if bytes_eq text (codes "resumeTask") then Some task.ResumeTask else
-    if bytes_eq text (codes "inline") then Some task.Inline else
-    if bytes_eq text (codes "thread") then Some task.Thread else None
+-- the word of an action that has a name and a body
+abbrev pub body_word : List ℕ → Option BodyWord
+body_word text =
+    if bytes_eq text (codes "addCallback") then Some of_body.AddCallback else
+    if bytes_eq text (codes "addErrback") then Some of_body.AddErrback else
+    if bytes_eq text (codes "addBoth") then Some of_body.AddBoth else
+    if bytes_eq text (codes "maybe") then Some of_body.Maybe else None
+
+-- the word of another action, in which there is no body
+abbrev pub plain_word : List ℕ → Option PlainWord
+plain_word text =
+    if bytes_eq text (codes "callback") then Some plain.Callback else
+    if bytes_eq text (codes "errback") then Some plain.Errback else
+    if bytes_eq text (codes "put") then Some plain.Put else
+    if bytes_eq text (codes "list") then Some plain.List else
+    if bytes_eq text (codes "gather") then Some plain.Gather else
+    if bytes_eq text (codes "semaphore") then Some plain.Semaphore else
+    if bytes_eq text (codes "queue") then Some plain.Queue else
+    if bytes_eq text (codes "thread") then Some plain.Thread else None
+
+-- the word of another action, in which there are bodies or statements
+abbrev pub nesting_word : List ℕ → Option NestingWord
+nesting_word text =
+    if bytes_eq text (codes "deferred") then Some nesting.Deferred else
+    if bytes_eq text (codes "addCallbacks") then Some nesting.AddCallbacks else
+    if bytes_eq text (codes "runWith") then Some nesting.RunWith else
+    if bytes_eq text (codes "later") then Some nesting.Later else
+    if bytes_eq text (codes "loop") then Some nesting.Loop else
+    if bytes_eq text (codes "cooperate") then Some nesting.Cooperate else
+    if bytes_eq text (codes "inline") then Some nesting.Inline else None
 
 -- the first, or the second where there is no first
 abbrev pub or_else : {X : Type 0} → Option X → Option X → Option X
@@ -71,7 +83,11 @@ or_else None other = other
 -- the word of an action
 abbrev pub action_word : List ℕ → Option ActionWord
 action_word text =
-    or_else (option_map OfDeferred (deferred_word text)) (or_else (option_map OfObject (object_word text)) (option_map OfTask (task_word text)))
+    or_else (option_map OfName (name_word text)) (
+    or_else (option_map OfNames (names_word text)) (
+    or_else (option_map OfBody (body_word text)) (
+    or_else (option_map Plain (plain_word text)) (
+    option_map Nesting (nesting_word text)))))
 
 -- the word of an event that is no action
 abbrev pub event_word : List ℕ → Option EventWord

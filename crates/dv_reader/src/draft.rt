@@ -3,7 +3,7 @@ use dv_value::items::Items;
 use dv_value::text::Text;
 
 /// A class that a script declares.
-#[derive(Debug, Drop)]
+#[derive(Drop)]
 pub struct Declaration {
     pub name: Text,
     /// The name of the class that it is under.
@@ -11,7 +11,7 @@ pub struct Declaration {
 }
 
 /// What a document says by its shape alone.
-#[derive(Debug, Drop)]
+#[derive(Drop)]
 pub struct Draft {
     /// The classes that it declares, whether they may be declared or not.
     pub declared: Items<Declaration>,

@@ -4,7 +4,7 @@ ghost use Rattle.std.specs.Prelude.{◌≡◌, length};
 ghost use Rattle.std.specs.List.{list_all};
 ghost use Rattle.serde_json.specs.View.{view};
 ghost use Rattle.dv_reader.specs.Refusal.{is_named, are_named, are_known};
-ghost use Rattle.dv_reader.specs.Passes.{is_version, Judged, Passes};
+ghost use Rattle.dv_reader.specs.Passes.{is_version, Accepts, Judged, Passes};
 
 use crate::draft::{Declaration, Draft};
 use crate::error::ScriptFault;
@@ -49,7 +49,24 @@ fn are_known(draft: &Draft) -> bool
     draft.all_declared && suits_script(Wanted::Classes(draft.script.classes.count()), &draft.script)
 }
 
+/// Whether a draft of this JSON value is small enough, named well and knows its classes, or the least refusal.
+fn accept(json: &Json, draft: &Draft) -> Result<(), ScriptFault>
+    ensures { Accepts (view json.now) draft.now result }
+{
+    if !is_small(json, draft) {
+        return Err(ScriptFault::TooMany);
+    }
+    if !are_named(draft) {
+        return Err(ScriptFault::BadName);
+    }
+    if !are_known(draft) {
+        return Err(ScriptFault::BadClass);
+    }
+    Ok(())
+}
+
 /// The script that a JSON value is, or the least refusal.
+#[tactic(auto, using(crate::proofs::Accepted::refused))]
 fn judge(alloc: Global, json: &Json) -> Result<Script, ScriptFault>
     ensures { Judged (view json.now) result }
 {
@@ -57,15 +74,7 @@ fn judge(alloc: Global, json: &Json) -> Result<Script, ScriptFault>
         return Err(ScriptFault::BadVersion);
     }
     let draft = shape(alloc, json)?;
-    if !is_small(json, &draft) {
-        return Err(ScriptFault::TooMany);
-    }
-    if !are_named(&draft) {
-        return Err(ScriptFault::BadName);
-    }
-    if !are_known(&draft) {
-        return Err(ScriptFault::BadClass);
-    }
+    accept(json, &draft)?;
     Ok(draft.script)
 }
 

@@ -7,6 +7,7 @@ pub mod cooperator;
 pub mod end;
 pub mod event;
 pub mod leaf;
+pub mod plain;
 pub mod script;
 pub mod statement;
 pub mod stop;

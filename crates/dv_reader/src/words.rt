@@ -1,61 +1,73 @@
 ghost use Rattle.std.specs.Prelude.{◌≡◌};
-ghost use Rattle.dv_reader.specs.Words.{deferred_word, object_word, task_word, action_word, event_word, end_word, statement_word, work_word};
+ghost use Rattle.dv_reader.specs.Words.{name_word, names_word, body_word, plain_word, nesting_word, action_word, event_word, end_word, statement_word, work_word};
 
-/// The first word of an action on Deferreds alone.
+/// The first word of an action that has one text.
 #[derive(Clone, Copy, Drop)]
-pub enum DeferredWord {
-    Deferred,
-    Callback,
-    Errback,
-    AddCallback,
-    AddErrback,
-    AddBoth,
-    AddCallbacks,
-    Chain,
+pub enum NameWord {
     Pause,
     Unpause,
     Cancel,
-}
-
-/// The first word of an action on lists, locks, semaphores and queues, or of a note.
-#[derive(Clone, Copy, Drop)]
-pub enum ObjectWord {
     Note,
-    List,
-    Gather,
-    Maybe,
     Lock,
-    Semaphore,
-    Acquire,
     Release,
-    RunWith,
-    Queue,
-    Put,
-    Get,
-}
-
-/// The first word of an action on delayed calls, loops, tasks, inline bodies and threads.
-#[derive(Clone, Copy, Drop)]
-pub enum TaskWord {
-    Later,
     CancelCall,
-    Loop,
     StopLoop,
-    Cooperate,
-    WhenDone,
     PauseTask,
     StopTask,
     ResumeTask,
-    Inline,
+}
+
+/// The first word of an action that has two names.
+#[derive(Clone, Copy, Drop)]
+pub enum NamesWord {
+    Chain,
+    Acquire,
+    Get,
+    WhenDone,
+}
+
+/// The first word of an action that has a name and a body.
+#[derive(Clone, Copy, Drop)]
+pub enum BodyWord {
+    AddCallback,
+    AddErrback,
+    AddBoth,
+    Maybe,
+}
+
+/// The first word of another action in which there is no body.
+#[derive(Clone, Copy, Drop)]
+pub enum PlainWord {
+    Callback,
+    Errback,
+    Put,
+    List,
+    Gather,
+    Semaphore,
+    Queue,
     Thread,
+}
+
+/// The first word of another action in which there are bodies or statements.
+#[derive(Clone, Copy, Drop)]
+pub enum NestingWord {
+    Deferred,
+    AddCallbacks,
+    RunWith,
+    Later,
+    Loop,
+    Cooperate,
+    Inline,
 }
 
 /// The first word of an action.
 #[derive(Clone, Copy, Drop)]
 pub enum ActionWord {
-    OfDeferred(DeferredWord),
-    OfObject(ObjectWord),
-    OfTask(TaskWord),
+    OfName(NameWord),
+    OfNames(NamesWord),
+    OfBody(BodyWord),
+    Plain(PlainWord),
+    Nesting(NestingWord),
 }
 
 /// The first word of an event that is no action.
@@ -93,86 +105,114 @@ pub enum WorkWord {
     Sum,
 }
 
-impl DeferredWord {
-    /// The action on Deferreds that this word names, letter for letter, if it names one.
-    pub fn named(text: &str) -> Option<DeferredWord>
-        ensures { result ≡ deferred_word text.now }
+impl NameWord {
+    /// The action with one text that this word names, letter for letter, if it names one.
+    pub fn named(text: &str) -> Option<NameWord>
+        ensures { result ≡ name_word text.now }
     {
         match text {
-            "deferred" => Some(DeferredWord::Deferred),
-            "callback" => Some(DeferredWord::Callback),
-            "errback" => Some(DeferredWord::Errback),
-            "addCallback" => Some(DeferredWord::AddCallback),
-            "addErrback" => Some(DeferredWord::AddErrback),
-            "addBoth" => Some(DeferredWord::AddBoth),
-            "addCallbacks" => Some(DeferredWord::AddCallbacks),
-            "chain" => Some(DeferredWord::Chain),
-            "pause" => Some(DeferredWord::Pause),
-            "unpause" => Some(DeferredWord::Unpause),
-            "cancel" => Some(DeferredWord::Cancel),
+            "pause" => Some(NameWord::Pause),
+            "unpause" => Some(NameWord::Unpause),
+            "cancel" => Some(NameWord::Cancel),
+            "note" => Some(NameWord::Note),
+            "lock" => Some(NameWord::Lock),
+            "release" => Some(NameWord::Release),
+            "cancelCall" => Some(NameWord::CancelCall),
+            "stopLoop" => Some(NameWord::StopLoop),
+            "pauseTask" => Some(NameWord::PauseTask),
+            "stopTask" => Some(NameWord::StopTask),
+            "resumeTask" => Some(NameWord::ResumeTask),
             _ => None,
         }
     }
 }
 
-impl ObjectWord {
-    /// The action on lists, locks, semaphores or queues, or the note, that this word names, letter for letter.
-    pub fn named(text: &str) -> Option<ObjectWord>
-        ensures { result ≡ object_word text.now }
+impl NamesWord {
+    /// The action with two names that this word names, letter for letter.
+    pub fn named(text: &str) -> Option<NamesWord>
+        ensures { result ≡ names_word text.now }
     {
         match text {
-            "note" => Some(ObjectWord::Note),
-            "list" => Some(ObjectWord::List),
-            "gather" => Some(ObjectWord::Gather),
-            "maybe" => Some(ObjectWord::Maybe),
-            "lock" => Some(ObjectWord::Lock),
-            "semaphore" => Some(ObjectWord::Semaphore),
-            "acquire" => Some(ObjectWord::Acquire),
-            "release" => Some(ObjectWord::Release),
-            "runWith" => Some(ObjectWord::RunWith),
-            "queue" => Some(ObjectWord::Queue),
-            "put" => Some(ObjectWord::Put),
-            "get" => Some(ObjectWord::Get),
+            "chain" => Some(NamesWord::Chain),
+            "acquire" => Some(NamesWord::Acquire),
+            "get" => Some(NamesWord::Get),
+            "whenDone" => Some(NamesWord::WhenDone),
             _ => None,
         }
     }
 }
 
-impl TaskWord {
-    /// The action on delayed calls, loops, tasks, inline bodies or threads that this word names, letter for letter.
-    pub fn named(text: &str) -> Option<TaskWord>
-        ensures { result ≡ task_word text.now }
+impl BodyWord {
+    /// The action with a name and a body that this word names, letter for letter.
+    pub fn named(text: &str) -> Option<BodyWord>
+        ensures { result ≡ body_word text.now }
     {
         match text {
-            "later" => Some(TaskWord::Later),
-            "cancelCall" => Some(TaskWord::CancelCall),
-            "loop" => Some(TaskWord::Loop),
-            "stopLoop" => Some(TaskWord::StopLoop),
-            "cooperate" => Some(TaskWord::Cooperate),
-            "whenDone" => Some(TaskWord::WhenDone),
-            "pauseTask" => Some(TaskWord::PauseTask),
-            "stopTask" => Some(TaskWord::StopTask),
-            "resumeTask" => Some(TaskWord::ResumeTask),
-            "inline" => Some(TaskWord::Inline),
-            "thread" => Some(TaskWord::Thread),
+            "addCallback" => Some(BodyWord::AddCallback),
+            "addErrback" => Some(BodyWord::AddErrback),
+            "addBoth" => Some(BodyWord::AddBoth),
+            "maybe" => Some(BodyWord::Maybe),
+            _ => None,
+        }
+    }
+}
+
+impl PlainWord {
+    /// The other action with no body in it that this word names, letter for letter.
+    pub fn named(text: &str) -> Option<PlainWord>
+        ensures { result ≡ plain_word text.now }
+    {
+        match text {
+            "callback" => Some(PlainWord::Callback),
+            "errback" => Some(PlainWord::Errback),
+            "put" => Some(PlainWord::Put),
+            "list" => Some(PlainWord::List),
+            "gather" => Some(PlainWord::Gather),
+            "semaphore" => Some(PlainWord::Semaphore),
+            "queue" => Some(PlainWord::Queue),
+            "thread" => Some(PlainWord::Thread),
+            _ => None,
+        }
+    }
+}
+
+impl NestingWord {
+    /// The other action with bodies or statements in it that this word names, letter for letter.
+    pub fn named(text: &str) -> Option<NestingWord>
+        ensures { result ≡ nesting_word text.now }
+    {
+        match text {
+            "deferred" => Some(NestingWord::Deferred),
+            "addCallbacks" => Some(NestingWord::AddCallbacks),
+            "runWith" => Some(NestingWord::RunWith),
+            "later" => Some(NestingWord::Later),
+            "loop" => Some(NestingWord::Loop),
+            "cooperate" => Some(NestingWord::Cooperate),
+            "inline" => Some(NestingWord::Inline),
             _ => None,
         }
     }
 }
 
 impl ActionWord {
-    /// The action that this word names, letter for letter, whatever it works on.
+    /// The action that this word names, letter for letter, whatever comes with it.
     pub fn named(text: &str) -> Option<ActionWord>
         ensures { result ≡ action_word text.now }
     {
-        if let Some(word) = DeferredWord::named(text) {
-            return Some(ActionWord::OfDeferred(word));
+        if let Some(word) = NameWord::named(text) {
+            return Some(ActionWord::OfName(word));
         }
-        if let Some(word) = ObjectWord::named(text) {
-            return Some(ActionWord::OfObject(word));
+        if let Some(word) = NamesWord::named(text) {
+            return Some(ActionWord::OfNames(word));
         }
-        match TaskWord::named(text) {
-            Some(word) => Some(ActionWord::OfTask(word)),
+        if let Some(word) = BodyWord::named(text) {
+            return Some(ActionWord::OfBody(word));
+        }
+        if let Some(word) = PlainWord::named(text) {
+            return Some(ActionWord::Plain(word));
+        }
+        match NestingWord::named(text) {
+            Some(word) => Some(ActionWord::Nesting(word)),
             None => None,
         }
     }

@@ -1,19 +1,15 @@
 ghost use Rattle.std.specs.Prelude.{◌^◌, option_map};
 ghost use Rattle.serde_json.specs.View.{view, items_view};
 ghost use Rattle.dv_reader.specs.Answer.{Reads};
-ghost use Rattle.dv_reader.specs.Shape.{text_at, number_at, list_at, action_at, action_of, new_deferred_of, deferred_of, object_of, loop_of, task_of, body_at, statement_at, pair, triple, each, if_there};
+ghost use Rattle.dv_reader.specs.Shape.{text_at, number_at, list_at, action_at, action_of, with_body, new_deferred_of, loop_of, nesting_of, body_at, statement_at, two_of, pair, triple, each, if_there};
 
 use crate::limits::MOST_DELAY;
-use crate::reading::arguments::{
-    named_bounds, named_failure, named_gathering, named_list, named_places, named_value, one_text,
-    two_texts,
-};
 use crate::reading::body::{bodies, body};
 use crate::reading::leaf::{array, boolean, call, five, number, one_or_two, text, three, two};
+use crate::reading::plain::{name_of, names_of, plain_of};
 use crate::reading::statement::statements;
 use crate::reading::stop::Stop;
-use crate::reading::work::named_work;
-use crate::words::{ActionWord, DeferredWord, ObjectWord, TaskWord};
+use crate::words::{ActionWord, BodyWord, NestingWord};
 use dv_script::action::Action;
 use dv_script::body::{Body, Statement};
 use dv_value::classes::Classes;
@@ -30,7 +26,7 @@ pub fn action(alloc: Global, classes: &Classes, levels: u32, json: &Json) -> Res
 {
     let (word, arguments) = call(json)?;
     match ActionWord::named(word) {
-        Some(word) => Ok(action_of(alloc, classes, levels, word, arguments)?),
+        Some(word) => action_of(alloc, classes, levels, word, arguments),
         None => Err(Stop::BadShape),
     }
 }
@@ -64,56 +60,68 @@ fn action_of(
     ensures { Reads result (action_of classes.now (body_at classes.now levels) (statement_at classes.now levels) word (items_view arguments.now)) }
 {
     match word {
-        ActionWord::OfDeferred(word) => Ok(deferred_of(alloc, classes, levels, word, arguments)?),
-        ActionWord::OfObject(word) => Ok(object_of(alloc, classes, levels, word, arguments)?),
-        ActionWord::OfTask(word) => Ok(task_of(alloc, classes, levels, word, arguments)?),
+        ActionWord::OfName(word) => name_of(alloc, word, arguments),
+        ActionWord::OfNames(word) => names_of(alloc, word, arguments),
+        ActionWord::OfBody(word) => body_of(alloc, classes, levels, word, arguments),
+        ActionWord::Plain(word) => plain_of(alloc, classes, word, arguments),
+        ActionWord::Nesting(word) => nesting_of(alloc, classes, levels, word, arguments),
+    }
+}
+
+/// An action with a name and a body.
+#[cycle(shape)]
+fn body_of(
+    alloc: Global,
+    classes: &Classes,
+    levels: u32,
+    word: BodyWord,
+    arguments: &[Json],
+) -> Result<Action, Stop>
+    ensures { Reads result (two_of text_at (body_at classes.now levels) (with_body word) (items_view arguments.now)) }
+{
+    let (name, body) = named_body(alloc, classes, levels, arguments)?;
+    match word {
+        BodyWord::AddCallback => Ok(Action::AddCallback(name, body)),
+        BodyWord::AddErrback => Ok(Action::AddErrback(name, body)),
+        BodyWord::AddBoth => Ok(Action::AddBoth(name, body)),
+        BodyWord::Maybe => Ok(Action::Maybe(name, body)),
     }
 }
 
 #[cycle(shape)]
-#[tactic(auto, unfolding(crate::specs::Shape::deferred_of))]
-fn deferred_of(
+#[tactic(auto, unfolding(crate::specs::Shape::nesting_of))]
+fn nesting_of(
     alloc: Global,
     classes: &Classes,
     levels: u32,
-    word: DeferredWord,
+    word: NestingWord,
     arguments: &[Json],
 ) -> Result<Action, Stop>
-    ensures { Reads result (deferred_of classes.now (body_at classes.now levels) word (items_view arguments.now)) }
+    ensures { Reads result (nesting_of (body_at classes.now levels) (statement_at classes.now levels) word (items_view arguments.now)) }
 {
     match word {
-        DeferredWord::Deferred => Ok(new_deferred(alloc, classes, levels, arguments)?),
-        DeferredWord::Callback => {
-            let (name, value) = named_value(alloc, arguments)?;
-            Ok(Action::Callback(name, value))
-        }
-        DeferredWord::Errback => {
-            let (name, class, message) = named_failure(alloc, classes, arguments)?;
-            Ok(Action::Errback(name, class, message))
-        }
-        DeferredWord::AddCallback => {
-            let (name, body) = named_body(alloc, classes, levels, arguments)?;
-            Ok(Action::AddCallback(name, body))
-        }
-        DeferredWord::AddErrback => {
-            let (name, body) = named_body(alloc, classes, levels, arguments)?;
-            Ok(Action::AddErrback(name, body))
-        }
-        DeferredWord::AddBoth => {
-            let (name, body) = named_body(alloc, classes, levels, arguments)?;
-            Ok(Action::AddBoth(name, body))
-        }
-        DeferredWord::AddCallbacks => {
+        NestingWord::Deferred => new_deferred(alloc, classes, levels, arguments),
+        NestingWord::AddCallbacks => {
             let (name, callback, errback) = named_sides(alloc, classes, levels, arguments)?;
             Ok(Action::AddCallbacks(name, callback, errback))
         }
-        DeferredWord::Chain => {
-            let (name, other) = two_texts(alloc, arguments)?;
-            Ok(Action::Chain(name, other))
+        NestingWord::RunWith => {
+            let (name, lock, body) = locked_body(alloc, classes, levels, arguments)?;
+            Ok(Action::RunWith(name, lock, body))
         }
-        DeferredWord::Pause => Ok(Action::Pause(one_text(alloc, arguments)?)),
-        DeferredWord::Unpause => Ok(Action::Unpause(one_text(alloc, arguments)?)),
-        DeferredWord::Cancel => Ok(Action::Cancel(one_text(alloc, arguments)?)),
+        NestingWord::Later => {
+            let (name, delay, body) = delayed_body(alloc, classes, levels, arguments)?;
+            Ok(Action::Later(name, delay, body))
+        }
+        NestingWord::Loop => loop_of(alloc, classes, levels, arguments),
+        NestingWord::Cooperate => {
+            let (name, bodies) = named_bodies(alloc, classes, levels, arguments)?;
+            Ok(Action::Cooperate(name, bodies))
+        }
+        NestingWord::Inline => {
+            let (name, statements) = named_statements(alloc, classes, levels, arguments)?;
+            Ok(Action::Inline(name, statements))
+        }
     }
 }
 
@@ -183,60 +191,6 @@ fn named_sides(
     Ok((name, callback, errback))
 }
 
-#[cycle(shape)]
-#[tactic(auto, unfolding(crate::specs::Shape::object_of))]
-fn object_of(
-    alloc: Global,
-    classes: &Classes,
-    levels: u32,
-    word: ObjectWord,
-    arguments: &[Json],
-) -> Result<Action, Stop>
-    ensures { Reads result (object_of (body_at classes.now levels) word (items_view arguments.now)) }
-{
-    match word {
-        ObjectWord::Note => Ok(Action::Note(one_text(alloc, arguments)?)),
-        ObjectWord::List => {
-            let (name, children, flags) = named_list(alloc, arguments)?;
-            Ok(Action::List(name, children, flags))
-        }
-        ObjectWord::Gather => {
-            let (name, children, flags) = named_gathering(alloc, arguments)?;
-            Ok(Action::Gather(name, children, flags))
-        }
-        ObjectWord::Maybe => {
-            let (name, body) = named_body(alloc, classes, levels, arguments)?;
-            Ok(Action::Maybe(name, body))
-        }
-        ObjectWord::Lock => Ok(Action::Lock(one_text(alloc, arguments)?)),
-        ObjectWord::Semaphore => {
-            let (name, places) = named_places(alloc, arguments)?;
-            Ok(Action::Semaphore(name, places))
-        }
-        ObjectWord::Acquire => {
-            let (name, lock) = two_texts(alloc, arguments)?;
-            Ok(Action::Acquire(name, lock))
-        }
-        ObjectWord::Release => Ok(Action::Release(one_text(alloc, arguments)?)),
-        ObjectWord::RunWith => {
-            let (name, lock, body) = locked_body(alloc, classes, levels, arguments)?;
-            Ok(Action::RunWith(name, lock, body))
-        }
-        ObjectWord::Queue => {
-            let (name, size, backlog) = named_bounds(alloc, arguments)?;
-            Ok(Action::Queue(name, size, backlog))
-        }
-        ObjectWord::Put => {
-            let (name, value) = named_value(alloc, arguments)?;
-            Ok(Action::Put(name, value))
-        }
-        ObjectWord::Get => {
-            let (name, queue) = two_texts(alloc, arguments)?;
-            Ok(Action::Get(name, queue))
-        }
-    }
-}
-
 /// A name, that of a lock, and a body.
 #[cycle(shape)]
 #[tactic(auto, unfolding(crate::specs::Shape::triple))]
@@ -253,47 +207,6 @@ fn locked_body(
     let lock = text(alloc, lock)?;
     let body = body(alloc, classes, levels, json)?;
     Ok((name, lock, body))
-}
-
-#[cycle(shape)]
-#[tactic(auto, unfolding(crate::specs::Shape::task_of))]
-fn task_of(
-    alloc: Global,
-    classes: &Classes,
-    levels: u32,
-    word: TaskWord,
-    arguments: &[Json],
-) -> Result<Action, Stop>
-    ensures { Reads result (task_of classes.now (body_at classes.now levels) (statement_at classes.now levels) word (items_view arguments.now)) }
-{
-    match word {
-        TaskWord::Later => {
-            let (name, delay, body) = delayed_body(alloc, classes, levels, arguments)?;
-            Ok(Action::Later(name, delay, body))
-        }
-        TaskWord::CancelCall => Ok(Action::CancelCall(one_text(alloc, arguments)?)),
-        TaskWord::Loop => Ok(loop_of(alloc, classes, levels, arguments)?),
-        TaskWord::StopLoop => Ok(Action::StopLoop(one_text(alloc, arguments)?)),
-        TaskWord::Cooperate => {
-            let (name, bodies) = named_bodies(alloc, classes, levels, arguments)?;
-            Ok(Action::Cooperate(name, bodies))
-        }
-        TaskWord::WhenDone => {
-            let (name, task) = two_texts(alloc, arguments)?;
-            Ok(Action::WhenDone(name, task))
-        }
-        TaskWord::PauseTask => Ok(Action::PauseTask(one_text(alloc, arguments)?)),
-        TaskWord::StopTask => Ok(Action::StopTask(one_text(alloc, arguments)?)),
-        TaskWord::ResumeTask => Ok(Action::ResumeTask(one_text(alloc, arguments)?)),
-        TaskWord::Inline => {
-            let (name, statements) = named_statements(alloc, classes, levels, arguments)?;
-            Ok(Action::Inline(name, statements))
-        }
-        TaskWord::Thread => {
-            let (name, delay, work) = named_work(alloc, classes, arguments)?;
-            Ok(Action::Thread(name, delay, work))
-        }
-    }
 }
 
 /// A name, a delay, and a body.

@@ -23,7 +23,7 @@ use std::alloc::Global;
 pub fn one_text(alloc: Global, arguments: &[Json]) -> Result<Text, Stop>
     ensures { Reads result (sole text_at (items_view arguments.now)) }
 {
-    Ok(text(alloc, one(arguments)?)?)
+    text(alloc, one(arguments)?)
 }
 
 /// A value alone.
@@ -31,7 +31,7 @@ pub fn one_text(alloc: Global, arguments: &[Json]) -> Result<Text, Stop>
 pub fn one_value(alloc: Global, arguments: &[Json]) -> Result<Value, Stop>
     ensures { Reads result (sole value_at (items_view arguments.now)) }
 {
-    Ok(value(alloc, one(arguments)?)?)
+    value(alloc, one(arguments)?)
 }
 
 /// An integer of 64 bits alone.
@@ -39,7 +39,7 @@ pub fn one_value(alloc: Global, arguments: &[Json]) -> Result<Value, Stop>
 pub fn one_integer(arguments: &[Json]) -> Result<i64, Stop>
     ensures { Reads result (sole integer_at (items_view arguments.now)) }
 {
-    Ok(integer(one(arguments)?)?)
+    integer(one(arguments)?)
 }
 
 /// An integer alone, from `low` to `high`.
@@ -47,7 +47,7 @@ pub fn one_integer(arguments: &[Json]) -> Result<i64, Stop>
 pub fn one_number(arguments: &[Json], low: u64, high: u64) -> Result<u64, Stop>
     ensures { Reads result (sole (number_at low high) (items_view arguments.now)) }
 {
-    Ok(number(one(arguments)?, low, high)?)
+    number(one(arguments)?, low, high)
 }
 
 /// An integer alone, from `low` to `high`, which are of 32 bits.
@@ -55,7 +55,7 @@ pub fn one_number(arguments: &[Json], low: u64, high: u64) -> Result<u64, Stop>
 pub fn one_small(arguments: &[Json], low: u32, high: u32) -> Result<u32, Stop>
     ensures { Reads result (sole (number_at low high) (items_view arguments.now)) }
 {
-    Ok(small(one(arguments)?, low, high)?)
+    small(one(arguments)?, low, high)
 }
 
 /// Two texts.

@@ -59,7 +59,7 @@ fn performed(
 {
     match json {
         None => Ok(Items::new(alloc)),
-        Some(json) => Ok(actions(alloc, classes, levels, array(json)?)?),
+        Some(json) => actions(alloc, classes, levels, array(json)?),
     }
 }
 
@@ -69,6 +69,6 @@ fn last(alloc: Global, classes: &Classes, json: Option<&Json>) -> Result<End, St
 {
     match json {
         None => Ok(End::Pass),
-        Some(json) => Ok(end(alloc, classes, json)?),
+        Some(json) => end(alloc, classes, json),
     }
 }

@@ -16,7 +16,7 @@ pub fn cooperator_or_plain(json: Option<&Json>) -> Result<Cooperator, Stop>
 {
     match json {
         None => Ok(Cooperator { units: 1, delay: 1 }),
-        Some(json) => Ok(cooperator(json)?),
+        Some(json) => cooperator(json),
     }
 }
 
@@ -35,7 +35,7 @@ fn units(json: Option<&Json>) -> Result<u32, Stop>
 {
     match json {
         None => Err(Stop::BadShape),
-        Some(json) => Ok(small(json, 1, 1_000)?),
+        Some(json) => small(json, 1, 1_000),
     }
 }
 
@@ -44,6 +44,6 @@ fn delay(json: Option<&Json>) -> Result<u64, Stop>
 {
     match json {
         None => Err(Stop::BadShape),
-        Some(json) => Ok(number(json, 1, MOST_DELAY)?),
+        Some(json) => number(json, 1, MOST_DELAY),
     }
 }

@@ -22,7 +22,7 @@ pub fn end(alloc: Global, classes: &Classes, json: &Json) -> Result<End, Stop>
 {
     let (word, arguments) = call(json)?;
     match EndWord::named(word) {
-        Some(word) => Ok(end_of(alloc, classes, word, arguments)?),
+        Some(word) => end_of(alloc, classes, word, arguments),
         None => Err(Stop::BadShape),
     }
 }

@@ -21,7 +21,7 @@ fn event(alloc: Global, classes: &Classes, json: &Json) -> Result<Event, Stop>
 {
     match action(alloc, classes, MOST_LEVELS, json) {
         Ok(action) => Ok(Event::Action(action)),
-        Err(Stop::BadShape) => Ok(other_event(json)?),
+        Err(Stop::BadShape) => other_event(json),
         Err(Stop::OutOfMemory) => Err(Stop::OutOfMemory),
     }
 }
@@ -32,7 +32,7 @@ fn other_event(json: &Json) -> Result<Event, Stop>
 {
     let (word, arguments) = call(json)?;
     match EventWord::named(word) {
-        Some(word) => Ok(event_of(word, arguments)?),
+        Some(word) => event_of(word, arguments),
         None => Err(Stop::BadShape),
     }
 }

@@ -88,12 +88,7 @@ pub fn class(classes: &Classes, json: &Json) -> Result<ClassId, Stop>
 pub fn classes_in(alloc: Global, classes: &Classes, json: &Json) -> Result<Items<ClassId>, Stop>
     ensures { Reads result (list_at (class_at classes.now) (view json.now)) }
 {
-    Ok(each_class(alloc, classes, array(json)?)?)
-}
-
-fn each_class(alloc: Global, classes: &Classes, items: &[Json]) -> Result<Items<ClassId>, Stop>
-    ensures { Reads result (each (class_at classes.now) (items_view items.now)) }
-{
+    let items = array(json)?;
     let mut listed = Items::new(alloc);
     for item in items {
         listed.push(class(classes, item)?)?;
@@ -105,12 +100,7 @@ fn each_class(alloc: Global, classes: &Classes, items: &[Json]) -> Result<Items<
 pub fn texts_in(alloc: Global, json: &Json) -> Result<Items<Text>, Stop>
     ensures { Reads result (list_at text_at (view json.now)) }
 {
-    Ok(each_text(alloc, array(json)?)?)
-}
-
-fn each_text(alloc: Global, items: &[Json]) -> Result<Items<Text>, Stop>
-    ensures { Reads result (each text_at (items_view items.now)) }
-{
+    let items = array(json)?;
     let mut texts = Items::new(alloc);
     for item in items {
         texts.push(text(alloc, item)?)?;
@@ -142,12 +132,7 @@ fn list_flag(json: &Json) -> Result<ListFlag, Stop>
 pub fn list_flags_in(alloc: Global, json: &Json) -> Result<Items<ListFlag>, Stop>
     ensures { Reads result (list_at list_flag_at (view json.now)) }
 {
-    Ok(each_list_flag(alloc, array(json)?)?)
-}
-
-fn each_list_flag(alloc: Global, items: &[Json]) -> Result<Items<ListFlag>, Stop>
-    ensures { Reads result (each list_flag_at (items_view items.now)) }
-{
+    let items = array(json)?;
     let mut flags = Items::new(alloc);
     for item in items {
         flags.push(list_flag(item)?)?;
@@ -177,12 +162,7 @@ fn gather_flag(json: &Json) -> Result<GatherFlag, Stop>
 pub fn gather_flags_in(alloc: Global, json: &Json) -> Result<Items<GatherFlag>, Stop>
     ensures { Reads result (list_at gather_flag_at (view json.now)) }
 {
-    Ok(each_gather_flag(alloc, array(json)?)?)
-}
-
-fn each_gather_flag(alloc: Global, items: &[Json]) -> Result<Items<GatherFlag>, Stop>
-    ensures { Reads result (each gather_flag_at (items_view items.now)) }
-{
+    let items = array(json)?;
     let mut flags = Items::new(alloc);
     for item in items {
         flags.push(gather_flag(item)?)?;

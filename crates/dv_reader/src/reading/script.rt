@@ -24,7 +24,7 @@ fn limit(json: Option<&Json>) -> Result<u64, Stop>
 {
     match json {
         None => Ok(2_000),
-        Some(json) => Ok(number(json, 0, MOST_LIMIT)?),
+        Some(json) => number(json, 0, MOST_LIMIT),
     }
 }
 
@@ -37,7 +37,7 @@ fn callers(
 {
     match json {
         None => Ok(Items::new(alloc)),
-        Some(json) => Ok(each_caller(alloc, classes, array(json)?)?),
+        Some(json) => each_caller(alloc, classes, array(json)?),
     }
 }
 
@@ -54,7 +54,7 @@ fn each_caller(alloc: Global, classes: &Classes, items: &[Json]) -> Result<Items
 fn caller(alloc: Global, classes: &Classes, json: &Json) -> Result<Items<Body>, Stop>
     ensures { Reads result (caller_at classes.now (view json.now)) }
 {
-    Ok(bodies(alloc, classes, MOST_LEVELS, array(json)?)?)
+    bodies(alloc, classes, MOST_LEVELS, array(json)?)
 }
 
 fn all_events(alloc: Global, classes: &Classes, json: Option<&Json>) -> Result<Items<Event>, Stop>
@@ -62,7 +62,7 @@ fn all_events(alloc: Global, classes: &Classes, json: Option<&Json>) -> Result<I
 {
     match json {
         None => Err(Stop::BadShape),
-        Some(json) => Ok(events(alloc, classes, array(json)?)?),
+        Some(json) => events(alloc, classes, array(json)?),
     }
 }
 
@@ -82,9 +82,9 @@ pub fn shape(alloc: Global, json: &Json) -> Result<Draft, Stop>
             "callers",
         ],
     )?;
-    let declared = declarations(alloc, json.get("classes"))?;
     let limit = limit(json.get("limit"))?;
     let cooperator = cooperator_or_plain(json.get("cooperator"))?;
+    let declared = declarations(alloc, json.get("classes"))?;
     let (classes, all_declared) = table(alloc, declared.as_slice())?;
     let callers = callers(alloc, &classes, json.get("callers"))?;
     let events = all_events(alloc, &classes, json.get("events"))?;

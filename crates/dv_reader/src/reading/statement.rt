@@ -31,7 +31,7 @@ pub fn statement(
     }
     let (word, arguments) = call(json)?;
     match StatementWord::named(word) {
-        Some(word) => Ok(statement_of(alloc, classes, levels - 1, word, arguments)?),
+        Some(word) => statement_of(alloc, classes, levels - 1, word, arguments),
         None => Err(Stop::BadShape),
     }
 }

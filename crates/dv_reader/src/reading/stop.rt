@@ -1,7 +1,7 @@
 use std::alloc::AllocError;
 
 /// Why a reader stops.
-#[derive(Clone, Copy, Debug, Drop)]
+#[derive(Clone, Copy, Drop)]
 pub enum Stop {
     /// There is nothing of this shape.
     BadShape,

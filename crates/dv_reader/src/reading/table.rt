@@ -21,7 +21,7 @@ pub fn declarations(alloc: Global, json: Option<&Json>) -> Result<Items<Declarat
 {
     match json {
         None => Ok(Items::new(alloc)),
-        Some(json) => Ok(each_declaration(alloc, array(json)?)?),
+        Some(json) => each_declaration(alloc, array(json)?),
     }
 }
 

@@ -21,7 +21,7 @@ pub fn work(alloc: Global, classes: &Classes, json: &Json) -> Result<Work, Stop>
 {
     let (word, arguments) = call(json)?;
     match WorkWord::named(word) {
-        Some(word) => Ok(work_of(alloc, classes, word, arguments)?),
+        Some(word) => work_of(alloc, classes, word, arguments),
         None => Err(Stop::BadShape),
     }
 }

@@ -13,11 +13,11 @@ decreases-action::action_of l = 16 * l.levels + 4
 abbrev pub decreases-action::actions : goal.decreases-action::actions
 decreases-action::actions l = 16 * l.levels + 6
 
+abbrev pub decreases-action::body_of : goal.decreases-action::body_of
+decreases-action::body_of l = 16 * l.levels + 3
+
 abbrev pub decreases-action::canceller : goal.decreases-action::canceller
 decreases-action::canceller l = 16 * l.levels + 1
-
-abbrev pub decreases-action::deferred_of : goal.decreases-action::deferred_of
-decreases-action::deferred_of l = 16 * l.levels + 3
 
 abbrev pub decreases-action::delayed_body : goal.decreases-action::delayed_body
 decreases-action::delayed_body l = 16 * l.levels + 1
@@ -40,14 +40,11 @@ decreases-action::named_sides l = 16 * l.levels + 1
 abbrev pub decreases-action::named_statements : goal.decreases-action::named_statements
 decreases-action::named_statements l = 16 * l.levels + 2
 
+abbrev pub decreases-action::nesting_of : goal.decreases-action::nesting_of
+decreases-action::nesting_of l = 16 * l.levels + 3
+
 abbrev pub decreases-action::new_deferred : goal.decreases-action::new_deferred
 decreases-action::new_deferred l = 16 * l.levels + 2
-
-abbrev pub decreases-action::object_of : goal.decreases-action::object_of
-decreases-action::object_of l = 16 * l.levels + 3
-
-abbrev pub decreases-action::task_of : goal.decreases-action::task_of
-decreases-action::task_of l = 16 * l.levels + 3
 
 abbrev pub decreases-body::bodies : goal.decreases-body::bodies
 decreases-body::bodies l = 16 * l.levels + 1
