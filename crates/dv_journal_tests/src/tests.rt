@@ -1,3 +1,0 @@
-mod journal;
-mod lines;
-mod sinks;

@@ -1,0 +1,65 @@
+use crate::lines::{first_difference, unfolded};
+use dv_journal::memory_sink::MemorySink;
+use dv_run::exit::exit_of;
+use dv_run::memory_source::MemorySource;
+use dv_run::run::run;
+use std::alloc::{AllocError, Global};
+
+/// How many bytes a run may print.
+const ROOM: usize = 8_388_608;
+
+/// A script, or scripts of one kind, and what each run of them comes to.
+#[derive(Drop)]
+pub struct Row<'a> {
+    pub name: &'a str,
+    /// The lines of the script; or frames, which are lines `:: FRAME`, and the lines that are put into each.
+    pub script: &'a str,
+    /// The exit status, and after a space the text for standard error where there is one.
+    ending: &'a str,
+    /// The lines of the output.
+    output: &'a str,
+}
+
+impl<'a> Row<'a> {
+    /// Reads a row: its name in a line, the script's lines, a line `-- ENDING`, and the output's lines.
+    pub fn read(text: &'a str) -> Row<'a> {
+        let (head, tail) = text.split_once("\n-- ").unwrap_or((text, ""));
+        let (name, script) = head.split_once('\n').unwrap_or((head, ""));
+        let (ending, output) = tail.split_once('\n').unwrap_or((tail, ""));
+        Row {
+            name,
+            script,
+            ending,
+            output,
+        }
+    }
+
+    /// Whether its lines are put into frames, and aren't the script itself.
+    pub fn is_framed(&self) -> bool {
+        self.script.starts_with(":: ")
+    }
+
+    /// The script of a row without frames.
+    pub fn whole_script(&self, alloc: Global) -> Result<String, AllocError> {
+        unfolded(alloc, self.script)
+    }
+
+    /// Runs a script, and tells where the run first differs from what the row says.
+    pub fn difference(&self, alloc: Global, script: &str) -> Result<Option<String>, AllocError> {
+        let mut source = MemorySource::new(script.as_bytes(), 4096);
+        let mut sink = MemorySink::new(alloc, ROOM, 4096)?;
+        let ending = match exit_of(&run(alloc, &mut source, &mut sink)) {
+            (status, "") => format!(in alloc; "{status}")?,
+            (status, text) => format!(in alloc; "{status} {text}")?,
+        };
+        if ending.as_str() != self.ending {
+            let expected = self.ending;
+            return Ok(Some(format!(in alloc; "ends by `{ending}`, not `{expected}`")?));
+        }
+        let output = unfolded(alloc, self.output)?;
+        match std::str::from_utf8(sink.bytes()) {
+            Ok(printed) => first_difference(alloc, printed, output.as_str()),
+            Err(_) => Ok(Some(format!(in alloc; "prints what isn't text")?)),
+        }
+    }
+}

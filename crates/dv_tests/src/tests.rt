@@ -1,0 +1,17 @@
+mod engine;
+mod errors;
+mod exit;
+mod faults;
+mod journal;
+mod lines;
+mod pieces;
+mod scripts;
+mod values;
+
+use dv_engine::report::Report;
+use dv_run::error::RunFault;
+
+/// Whether a run stopped at its limit, or why it gave up.
+fn stops(answer: Result<Report, RunFault>) -> Result<bool, RunFault> {
+    Ok(answer?.stopped)
+}

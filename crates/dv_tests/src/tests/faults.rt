@@ -1,0 +1,147 @@
+use crate::tests::stops;
+use dv_journal::io_sink::IoSink;
+use dv_journal::memory_sink::{MemorySink, Trouble};
+use dv_run::error::RunFault;
+use dv_run::io_source::IoSource;
+use dv_run::memory_source::MemorySource;
+use dv_run::run::run;
+use dv_run::source::read_up_to;
+use std::io::{self, Read};
+use std::test::Fail;
+
+/// A script of 77 bytes, whose text has 54 bytes in five lines.
+const SCRIPT: &[u8] =
+    br#"{"version":1,"events":[["deferred","a"],["deferred","b"],["callback","a",1]]}"#;
+
+const TEXT: &[u8] = b"new #0 a\nnew #1 b\nfire #0 ok 1\n#0 a ok 1\n#1 b unfired\n";
+
+#[test]
+fn a_reader_that_fails_at_any_call_is_a_read_fault(rt: HostRuntime) -> Result<(), Fail> {
+    // 8 calls give the script, and the ninth its end
+    for calls_before in 0..9u64 {
+        let mut source = MemorySource::new(SCRIPT, 10).with_failure(calls_before);
+        let mut sink = MemorySink::new(rt.alloc(), 100, 100)?;
+        assert_eq!(rt;
+            stops(run(rt.alloc(), &mut source, &mut sink)),
+            Err(RunFault::ReadFault),
+            "after {calls_before}"
+        );
+        assert!(rt; sink.bytes().is_empty(), "after {calls_before}");
+    }
+    Ok(())
+}
+
+#[test]
+fn a_byte_a_call_gives_the_same_text(rt: HostRuntime) -> Result<(), Fail> {
+    for (read, written) in [(1usize, 1usize), (1, 100), (4096, 1), (7, 3)] {
+        let mut source = MemorySource::new(SCRIPT, read);
+        let mut sink = MemorySink::new(rt.alloc(), 100, written)?;
+        let answer = run(rt.alloc(), &mut source, &mut sink);
+        assert_eq!(rt; stops(answer), Ok(false), "{read} and {written}");
+        assert_eq!(rt; sink.bytes(), TEXT, "{read} and {written}");
+    }
+    Ok(())
+}
+
+#[test]
+fn a_writer_that_fails_at_any_call_has_a_prefix(rt: HostRuntime) -> Result<(), Fail> {
+    for trouble in [Trouble::Fails, Trouble::TakesNothing] {
+        for calls_before in 0..TEXT.len() {
+            let mut source = MemorySource::new(SCRIPT, 100);
+            let mut sink = MemorySink::new(rt.alloc(), 100, 1)?.with_trouble(
+                calls_before as u64,
+                trouble,
+            );
+            assert_eq!(rt;
+                stops(run(rt.alloc(), &mut source, &mut sink)),
+                Err(RunFault::WriteFault),
+                "{trouble:?} after {calls_before}"
+            );
+            assert_eq!(rt;
+                sink.bytes(),
+                &TEXT[..calls_before],
+                "{trouble:?} after {calls_before}"
+            );
+        }
+    }
+    Ok(())
+}
+
+#[test]
+fn the_journal_and_the_outcomes_are_written_in_one_call_each(rt: HostRuntime) -> Result<(), Fail> {
+    for (calls_before, answer, len) in [
+        (0, Err(RunFault::WriteFault), 0),
+        (1, Err(RunFault::WriteFault), 31),
+        (2, Ok(false), TEXT.len()),
+    ] {
+        let mut source = MemorySource::new(SCRIPT, 100);
+        let mut sink = MemorySink::new(rt.alloc(), 100, 100)?.with_trouble(
+            calls_before,
+            Trouble::Fails,
+        );
+        assert_eq!(rt;
+            stops(run(rt.alloc(), &mut source, &mut sink)),
+            answer,
+            "after {calls_before}"
+        );
+        assert_eq!(rt; sink.bytes(), &TEXT[..len], "after {calls_before}");
+    }
+    Ok(())
+}
+
+#[test]
+fn a_full_sink_is_a_write_fault_with_a_prefix(rt: HostRuntime) -> Result<(), Fail> {
+    for room in 0..TEXT.len() {
+        let mut source = MemorySource::new(SCRIPT, 100);
+        let mut sink = MemorySink::new(rt.alloc(), room, 100)?;
+        assert_eq!(rt;
+            stops(run(rt.alloc(), &mut source, &mut sink)),
+            Err(RunFault::WriteFault),
+            "room for {room}"
+        );
+        assert_eq!(rt; sink.bytes(), &TEXT[..room], "room for {room}");
+    }
+    Ok(())
+}
+
+#[derive(Drop)]
+struct Broken;
+
+impl io::Read for Broken {
+    fn read(&mut self, _: &mut [u8]) -> io::Result<usize> {
+        Err(io::Error::from(io::ErrorKind::BrokenPipe))
+    }
+}
+
+#[test]
+fn a_reader_and_a_writer_of_std_serve_a_run(rt: HostRuntime) -> Result<(), Fail> {
+    let mut text = Vec::new(rt.alloc());
+    let answer = run(
+        rt.alloc(),
+        &mut IoSource::new(SCRIPT),
+        &mut IoSink::new(&mut text),
+    );
+    assert_eq!(rt; stops(answer), Ok(false));
+    assert_eq!(rt; text.as_slice(), TEXT);
+    let mut broken = IoSource::new(SCRIPT.chain(Broken));
+    let answer = run(rt.alloc(), &mut broken, &mut IoSink::new(&mut text));
+    assert_eq!(rt; stops(answer), Err(RunFault::ReadFault));
+    assert_eq!(rt; text.as_slice(), TEXT);
+    Ok(())
+}
+
+#[test]
+fn a_full_writer_of_std_is_a_write_fault(rt: HostRuntime) {
+    let mut room = [0u8; 4];
+    let mut writer = IoSink::new(room.as_mut_slice());
+    let answer = run(rt.alloc(), &mut IoSource::new(SCRIPT), &mut writer);
+    assert_eq!(rt; stops(answer), Err(RunFault::WriteFault));
+    assert_eq!(rt; room.as_slice(), &TEXT[..4]);
+}
+
+#[test]
+fn a_read_stops_at_its_bound(rt: HostRuntime) -> Result<(), Fail> {
+    let bytes = read_up_to(rt.alloc(), &mut MemorySource::new(TEXT, 3), 8)?;
+    assert_eq!(rt; bytes.as_slice(), &TEXT[..8]);
+    Ok(())
+}

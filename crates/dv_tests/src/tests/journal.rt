@@ -1,0 +1,30 @@
+use dv_journal::deferred_id::DeferredId;
+use dv_journal::entry::Entry;
+use dv_journal::error::Stop;
+use dv_journal::journal::Journal;
+use dv_value::value::Value;
+use std::alloc::Global;
+use std::test::Fail;
+
+fn fired(number: i64) -> Entry {
+    Entry::Fire(DeferredId::new(0), Value::Int(number))
+}
+
+/// A journal of an entry that weighs one and one that weighs two.
+fn of_two_entries(alloc: Global) -> Result<Journal, Stop> {
+    let mut journal = Journal::new(alloc, 4);
+    journal.write(Entry::Add(DeferredId::new(0)))?;
+    journal.write(fired(1))?;
+    Ok(journal)
+}
+
+#[test]
+fn a_journal_shows_its_weight_and_its_limit_and_what_fits(rt: HostRuntime) -> Result<(), Fail> {
+    let journal = of_two_entries(rt.alloc())?;
+    assert_eq!(rt; journal.weight(), 3);
+    assert_eq!(rt; journal.limit(), 4);
+    assert_eq!(rt; journal.entries().len(), 2);
+    assert!(rt; journal.fits(&Entry::Drain));
+    assert!(rt; !journal.fits(&fired(2)));
+    Ok(())
+}

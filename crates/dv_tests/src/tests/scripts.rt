@@ -1,0 +1,189 @@
+use dv_reader::error::ScriptFault;
+use dv_reader::read_script::ReadScript;
+use dv_script::script::Script;
+use dv_script::work::Work;
+use dv_value::class_id::ClassId;
+use dv_value::text::Text;
+use dv_value::value::Value;
+use std::alloc::{AllocError, Global};
+use std::test::Fail;
+
+#[test]
+fn what_a_script_leaves_out_has_its_default(rt: HostRuntime) -> Result<(), Fail> {
+    let script = match Script::read(rt.alloc(), r#"{"version":1,"events":[]}"#.as_bytes()) {
+        Ok(script) => script,
+        Err(_) => return Err("refused".into()),
+    };
+    assert_eq!(rt; script.limit, 2_000);
+    assert_eq!(rt; script.cooperator.units, 1);
+    assert_eq!(rt; script.cooperator.delay, 1);
+    assert_eq!(rt; script.classes.count(), 20);
+    assert!(rt; script.callers.as_slice().is_empty());
+    assert!(rt; script.events.as_slice().is_empty());
+    Ok(())
+}
+
+#[test]
+fn each_key_of_a_script_is_read(rt: HostRuntime) -> Result<(), Fail> {
+    let text =
+        r#"{"events":[["drain",3]],"callers":[[{},{"end":["plus",1]}],[]],"cooperator":{"units":4,"delay":5},"classes":[["A","ValueError"],["B","A"]],"limit":6,"version":1}"#;
+    let script = match Script::read(rt.alloc(), text.as_bytes()) {
+        Ok(script) => script,
+        Err(_) => return Err("refused".into()),
+    };
+    assert_eq!(rt; script.limit, 6);
+    assert_eq!(rt; script.cooperator.units, 4);
+    assert_eq!(rt; script.cooperator.delay, 5);
+    let b = script.classes.find("B").ok_or("no class")?;
+    assert_eq!(rt; b, ClassId::new(21));
+    assert!(rt; script.classes.descends(b, ClassId::VALUE_ERROR));
+    let mut posts = String::new(rt.alloc());
+    write!(&mut posts, "{:?}", script.callers)?;
+    assert_eq!(rt;
+        posts.as_str(),
+        "Items { items: [Items { items: [Body { actions: Items { items: [] }, end: Pass }, Body { actions: Items { items: [] }, end: Plus(1) }] }, Items { items: [] }] }"
+    );
+    Ok(())
+}
+
+#[test]
+fn a_work_is_copied_whole(rt: HostRuntime) -> Result<(), Fail> {
+    let alloc = rt.alloc();
+    for work in [
+        Work::Value(Value::Text(Text::of(alloc, "x")?)),
+        Work::Raise(ClassId::TYPE_ERROR, Text::of(alloc, "no")?),
+        Work::Sum(1_000_000),
+    ] {
+        let mut before = String::new(alloc);
+        write!(&mut before, "{work:?}")?;
+        let mut after = String::new(alloc);
+        write!(&mut after, "{:?}", work.copy(alloc)?)?;
+        assert_eq!(rt; before, after);
+    }
+    Ok(())
+}
+
+/// Each event that isn't performed yet, and what is read of it.
+static READ: [(&str, &str); 26] = [
+    (
+        r#"["list","a",["x","y"],["consumeErrors","fireOnOneErrback","fireOnOneCallback","consumeErrors"]]"#,
+        r#"Action(List(Text { text: "a" }, Items { items: [Text { text: "x" }, Text { text: "y" }] }, Items { items: [ConsumeErrors, FireOnOneErrback, FireOnOneCallback, ConsumeErrors] }))"#,
+    ),
+    (
+        r#"["gather","a",["x","y"],["consumeErrors"]]"#,
+        r#"Action(Gather(Text { text: "a" }, Items { items: [Text { text: "x" }, Text { text: "y" }] }, Items { items: [ConsumeErrors] }))"#,
+    ),
+    (
+        r#"["maybe","a",{"do":[["pause","p"]],"end":["plus",-2]}]"#,
+        r#"Action(Maybe(Text { text: "a" }, Body { actions: Items { items: [Pause(Text { text: "p" })] }, end: Plus(-2) }))"#,
+    ),
+    (r#"["lock","a"]"#, r#"Action(Lock(Text { text: "a" }))"#),
+    (
+        r#"["semaphore","a",65536]"#,
+        r#"Action(Semaphore(Text { text: "a" }, 65536))"#,
+    ),
+    (
+        r#"["acquire","a","b"]"#,
+        r#"Action(Acquire(Text { text: "a" }, Text { text: "b" }))"#,
+    ),
+    (
+        r#"["release","a"]"#,
+        r#"Action(Release(Text { text: "a" }))"#,
+    ),
+    (
+        r#"["runWith","a","b",{"do":[["pause","p"]],"end":["plus",-2]}]"#,
+        r#"Action(RunWith(Text { text: "a" }, Text { text: "b" }, Body { actions: Items { items: [Pause(Text { text: "p" })] }, end: Plus(-2) }))"#,
+    ),
+    (
+        r#"["queue","a",null,65536]"#,
+        r#"Action(Queue(Text { text: "a" }, None, Some(65536)))"#,
+    ),
+    (
+        r#"["put","a",[1,"x",null]]"#,
+        r#"Action(Put(Text { text: "a" }, List(Items { items: [Int(1), Text(Text { text: "x" }), Null] })))"#,
+    ),
+    (
+        r#"["get","a","b"]"#,
+        r#"Action(Get(Text { text: "a" }, Text { text: "b" }))"#,
+    ),
+    (
+        r#"["later","a",1000000000000,{"do":[["pause","p"]],"end":["plus",-2]}]"#,
+        r#"Action(Later(Text { text: "a" }, 1000000000000, Body { actions: Items { items: [Pause(Text { text: "p" })] }, end: Plus(-2) }))"#,
+    ),
+    (
+        r#"["cancelCall","a"]"#,
+        r#"Action(CancelCall(Text { text: "a" }))"#,
+    ),
+    (
+        r#"["loop","a","b",1000000000000,true,{"do":[["pause","p"]],"end":["plus",-2]}]"#,
+        r#"Action(Loop(Text { text: "a" }, Text { text: "b" }, 1000000000000, true, Body { actions: Items { items: [Pause(Text { text: "p" })] }, end: Plus(-2) }))"#,
+    ),
+    (
+        r#"["stopLoop","a"]"#,
+        r#"Action(StopLoop(Text { text: "a" }))"#,
+    ),
+    (
+        r#"["cooperate","a",[{},{"end":["wait","w"]}]]"#,
+        r#"Action(Cooperate(Text { text: "a" }, Items { items: [Body { actions: Items { items: [] }, end: Pass }, Body { actions: Items { items: [] }, end: Wait(Text { text: "w" }) }] }))"#,
+    ),
+    (
+        r#"["whenDone","a","b"]"#,
+        r#"Action(WhenDone(Text { text: "a" }, Text { text: "b" }))"#,
+    ),
+    (
+        r#"["pauseTask","a"]"#,
+        r#"Action(PauseTask(Text { text: "a" }))"#,
+    ),
+    (
+        r#"["stopTask","a"]"#,
+        r#"Action(StopTask(Text { text: "a" }))"#,
+    ),
+    (
+        r#"["resumeTask","a"]"#,
+        r#"Action(ResumeTask(Text { text: "a" }))"#,
+    ),
+    (
+        r#"["inline","a",[["do",["cancel","@"]],["await","x"],["try",[["end",["pass"]]],["TypeError"],[]]]]"#,
+        r#"Action(Inline(Text { text: "a" }, Items { items: [Do(Cancel(Text { text: "@" })), Await(Text { text: "x" }), Try(Items { items: [End(Pass)] }, Items { items: [ClassId { place: 2 }] }, Items { items: [] })] }))"#,
+    ),
+    (
+        r#"["thread","a",1000000000000,["sum",1000000]]"#,
+        r#"Action(Thread(Text { text: "a" }, 1000000000000, Sum(1000000)))"#,
+    ),
+    (r#"["advance",0]"#, r#"Advance(0)"#),
+    (
+        r#"["advance",1000000000000000]"#,
+        r#"Advance(1000000000000000)"#,
+    ),
+    (r#"["drain",0]"#, r#"Drain(0)"#),
+    (r#"["drain",2048]"#, r#"Drain(2048)"#),
+];
+
+/// What is read of a script of one event.
+fn shown(alloc: Global, event: &str) -> Result<String, AllocError> {
+    let mut out = String::new(alloc);
+    let script = format!(in alloc; r#"{{"version":1,"events":[{event}]}}"#)?;
+    match Script::read(alloc, script.as_str().as_bytes()) {
+        Ok(script) => {
+            for event in script.events.as_slice() {
+                write!(&mut out, "{event:?}")?;
+            }
+        }
+        Err(fault) => write!(&mut out, "{fault}")?,
+    }
+    Ok(out)
+}
+
+#[test]
+fn events_are_read_as_they_are_written(rt: HostRuntime) -> Result<(), Fail> {
+    for (event, expected) in &READ {
+        assert_eq!(rt; shown(rt.alloc(), event)?.as_str(), *expected);
+    }
+    Ok(())
+}
+
+#[test]
+fn bytes_that_are_no_utf8_are_no_json(rt: HostRuntime) {
+    let bytes = b"{\"version\":1,\"events\":[[\"note\",\"\xff\"]]}";
+    assert!(rt; matches!(Script::read(rt.alloc(), bytes), Err(ScriptFault::NotJson)));
+}
