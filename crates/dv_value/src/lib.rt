@@ -9,8 +9,6 @@ pub mod deque;
 pub mod failure;
 pub mod items;
 pub mod laws;
-#[cfg(test)]
-mod tests;
 pub mod text;
 pub mod value;
 pub mod value_text;
