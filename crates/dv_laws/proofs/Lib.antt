@@ -1,5 +1,2 @@
 pub mod ReadBackLemmas
 pub mod OnceLemmas
-pub mod Mirror
-pub mod MirrorLemmas
-pub mod ExamplesLemmas

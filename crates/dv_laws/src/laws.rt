@@ -1,6 +1,5 @@
 //! Laws of whole runs, each a function with an empty body whose clauses are the laws.
 
-ghost use Rattle.dv_laws.specs.Examples.{Examples};
 ghost use Rattle.dv_laws.specs.Once.{EachDeferredIsFiredOnce};
 ghost use Rattle.dv_laws.specs.ReadBack.{OutcomesAreToldByTheJournal};
 
@@ -9,9 +8,4 @@ ghost use Rattle.dv_laws.specs.ReadBack.{OutcomesAreToldByTheJournal};
 pub fn journals_tell()
     ensures outcomes { OutcomesAreToldByTheJournal }
     ensures once { EachDeferredIsFiredOnce }
-{}
-
-/// Small scripts tell and end as Twisted's documents say; with a small limit they stop at the first entry that doesn't fit.
-pub fn examples_end_as_shown()
-    ensures { Examples }
 {}

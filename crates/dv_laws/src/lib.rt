@@ -1,4 +1,4 @@
-//! Laws of whole runs: what the journal of a run tells, and what small scripts come to.
+//! Laws of whole runs: what the journal of a run tells.
 #![tactic(auto)]
 
 pub mod laws;

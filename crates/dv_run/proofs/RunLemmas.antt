@@ -8,9 +8,9 @@ use Rattle.dv_engine.specs.declared.report.Report.{Report}
 use Rattle.dv_journal.specs.Sink.{AppendsPrefix, HasFailed}
 use Rattle.dv_journal.specs.declared.error.PrintFault.{PrintFault}
 use Rattle.dv_journal.specs.declared.error.PrintFault.TheVariants as printing
-use Rattle.dv_script.specs.Refusal.{Says, Refuses}
-use Rattle.dv_script.specs.declared.error.ScriptFault.{ScriptFault}
-use Rattle.dv_script.specs.declared.error.ScriptFault.TheVariants as script
+use Rattle.dv_reader.specs.Refusal.{Says, Refuses}
+use Rattle.dv_reader.specs.declared.error.ScriptFault.{ScriptFault}
+use Rattle.dv_reader.specs.declared.error.ScriptFault.TheVariants as script
 use Rattle.dv_script.specs.declared.script.Script.{Script}
 use Rattle.dv_run.specs.Faults.{of_read, of_script, of_print}
 use Rattle.dv_run.specs.Output.{report_text}

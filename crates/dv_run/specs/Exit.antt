@@ -1,8 +1,8 @@
 -- How a program tells how its run ended: its exit status, and what it writes to standard error.
 use Rattle.std.specs.Prelude.{ℕ, if◌then◌else◌, List, [], Result, Ok, Err, codes}
 use Rattle.dv_engine.specs.declared.report.Report.{Report}
-use Rattle.dv_script.specs.declared.error.ScriptFault.{ScriptFault}
-use Rattle.dv_script.specs.declared.error.ScriptFault.TheVariants as script
+use Rattle.dv_reader.specs.declared.error.ScriptFault.{ScriptFault}
+use Rattle.dv_reader.specs.declared.error.ScriptFault.TheVariants as script
 use Rattle.dv_run.specs.declared.error.RunFault.{RunFault}
 use Rattle.dv_run.specs.declared.error.RunFault.TheVariants.{ScriptRefused, OutOfMemory, ReadFault, WriteFault}
 

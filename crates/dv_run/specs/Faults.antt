@@ -1,8 +1,8 @@
 -- Which fault of a run stands for which fault of a part.
 use Rattle.dv_journal.specs.declared.error.PrintFault.{PrintFault}
 use Rattle.dv_journal.specs.declared.error.PrintFault.TheVariants as printing
-use Rattle.dv_script.specs.declared.error.ScriptFault.{ScriptFault}
-use Rattle.dv_script.specs.declared.error.ScriptFault.TheVariants as script
+use Rattle.dv_reader.specs.declared.error.ScriptFault.{ScriptFault}
+use Rattle.dv_reader.specs.declared.error.ScriptFault.TheVariants as script
 use Rattle.dv_run.specs.declared.error.RunFault.{RunFault}
 use Rattle.dv_run.specs.declared.error.RunFault.TheVariants.{ScriptRefused, OutOfMemory, ReadFault, WriteFault}
 use Rattle.dv_run.specs.declared.source.ReadError.{ReadError}

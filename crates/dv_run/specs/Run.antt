@@ -5,9 +5,9 @@ use Rattle.dv_engine.specs.Performs.{performs}
 use Rattle.dv_engine.specs.Report.{Reports}
 use Rattle.dv_engine.specs.declared.report.Report.{Report}
 use Rattle.dv_journal.specs.Sink.{AppendsPrefix, HasFailed}
-use Rattle.dv_script.specs.Refusal.{Says, Refuses}
-use Rattle.dv_script.specs.declared.error.ScriptFault.{ScriptFault}
-use Rattle.dv_script.specs.declared.error.ScriptFault.TheVariants as script
+use Rattle.dv_reader.specs.Refusal.{Says, Refuses}
+use Rattle.dv_reader.specs.declared.error.ScriptFault.{ScriptFault}
+use Rattle.dv_reader.specs.declared.error.ScriptFault.TheVariants as script
 use Rattle.dv_script.specs.declared.script.Script.{Script}
 use Rattle.dv_run.specs.Output.{report_text}
 use Rattle.dv_run.specs.Source.{IsFrontOf}

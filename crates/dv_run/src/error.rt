@@ -1,6 +1,6 @@
 use crate::source::ReadError;
 use dv_journal::error::PrintFault;
-use dv_script::error::ScriptFault;
+use dv_reader::error::ScriptFault;
 use std::alloc::AllocError;
 use thiserror::Error;
 

@@ -3,7 +3,7 @@ ghost use Rattle.dv_run.specs.Exit.{status, fault_status, error_text, fault_text
 
 use crate::error::RunFault;
 use dv_engine::report::Report;
-use dv_script::error::ScriptFault;
+use dv_reader::error::ScriptFault;
 
 /// The exit status of a run, and what goes to standard error: a line of this text, or nothing where it is empty.
 ///

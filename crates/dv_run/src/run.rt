@@ -8,7 +8,8 @@ use dv_engine::engine::perform;
 use dv_engine::performs::performs;
 use dv_engine::report::Report;
 use dv_journal::sink::Sink;
-use dv_script::error::ScriptFault;
+use dv_reader::error::ScriptFault;
+use dv_reader::read_script::ReadScript;
 use dv_script::script::Script;
 use std::alloc::Global;
 

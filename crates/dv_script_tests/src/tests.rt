@@ -3,7 +3,8 @@ mod limits;
 mod refusals;
 mod scripts;
 
-use dv_script::error::ScriptFault;
+use dv_reader::error::ScriptFault;
+use dv_reader::read_script::ReadScript;
 use dv_script::script::Script;
 use std::alloc::Global;
 

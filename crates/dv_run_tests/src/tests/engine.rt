@@ -3,6 +3,7 @@ ghost use Rattle.std.specs.Prelude.{◌<◌, ◌^◌, ◌-◌, IfOk};
 use dv_engine::engine::{Engine, Next};
 use dv_engine::error::EngineFault;
 use dv_engine::performs::performs;
+use dv_reader::read_script::ReadScript;
 use dv_script::script::Script;
 use std::alloc::Global;
 use std::test::Fail;

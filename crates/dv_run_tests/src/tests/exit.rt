@@ -1,8 +1,8 @@
 use dv_engine::report::Report;
 use dv_journal::journal::Journal;
+use dv_reader::error::ScriptFault;
 use dv_run::error::RunFault;
 use dv_run::exit::exit_of;
-use dv_script::error::ScriptFault;
 use dv_value::items::Items;
 
 static FAULTS: [(RunFault, u8, &str); 10] = [

@@ -1,6 +1,6 @@
 use crate::tests::ran;
+use dv_reader::error::ScriptFault;
 use dv_run::error::RunFault;
-use dv_script::error::ScriptFault;
 use std::alloc::{AllocError, Global};
 use std::test::Fail;
 

@@ -1,6 +1,7 @@
 use crate::tests::refusal;
-use dv_script::error::ScriptFault;
-use dv_script::error::ScriptFault::{BadClass, BadName, BadShape};
+use dv_reader::error::ScriptFault;
+use dv_reader::error::ScriptFault::{BadClass, BadName, BadShape};
+use dv_reader::read_script::ReadScript;
 use dv_script::script::Script;
 use std::alloc::{AllocError, Global};
 use std::process::Abort;

@@ -1,5 +1,5 @@
 use crate::tests::refusal;
-use dv_script::error::ScriptFault::{BadClass, BadShape, BadVersion, NotJson, TooLong, TooMany};
+use dv_reader::error::ScriptFault::{BadClass, BadShape, BadVersion, NotJson, TooLong, TooMany};
 use std::alloc::{AllocError, Global};
 use std::test::Fail;
 

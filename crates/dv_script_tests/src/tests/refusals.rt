@@ -1,6 +1,6 @@
 use crate::tests::refusal;
-use dv_script::error::ScriptFault;
-use dv_script::error::ScriptFault::{BadClass, BadName, BadShape, BadVersion, NotJson, TooMany};
+use dv_reader::error::ScriptFault;
+use dv_reader::error::ScriptFault::{BadClass, BadName, BadShape, BadVersion, NotJson, TooMany};
 use std::alloc::Global;
 use std::process::Abort;
 

@@ -1,4 +1,5 @@
-use dv_script::error::ScriptFault;
+use dv_reader::error::ScriptFault;
+use dv_reader::read_script::ReadScript;
 use dv_script::script::Script;
 use dv_script::work::Work;
 use dv_value::class_id::ClassId;

@@ -1,0 +1,183 @@
+-- Each rule leads on by steps of the world, and leaves less to do, or less of each frame.
+use Rattle.std.proofs.Common.{ℕ, ◌+◌, ◌<◌, ◌≤◌, Bool, true, false, if◌then◌else◌, List, [], ◌∷◌, ◌++◌, Option, None, Some, arith}
+use Rattle.dv_value.specs.declared.failure.Failure.{Failure}
+use Rattle.dv_value.specs.declared.value.Value.{Value, Null, Fault}
+use Rattle.dv_script.specs.declared.action.Action.{Action, out-Action}
+use Rattle.dv_script.specs.declared.body.End.{End}
+use Rattle.dv_store.specs.Laws.{used}
+use Rattle.dv_store.specs.declared.store.Step.{Step}
+use Rattle.dv_store.specs.declared.store.Step.TheVariants.{Nothing, Passed, Run, Handed}
+use Rattle.dv_engine.specs.Acting.{with_deferred, with_named, begun}
+use Rattle.dv_engine.specs.Cancelling.{cancel_begun, canceller_ended}
+use Rattle.dv_engine.specs.Deed.{deed_of}
+use Rattle.dv_engine.specs.declared.deed.Deed.{Deed}
+use Rattle.dv_engine.specs.declared.deed.Deed.TheVariants.{Idle, NoteOf, Make, FireWith, AddTo, ChainTo, PauseOf, UnpauseOf, CancelOf}
+use Rattle.dv_engine.specs.Meaning.{told_of, turned}
+use Rattle.dv_engine.specs.Performing.{gone_on, rest_turned}
+use Rattle.dv_engine.specs.Settling.{place, side_begun, settled}
+use Rattle.dv_engine.specs.Turn.{Turned, ◌over◌, done, settling, settle_next}
+use Rattle.dv_engine.specs.declared.frame.Frame.{Frame}
+use Rattle.dv_engine.specs.declared.frame.Frame.TheVariants as frame
+use Rattle.dv_engine.specs.declared.frame.Rest.{Rest}
+use Rattle.dv_engine.proofs.Budget.{Spares, budget, spares, step_took, reaches, cancel_took}
+use Rattle.dv_engine.proofs.Lasting.{Comes}
+use Rattle.dv_engine.proofs.Sizes.{actions_size, action_counts}
+use Rattle.dv_world.specs.Ending.{failed_with}
+use Rattle.dv_world.specs.Pair.{chain}
+use Rattle.dv_world.specs.World.{World, state_of, deferred_at, step, append, fire, is_unfired, cancelled, cancel, pause, unpause, value_of}
+use Rattle.dv_world.specs.declared.follow.Follow.{Follow}
+use Rattle.dv_world.specs.declared.follow.Follow.TheVariants as follow
+use Rattle.dv_world.specs.declared.pair.Pair.{Pair}
+use Rattle.dv_world.specs.declared.pair.Side.{Side}
+use Rattle.dv_world.specs.declared.pair.Side.TheVariants as side
+use Rattle.dv_world.specs.declared.performed.Performed.{Performed}
+use Rattle.dv_world.specs.declared.performed.Performed.TheVariants.{Done, Gave, Raised, Awaits}
+use Rattle.dv_world.specs.declared.reached.Reached.{Reached}
+use Rattle.dv_world.specs.declared.reached.Reached.TheVariants as reached
+
+-- what a world can still do
+abbrev pub can : World → ℕ
+can w = budget (state_of w)
+
+pub pays : (w u : World) → Comes w u → can u ≤ can w
+pays w u c = (c.keeps (λ v x. Spares (state_of v) (state_of x)) spares).pays
+
+-- what is left of a frame
+abbrev pub rank : Frame → ℕ
+rank (frame.Settle d) = 0
+rank (frame.Place d) = 1
+rank (frame.Rest rest) = 1 + actions_size rest.actions
+rank (frame.Canceller d) = 1
+rank frame.Tell = 0
+
+-- so it is with each frame
+abbrev pub Each : (Frame → Type 0) → List Frame → Type 0
+Each P [] = Unit {0}
+Each P (f ∷ fs) = P f × Each P fs
+
+abbrev pub Lighter : ℕ → List Frame → Type 0
+Lighter m fs = Each (λ f. rank f < m) fs
+
+-- a turn leaves less to do, or less of each frame
+pub data Falls (n m : ℕ) (t : Turned) : Type 0 where
+  paid : can t.2 < n → Falls n m t
+  lighter : Lighter m t.0 → Falls n m t
+
+pub record Fair (w : World) (m : ℕ) (t : Turned) : Type 1 where
+  pub comes : Comes w t.2
+  pub falls : Falls (can w) m t
+
+-- by what a rule is made of
+same : (w : World) → Comes w w
+same w = record { keeps = λ R l. l.stays w }
+
+join : (u v w : World) → Comes u v → Comes v w → Comes u w
+join u v w a b = record { keeps = λ R l. l.joins u v w (a.keeps R l) (b.keeps R l) }
+
+done_fair : (m : ℕ) (w u : World) → Comes w u → Fair w m (done u)
+done_fair m w u c = record { comes = c; falls = lighter tt }
+
+now_fair : (m : ℕ) (p : Performed) (w : World) → Fair w m ([], p, w)
+now_fair m p w = record { comes = same w; falls = lighter tt }
+
+settling_fair : (m d : ℕ) (w u : World) → 0 < m → Comes w u → Fair w m (settling d u)
+settling_fair m d w u q c = record { comes = c; falls = lighter (q, tt) }
+
+next_fair : (m d : ℕ) (o : Follow) (w u : World) → 0 < m → Comes w u → Fair w m (settle_next d o u)
+next_fair m d follow.Settle w u q c = settling_fair m d w u q c
+next_fair m d follow.Nothing w u q c = done_fair m w u c
+next_fair m d (follow.Raise failure) w u q c = record { comes = c; falls = lighter tt }
+
+if_fair : (m : ℕ) (b : Bool) (w : World) (t u : Turned) → Fair w m t → Fair w m u → Fair w m (if b then t else u)
+if_fair m true w t u h k = h
+if_fair m false w t u h k = k
+
+found_fair : (m : ℕ) (o : Option ℕ) (name : List ℕ) (w : World) (next : ℕ → Turned) → ((d : ℕ) → Fair w m (next d)) → Fair w m (with_deferred o name w next)
+found_fair m None name w next h = now_fair m _ w
+found_fair m (Some d) name w next h = h d
+
+with_fair : (m : ℕ) (itself : Option ℕ) (name : List ℕ) (w : World) (next : ℕ → Turned) → ((d : ℕ) → Fair w m (next d)) → Fair w m (with_named itself name w next)
+with_fair m itself name w next h = found_fair m (deferred_at itself name w) name w next h
+
+each_append : (P : Frame → Type 0) (fs gs : List Frame) → Each P fs → Each P gs → Each P (fs ++ gs)
+each_append P [] gs h k = k
+each_append P (f ∷ fs) gs h k = (h.0, each_append P fs gs h.1 k)
+
+over_falls : (n m : ℕ) (t : Turned) (fs : List Frame) → Lighter m fs → Falls n m t → Falls n m (t over fs)
+over_falls n m t fs k (paid h) = paid h
+over_falls n m t fs k (lighter h) = lighter (each_append _ t.0 fs h k)
+
+over_fair : (m : ℕ) (w : World) (t : Turned) (fs : List Frame) → Lighter m fs → Fair w m t → Fair w m (t over fs)
+over_fair m w t fs k h = record { comes = h.comes; falls = over_falls _ m t fs k h.falls }
+
+-- a use of an item, and a cancel that reaches somebody, pay for whatever follows
+paid_fair : (m n : ℕ) (w u : World) (t : Turned) → Comes w u → can u + n ≤ can w → 1 ≤ n → Comes u t.2 → Fair w m t
+paid_fair m n w u t c h q k = record { comes = join w u t.2 c k; falls = paid (omega (arith, h, q, pays u t.2 k)) }
+
+-- the rules
+by_fire : (d : ℕ) (value : Value) (w : World) → Comes w (fire d value w).1
+by_fire d value w = record { keeps = λ R l. l.by_fire d value w }
+
+side_comes : (d : ℕ) (s : Option Side) (input : Value) (w : World) → Comes w (side_begun d s input w).2
+side_comes d None input w = same w
+side_comes d (Some (side.Body body)) input w = same w
+side_comes d (Some (side.Fire e)) input w = (next_fair 1 e (fire e input w).0 w (fire e input w).1 (omega arith) (by_fire e input w)).comes
+
+settled_fair : (m d : ℕ) (w0 : World) (move : Step Pair) (w : World) → Comes w0 w → can w + used move ≤ can w0 → Fair w0 m (settled d move w)
+settled_fair m d w0 Nothing w c h = done_fair m w0 w c
+settled_fair m d w0 Passed w c h = paid_fair m 1 w0 w (settling d w) c h (omega arith) (same w)
+settled_fair m d w0 (Run pair) w c h = paid_fair m 1 w0 w (settled d (Run pair) w) c h (omega arith) (side_comes d _ (value_of d w) w)
+settled_fair m d w0 (Handed e) w c h = paid_fair m 1 w0 w (settled d (Handed e) w) c h (omega arith) (same w)
+
+cancel_fair : (m : ℕ) (w0 : World) (o : Reached) (w : World) → Comes w0 w → can w + reaches o ≤ can w0 → Fair w0 m (cancel_begun o w)
+cancel_fair m w0 reached.Nothing w c h = done_fair m w0 w c
+cancel_fair m w0 (reached.Fire d) w c h = paid_fair m 1 w0 w (cancel_begun (reached.Fire d) w) c h (omega arith) (record { keeps = λ R l. l.by_fire_guarded d w })
+cancel_fair m w0 (reached.Run d canceller) w c h = paid_fair m 1 w0 w (cancel_begun (reached.Run d canceller) w) c h (omega arith) (same w)
+
+canceller_fair : (m d : ℕ) (failure : Option Failure) (w : World) → 0 < m → Fair w m (canceller_ended d failure w)
+canceller_fair m d (Some failure) w q = now_fair m _ w
+canceller_fair m d None w q = if_fair m (is_unfired d w) w _ _ (next_fair m d (fire d cancelled w).0 w (fire d cancelled w).1 q (by_fire d cancelled w)) (now_fair m Done w)
+
+begun_fair : (m : ℕ) (itself : Option ℕ) (deed : Deed) (w : World) → 0 < m → Fair w m (begun itself deed w)
+begun_fair m itself Idle w q = now_fair m Done w
+begun_fair m itself (NoteOf text) w q = done_fair m w _ (record { keeps = λ R l. l.by_note text w })
+begun_fair m itself (Make name canceller) w q = done_fair m w _ (record { keeps = λ R l. l.by_make name canceller w })
+begun_fair m itself (FireWith name value) w q = with_fair m itself name w _ (λ d. next_fair m d (fire d value w).0 w (fire d value w).1 q (by_fire d value w))
+begun_fair m itself (AddTo name pair) w q = with_fair m itself name w _ (λ d. settling_fair m d w (append d pair w) q (record { keeps = λ R l. l.by_append d pair w }))
+begun_fair m itself (ChainTo name next) w q = with_fair m itself name w _ (λ d. with_fair m itself next w _ (λ c. settling_fair m d w (append d (chain c) w) q (record { keeps = λ R l. l.by_append d (chain c) w })))
+begun_fair m itself (PauseOf name) w q = with_fair m itself name w _ (λ d. done_fair m w (pause d w) (record { keeps = λ R l. l.by_pause d w }))
+begun_fair m itself (UnpauseOf name) w q = with_fair m itself name w _ (λ d. next_fair m d (unpause d w).0 w (unpause d w).1 q (record { keeps = λ R l. l.by_unpause d w }))
+begun_fair m itself (CancelOf name) w q = with_fair m itself name w _ (λ d. cancel_fair m w (cancel d w).0 (cancel d w).1 (record { keeps = λ R l. l.by_cancel d w }) (cancel_took d w))
+
+pub begun_comes : (itself : Option ℕ) (deed : Deed) (w : World) → Comes w (begun itself deed w).2
+begun_comes itself deed w = (begun_fair 1 itself deed w (omega arith)).comes
+
+gone_fair : (itself : Option ℕ) (actions : List Action) (end : End) (input : Value) (w : World) → Fair w (1 + actions_size actions) (gone_on itself actions end input w)
+gone_fair itself [] end input w = now_fair _ _ w
+gone_fair itself (action ∷ actions) end input w =
+    over_fair _ w (begun itself (deed_of (out-Action action)) w) _ (omega (arith, action_counts action), tt) (begun_fair _ itself (deed_of (out-Action action)) w (omega arith))
+
+rest_fair : (rest : Rest) (o : Performed) (w : World) → Fair w (1 + actions_size rest.actions) (rest_turned rest o w)
+rest_fair rest Done w = gone_fair rest.itself rest.actions rest.end rest.input w
+rest_fair rest (Gave value) w = gone_fair rest.itself rest.actions rest.end rest.input w
+rest_fair rest (Raised failure) w = now_fair _ _ w
+rest_fair rest (Awaits e) w = gone_fair rest.itself rest.actions rest.end rest.input w
+
+place_comes : (d : ℕ) (o : Performed) (w : World) → Comes w (place d o w)
+place_comes d Done w = record { keeps = λ R l. l.by_put d Null w }
+place_comes d (Gave value) w = record { keeps = λ R l. l.by_put d value w }
+place_comes d (Raised failure) w = record { keeps = λ R l. l.by_put d (Fault failure) w }
+place_comes d (Awaits e) w = record { keeps = λ R l. l.by_put_deferred d e w }
+
+told_comes : (o : Performed) (w : World) → Comes w (told_of o w)
+told_comes Done w = same w
+told_comes (Gave value) w = same w
+told_comes (Raised failure) w = record { keeps = λ R l. l.by_unhandled failure w }
+told_comes (Awaits e) w = same w
+
+pub turned_fair : (f : Frame) (o : Performed) (w : World) → Fair w (rank f) (turned f o w)
+turned_fair (frame.Settle d) o w = settled_fair 0 d w (step d w).0 (step d w).1 (record { keeps = λ R l. l.by_step d w }) (step_took d w)
+turned_fair (frame.Place d) o w = settling_fair 1 d w (place d o w) (omega arith) (place_comes d o w)
+turned_fair (frame.Rest rest) o w = rest_fair rest o w
+turned_fair (frame.Canceller d) o w = canceller_fair 1 d (failed_with o) w (omega arith)
+turned_fair frame.Tell o w = done_fair 0 w _ (told_comes o w)

@@ -1,0 +1,78 @@
+-- What the passes answer is what the bytes say.
+use Rattle.std.proofs.Common.{◌≡◌, ℕ, ◌≤◌, List, length, Option, Some, None, Result, Ok, Err, IfOk, IfErr, true, sym, ap, arith}
+use Rattle.serde_json.specs.Data.{Data}
+use Rattle.std.proofs.lemmas.Bool.{and_parts, leb-true}
+use Rattle.serde_json.proofs.Nesting.{depth-read}
+use Rattle.dv_reader.specs.declared.draft.Draft.{Draft}
+use Rattle.dv_script.specs.declared.script.Script.{Script}
+use Rattle.dv_reader.specs.declared.error.ScriptFault.{ScriptFault}
+use Rattle.dv_reader.specs.declared.error.ScriptFault.TheVariants.{TooLong, NotJson, BadVersion, BadShape, TooMany, BadName, BadClass, OutOfMemory}
+use Rattle.dv_reader.specs.Forms.{Field, IsNumber}
+use Rattle.dv_reader.specs.Limits.{most_nodes, most_limit, nodes}
+use Rattle.dv_reader.specs.Refusal.{IsDocument, IsMisshapen, HasShape, Says, Refuses}
+use Rattle.dv_reader.specs.Shape.{script_at}
+use Rattle.dv_reader.specs.Passes.{JudgedIn, Passes, is_version}
+use Rattle.dv_reader.proofs.Complete.{complete_script}
+use Rattle.dv_reader.proofs.Sound.{sound_script}
+use Rattle.dv_reader.proofs.Version.{version_is, no_version}
+use Rattle.dv_reader.proofs.Count.{events_few}
+
+-- the value that was judged is that of the bytes
+document : (bytes : List ℕ) (r : Result Script ScriptFault) (h : JudgedIn bytes r) → IsDocument bytes h.0
+document bytes r h = record { fits = h.1; text = h.2; is = h.3 }
+
+-- what is read as a script has its shape
+shaped : (bytes : List ℕ) (d : Data) (draft : Draft) → IsDocument bytes d → is_version d ≡ true → script_at d ≡ Some draft → HasShape bytes d draft
+shaped bytes d draft document version is = record { document = document; version = version_is d version; shape = sound_script d draft is }
+
+-- what is read as nothing has no script's shape
+pub misshapen : (bytes : List ℕ) (d : Data) → IsDocument bytes d → script_at d ≡ None → IsMisshapen d
+misshapen bytes d document is draft h =
+    let found : script_at d ≡ Some draft = complete_script d draft (depth-read bytes d document.is) h in cc
+
+pub says : (bytes : List ℕ) (r : Result Script ScriptFault) → Passes bytes r → IfOk r (λ s. Says bytes s)
+says bytes (Ok s) h = let j = h.4 in record {
+  json = h.0;
+  draft = j.0;
+  same = j.3;
+  shape = shaped bytes h.0 j.0 (document bytes (Ok s) h) j.1 j.2;
+  small = j.4;
+  named = j.5;
+  known = j.6;
+}
+says bytes (Err fault) h = tt
+
+pub refuses : (bytes : List ℕ) (r : Result Script ScriptFault) → Passes bytes r → IfErr r (λ fault. Refuses fault bytes)
+refuses bytes (Ok s) h = tt
+refuses bytes (Err TooLong) h = h
+refuses bytes (Err NotJson) h = h
+refuses bytes (Err BadVersion) h = (h.0, document bytes (Err BadVersion) h, no_version h.0 h.4)
+refuses bytes (Err BadShape) h =
+    (h.0, document bytes (Err BadShape) h, version_is h.0 h.4.0, misshapen bytes h.0 (document bytes (Err BadShape) h) h.4.1)
+refuses bytes (Err TooMany) h =
+    let j = h.4 in (h.0, j.0, shaped bytes h.0 j.0 (document bytes (Err TooMany) h) j.1 j.2, j.3)
+refuses bytes (Err BadName) h =
+    let j = h.4 in (h.0, j.0, shaped bytes h.0 j.0 (document bytes (Err BadName) h) j.1 j.2, j.3, j.4)
+refuses bytes (Err BadClass) h =
+    let j = h.4 in (h.0, j.0, shaped bytes h.0 j.0 (document bytes (Err BadClass) h) j.1 j.2, j.3, j.4, j.5)
+refuses bytes (Err OutOfMemory) h = tt
+
+pub few : (bytes : List ℕ) (r : Result Script ScriptFault) → Passes bytes r → IfOk r (λ s. length s.events ≤ most_nodes)
+few bytes (Ok s) h =
+    let j = h.4 in
+    let same : length s.events ≡ length j.0.script.events = ap (λ (x : Script). length x.events) (sym j.3) in
+    let few_events : length j.0.script.events ≤ nodes h.0 = events_few h.0 j.0 (sound_script h.0 j.0 j.2) in
+    let few_nodes : nodes h.0 ≤ most_nodes = leb-true (nodes h.0) most_nodes (and_parts _ _ (and_parts _ _ (and_parts _ _ (and_parts _ _ j.4).0).0).0).0 in
+    omega (arith, same, few_events, few_nodes)
+few bytes (Err fault) h = tt
+
+limited_field : (o : Option Data) (n : ℕ) → Field 2000 (IsNumber 0 most_limit) o n → n ≤ most_limit
+limited_field None n h = omega (arith, h)
+limited_field (Some d) n h = h.2
+
+pub limited : (bytes : List ℕ) (r : Result Script ScriptFault) → Passes bytes r → IfOk r (λ s. s.limit ≤ most_limit)
+limited bytes (Ok s) h =
+    let j = h.4 in
+    let same : s.limit ≡ j.0.script.limit = ap (λ (x : Script). x.limit) (sym j.3) in
+    omega (arith, same, limited_field _ j.0.script.limit (sound_script h.0 j.0 j.2).limit)
+limited bytes (Err fault) h = tt

@@ -1,0 +1,102 @@
+-- What documents say.
+use Rattle.std.proofs.Common.{◌≡◌, ℕ, Bool, true, false, List, Option, Some, None, refl, sym, ap, subst, ◌∙◌, ◌⊎◌, inl, inr, arith}
+use Rattle.serde_json.specs.Data.{Data}
+use Rattle.serde_json.proofs.Nesting.{depth-read}
+use Rattle.dv_script.specs.declared.script.Script.{Script}
+use Rattle.dv_reader.specs.declared.draft.Draft.{Draft}
+use Rattle.dv_reader.specs.declared.error.ScriptFault.TheVariants.{TooLong, NotJson, BadVersion, BadShape, TooMany, BadName, BadClass, OutOfMemory}
+use Rattle.dv_reader.specs.Grammar.{IsScript}
+use Rattle.dv_reader.specs.Limits.{is_small}
+use Rattle.dv_reader.specs.Refusal.{IsDocument, HasVersion, HasShape, are_named, are_known, Says}
+use Rattle.dv_reader.specs.Shape.{script_at}
+use Rattle.dv_reader.specs.Passes.{is_version}
+use Rattle.dv_reader.specs.Laws.{IsRefused, SaysOneAtMost, RefusedSaysNone, SaysOrIsRefused}
+use Rattle.dv_reader.proofs.Steps.{some_injective}
+use Rattle.dv_reader.proofs.Complete.{complete_script}
+use Rattle.dv_reader.proofs.Sound.{sound_script}
+use Rattle.dv_reader.proofs.Version.{version_is, no_version}
+use Rattle.dv_reader.proofs.Answers.{misshapen}
+
+-- bytes are the text of one value
+same_value : (bytes : List ℕ) (d e : Data) → IsDocument bytes d → IsDocument bytes e → d ≡ e
+same_value bytes d e a b = some_injective (sym a.is ∙ b.is)
+
+-- what has the shape of a script is read as that
+read_as : (bytes : List ℕ) (d : Data) (draft : Draft) → HasShape bytes d draft → script_at d ≡ Some draft
+read_as bytes d draft h = complete_script d draft (depth-read bytes d h.document.is) h.shape
+
+same_draft : (bytes : List ℕ) (d e : Data) (a b : Draft) → HasShape bytes d a → HasShape bytes e b → a ≡ b
+same_draft bytes d e a b h k =
+    let same : d ≡ e = same_value bytes d e h.document k.document in
+    some_injective (sym (read_as bytes d a h) ∙ ap script_at same ∙ read_as bytes e b k)
+
+pub one_at_most : SaysOneAtMost
+one_at_most bytes s t a b =
+    sym a.same ∙ ap (λ (x : Draft). x.script) (same_draft bytes a.json b.json a.draft b.draft a.shape b.shape) ∙ b.same
+
+pub refused_says_none : RefusedSaysNone
+refused_says_none bytes TooLong s other h a = let fits = a.shape.document.fits in omega (arith, h, fits)
+refused_says_none bytes NotJson s other h a = let unread = h.1 a.shape.document.text in let is = a.shape.document.is in cc
+refused_says_none bytes BadVersion s other h a =
+    h.2 (subst HasVersion (same_value bytes a.json h.0 a.shape.document h.1) a.shape.version)
+refused_says_none bytes BadShape s other h a =
+    h.3 a.draft (subst (λ (x : Data). IsScript x a.draft) (same_value bytes a.json h.0 a.shape.document h.1) a.shape.shape)
+refused_says_none bytes TooMany s other h a =
+    let same : is_small a.json a.draft ≡ is_small h.0 h.1 =
+    ap (λ (x : Data). is_small x a.draft) (same_value bytes a.json h.0 a.shape.document h.2.document)
+    ∙ ap (is_small h.0) (same_draft bytes a.json h.0 a.draft h.1 a.shape h.2) in
+    let good : is_small a.json a.draft ≡ true = a.small in
+    let bad : is_small h.0 h.1 ≡ false = h.3 in
+    cc
+refused_says_none bytes BadName s other h a =
+    let same : are_named a.draft ≡ are_named h.1 = ap are_named (same_draft bytes a.json h.0 a.draft h.1 a.shape h.2) in
+    let good : are_named a.draft ≡ true = a.named in
+    let bad : are_named h.1 ≡ false = h.4 in
+    cc
+refused_says_none bytes BadClass s other h a =
+    let same : are_known a.draft ≡ are_known h.1 = ap are_known (same_draft bytes a.json h.0 a.draft h.1 a.shape h.2) in
+    let good : are_known a.draft ≡ true = a.known in
+    let bad : are_known h.1 ≡ false = h.5 in
+    cc
+refused_says_none bytes OutOfMemory s other h a = other refl
+
+tested : (b : Bool) → (b ≡ true) ⊎ (b ≡ false)
+tested true = inl refl
+tested false = inr refl
+
+looked : (o : Option Draft) → ((draft : Draft) × (o ≡ Some draft)) ⊎ (o ≡ None)
+looked (Some draft) = inl (draft, refl)
+looked None = inr refl
+
+abbrev Answered : List ℕ → Type 0
+Answered bytes = ((s : Script) × Says bytes s) ⊎ IsRefused bytes
+
+known_or_not : (bytes : List ℕ) (d : Data) (draft : Draft) → HasShape bytes d draft → is_small d draft ≡ true → are_named draft ≡ true → Answered bytes
+known_or_not bytes d draft shape small named = elim (tested (are_known draft)) [
+  | inl known ↦ inl (draft.script, record { json = d; draft = draft; same = refl; shape = shape; small = small; named = named; known = known })
+  | inr unknown ↦ inr (BadClass, (λ e. cc), (d, draft, shape, small, named, unknown))
+]
+
+named_or_not : (bytes : List ℕ) (d : Data) (draft : Draft) → HasShape bytes d draft → is_small d draft ≡ true → Answered bytes
+named_or_not bytes d draft shape small = elim (tested (are_named draft)) [
+  | inl named ↦ known_or_not bytes d draft shape small named
+  | inr unnamed ↦ inr (BadName, (λ e. cc), (d, draft, shape, small, unnamed))
+]
+
+small_or_not : (bytes : List ℕ) (d : Data) (draft : Draft) → HasShape bytes d draft → Answered bytes
+small_or_not bytes d draft shape = elim (tested (is_small d draft)) [
+  | inl small ↦ named_or_not bytes d draft shape small
+  | inr many ↦ inr (TooMany, (λ e. cc), (d, draft, shape, many))
+]
+
+shaped_or_not : (bytes : List ℕ) (d : Data) → IsDocument bytes d → HasVersion d → Answered bytes
+shaped_or_not bytes d document version = elim (looked (script_at d)) [
+  | inl found ↦ small_or_not bytes d found.0 (record { document = document; version = version; shape = sound_script d found.0 found.1 })
+  | inr none ↦ inr (BadShape, (λ e. cc), (d, document, version, misshapen bytes d document none))
+]
+
+pub says_or_is_refused : SaysOrIsRefused
+says_or_is_refused bytes d document = elim (tested (is_version d)) [
+  | inl version ↦ shaped_or_not bytes d document (version_is d version)
+  | inr other ↦ inr (BadVersion, (λ e. cc), (d, document, no_version d other))
+]

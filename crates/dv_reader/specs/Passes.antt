@@ -1,0 +1,61 @@
+-- What the passes of the reader find, by the functions that they compute.
+use Rattle.std.specs.Prelude.{◌≡◌, ◌≤◌, ◌<◌, ℕ, Bool, true, false, List, length, Option, Some, None, option_and_then, nat_eq, IsUtf8, codes, Result, Ok, Err, ⊤}
+use Rattle.serde_json.specs.Data.{Data}
+use Rattle.serde_json.specs.Find.{get, as_number, as_u64}
+use Rattle.serde_json.specs.Read.{read}
+use Rattle.dv_script.specs.declared.script.Script.{Script}
+use Rattle.dv_reader.specs.declared.error.ScriptFault.{ScriptFault}
+use Rattle.dv_reader.specs.declared.error.ScriptFault.TheVariants.{TooLong, NotJson, BadVersion, BadShape, TooMany, BadName, BadClass, OutOfMemory}
+use Rattle.dv_reader.specs.declared.reading.stop.Stop.{Stop}
+use Rattle.dv_reader.specs.declared.reading.stop.Stop.TheVariants as stop
+use Rattle.dv_reader.specs.declared.draft.Draft.{Draft}
+use Rattle.dv_reader.specs.Limits.{most_bytes, is_small}
+use Rattle.dv_reader.specs.Refusal.{are_named, are_known}
+use Rattle.dv_reader.specs.Shape.{script_at}
+
+-- the refusal of a reader that stops
+abbrev pub fault_of : Stop → ScriptFault
+fault_of stop.BadShape = BadShape
+fault_of stop.OutOfMemory = OutOfMemory
+
+-- there is a number, and it is 1
+abbrev pub is_one : Option ℕ → Bool
+is_one None = false
+is_one (Some n) = nat_eq n 1
+
+-- the version is the integer 1
+abbrev pub is_version : Data → Bool
+is_version d = is_one (option_and_then as_u64 (option_and_then as_number (get (codes "version") d)))
+
+-- what the passes find of a JSON value
+abbrev pub Judged : Data → Result Script ScriptFault → Type 0
+Judged d (Ok s) =
+    (draft : Draft) × (is_version d ≡ true) × (script_at d ≡ Some draft) × (draft.script ≡ s)
+    × (is_small d draft ≡ true) × (are_named draft ≡ true) × (are_known draft ≡ true)
+Judged d (Err TooLong) = ⊥
+Judged d (Err NotJson) = ⊥
+Judged d (Err BadVersion) = is_version d ≡ false
+Judged d (Err BadShape) = (is_version d ≡ true) × (script_at d ≡ None)
+Judged d (Err TooMany) = (draft : Draft) × (is_version d ≡ true) × (script_at d ≡ Some draft) × (is_small d draft ≡ false)
+Judged d (Err BadName) =
+    (draft : Draft) × (is_version d ≡ true) × (script_at d ≡ Some draft) × (is_small d draft ≡ true) × (are_named draft ≡ false)
+Judged d (Err BadClass) =
+    (draft : Draft) × (is_version d ≡ true) × (script_at d ≡ Some draft) × (is_small d draft ≡ true) × (are_named draft ≡ true)
+    × (are_known draft ≡ false)
+Judged d (Err OutOfMemory) = ⊤
+
+-- what they find of the value that the bytes are
+abbrev pub JudgedIn : List ℕ → Result Script ScriptFault → Type 0
+JudgedIn bytes answer = (d : Data) × (length bytes ≤ most_bytes) × IsUtf8 bytes × (read bytes ≡ Some d) × Judged d answer
+
+-- what they find of bytes
+abbrev pub Passes : List ℕ → Result Script ScriptFault → Type 0
+Passes bytes (Ok s) = JudgedIn bytes (Ok s)
+Passes bytes (Err TooLong) = most_bytes < length bytes
+Passes bytes (Err NotJson) = (length bytes ≤ most_bytes) × (IsUtf8 bytes → read bytes ≡ None)
+Passes bytes (Err BadVersion) = JudgedIn bytes (Err BadVersion)
+Passes bytes (Err BadShape) = JudgedIn bytes (Err BadShape)
+Passes bytes (Err TooMany) = JudgedIn bytes (Err TooMany)
+Passes bytes (Err BadName) = JudgedIn bytes (Err BadName)
+Passes bytes (Err BadClass) = JudgedIn bytes (Err BadClass)
+Passes bytes (Err OutOfMemory) = ⊤

@@ -1,0 +1,69 @@
+-- What the bytes of a script say, and when they are refused: by the condition of the least number that holds.
+use Rattle.std.specs.Prelude.{◌≡◌, ◌≤◌, ◌<◌, ℕ, Bool, true, false, ◌&&◌, List, length, Some, None, IsUtf8, codes, ⊤}
+use Rattle.std.specs.List.{list_all}
+use Rattle.serde_json.specs.Data.{Data, number, unsigned}
+use Rattle.serde_json.specs.Find.{get}
+use Rattle.serde_json.specs.Read.{read}
+use Rattle.dv_script.specs.declared.script.Script.{Script}
+use Rattle.dv_reader.specs.declared.draft.Declaration.{Declaration}
+use Rattle.dv_reader.specs.declared.draft.Draft.{Draft}
+use Rattle.dv_reader.specs.declared.error.ScriptFault.{ScriptFault}
+use Rattle.dv_reader.specs.declared.error.ScriptFault.TheVariants.{TooLong, NotJson, BadVersion, BadShape, TooMany, BadName, BadClass, OutOfMemory}
+use Rattle.dv_reader.specs.declared.suits.Wanted.TheVariants.{Names, Classes}
+use Rattle.dv_reader.specs.Grammar.{IsScript}
+use Rattle.dv_reader.specs.Names.{is_name}
+use Rattle.dv_reader.specs.Suits.{suits_script}
+use Rattle.dv_reader.specs.Limits.{most_bytes, is_small}
+
+-- the bytes are the JSON text of this value, and not too long
+pub record IsDocument (bytes : List ℕ) (d : Data) : Type 0 where
+  pub fits : length bytes ≤ most_bytes
+  pub text : IsUtf8 bytes
+  pub is : read bytes ≡ Some d
+
+-- an object whose `version` is the integer 1
+abbrev pub HasVersion : Data → Type 0
+HasVersion d = get (codes "version") d ≡ Some (number (unsigned 1))
+
+-- no script has this shape
+abbrev pub IsMisshapen : Data → Type 0
+IsMisshapen d = (draft : Draft) → ¬ IsScript d draft
+
+-- the bytes are a document of this value, which has its version and the shape of this script
+pub record HasShape (bytes : List ℕ) (d : Data) (draft : Draft) : Type 0 where
+  pub document : IsDocument bytes d
+  pub version : HasVersion d
+  pub shape : IsScript d draft
+
+-- the name of a class that is declared has its form
+abbrev pub is_named : Declaration → Bool
+is_named c = is_name c.name
+
+-- each name of the script has its form
+abbrev pub are_named : Draft → Bool
+are_named draft = list_all is_named draft.declared && suits_script Names draft.script
+
+-- each class of the script may be declared, and each that it uses is in its table
+abbrev pub are_known : Draft → Bool
+are_known draft = draft.all_declared && suits_script (Classes (length draft.script.classes)) draft.script
+
+-- the bytes say this script: they have its shape, it is small enough, its names are good and its classes are known
+pub record Says (bytes : List ℕ) (script : Script) : Type 0 where
+  pub json : Data
+  pub draft : Draft
+  pub same : draft.script ≡ script
+  pub shape : HasShape bytes json draft
+  pub small : is_small json draft ≡ true
+  pub named : are_named draft ≡ true
+  pub known : are_known draft ≡ true
+
+-- why the bytes are refused, each reason where none before it holds; want of memory may come at any time
+abbrev pub Refuses : ScriptFault → List ℕ → Type 0
+Refuses TooLong bytes = most_bytes < length bytes
+Refuses NotJson bytes = (length bytes ≤ most_bytes) × (IsUtf8 bytes → read bytes ≡ None)
+Refuses BadVersion bytes = (d : Data) × IsDocument bytes d × (HasVersion d → ⊥)
+Refuses BadShape bytes = (d : Data) × IsDocument bytes d × HasVersion d × IsMisshapen d
+Refuses TooMany bytes = (d : Data) × (draft : Draft) × HasShape bytes d draft × (is_small d draft ≡ false)
+Refuses BadName bytes = (d : Data) × (draft : Draft) × HasShape bytes d draft × (is_small d draft ≡ true) × (are_named draft ≡ false)
+Refuses BadClass bytes = (d : Data) × (draft : Draft) × HasShape bytes d draft × (is_small d draft ≡ true) × (are_named draft ≡ true) × (are_known draft ≡ false)
+Refuses OutOfMemory bytes = ⊤

@@ -1,0 +1,21 @@
+use dv_script::script::Script;
+use dv_value::items::Items;
+use dv_value::text::Text;
+
+/// A class that a script declares.
+#[derive(Debug, Drop)]
+pub struct Declaration {
+    pub name: Text,
+    /// The name of the class that it is under.
+    pub parent: Text,
+}
+
+/// What a document says by its shape alone.
+#[derive(Debug, Drop)]
+pub struct Draft {
+    /// The classes that it declares, whether they may be declared or not.
+    pub declared: Items<Declaration>,
+    /// Whether each of them may be declared.
+    pub all_declared: bool,
+    pub script: Script,
+}

@@ -1,0 +1,48 @@
+use crate::reading::stop::Stop;
+use thiserror::Error;
+
+/// Why a script is refused: the least of these of which the condition holds.
+#[derive(Clone, Copy, Debug, PartialEq, Eq, Drop, Error)]
+pub enum ScriptFault {
+    /// It has more than 1,048,576 bytes.
+    #[error("1 TooLong")]
+    TooLong,
+    /// It isn't JSON in UTF-8, or it nests too deeply.
+    #[error("2 NotJson")]
+    NotJson,
+    /// It isn't an object, or its `version` is absent or isn't the integer 1.
+    #[error("3 BadVersion")]
+    BadVersion,
+    /// It is outside the grammar, or a number is outside its range.
+    #[error("4 BadShape")]
+    BadShape,
+    /// It has more than 65,536 nodes (each array, object and scalar is one), 256 classes, 8 callers or 256 posts of a
+    /// caller, or its advances sum to more than 10^15.
+    #[error("5 TooMany")]
+    TooMany,
+    /// A name of an object or of a declared class isn't of 1 to 32 of A to Z, a to z, 0 to 9 and `_`, nor `@` where a
+    /// Deferred that is there is named.
+    #[error("6 BadName")]
+    BadName,
+    /// A declared class has a name that is taken or is `TimeoutError`; or a parent, or a class that is used, isn't in the
+    /// table.
+    #[error("7 BadClass")]
+    BadClass,
+    /// Memory was refused: this may come in place of any other answer.
+    #[error("8 OutOfMemory")]
+    OutOfMemory,
+}
+
+impl From<Stop> for ScriptFault {
+    ghost use Rattle.std.specs.Prelude.{◌≡◌};
+    ghost use Rattle.dv_reader.specs.Passes.{fault_of};
+
+    ghost from_gives = { λ stop fault. fault ≡ fault_of stop };
+
+    fn from(stop: Stop) -> ScriptFault {
+        match stop {
+            Stop::BadShape => ScriptFault::BadShape,
+            Stop::OutOfMemory => ScriptFault::OutOfMemory,
+        }
+    }
+}

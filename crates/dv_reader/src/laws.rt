@@ -1,0 +1,17 @@
+//! Laws of what documents say, each a function with an empty body whose clauses are the laws.
+
+ghost use Rattle.dv_reader.specs.Laws.{SaysOneAtMost, RefusedSaysNone, SaysOrIsRefused, ParentsOfScriptsStandBefore, PathsOfScriptsGoUp};
+
+/// A document says a script or is refused, one of the two, and says no other script.
+pub fn documents_say_one_script_or_are_refused()
+    ensures one { SaysOneAtMost }
+    ensures either { SaysOrIsRefused }
+    ensures never_both { RefusedSaysNone }
+{}
+
+/// In the table of a script each class's parent stands before it, so that the path of a class is the class and then the
+/// path of its parent.
+pub fn the_paths_of_a_script_go_up()
+    ensures ordered { ParentsOfScriptsStandBefore }
+    ensures paths { PathsOfScriptsGoUp }
+{}

@@ -1,0 +1,129 @@
+ghost use Rattle.std.specs.Prelude.{◌≡◌, ◌^◌, ◌-◌, min, nat_le};
+ghost use Rattle.std.specs.List.{list_all};
+ghost use Rattle.serde_json.specs.View.{view, items_view, members_view};
+ghost use Rattle.dv_reader.specs.Limits.{nodes, item_nodes, member_nodes, most_nodes, most_ticks, ticks_of, ticks_in, are_few, is_small};
+
+use crate::draft::Draft;
+use dv_script::body::Body;
+use dv_script::event::Event;
+use dv_value::items::Items;
+use serde_json::{Map, Value as Json};
+
+/// The most bytes of a script.
+pub const MOST_BYTES: usize = 1_048_576;
+
+/// The most nodes of a script.
+pub const MOST_NODES: u64 = 65_536;
+
+/// The most classes that a script declares.
+pub const MOST_CLASSES: usize = 256;
+
+/// The most callers of a script.
+pub const MOST_CALLERS: usize = 8;
+
+/// The most posts of a caller.
+pub const MOST_POSTS: usize = 256;
+
+/// The most ticks by which a script advances the clock in all.
+pub const MOST_TICKS: u64 = 1_000_000_000_000_000;
+
+/// The most ticks of a delay or of an interval.
+pub const MOST_DELAY: u64 = 1_000_000_000_000;
+
+/// The most tokens of a semaphore, and the most that a queue's size or backlog may be.
+pub const MOST_PLACES: u32 = 65_536;
+
+/// To how many levels bodies and statements may nest: as many as JSON may, so that no script is refused for it.
+pub const MOST_LEVELS: u32 = 127;
+
+/// The most that a script may let its journal weigh.
+pub const MOST_LIMIT: u64 = 200_000;
+
+/// How many nodes the value has, to the last number of 64 bits.
+#[cycle(nodes)]
+fn nodes(json: &Json) -> u64
+    ensures { result ≡ min (nodes (view json.now)) (2 ^ 64 - 1) }
+{
+    match json {
+        Json::Null | Json::Bool(_) | Json::Number(_) | Json::String(_) => 1,
+        Json::Array(items) => item_nodes(items.as_slice()).saturating_add(1),
+        Json::Object(members) => member_nodes(members).saturating_add(1),
+    }
+}
+
+#[cycle(nodes)]
+fn item_nodes(items: &[Json]) -> u64
+    ensures { result ≡ min (item_nodes (items_view items.now)) (2 ^ 64 - 1) }
+{
+    let mut count = 0u64;
+    for item in items {
+        count = count.saturating_add(nodes(item));
+    }
+    count
+}
+
+#[cycle(nodes)]
+fn member_nodes(members: &Map<String, Json>) -> u64
+    ensures { result ≡ min (member_nodes (members_view members.now.entries)) (2 ^ 64 - 1) }
+{
+    let mut count = 0u64;
+    for (_, json) in members.iter() {
+        count = count.saturating_add(nodes(json));
+    }
+    count
+}
+
+fn has_few_nodes(json: &Json) -> bool
+    ensures { result ≡ nat_le (nodes (view json.now)) most_nodes }
+{
+    nodes(json) <= MOST_NODES
+}
+
+fn ticks_of(event: &Event) -> u64
+    ensures { result ≡ ticks_of event.now }
+{
+    match event {
+        Event::Action(_) | Event::Drain(_) => 0,
+        Event::Advance(n) => *n,
+    }
+}
+
+/// By how many ticks the events advance the clock, to the last number of 64 bits.
+fn ticks_in(events: &[Event]) -> u64
+    ensures { result ≡ min (ticks_in events.now) (2 ^ 64 - 1) }
+{
+    let mut total = 0u64;
+    for event in events {
+        total = total.saturating_add(ticks_of(event));
+    }
+    total
+}
+
+fn has_few_ticks(events: &[Event]) -> bool
+    ensures { result ≡ nat_le (ticks_in events.now) most_ticks }
+{
+    ticks_in(events) <= MOST_TICKS
+}
+
+fn are_few(posts: &Items<Body>) -> bool
+    ensures { result ≡ are_few posts.now }
+{
+    posts.as_slice().len() <= MOST_POSTS
+}
+
+fn all_are_few(callers: &[Items<Body>]) -> bool
+    ensures { result ≡ list_all are_few callers.now }
+{
+    callers.iter().all(are_few)
+}
+
+/// Whether a script of this JSON value has few enough nodes, classes, callers, posts and ticks.
+pub fn is_small(json: &Json, draft: &Draft) -> bool
+    ensures { result ≡ is_small (view json.now) draft.now }
+{
+    has_few_nodes(json)
+        && draft.declared.as_slice().len() <= MOST_CLASSES
+        && draft.script.callers.as_slice().len() <= MOST_CALLERS
+        && all_are_few(draft.script.callers.as_slice())
+        && has_few_ticks(draft.script.events.as_slice())
+}

@@ -1,0 +1,87 @@
+//! The passes of the reader, in the order of the refusals that they find.
+
+ghost use Rattle.std.specs.Prelude.{◌≡◌, length};
+ghost use Rattle.std.specs.List.{list_all};
+ghost use Rattle.serde_json.specs.View.{view};
+ghost use Rattle.dv_reader.specs.Refusal.{is_named, are_named, are_known};
+ghost use Rattle.dv_reader.specs.Passes.{is_version, Judged, Passes};
+
+use crate::draft::{Declaration, Draft};
+use crate::error::ScriptFault;
+use crate::limits::{MOST_BYTES, is_small};
+use crate::names::is_name;
+use crate::reading::script::shape;
+use crate::suits::{Wanted, suits_script};
+use dv_script::script::Script;
+use serde_json::Value as Json;
+use std::alloc::Global;
+
+fn is_version(json: &Json) -> bool
+    ensures { result ≡ is_version (view json.now) }
+{
+    match json.get("version") {
+        Some(version) => version.as_u64() == Some(1),
+        None => false,
+    }
+}
+
+fn is_named(declaration: &Declaration) -> bool
+    ensures { result ≡ is_named declaration.now }
+{
+    is_name(declaration.name.as_str())
+}
+
+fn all_named(declared: &[Declaration]) -> bool
+    ensures { result ≡ list_all is_named declared.now }
+{
+    declared.iter().all(is_named)
+}
+
+fn are_named(draft: &Draft) -> bool
+    ensures { result ≡ are_named draft.now }
+{
+    all_named(draft.declared.as_slice()) && suits_script(Wanted::Names, &draft.script)
+}
+
+fn are_known(draft: &Draft) -> bool
+    ensures { result ≡ are_known draft.now }
+{
+    draft.all_declared && suits_script(Wanted::Classes(draft.script.classes.count()), &draft.script)
+}
+
+/// The script that a JSON value is, or the least refusal.
+fn judge(alloc: Global, json: &Json) -> Result<Script, ScriptFault>
+    ensures { Judged (view json.now) result }
+{
+    if !is_version(json) {
+        return Err(ScriptFault::BadVersion);
+    }
+    let draft = shape(alloc, json)?;
+    if !is_small(json, &draft) {
+        return Err(ScriptFault::TooMany);
+    }
+    if !are_named(&draft) {
+        return Err(ScriptFault::BadName);
+    }
+    if !are_known(&draft) {
+        return Err(ScriptFault::BadClass);
+    }
+    Ok(draft.script)
+}
+
+/// The script that the bytes say, or the least refusal.
+pub fn passed(alloc: Global, bytes: &[u8]) -> Result<Script, ScriptFault>
+    ensures { Passes bytes.now result }
+{
+    if bytes.len() > MOST_BYTES {
+        return Err(ScriptFault::TooLong);
+    }
+    match Json::from_slice(alloc, bytes) {
+        Ok(json) => judge(alloc, &json),
+        Err(error) => if error.is_memory() {
+            Err(ScriptFault::OutOfMemory)
+        } else {
+            Err(ScriptFault::NotJson)
+        },
+    }
+}
