@@ -106,6 +106,7 @@ impl Journal {
     {
         let weight = entry.weight();
         if self.limit - self.weight < weight {
+            drop(entry);
             return Err(Stop::Limit);
         }
         self.entries.push(entry)?;

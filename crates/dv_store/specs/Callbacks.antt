@@ -1,5 +1,5 @@
 -- One item used (Twisted: the Deferred Reference, "Callbacks" and "Chaining Deferreds"; `Deferred.addCallbacks`).
-use Rattle.std.specs.Prelude.{ℕ, Bool, true, false, not, ◌&&◌, nat_eq, is_none, if◌then◌else◌, List, [], ◌∷◌, drop, Option, Some, None, slice_get, slice_set}
+use Rattle.std.specs.Prelude.{ℕ, Bool, true, false, not, ◌&&◌, nat_eq, is_none, option_and_then, if◌then◌else◌, List, [], ◌∷◌, drop, Option, Some, None, slice_get, slice_set}
 use Rattle.dv_value.specs.Failure.{is_fault}
 use Rattle.dv_value.specs.declared.value.Value.{Value}
 use Rattle.dv_value.specs.declared.value.Value.TheVariants.{Null}
@@ -34,13 +34,42 @@ abbrev pub hand_found : {P K : Type 0} → ℕ → ℕ → Option (Record P K) �
 hand_found id c None s = untold Nothing s
 hand_found id c (Some r) s = hand id c r (drop 1 r.items) s
 
+-- its first item is used up
+abbrev pub without_first : {P K : Type 0} → Record P K → Record P K
+without_first r = record r { items = drop 1 r.items }
+
+-- the first item of a Deferred, where it has one
+abbrev pub first_of : {P K : Type 0} → ℕ → List (Record P K) → Option (Item P)
+first_of id rs = option_and_then (λ r. slice_get r.items 0) (slice_get rs id)
+
+-- an item is there, and is a pair
+abbrev pub is_pair : {P : Type 0} → Option (Item P) → Bool
+is_pair None = false
+is_pair (Some (item.Pair pair)) = true
+is_pair (Some (item.HandOver c)) = false
+
+-- the side of a pair runs, and the pair is used up
+abbrev pub run_pair : {P K : Type 0} → ℕ → Record P K → P → List (Item P) → State P K → Stepped P K
+run_pair id r pair rest s = telling (entry.Run id) (Run pair) (slice_set s.0 id (record r { items = rest; running = true })) s
+
+-- the side of this item runs, where it is a pair
+abbrev pub run_item : {P K : Type 0} → ℕ → Record P K → Option (Item P) → State P K → Stepped P K
+run_item id r None s = untold Nothing s
+run_item id r (Some (item.Pair pair)) s = run_pair id r pair (drop 1 r.items) s
+run_item id r (Some (item.HandOver c)) s = untold Nothing s
+
+-- the side of the first item of the Deferred that is found runs; an id of no record changes nothing
+abbrev pub run_found : {P K : Type 0} → ℕ → Option (Record P K) → State P K → Stepped P K
+run_found id None s = untold Nothing s
+run_found id (Some r) s = run_item id r (slice_get r.items 0) s
+
 module _ {P K : Type 0} (passes_at : P → Bool → Bool) where
   -- a pair without a side for the value passes it on, which isn't told; else its side runs
   abbrev pub use_pair : ℕ → Record P K → P → List (Item P) → State P K → Stepped P K
   use_pair id r pair rest s =
       if passes_at pair (is_fault r.value)
       then untold Passed (slice_set s.0 id (record r { items = rest }), s.1)
-      else telling (entry.Run id) (Run pair) (slice_set s.0 id (record r { items = rest; running = true })) s
+      else run_pair id r pair rest s
 
   -- a pair is run or passes the value on, and a hand-over hands it over
   abbrev pub use_item : ℕ → Record P K → Item P → List (Item P) → State P K → Stepped P K

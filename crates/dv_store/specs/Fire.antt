@@ -14,9 +14,9 @@ use Rattle.dv_store.specs.declared.store.Fired.{Fired}
 use Rattle.dv_store.specs.declared.store.Fired.TheVariants.{Set, Swallowed}
 
 -- the journal's reason to stop, as one of a firing
-abbrev pub fault_of : Stop → StoreFault
-fault_of stop.Limit = Limit
-fault_of stop.OutOfMemory = OutOfMemory
+abbrev pub fire_fault_of : Stop → StoreFault
+fire_fault_of stop.Limit = Limit
+fire_fault_of stop.OutOfMemory = OutOfMemory
 
 -- what a firing answers, and what it leaves
 abbrev pub Firing : Type 0 → Type 0 → Type 0
@@ -40,6 +40,11 @@ fire_again id r s =
     if r.swallows
     then telling (entry.Swallow id) (Ok Swallowed) (slice_set s.0 id (with_guard false r)) s
     else telling (entry.Refuse id) (Err AlreadyCalled) s.0 s
+
+-- the Deferred that is found is fired already; an id of no record changes nothing
+abbrev pub fire_again_found : {P K : Type 0} → ℕ → Option (Record P K) → State P K → Firing P K
+fire_again_found id None s = (Ok Set, s)
+fire_again_found id (Some r) s = fire_again id r s
 
 -- an unfired Deferred is fired; an id of no record changes nothing
 abbrev pub fire_found : {P K : Type 0} → ℕ → Value → Option (Record P K) → State P K → Firing P K

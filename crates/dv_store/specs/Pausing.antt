@@ -11,9 +11,9 @@ use Rattle.dv_store.specs.declared.error.UnpauseFault.{UnpauseFault}
 use Rattle.dv_store.specs.declared.error.UnpauseFault.TheVariants.{NotPaused, Limit, OutOfMemory}
 
 -- the journal's reason to stop, as one of an unpausing
-abbrev pub fault_of : Stop → UnpauseFault
-fault_of stop.Limit = Limit
-fault_of stop.OutOfMemory = OutOfMemory
+abbrev pub unpause_fault_of : Stop → UnpauseFault
+unpause_fault_of stop.Limit = Limit
+unpause_fault_of stop.OutOfMemory = OutOfMemory
 
 -- how often a Deferred is paused; never where there is none
 abbrev pub pauses_of : {P K : Type 0} → ℕ → List (Record P K) → ℕ

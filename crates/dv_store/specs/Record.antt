@@ -1,5 +1,5 @@
 -- What is kept of a Deferred, and how one is made (Twisted: the Deferred Reference, "Deferreds").
-use Rattle.std.specs.Prelude.{ℕ, false, List, [], ◌∷◌, ◌++◌, length, Option, Some, None, slice_get, slice_set}
+use Rattle.std.specs.Prelude.{ℕ, false, List, [], ◌∷◌, ◌++◌, ◌-◌, length, take, Option, Some, None, slice_get, slice_set}
 use Rattle.dv_value.specs.declared.value.Value.TheVariants.{Null}
 use Rattle.dv_journal.specs.declared.entry.Entry.TheVariants.{New, Add}
 use Rattle.dv_store.specs.Telling.{State, Told, untold, telling}
@@ -19,6 +19,10 @@ make name canceller s = telling (New (length s.0) name) (length s.0) (s.0 ++ new
 -- an item is added after those that aren't used yet
 abbrev pub with_item : {P K : Type 0} → Item P → Record P K → Record P K
 with_item item r = record r { items = r.items ++ item ∷ [] }
+
+-- the item that was added last is dropped
+abbrev pub without_last : {P K : Type 0} → Record P K → Record P K
+without_last r = record r { items = take (length r.items - 1) r.items }
 
 -- a pair is added to the Deferred that is found; an id of no record changes nothing
 abbrev pub append_found : {P K : Type 0} → ℕ → P → Option (Record P K) → State P K → Told Unit P K

@@ -17,9 +17,9 @@ pub enum StoreFault {
 
 impl From<Stop> for StoreFault {
     ghost use Rattle.std.specs.Prelude.{◌≡◌};
-    ghost use Rattle.dv_store.specs.Fire.{fault_of};
+    ghost use Rattle.dv_store.specs.Fire.{fire_fault_of};
 
-    ghost from_gives = { λ stop fault. fault ≡ fault_of stop };
+    ghost from_gives = { λ stop fault. fault ≡ fire_fault_of stop };
 
     fn from(stop: Stop) -> StoreFault {
         match stop {
@@ -55,9 +55,9 @@ pub enum UnpauseFault {
 
 impl From<Stop> for UnpauseFault {
     ghost use Rattle.std.specs.Prelude.{◌≡◌};
-    ghost use Rattle.dv_store.specs.Pausing.{fault_of};
+    ghost use Rattle.dv_store.specs.Pausing.{unpause_fault_of};
 
-    ghost from_gives = { λ stop fault. fault ≡ fault_of stop };
+    ghost from_gives = { λ stop fault. fault ≡ unpause_fault_of stop };
 
     fn from(stop: Stop) -> UnpauseFault {
         match stop {

@@ -6,3 +6,4 @@ pub mod laws;
 pub mod record;
 pub mod sides;
 pub mod store;
+mod telling;

@@ -1,12 +1,14 @@
-ghost use Rattle.std.specs.Prelude.{◌≡◌, true, [], ◌∷◌, ◌++◌, ◌<◌, ◌^◌, ◌-◌, length, slice_get, IfOk, OnOk, OnErr};
+ghost use Rattle.std.specs.Prelude.{◌≡◌, ◌↔◌, ◌+◌, ◌≤◌, true, false, [], ◌<◌, ◌^◌, ◌-◌, length, slice_get, vec_len, vec_capacity, IfOk, OnOk, OnErr, IsErrOf};
 ghost use Rattle.std.specs.Option.{option_copied};
 ghost use Rattle.dv_journal.specs.Journal.{fits, with_entry};
 ghost use Rattle.dv_store.specs.Callbacks.{is_ready};
 ghost use Rattle.dv_store.specs.Chaining.{is_pending};
+ghost use Rattle.dv_journal.specs.declared.entry.Entry.TheVariants.{New};
 
 use crate::error::{StoreFault, UnpauseFault};
 use crate::record::{Item, Record};
 use crate::sides::Sides;
+use crate::telling::{tell_fire, tell_hand, tell_set, tell_take};
 use dv_journal::deferred_id::DeferredId;
 use dv_journal::entry::Entry;
 use dv_journal::error::Stop;
@@ -74,12 +76,12 @@ impl<P, K> Model for Store<P, K> {
 }
 
 impl<P: Sides + Drop, K: Drop> Store<P, K> {
-    ghost use Rattle.dv_store.specs.Record.{make, append, changing};
-    ghost use Rattle.dv_store.specs.Fire.{fire, FiresUnlessMemory};
-    ghost use Rattle.dv_store.specs.Callbacks.{step, hand_found, put, with_handed, with_result};
+    ghost use Rattle.dv_store.specs.Record.{make, append, changing, with_item, without_last};
+    ghost use Rattle.dv_store.specs.Fire.{fire, fire_again_found, with_firing, with_guard, FiresUnlessMemory};
+    ghost use Rattle.dv_store.specs.Callbacks.{step, first_of, is_pair, run_found, without_first, hand_found, put, with_handed, with_result};
     ghost use Rattle.dv_store.specs.Cancelling.{guard, link, end_of_chain};
     ghost use Rattle.dv_store.specs.Chaining.{put_deferred, with_wait, waiting, taking, value_at};
-    ghost use Rattle.dv_store.specs.Pausing.{pauses_of, pause, unpause, UnpausesUnlessMemory};
+    ghost use Rattle.dv_store.specs.Pausing.{pauses_of, with_pauses, pause, unpause, UnpausesUnlessMemory};
     ghost use Rattle.dv_store.specs.Telling.{UnlessMemory, telling};
     ghost use Rattle.dv_store.specs.declared.store.Placed.TheVariants.{Taken, Waits};
     ghost use Rattle.dv_journal.specs.declared.entry.Entry.TheVariants.{Wait, Take};
@@ -120,13 +122,8 @@ impl<P: Sides + Drop, K: Drop> Store<P, K> {
         requires room { length self.old < 2 ^ 32 - 1 }
         ensures { UnlessMemory result (self.old, journal.old) (self.new, journal.new) (make name canceller (self.old, journal.old)) }
     {
-        if !journal.fits_plain() {
-            return Err(Stop::Limit);
-        }
         let id = DeferredId::new(self.len() as u32);
-        let shown = name_copy(self.alloc, &name)?;
-        self.records.try_reserve(1)?;
-        journal.write(Entry::New(id, shown))?;
+        reserve_and_tell(self.alloc, journal, &mut self.records, id, &name)?;
         let record = Record {
             name,
             fired: false,
@@ -145,24 +142,40 @@ impl<P: Sides + Drop, K: Drop> Store<P, K> {
     /// Adds a pair after the others, and uses none (Twisted: `Deferred.addCallbacks`, which also runs what it can).
     ///
     /// Where it is refused, the pair is dropped.
-    #[tactic(auto, using(crate::proofs::StoreLemmas::record_kept))]
+    #[tactic(auto, using(crate::proofs::StoreLemmas::put_back))]
     pub fn append(&mut self, journal: &mut Journal, id: DeferredId, pair: P) -> Result<(), Stop>
         ensures { UnlessMemory result (self.old, journal.old) (self.new, journal.new) (append id pair (self.old, journal.old)) }
     {
-        let place = id.number() as usize;
-        if place >= self.records.len() {
+        if id.number() as usize >= self.records.len() {
             return Ok(());
         }
         if !journal.fits_plain() {
             return Err(Stop::Limit);
         }
-        add(
-            journal,
-            Entry::Add(id),
-            &mut self.records[place].items,
-            Item::Pair(pair),
-        )?;
+        self.push_item(id, Item::Pair(pair))?;
+        if let Err(stop) = journal.write(Entry::Add(id)) {
+            self.drop_last(id);
+            return Err(stop);
+        }
         Ok(())
+    }
+
+    /// Adds an item after the others.
+    fn push_item(&mut self, id: DeferredId, item: Item<P>) -> Result<(), AllocError>
+        requires within { id < length self.old }
+        ensures ok { OnOk result (self.new ≡ changing id (with_item item) self.old) }
+        ensures err { OnErr result (self.new ≡ self.old) }
+    {
+        self.records[id.number() as usize].items.push_back(item)
+    }
+
+    /// Drops the item that was added last.
+    fn drop_last(&mut self, id: DeferredId)
+        ensures { self.new ≡ changing id without_last self.old }
+    {
+        if let Some(record) = self.records.get_mut(id.number() as usize) {
+            record.items.drop_back();
+        }
     }
 
     /// Fires a Deferred, with a failure too, and uses no pair (Twisted: `Deferred.callback` and `Deferred.errback`, which
@@ -176,28 +189,30 @@ impl<P: Sides + Drop, K: Drop> Store<P, K> {
     ) -> Result<Fired, StoreFault>
         ensures { FiresUnlessMemory result (self.old, journal.old) (self.new, journal.new) (fire id value (self.old, journal.old)) }
     {
-        let place = id.number() as usize;
-        let Some(record) = self.records.get(place) else {
+        let Some(record) = self.record(id) else {
             return Ok(Fired::Set);
         };
         if record.fired {
-            if record.swallows {
-                journal.write(Entry::Swallow(id))?;
-                self.records[place].swallows = false;
-                return Ok(Fired::Swallowed);
-            }
+            return self.fire_again(journal, id);
+        }
+        tell_fire(self.alloc, journal, id, &value)?;
+        self.set_fired(id, value);
+        Ok(Fired::Set)
+    }
+
+    /// Fires a Deferred that is fired already: the firing is swallowed, and the next one isn't, or it is refused.
+    fn fire_again(&mut self, journal: &mut Journal, id: DeferredId) -> Result<Fired, StoreFault>
+        requires within { id < length self.old }
+        ensures { FiresUnlessMemory result (self.old, journal.old) (self.new, journal.new) (fire_again_found id (slice_get self.old id) (self.old, journal.old)) }
+    {
+        let record = &self.records[id.number() as usize];
+        if !record.swallows {
             journal.write(Entry::Refuse(id))?;
             return Err(StoreFault::AlreadyCalled);
         }
-        if !journal.fits_value(&value) {
-            return Err(StoreFault::Limit);
-        }
-        let shown = value.copy(self.alloc)?;
-        journal.write(Entry::Fire(id, shown))?;
-        let record = &mut self.records[place];
-        record.fired = true;
-        record.value = value;
-        Ok(Fired::Set)
+        journal.write(Entry::Swallow(id))?;
+        self.set_guard(id, false);
+        Ok(Fired::Swallowed)
     }
 
     /// The next firing of a Deferred that is fired already is swallowed (Twisted: what `Deferred.cancel` asks for where
@@ -205,8 +220,25 @@ impl<P: Sides + Drop, K: Drop> Store<P, K> {
     pub fn guard(&mut self, id: DeferredId)
         ensures { self.new ≡ guard id self.old }
     {
+        self.set_guard(id, true);
+    }
+
+    /// Whether the next firing of a Deferred after its first is swallowed.
+    fn set_guard(&mut self, id: DeferredId, swallows: bool)
+        ensures { self.new ≡ changing id (with_guard swallows) self.old }
+    {
         if let Some(record) = self.records.get_mut(id.number() as usize) {
-            record.swallows = true;
+            record.swallows = swallows;
+        }
+    }
+
+    /// A Deferred is fired, and has the value that it was fired with.
+    fn set_fired(&mut self, id: DeferredId, value: Value)
+        ensures { self.new ≡ changing id (with_firing value) self.old }
+    {
+        if let Some(record) = self.records.get_mut(id.number() as usize) {
+            record.fired = true;
+            record.value = value;
         }
     }
 
@@ -254,8 +286,7 @@ impl<P: Sides + Drop, K: Drop> Store<P, K> {
     pub fn step(&mut self, journal: &mut Journal, id: DeferredId) -> Result<Step<P>, Stop>
         ensures { UnlessMemory result (self.old, journal.old) (self.new, journal.new) (step P.passes_at id (self.old, journal.old)) }
     {
-        let place = id.number() as usize;
-        let Some(record) = self.records.get(place) else {
+        let Some(record) = self.record(id) else {
             return Ok(Step::Nothing);
         };
         if !is_ready(record) {
@@ -265,21 +296,40 @@ impl<P: Sides + Drop, K: Drop> Store<P, K> {
             None => Ok(Step::Nothing),
             Some(Item::Pair(pair)) => {
                 if pair.passes(record.value.is_fault()) {
-                    let _ = self.records[place].items.pop_front();
+                    self.drop_first(id);
                     return Ok(Step::Passed);
                 }
-                journal.write(Entry::Run(id))?;
-                let record = &mut self.records[place];
-                record.running = true;
-                match record.items.pop_front() {
-                    Some(Item::Pair(pair)) => Ok(Step::Run(pair)),
-                    Some(Item::HandOver(_)) | None => unreachable!(),
-                }
+                self.run_first(journal, id)
             }
             Some(Item::HandOver(to)) => {
                 let to = *to;
-                Ok(self.hand_over(journal, id, to)?)
+                self.hand_over(journal, id, to)
             }
+        }
+    }
+
+    /// The first item of a Deferred is used up.
+    fn drop_first(&mut self, id: DeferredId)
+        ensures { self.new ≡ changing id without_first self.old }
+    {
+        if let Some(record) = self.records.get_mut(id.number() as usize) {
+            let _ = record.items.pop_front();
+        }
+    }
+
+    /// Takes out the first item of a Deferred, which is a pair, and whose side runs from now on.
+    fn run_first(&mut self, journal: &mut Journal, id: DeferredId) -> Result<Step<P>, Stop>
+        requires within { id < length self.old }
+        requires pair { is_pair (first_of id self.old) ≡ true }
+        ensures { UnlessMemory result (self.old, journal.old) (self.new, journal.new) (run_found id (slice_get self.old id) (self.old, journal.old)) }
+    {
+        let place = id.number() as usize;
+        journal.write(Entry::Run(id))?;
+        let record = &mut self.records[place];
+        record.running = true;
+        match record.items.pop_front() {
+            Some(Item::Pair(pair)) => Ok(Step::Run(pair)),
+            Some(Item::HandOver(_)) | None => unreachable!(),
         }
     }
 
@@ -294,12 +344,7 @@ impl<P: Sides + Drop, K: Drop> Store<P, K> {
         ensures { UnlessMemory result (self.old, journal.old) (self.new, journal.new) (hand_found id to (slice_get self.old id) (self.old, journal.old)) }
     {
         let place = id.number() as usize;
-        let value = &self.records[place].value;
-        if !journal.fits_value(value) {
-            return Err(Stop::Limit);
-        }
-        let shown = value.copy(self.alloc)?;
-        journal.write(Entry::Hand(id, to, shown))?;
+        tell_hand(self.alloc, journal, id, to, &self.records[place].value)?;
         let record = &mut self.records[place];
         let _ = record.items.pop_front();
         let value = mem::replace(&mut record.value, Value::Null);
@@ -313,18 +358,11 @@ impl<P: Sides + Drop, K: Drop> Store<P, K> {
     pub fn put(&mut self, journal: &mut Journal, id: DeferredId, value: Value) -> Result<(), Stop>
         ensures { UnlessMemory result (self.old, journal.old) (self.new, journal.new) (put id value (self.old, journal.old)) }
     {
-        let place = id.number() as usize;
-        if place >= self.records.len() {
+        if id.number() as usize >= self.records.len() {
             return Ok(());
         }
-        if !journal.fits_value(&value) {
-            return Err(Stop::Limit);
-        }
-        let shown = value.copy(self.alloc)?;
-        journal.write(Entry::Set(id, shown))?;
-        let record = &mut self.records[place];
-        record.value = value;
-        record.running = false;
+        tell_set(self.alloc, journal, id, &value)?;
+        self.set_result(id, value);
         Ok(())
     }
 
@@ -342,21 +380,21 @@ impl<P: Sides + Drop, K: Drop> Store<P, K> {
     ) -> Result<Placed, Stop>
         ensures { UnlessMemory result (self.old, journal.old) (self.new, journal.new) (put_deferred id given (self.old, journal.old)) }
     {
-        let Some(_) = self.records.get(id.number() as usize) else {
+        let Some(_) = self.record(id) else {
             return Ok(Placed::Waits);
         };
-        let Some(record) = self.records.get(given.number() as usize) else {
+        let Some(record) = self.record(given) else {
             return Ok(Placed::Waits);
         };
         if is_pending(id, given, record) {
-            Ok(self.wait_for(journal, id, given)?)
+            self.wait_for(journal, id, given)
         } else {
-            Ok(self.take_from(journal, id, given)?)
+            self.take_from(journal, id, given)
         }
     }
 
     /// The given Deferred is to hand its value over.
-    #[tactic(auto, using(crate::proofs::StoreLemmas::record_kept))]
+    #[tactic(auto, using(crate::proofs::StoreLemmas::put_back))]
     fn wait_for(
         &mut self,
         journal: &mut Journal,
@@ -369,12 +407,11 @@ impl<P: Sides + Drop, K: Drop> Store<P, K> {
         if !journal.fits_plain() {
             return Err(Stop::Limit);
         }
-        add(
-            journal,
-            Entry::Wait(id, given),
-            &mut self.records[given.number() as usize].items,
-            Item::HandOver(id),
-        )?;
+        self.push_item(given, Item::HandOver(id))?;
+        if let Err(stop) = journal.write(Entry::Wait(id, given)) {
+            self.drop_last(given);
+            return Err(stop);
+        }
         self.set_waiting(id, given);
         Ok(Placed::Waits)
     }
@@ -390,12 +427,7 @@ impl<P: Sides + Drop, K: Drop> Store<P, K> {
         ensures { UnlessMemory result (self.old, journal.old) (self.new, journal.new) (telling (Take id given (value_at given self.old)) Taken (taking id given (value_at given self.old) self.old) (self.old, journal.old)) }
     {
         let place = given.number() as usize;
-        let value = &self.records[place].value;
-        if !journal.fits_value(value) {
-            return Err(Stop::Limit);
-        }
-        let shown = value.copy(self.alloc)?;
-        journal.write(Entry::Take(id, given, shown))?;
+        tell_take(self.alloc, journal, id, given, &self.records[place].value)?;
         let value = mem::replace(&mut self.records[place].value, Value::Null);
         self.set_result(id, value);
         Ok(Placed::Taken)
@@ -436,12 +468,12 @@ impl<P: Sides + Drop, K: Drop> Store<P, K> {
         requires room { pauses_of id self.old < 2 ^ 32 - 1 }
         ensures { UnlessMemory result (self.old, journal.old) (self.new, journal.new) (pause id (self.old, journal.old)) }
     {
-        let place = id.number() as usize;
-        if place >= self.records.len() {
+        let Some(record) = self.record(id) else {
             return Ok(());
-        }
+        };
+        let pauses = record.pauses;
         journal.write(Entry::Pause(id))?;
-        self.records[place].pauses += 1;
+        self.set_pauses(id, pauses + 1);
         Ok(())
     }
 
@@ -450,16 +482,25 @@ impl<P: Sides + Drop, K: Drop> Store<P, K> {
     pub fn unpause(&mut self, journal: &mut Journal, id: DeferredId) -> Result<(), UnpauseFault>
         ensures { UnpausesUnlessMemory result (self.old, journal.old) (self.new, journal.new) (unpause id (self.old, journal.old)) }
     {
-        let place = id.number() as usize;
-        let Some(record) = self.records.get(place) else {
+        let Some(record) = self.record(id) else {
             return Ok(());
         };
-        if record.pauses == 0 {
+        let pauses = record.pauses;
+        if pauses == 0 {
             return Err(UnpauseFault::NotPaused);
         }
         journal.write(Entry::Unpause(id))?;
-        self.records[place].pauses -= 1;
+        self.set_pauses(id, pauses - 1);
         Ok(())
+    }
+
+    /// A Deferred is paused so often.
+    fn set_pauses(&mut self, id: DeferredId, pauses: u32)
+        ensures { self.new ≡ changing id (with_pauses pauses) self.old }
+    {
+        if let Some(record) = self.records.get_mut(id.number() as usize) {
+            record.pauses = pauses;
+        }
     }
 
     /// All records, in order of making, with their values moved.
@@ -495,27 +536,25 @@ fn is_pending<P, K>(id: DeferredId, given: DeferredId, record: &Record<P, K>) ->
     id == given || !record.fired || record.pauses != 0 || record.waits_for.is_some()
 }
 
-/// Adds an item after the others, and tells of it.
-#[tactic(auto, using(crate::proofs::StoreLemmas::item_taken_back))]
-fn add<P: Drop>(
+/// Makes room for a record, and tells that it is made.
+fn reserve_and_tell<R>(
+    alloc: Global,
     journal: &mut Journal,
-    entry: Entry,
-    items: &mut Deque<Item<P>>,
-    item: Item<P>,
-) -> Result<(), AllocError>
-    requires room { fits journal.old entry ≡ true }
-    ensures added { OnOk result (items.new ≡ items.old ++ item ∷ []) }
-    ensures written { OnOk result (journal.new ≡ with_entry journal.old entry) }
-    ensures kept { OnErr result (items.new ≡ items.old) }
+    records: &mut Vec<R>,
+    id: DeferredId,
+    name: &Option<Text>,
+) -> Result<(), Stop>
+    ensures room { OnOk result (vec_len records.new + 1 ≤ vec_capacity records.new) }
+    ensures kept { records.new.items ≡ records.old.items }
+    ensures len { vec_len records.new ≡ vec_len records.old }
+    ensures ok { OnOk result (journal.new ≡ with_entry journal.old (New id name.now)) }
+    ensures limit { IsErrOf result Stop.Limit ↔ (fits journal.old (New id name.now) ≡ false) }
     ensures err { OnErr result (journal.new ≡ journal.old) }
 {
-    items.push_back(item)?;
-    match journal.write(entry) {
-        Ok(()) => Ok(()),
-        Err(Stop::Limit) => unreachable!(),
-        Err(Stop::OutOfMemory) => {
-            items.drop_back();
-            Err(AllocError)
-        }
+    if !journal.fits_plain() {
+        return Err(Stop::Limit);
     }
+    records.try_reserve(1)?;
+    let shown = name_copy(alloc, name)?;
+    journal.write(Entry::New(id, shown))
 }

@@ -320,6 +320,7 @@ impl<'s> World<'s> {
         ensures { OnOk result (self.new ≡ tell entry self.old) }
     {
         if self.stopped {
+            drop(entry);
             return Ok(());
         }
         match self.journal.write(entry) {
