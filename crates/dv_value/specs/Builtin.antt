@@ -31,6 +31,15 @@ already_called_error = 7
 abbrev pub cancelled_error : ℕ
 cancelled_error = 8
 
+abbrev pub first_error : ℕ
+first_error = 9
+
+abbrev pub queue_overflow : ℕ
+queue_overflow = 10
+
+abbrev pub queue_underflow : ℕ
+queue_underflow = 11
+
 abbrev pub scheduler_error : ℕ
 scheduler_error = 12
 

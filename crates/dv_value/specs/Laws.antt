@@ -4,7 +4,7 @@ use Rattle.std.specs.Option.{option_map_or}
 use Rattle.dv_value.specs.declared.classes.Class.{Class}
 use Rattle.dv_value.specs.Classes.{parent_of, path, find_class, name_of}
 use Rattle.dv_value.specs.Declaring.{with_class}
-use Rattle.dv_value.specs.Builtin.{builtin, type_error, name_error, assertion_error, overflow_error, already_called_error, cancelled_error}
+use Rattle.dv_value.specs.Builtin.{builtin, type_error, name_error, assertion_error, overflow_error, already_called_error, cancelled_error, first_error, queue_overflow, queue_underflow}
 
 -- each class's parent stands before it
 abbrev pub ParentsStandBefore : List Class → Type 0
@@ -30,6 +30,9 @@ pub record BuiltinsHaveTheirPlaces : Type 0 where
   pub overflow_error : find_class (codes "OverflowError") builtin ≡ Some overflow_error
   pub already_called_error : find_class (codes "AlreadyCalledError") builtin ≡ Some already_called_error
   pub cancelled_error : find_class (codes "CancelledError") builtin ≡ Some cancelled_error
+  pub first_error : find_class (codes "FirstError") builtin ≡ Some first_error
+  pub queue_overflow : find_class (codes "QueueOverflow") builtin ≡ Some queue_overflow
+  pub queue_underflow : find_class (codes "QueueUnderflow") builtin ≡ Some queue_underflow
 
 -- the place of the first class of this name
 pub record IsFirstOf (name : List ℕ) (table : List Class) (c : ℕ) : Type 0 where

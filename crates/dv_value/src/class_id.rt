@@ -35,6 +35,12 @@ impl ClassId {
     pub const ALREADY_CALLED_ERROR: ClassId = ClassId { place: 7 };
     /// What a Deferred is fired with that is cancelled (Twisted: `defer.CancelledError`).
     pub const CANCELLED_ERROR: ClassId = ClassId { place: 8 };
+    /// For the first child of a DeferredList that failed, which is inside (Twisted: `defer.FirstError`).
+    pub const FIRST_ERROR: ClassId = ClassId { place: 9 };
+    /// For a queue that stores as many values as it may (Twisted: `defer.QueueOverflow`).
+    pub const QUEUE_OVERFLOW: ClassId = ClassId { place: 10 };
+    /// For a queue on which as many wait as may (Twisted: `defer.QueueUnderflow`).
+    pub const QUEUE_UNDERFLOW: ClassId = ClassId { place: 11 };
     /// Above what a cooperative task raises (Twisted: `task.SchedulerError`).
     pub const SCHEDULER_ERROR: ClassId = ClassId { place: 12 };
     /// Above how a cooperative task has ended (Twisted: `task.TaskFinished`).

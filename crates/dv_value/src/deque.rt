@@ -39,6 +39,13 @@ impl<T> Deque<T> {
         self.items.is_empty()
     }
 
+    /// How many items there are.
+    pub fn len(&self) -> usize
+        ensures { result ≡ length self.now }
+    {
+        self.items.len()
+    }
+
     /// The item that was pushed first of those that are left.
     pub fn front(&self) -> Option<&T>
         ensures { option_copied result ≡ slice_get self.now 0 }

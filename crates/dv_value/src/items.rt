@@ -1,7 +1,8 @@
-ghost use Rattle.std.specs.Prelude.{◌≡◌, [], ◌∷◌, ◌++◌, OnOk, OnErr};
+ghost use Rattle.std.specs.Prelude.{◌≡◌, ◌<◌, [], ◌∷◌, ◌++◌, Some, length, slice_get, slice_set, OnOk, OnErr};
 
 use std::alloc::{AllocError, Global};
 use std::marker::Model;
+use std::mem;
 
 /// A `Vec` that contracts see as the list of its elements, without an address and without a capacity.
 #[derive(Debug, Drop)]
@@ -35,6 +36,15 @@ impl<T> Items<T> {
         ensures { result.now ≡ self.now }
     {
         self.items.as_slice()
+    }
+
+    /// Puts an item in the place of another, which comes back.
+    pub fn replace(&mut self, place: usize, item: T) -> T
+        requires within { place < length self.old }
+        ensures given { Some result ≡ slice_get self.old place }
+        ensures put { self.new ≡ slice_set self.old place item }
+    {
+        mem::replace(&mut self.items[place], item)
     }
 }
 

@@ -1,0 +1,2 @@
+pub mod WaitingLemmas
+pub mod GatherLemmas

@@ -1,0 +1,5 @@
+pub mod Telling
+pub mod Tokens
+pub mod Queue
+pub mod DeferredList
+pub mod Laws

@@ -1,0 +1,104 @@
+-- Locks and semaphores (Twisted: `DeferredSemaphore`, and `DeferredLock`, which is one of one token).
+use Rattle.std.specs.Prelude.{◌≡◌, ◌≢◌, ℕ, ◌+◌, ◌-◌, Bool, nat_eq, nat_lt, if◌then◌else◌, List, [], ◌∷◌, Option, Result, Ok, Err, slice_get}
+use Rattle.std.specs.BTreeMap.{is_at}
+use Rattle.std.specs.BTreeSet.{insert_key}
+use Rattle.std.specs.List.{list_any}
+use Rattle.std.specs.Ordering.{nat_cmp}
+use Rattle.std.specs.Set.{remove_key}
+use Rattle.dv_journal.specs.Journal.{Written, fits, with_entry}
+use Rattle.dv_journal.specs.declared.entry.Entry.TheVariants as entry
+use Rattle.dv_journal.specs.declared.error.Stop.{Stop}
+use Rattle.dv_journal.specs.declared.error.Stop.TheVariants as stop
+use Rattle.dv_prims.specs.Telling.{State, Told, telling, making}
+use Rattle.dv_prims.specs.declared.error.ReleaseFault.{ReleaseFault}
+use Rattle.dv_prims.specs.declared.error.ReleaseFault.TheVariants.{NotHeld, Limit, OutOfMemory}
+use Rattle.dv_prims.specs.declared.semaphore.Grant.{Grant}
+use Rattle.dv_prims.specs.declared.semaphore.Grant.TheVariants.{Now, Waits}
+
+-- its name, how many tokens it has and how many of them are given, and who waits for one, in order of making, in which they came
+pub record Semaphore : Type 0 where
+  pub name : List ℕ
+  pub tokens : ℕ
+  pub given : ℕ
+  pub waiting : List ℕ
+
+-- no token is given at first
+abbrev pub new_semaphore : List ℕ → ℕ → Semaphore
+new_semaphore name tokens = record { name = name; tokens = tokens; given = 0; waiting = [] }
+
+-- a lock is made: a semaphore of one token
+abbrev pub make_lock : List ℕ → Written → Result Semaphore Stop × Written
+make_lock name j = making (entry.Lock name) (new_semaphore name 1) j
+
+-- a semaphore is made
+abbrev pub make_semaphore : List ℕ → ℕ → Written → Result Semaphore Stop × Written
+make_semaphore name tokens j = making (entry.Semaphore name tokens) (new_semaphore name tokens) j
+
+-- whether a token is free
+abbrev pub has_free : Semaphore → Bool
+has_free s = nat_lt s.given s.tokens
+
+-- whether no token is given
+abbrev pub is_unheld : Semaphore → Bool
+is_unheld s = nat_eq s.given 0
+
+-- the first that waits, where somebody does
+abbrev pub first_waiting : Semaphore → Option ℕ
+first_waiting s = slice_get s.waiting 0
+
+-- whoever asks gets a token where one is free, and waits otherwise
+abbrev pub grant_of : Semaphore → Grant
+grant_of s = if has_free s then Now else Waits
+
+-- d is given a free token, or waits: last, since whoever asks is made to ask
+abbrev pub asked : ℕ → Semaphore → Semaphore
+asked d s = if has_free s then record s { given = s.given + 1 } else record s { waiting = insert_key nat_cmp s.waiting d }
+
+-- a token that is given back goes to the first that waits, who waits no longer; with nobody waiting it is free
+abbrev pub released_to : List ℕ → Semaphore → Semaphore
+released_to [] s = record s { given = s.given - 1 }
+released_to (first ∷ rest) s = record s { waiting = rest }
+
+-- a token is given back
+abbrev pub released : Semaphore → Semaphore
+released s = released_to s.waiting s
+
+-- whether d waits
+abbrev pub is_waiting : ℕ → List ℕ → Bool
+is_waiting d waiting = list_any (is_at (nat_cmp d)) waiting
+
+-- those that wait without d, wherever it stands
+abbrev pub without : ℕ → List ℕ → List ℕ
+without d waiting = remove_key (is_at (nat_cmp d)) waiting
+
+-- d waits no longer
+abbrev pub forgotten : ℕ → Semaphore → Semaphore
+forgotten d s = record s { waiting = without d s.waiting }
+
+-- d asks for a token, and is told whether it has one
+abbrev pub acquire : ℕ → State Semaphore → Told Grant Semaphore
+acquire d s = telling (entry.Acquire s.0.name d) (grant_of s.0) (asked d s.0) s
+
+-- what a giving back answers, and what it leaves
+abbrev pub Released : Type 0
+Released = Result (Option ℕ) ReleaseFault × State Semaphore
+
+-- a token that is given is given back, and whoever gets it is answered
+abbrev pub release_held : State Semaphore → Released
+release_held s = if fits s.1 (entry.Release s.0.name) then (Ok (first_waiting s.0), (released s.0, with_entry s.1 (entry.Release s.0.name))) else (Err Limit, s)
+
+-- a token is given back, where one is given
+abbrev pub release : State Semaphore → Released
+release s = if is_unheld s.0 then (Err NotHeld, s) else release_held s
+
+-- the journal's reason to stop, as one of a giving back
+abbrev pub release_fault : Stop → ReleaseFault
+release_fault stop.Limit = Limit
+release_fault stop.OutOfMemory = OutOfMemory
+
+-- a giving back did what the rule says, or memory was refused where the rule has no other reason to refuse it, and nothing changed
+abbrev pub ReleasesUnlessMemory : Result (Option ℕ) ReleaseFault → State Semaphore → State Semaphore → Released → Type 0
+ReleasesUnlessMemory (Ok answer) before after rule = (Ok answer, after) ≡ rule
+ReleasesUnlessMemory (Err NotHeld) before after rule = (Err NotHeld, after) ≡ rule
+ReleasesUnlessMemory (Err Limit) before after rule = (Err Limit, after) ≡ rule
+ReleasesUnlessMemory (Err OutOfMemory) before after rule = (rule.0 ≢ Err NotHeld) × (rule.0 ≢ Err Limit) × (after ≡ before)

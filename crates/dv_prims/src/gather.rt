@@ -1,0 +1,221 @@
+ghost use Rattle.std.specs.Prelude.{◌≡◌, [], ◌∷◌, IfOk, OnErr};
+
+use dv_value::boxed::Boxed;
+use dv_value::class_id::ClassId;
+use dv_value::failure::{Failure, Sub};
+use dv_value::items::Items;
+use dv_value::text::Text;
+use dv_value::value::Value;
+use std::alloc::{AllocError, Global};
+use std::marker::Model;
+use std::mem;
+
+/// How a DeferredList is fired, and what failures of its children become.
+#[derive(Clone, Copy, Debug, PartialEq, Eq)]
+pub struct Flags {
+    /// It is fired by the first child that succeeds (Twisted: `fireOnOneCallback`).
+    pub fire_on_one_callback: bool,
+    /// It is fired by the first child that fails (Twisted: `fireOnOneErrback`).
+    pub fire_on_one_errback: bool,
+    /// A child that failed goes on with null (Twisted: `consumeErrors`).
+    pub consume_errors: bool,
+}
+
+/// What follows when a child has come.
+#[derive(Debug, Drop)]
+pub struct Came {
+    /// What the list is to be fired with, if it is.
+    pub fire: Option<Value>,
+    /// What the child goes on with.
+    pub pass: Value,
+}
+
+/// What a DeferredList has of its children (Twisted: `DeferredList`).
+#[derive(Drop)]
+pub struct Gather {
+    alloc: Global,
+    flags: Flags,
+    places: Items<Value>,
+    /// How many children haven't come.
+    missing: usize,
+    fired: bool,
+}
+
+impl Model for Gather {
+    ghost use Rattle.std.specs.Prelude.{◌≡◌, false};
+    ghost use Rattle.std.specs.Coded.{codes};
+    ghost use Rattle.dv_value.specs.contracts.value.Value as value_contract;
+    ghost use Rattle.dv_prims.specs.DeferredList.{Gather as Seen, count_missing};
+
+    ghost Value = { Seen };
+
+    ghost coded = { Prim.hlevel (codes, value_contract.the_row.coded) };
+
+    ghost view = { λ g. record { flags = g.flags; places = g.places; fired = g.fired } };
+
+    ghost invariant = { λ g. g.missing ≡ count_missing g.places };
+}
+
+impl Gather {
+    ghost use Rattle.dv_prims.specs.DeferredList.{new_gather, without_places, due, due_by_failure, due_when_kept, came};
+
+    /// No child has come.
+    pub fn new(alloc: Global, children: usize, flags: Flags) -> Result<Gather, AllocError>
+        ensures { IfOk result (λ g. g ≡ new_gather children flags) }
+    {
+        Ok(Gather {
+            alloc,
+            flags,
+            places: nulls(alloc, children)?,
+            missing: children,
+            fired: false,
+        })
+    }
+
+    /// A child came with its value, which may be a failure: answers what the list is to be fired with, if it is, and what
+    /// the child goes on with. A list that is fired fires nothing more. Where memory is refused, nothing changes.
+    pub fn came(&mut self, index: u32, value: Value) -> Result<Came, AllocError>
+        ensures ok { IfOk result (λ answer. (answer, self.new) ≡ came index value self.old) }
+        ensures err { OnErr result (self.new ≡ self.old) }
+    {
+        let consumes = self.flags.consume_errors && value.is_fault();
+        let fire = self.due(index, &value)?;
+        Ok(Came {
+            fire,
+            pass: if consumes { Value::Null } else { value },
+        })
+    }
+
+    /// The list was fired, by whomever: it fires nothing more by itself, and keeps nothing.
+    pub fn fired(&mut self)
+        ensures { self.new ≡ without_places self.old }
+    {
+        self.places = Items::new(self.alloc);
+        self.missing = 0;
+        self.fired = true;
+    }
+
+    /// What the list is to be fired with, now that a child has come.
+    fn due(&mut self, index: u32, value: &Value) -> Result<Option<Value>, AllocError>
+        ensures ok { IfOk result (λ fire. (fire, self.new) ≡ due index value.now self.old) }
+        ensures err { OnErr result (self.new ≡ self.old) }
+    {
+        if self.fired {
+            return Ok(None);
+        }
+        if self.flags.fire_on_one_callback && !value.is_fault() {
+            let fire = first_success(self.alloc, index, value)?;
+            self.fired();
+            return Ok(Some(fire));
+        }
+        match value {
+            Value::Fault(failure) if self.flags.fire_on_one_errback => {
+                let fire = first_failure(self.alloc, index, failure.get())?;
+                self.fired();
+                Ok(Some(fire))
+            }
+            Value::Null
+            | Value::Bool(_)
+            | Value::Int(_)
+            | Value::Text(_)
+            | Value::List(_)
+            | Value::Fault(_) => self.keep(index, value),
+        }
+    }
+
+    /// What a child came with is kept, and the last one fires the list with all.
+    fn keep(&mut self, index: u32, value: &Value) -> Result<Option<Value>, AllocError>
+        ensures ok { IfOk result (λ fire. (fire, self.new) ≡ due_when_kept index value.now self.old) }
+        ensures err { OnErr result (self.new ≡ self.old) }
+    {
+        let kept = kept_of(self.alloc, value)?;
+        self.missing = put_in_place(&mut self.places, self.missing, index as usize, kept);
+        if self.missing > 0 {
+            return Ok(None);
+        }
+        let all = mem::replace(&mut self.places, Items::new(self.alloc));
+        self.fired = true;
+        Ok(Some(Value::List(all)))
+    }
+}
+
+ghost use Rattle.std.specs.Prelude.{false, replicate, slice_set};
+ghost use Rattle.dv_value.specs.declared.value.Value.TheVariants.{Null, List};
+ghost use Rattle.dv_prims.specs.DeferredList.{is_missing, missing_of, count_missing, kept_of, first_success, first_failure};
+
+/// Puts what is kept of a child into its place, and answers how many haven't come yet.
+#[tactic(auto, using(crate::proofs::GatherLemmas::set_nowhere))]
+fn put_in_place(places: &mut Items<Value>, missing: usize, place: usize, kept: Value) -> usize
+    requires counted { missing ≡ count_missing places.old }
+    requires kept { is_missing kept ≡ false }
+    ensures put { places.new ≡ slice_set places.old place kept }
+    ensures counted { result ≡ count_missing places.new }
+{
+    if place >= places.as_slice().len() {
+        return missing;
+    }
+    let before = places.replace(place, kept);
+    missing - missing_of(&before)
+}
+
+/// One for a place that no child has come to.
+fn missing_of(place: &Value) -> usize
+    ensures { result ≡ missing_of place.now }
+{
+    match place {
+        Value::Null => 1,
+        Value::Bool(_) | Value::Int(_) | Value::Text(_) | Value::List(_) | Value::Fault(_) => 0,
+    }
+}
+
+/// So many nulls.
+#[tactic(auto, using(crate::proofs::GatherLemmas::all_missing))]
+fn nulls(alloc: Global, number: usize) -> Result<Items<Value>, AllocError>
+    ensures items { IfOk result (λ items. items ≡ replicate number Null) }
+    ensures counted { IfOk result (λ items. count_missing items ≡ number) }
+{
+    let mut items = Items::new(alloc);
+    for _ in 0..number {
+        items.push(Value::Null)?;
+    }
+    Ok(items)
+}
+
+/// A list of two values.
+fn pair(alloc: Global, first: Value, second: Value) -> Result<Value, AllocError>
+    ensures { IfOk result (λ pair. pair ≡ List (first ∷ second ∷ [])) }
+{
+    let mut items = Items::new(alloc);
+    items.push(first)?;
+    items.push(second)?;
+    Ok(Value::List(items))
+}
+
+/// Whether a child succeeded, and with what.
+fn kept_of(alloc: Global, value: &Value) -> Result<Value, AllocError>
+    ensures { IfOk result (λ kept. kept ≡ kept_of value.now) }
+{
+    let copy = value.copy(alloc)?;
+    pair(alloc, Value::Bool(!value.is_fault()), copy)
+}
+
+/// The value of the first child that succeeded, and its place.
+fn first_success(alloc: Global, index: u32, value: &Value) -> Result<Value, AllocError>
+    ensures { IfOk result (λ fire. fire ≡ first_success index value.now) }
+{
+    let copy = value.copy(alloc)?;
+    pair(alloc, copy, Value::Int(i64::from(index)))
+}
+
+/// The failure of the first child that failed, with its place.
+fn first_failure(alloc: Global, index: u32, failure: &Failure) -> Result<Value, AllocError>
+    ensures { IfOk result (λ fire. fire ≡ first_failure index failure.now) }
+{
+    let failure = Boxed::new(alloc, failure.copy(alloc)?)?;
+    let first = Failure {
+        class: ClassId::FIRST_ERROR,
+        message: Text::from_string(String::new(alloc)),
+        sub: Some(Sub { index, failure }),
+    };
+    Ok(Value::Fault(Boxed::new(alloc, first)?))
+}

@@ -1,0 +1,9 @@
+//! The objects beside Deferreds: locks, semaphores, queues, and what a DeferredList has of its children.
+#![tactic(auto)]
+
+pub mod error;
+pub mod gather;
+pub mod laws;
+pub mod queue;
+pub mod semaphore;
+mod waiting;

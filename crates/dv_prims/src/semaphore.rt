@@ -1,0 +1,184 @@
+ghost use Rattle.std.specs.Prelude.{◌≡◌};
+
+use crate::error::ReleaseFault;
+use crate::waiting::join;
+use dv_journal::deferred_id::DeferredId;
+use dv_journal::entry::Entry;
+use dv_journal::error::Stop;
+use dv_journal::journal::Journal;
+use dv_value::text::Text;
+use std::alloc::Global;
+use std::collections::BTreeSet;
+use std::marker::Model;
+
+/// Whether a Deferred that asks for a token gets one.
+#[derive(Clone, Copy, Debug, PartialEq, Eq)]
+pub enum Grant {
+    /// It has one now.
+    Now,
+    /// It waits for one.
+    Waits,
+}
+
+/// A semaphore, or a lock, which is one of one token (Twisted: `DeferredSemaphore`, `DeferredLock`). Those that wait for a
+/// token are kept by their numbers: each of them is made to ask, so that is the order in which they came.
+#[derive(Drop)]
+pub struct Semaphore {
+    alloc: Global,
+    name: Text,
+    tokens: u32,
+    given: u32,
+    waiting: BTreeSet<u32>,
+}
+
+impl Model for Semaphore {
+    ghost use Rattle.std.specs.Prelude.{◌≡◌, ◌≤◌, ◌<◌, length};
+    ghost use Rattle.std.specs.Coded.{codes};
+    ghost use Rattle.dv_prims.specs.Tokens.{Semaphore as Seen};
+
+    ghost Value = { Seen };
+
+    ghost coded = { Prim.hlevel codes };
+
+    ghost view = { λ s. record { name = s.name; tokens = s.tokens; given = s.given; waiting = s.waiting.keys } };
+
+    ghost invariant = { λ s. (s.given ≤ s.tokens) × (0 < length s.waiting.keys → s.given ≡ s.tokens) };
+}
+
+impl Semaphore {
+    ghost use Rattle.dv_prims.specs.Laws.{GivesAllBeforeAnyWaits};
+    ghost use Rattle.dv_prims.specs.Telling.{UnlessMemory};
+    ghost use Rattle.dv_prims.specs.Tokens.{make_lock, make_semaphore, has_free, is_unheld, first_waiting, acquire, release, ReleasesUnlessMemory, is_waiting, forgotten};
+
+    /// Makes a lock, whose one token is free, and tells of it (Twisted: `DeferredLock`).
+    pub fn lock(alloc: Global, journal: &mut Journal, name: &str) -> Result<Semaphore, Stop>
+        ensures { UnlessMemory result journal.old journal.new (make_lock name.now journal.old) }
+    {
+        if !journal.fits_plain() {
+            return Err(Stop::Limit);
+        }
+        let kept = Text::of(alloc, name)?;
+        let shown = Text::of(alloc, name)?;
+        journal.write(Entry::Lock(shown))?;
+        Ok(all_free(alloc, kept, 1))
+    }
+
+    /// Makes a semaphore of so many tokens, which are free, and tells of it (Twisted: `DeferredSemaphore`).
+    pub fn new(
+        alloc: Global,
+        journal: &mut Journal,
+        name: &str,
+        tokens: u32,
+    ) -> Result<Semaphore, Stop>
+        ensures { UnlessMemory result journal.old journal.new (make_semaphore name.now tokens journal.old) }
+    {
+        if !journal.fits_plain() {
+            return Err(Stop::Limit);
+        }
+        let kept = Text::of(alloc, name)?;
+        let shown = Text::of(alloc, name)?;
+        journal.write(Entry::Semaphore(shown, tokens))?;
+        Ok(all_free(alloc, kept, tokens))
+    }
+
+    /// Its name.
+    pub fn name(&self) -> &str
+        ensures { result.now ≡ self.now.name }
+    {
+        self.name.as_str()
+    }
+
+    /// Whether a token is free.
+    pub fn has_free(&self) -> bool
+        ensures { result ≡ has_free self.now }
+    {
+        self.given < self.tokens
+    }
+
+    /// Whether no token is given.
+    pub fn is_unheld(&self) -> bool
+        ensures { result ≡ is_unheld self.now }
+    {
+        self.given == 0
+    }
+
+    /// Who is to get the next token that is given back; None where nobody waits.
+    pub fn first_waiting(&self) -> Option<DeferredId>
+        ensures { result ≡ first_waiting self.now }
+    {
+        match self.waiting.first() {
+            None => None,
+            Some(number) => Some(DeferredId::new(*number)),
+        }
+    }
+
+    /// No more tokens are given than there are, and somebody waits only where all of them are.
+    pub fn gives_all_before_any_waits(&self)
+        ensures { GivesAllBeforeAnyWaits self.now }
+    {
+        let _ = &self.alloc;
+    }
+
+    /// A Deferred asks for a token (Twisted: `DeferredSemaphore.acquire`, `DeferredLock.acquire`, which also fire it where
+    /// it gets one).
+    pub fn acquire(&mut self, journal: &mut Journal, id: DeferredId) -> Result<Grant, Stop>
+        ensures { UnlessMemory result (self.old, journal.old) (self.new, journal.new) (acquire id (self.old, journal.old)) }
+    {
+        if !journal.fits_plain() {
+            return Err(Stop::Limit);
+        }
+        let shown = self.name.copy(self.alloc)?;
+        if self.given < self.tokens {
+            journal.write(Entry::Acquire(shown, id))?;
+            self.given += 1;
+            return Ok(Grant::Now);
+        }
+        join(journal, Entry::Acquire(shown, id), &mut self.waiting, id)?;
+        Ok(Grant::Waits)
+    }
+
+    /// A token is given back: the first that waits gets it, and is answered, to be fired; with nobody waiting it is free
+    /// (Twisted: `DeferredSemaphore.release`, `DeferredLock.release`). Where none is given, nothing is told.
+    pub fn release(&mut self, journal: &mut Journal) -> Result<Option<DeferredId>, ReleaseFault>
+        ensures { ReleasesUnlessMemory result (self.old, journal.old) (self.new, journal.new) (release (self.old, journal.old)) }
+    {
+        if self.given == 0 {
+            return Err(ReleaseFault::NotHeld);
+        }
+        if !journal.fits_plain() {
+            return Err(ReleaseFault::Limit);
+        }
+        let shown = self.name.copy(self.alloc)?;
+        journal.write(Entry::Release(shown))?;
+        match self.waiting.pop_first() {
+            Some(number) => Ok(Some(DeferredId::new(number))),
+            None => {
+                self.given -= 1;
+                Ok(None)
+            }
+        }
+    }
+
+    /// A Deferred waits no longer, and whether it did is answered (Twisted: `DeferredSemaphore._cancelAcquire`).
+    pub fn forget(&mut self, id: DeferredId) -> bool
+        ensures waited { result ≡ is_waiting id self.old.waiting }
+        ensures rest { self.new ≡ forgotten id self.old }
+    {
+        self.waiting.remove(&id.number())
+    }
+}
+
+ghost use Rattle.dv_prims.specs.Tokens.{new_semaphore};
+
+/// A semaphore of which no token is given.
+fn all_free(alloc: Global, name: Text, tokens: u32) -> Semaphore
+    ensures { result ≡ new_semaphore name tokens }
+{
+    Semaphore {
+        alloc,
+        name,
+        tokens,
+        given: 0,
+        waiting: BTreeSet::new(alloc),
+    }
+}
