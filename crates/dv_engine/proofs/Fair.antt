@@ -1,30 +1,39 @@
 -- Each rule leads on by steps of the world, and leaves less to do, or less of each frame.
-use Rattle.std.proofs.Common.{ℕ, ◌+◌, ◌<◌, ◌≤◌, Bool, true, false, if◌then◌else◌, List, [], ◌∷◌, ◌++◌, Option, None, Some, arith}
+use Rattle.std.proofs.Common.{ℕ, ◌+◌, ◌<◌, ◌≤◌, ◌≡◌, Bool, true, false, if◌then◌else◌, List, [], ◌∷◌, ◌++◌, Option, None, Some, length, slice_get, refl, arith}
+use Rattle.std.specs.Option.{option_map}
 use Rattle.dv_value.specs.declared.failure.Failure.{Failure}
-use Rattle.dv_value.specs.declared.value.Value.{Value, Null, Fault}
+use Rattle.dv_value.specs.declared.value.Value.{Value, Null, Fault, Text}
+use Rattle.dv_journal.specs.declared.entry.Entry.{Entry}
+use Rattle.dv_journal.specs.declared.entry.Entry.TheVariants as entry
+use Rattle.dv_prims.specs.Tokens.{Semaphore, has_free, is_unheld, first_waiting}
 use Rattle.dv_script.specs.declared.action.Action.{Action, out-Action}
 use Rattle.dv_script.specs.declared.body.End.{End}
 use Rattle.dv_store.specs.Laws.{used}
 use Rattle.dv_store.specs.declared.store.Step.{Step}
 use Rattle.dv_store.specs.declared.store.Step.TheVariants.{Nothing, Passed, Run, Handed}
-use Rattle.dv_engine.specs.Acting.{with_deferred, with_named, begun}
+use Rattle.dv_engine.specs.Acting.{with_object, with_named, with_lock, begun}
 use Rattle.dv_engine.specs.Cancelling.{cancel_begun, canceller_ended}
 use Rattle.dv_engine.specs.Deed.{deed_of}
 use Rattle.dv_engine.specs.declared.deed.Deed.{Deed}
-use Rattle.dv_engine.specs.declared.deed.Deed.TheVariants.{Idle, NoteOf, Make, FireWith, AddTo, ChainTo, PauseOf, UnpauseOf, CancelOf}
+use Rattle.dv_engine.specs.declared.deed.Deed.TheVariants.{Idle, NoteOf, Make, FireWith, AddTo, ChainTo, PauseOf, UnpauseOf, CancelOf, MakeLock, MakeSemaphore, AcquireOf, ReleaseOf, MaybeOf}
+use Rattle.dv_engine.specs.Locking.{granted, asked_of, released_of}
 use Rattle.dv_engine.specs.Meaning.{told_of, turned}
+use Rattle.dv_engine.specs.Maybe.{made_with, maybe_ended}
 use Rattle.dv_engine.specs.Performing.{gone_on, rest_turned}
 use Rattle.dv_engine.specs.Settling.{place, side_begun, settled}
 use Rattle.dv_engine.specs.Turn.{Turned, ◌over◌, done, settling, settle_next}
 use Rattle.dv_engine.specs.declared.frame.Frame.{Frame}
 use Rattle.dv_engine.specs.declared.frame.Frame.TheVariants as frame
 use Rattle.dv_engine.specs.declared.frame.Rest.{Rest}
-use Rattle.dv_engine.proofs.Budget.{Spares, budget, spares, step_took, reaches, cancel_took}
+use Rattle.dv_engine.proofs.Budget.{Spares, budget, spares, step_took, reaches, cancel_took, aside_took}
 use Rattle.dv_engine.proofs.Lasting.{Comes}
-use Rattle.dv_engine.proofs.Sizes.{actions_size, action_counts}
+use Rattle.dv_engine.proofs.Sizes.{actions_size, body_size_out, deed_size, deed_fits}
 use Rattle.dv_world.specs.Ending.{failed_with}
+use Rattle.dv_world.specs.Aside.{change_of, nothing}
+use Rattle.dv_world.specs.Names.{number_of}
 use Rattle.dv_world.specs.Pair.{chain}
-use Rattle.dv_world.specs.World.{World, state_of, deferred_at, step, append, fire, is_unfired, cancelled, cancel, pause, unpause, value_of}
+use Rattle.dv_world.specs.World.{World, state_of, deferred_at, step, append, fire, is_unfired, cancelled, cancel, pause, unpause, make, aside, arrange, lock_told, with_new_lock, ask, release_found, release, forget, Objects, value_of}
+use Rattle.dv_world.specs.declared.canceller.Canceller.TheVariants.{Body, Token}
 use Rattle.dv_world.specs.declared.follow.Follow.{Follow}
 use Rattle.dv_world.specs.declared.follow.Follow.TheVariants as follow
 use Rattle.dv_world.specs.declared.pair.Pair.{Pair}
@@ -48,6 +57,7 @@ rank (frame.Settle d) = 0
 rank (frame.Place d) = 1
 rank (frame.Rest rest) = 1 + actions_size rest.actions
 rank (frame.Canceller d) = 1
+rank (frame.Maybe name) = 1
 rank frame.Tell = 0
 
 -- so it is with each frame
@@ -92,12 +102,15 @@ if_fair : (m : ℕ) (b : Bool) (w : World) (t u : Turned) → Fair w m t → Fai
 if_fair m true w t u h k = h
 if_fair m false w t u h k = k
 
-found_fair : (m : ℕ) (o : Option ℕ) (name : List ℕ) (w : World) (next : ℕ → Turned) → ((d : ℕ) → Fair w m (next d)) → Fair w m (with_deferred o name w next)
+found_fair : (m : ℕ) (o : Option ℕ) (name : List ℕ) (w : World) (next : ℕ → Turned) → ((d : ℕ) → Fair w m (next d)) → Fair w m (with_object o name w next)
 found_fair m None name w next h = now_fair m _ w
 found_fair m (Some d) name w next h = h d
 
 with_fair : (m : ℕ) (itself : Option ℕ) (name : List ℕ) (w : World) (next : ℕ → Turned) → ((d : ℕ) → Fair w m (next d)) → Fair w m (with_named itself name w next)
 with_fair m itself name w next h = found_fair m (deferred_at itself name w) name w next h
+
+lock_fair : (m : ℕ) (name : List ℕ) (w : World) (next : ℕ → Turned) → ((l : ℕ) → Fair w m (next l)) → Fair w m (with_lock name w next)
+lock_fair m name w next h = found_fair m (number_of name w.objects.locks) name w next h
 
 each_append : (P : Frame → Type 0) (fs gs : List Frame) → Each P fs → Each P gs → Each P (fs ++ gs)
 each_append P [] gs h k = k
@@ -113,6 +126,27 @@ over_fair m w t fs k h = record { comes = h.comes; falls = over_falls _ m t fs k
 -- a use of an item, and a cancel that reaches somebody, pay for whatever follows
 paid_fair : (m n : ℕ) (w u : World) (t : Turned) → Comes w u → can u + n ≤ can w → 1 ≤ n → Comes u t.2 → Fair w m t
 paid_fair m n w u t c h q k = record { comes = join w u t.2 c k; falls = paid (omega (arith, h, q, pays u t.2 k)) }
+
+-- what follows on steps
+then_falls : (n k m : ℕ) (t : Turned) → n ≤ k → Falls n m t → Falls k m t
+then_falls n k m t h (paid p) = paid (omega (arith, h, p))
+then_falls n k m t h (lighter p) = lighter p
+
+then_fair : (m : ℕ) (w u : World) (t : Turned) → Comes w u → Fair u m t → Fair w m t
+then_fair m w u t c h = record { comes = join w u t.2 c h.comes; falls = then_falls (can u) (can w) m t (pays w u c) h.falls }
+
+-- steps beside the Deferreds
+by_aside : (e : Entry) (change : Objects → Objects) (w : World) → change_of e ≡ nothing → Comes w (aside e change w)
+by_aside e change w a = record { keeps = λ R l. l.by_aside e change w a }
+
+by_lock : (l : ℕ) (e : Semaphore → Entry) (change : Semaphore → Semaphore) (o : Option Semaphore) (w : World) → ((s : Semaphore) → change_of (e s) ≡ nothing) → Comes w (lock_told l e change o w)
+by_lock l e change None w a = same w
+by_lock l e change (Some s) w a = by_aside (e s) _ w (a s)
+
+-- unless the run stops by it, an entry aside pays for whatever follows
+told_fair : (m : ℕ) (e : Entry) (change : Objects → Objects) (w : World) (b : Bool) (t : Turned) → change_of e ≡ nothing → (aside e change w).stopped ≡ b → Comes (aside e change w) t.2 → Fair w m (if b then done (aside e change w) else t)
+told_fair m e change w true t a x c = done_fair m w _ (by_aside e change w a)
+told_fair m e change w false t a x c = paid_fair m 1 w (aside e change w) t (by_aside e change w a) (aside_took e change w x) (omega arith) c
 
 -- the rules
 by_fire : (d : ℕ) (value : Value) (w : World) → Comes w (fire d value w).1
@@ -134,28 +168,58 @@ cancel_fair m w0 reached.Nothing w c h = done_fair m w0 w c
 cancel_fair m w0 (reached.Fire d) w c h = paid_fair m 1 w0 w (cancel_begun (reached.Fire d) w) c h (omega arith) (record { keeps = λ R l. l.by_fire_guarded d w })
 cancel_fair m w0 (reached.Run d canceller) w c h = paid_fair m 1 w0 w (cancel_begun (reached.Run d canceller) w) c h (omega arith) (same w)
 
+cancel_fair m w0 (reached.Withdraw d l) w c h =
+    let free = forget l d w in
+    let arranged : Comes w free = record { keeps = λ R k. k.by_arrange _ w } in
+    paid_fair m 1 w0 w (cancel_begun (reached.Withdraw d l) w) c h (omega arith) (join w free _ arranged (next_fair 1 d (fire d cancelled free).0 free (fire d cancelled free).1 (omega arith) (by_fire d cancelled free)).comes)
+
+granted_fair : (m : ℕ) (o : Option ℕ) (name : List ℕ) (w : World) → 0 < m → Fair w m (granted o name w)
+granted_fair m None name w q = now_fair m Done w
+granted_fair m (Some d) name w q = next_fair m d (fire d (Text name) w).0 w (fire d (Text name) w).1 q (by_fire d (Text name) w)
+
+asked_fair : (m l d : ℕ) (o : Option Semaphore) (w : World) → 0 < m → Fair w m (asked_of l d o w)
+asked_fair m l d None w q = now_fair m Done w
+asked_fair m l d (Some s) w q = then_fair m w (ask l d w) _ (by_lock l _ _ _ w (λ s. refl)) (granted_fair m _ s.name (ask l d w) q)
+
+either_comes : (b : Bool) (w u : World) → Comes w u → Comes w (if b then w else u)
+either_comes true w u c = same w
+either_comes false w u c = c
+
+release_comes : (l : ℕ) (o : Option Semaphore) (w : World) → Comes w (release_found l o w)
+release_comes l None w = same w
+release_comes l (Some s) w = either_comes (is_unheld s) w _ (by_aside (entry.Release s.name) _ w refl)
+
+released_fair : (m l : ℕ) (o : Option Semaphore) (w : World) → 0 < m → Fair w m (released_of l o w)
+released_fair m l None w q = now_fair m Done w
+released_fair m l (Some s) w q = if_fair m (is_unheld s) w _ _ (now_fair m _ w) (then_fair m w (release l w) _ (release_comes l (slice_get w.objects.semaphores l) w) (granted_fair m (first_waiting s) s.name (release l w) q))
+
 canceller_fair : (m d : ℕ) (failure : Option Failure) (w : World) → 0 < m → Fair w m (canceller_ended d failure w)
 canceller_fair m d (Some failure) w q = now_fair m _ w
 canceller_fair m d None w q = if_fair m (is_unfired d w) w _ _ (next_fair m d (fire d cancelled w).0 w (fire d cancelled w).1 q (by_fire d cancelled w)) (now_fair m Done w)
 
-begun_fair : (m : ℕ) (itself : Option ℕ) (deed : Deed) (w : World) → 0 < m → Fair w m (begun itself deed w)
+begun_fair : (m : ℕ) (itself : Option ℕ) (deed : Deed) (w : World) → deed_size deed < m → Fair w m (begun itself deed w)
 begun_fair m itself Idle w q = now_fair m Done w
-begun_fair m itself (NoteOf text) w q = done_fair m w _ (record { keeps = λ R l. l.by_note text w })
-begun_fair m itself (Make name canceller) w q = done_fair m w _ (record { keeps = λ R l. l.by_make name canceller w })
+begun_fair m itself (NoteOf text) w q = done_fair m w _ (record { keeps = λ R l. l.by_aside (entry.Note text) _ w refl })
+begun_fair m itself (Make name canceller) w q = done_fair m w _ (record { keeps = λ R l. l.by_make name (option_map Body canceller) w })
 begun_fair m itself (FireWith name value) w q = with_fair m itself name w _ (λ d. next_fair m d (fire d value w).0 w (fire d value w).1 q (by_fire d value w))
 begun_fair m itself (AddTo name pair) w q = with_fair m itself name w _ (λ d. settling_fair m d w (append d pair w) q (record { keeps = λ R l. l.by_append d pair w }))
 begun_fair m itself (ChainTo name next) w q = with_fair m itself name w _ (λ d. with_fair m itself next w _ (λ c. settling_fair m d w (append d (chain c) w) q (record { keeps = λ R l. l.by_append d (chain c) w })))
 begun_fair m itself (PauseOf name) w q = with_fair m itself name w _ (λ d. done_fair m w (pause d w) (record { keeps = λ R l. l.by_pause d w }))
 begun_fair m itself (UnpauseOf name) w q = with_fair m itself name w _ (λ d. next_fair m d (unpause d w).0 w (unpause d w).1 q (record { keeps = λ R l. l.by_unpause d w }))
 begun_fair m itself (CancelOf name) w q = with_fair m itself name w _ (λ d. cancel_fair m w (cancel d w).0 (cancel d w).1 (record { keeps = λ R l. l.by_cancel d w }) (cancel_took d w))
+begun_fair m itself (MakeLock name) w q = done_fair m w _ (by_aside (entry.Lock name) _ w refl)
+begun_fair m itself (MakeSemaphore name tokens) w q = done_fair m w _ (by_aside (entry.Semaphore name tokens) _ w refl)
+begun_fair m itself (AcquireOf name lock) w q = lock_fair m lock w _ (λ l. let made = make name (Some (Token l)) w in then_fair m w made _ (record { keeps = λ R k. k.by_make name (Some (Token l)) w }) (asked_fair m l (length w.records) (slice_get made.objects.semaphores l) made q))
+begun_fair m itself (ReleaseOf lock) w q = lock_fair m lock w _ (λ l. released_fair m l (slice_get w.objects.semaphores l) w q)
+begun_fair m itself (MaybeOf name body) w q = record { comes = same w; falls = lighter (omega (arith, q, body_size_out body), (omega (arith, q, body_size_out body), tt)) }
 
 pub begun_comes : (itself : Option ℕ) (deed : Deed) (w : World) → Comes w (begun itself deed w).2
-begun_comes itself deed w = (begun_fair 1 itself deed w (omega arith)).comes
+begun_comes itself deed w = (begun_fair (1 + deed_size deed) itself deed w (omega arith)).comes
 
 gone_fair : (itself : Option ℕ) (actions : List Action) (end : End) (input : Value) (w : World) → Fair w (1 + actions_size actions) (gone_on itself actions end input w)
 gone_fair itself [] end input w = now_fair _ _ w
 gone_fair itself (action ∷ actions) end input w =
-    over_fair _ w (begun itself (deed_of (out-Action action)) w) _ (omega (arith, action_counts action), tt) (begun_fair _ itself (deed_of (out-Action action)) w (omega arith))
+    over_fair _ w (begun itself (deed_of (out-Action action)) w) _ (omega (arith, deed_fits action), tt) (begun_fair _ itself (deed_of (out-Action action)) w (omega (arith, deed_fits action)))
 
 rest_fair : (rest : Rest) (o : Performed) (w : World) → Fair w (1 + actions_size rest.actions) (rest_turned rest o w)
 rest_fair rest Done w = gone_fair rest.itself rest.actions rest.end rest.input w
@@ -172,12 +236,25 @@ place_comes d (Awaits e) w = record { keeps = λ R l. l.by_put_deferred d e w }
 told_comes : (o : Performed) (w : World) → Comes w (told_of o w)
 told_comes Done w = same w
 told_comes (Gave value) w = same w
-told_comes (Raised failure) w = record { keeps = λ R l. l.by_unhandled failure w }
+told_comes (Raised failure) w = record { keeps = λ R l. l.by_aside (entry.Unhandled failure) _ w refl }
 told_comes (Awaits e) w = same w
+
+made_fair : (m : ℕ) (name : List ℕ) (value : Value) (w : World) → 0 < m → Fair w m (made_with name value w)
+made_fair m name value w q =
+    let d = length w.records in
+    let made = make name None w in
+    then_fair m w made _ (record { keeps = λ R l. l.by_make name None w }) (next_fair m d (fire d value made).0 made (fire d value made).1 q (by_fire d value made))
+
+maybe_fair : (name : List ℕ) (o : Performed) (w : World) → Fair w 1 (maybe_ended name o w)
+maybe_fair name Done w = made_fair 1 name Null w (omega arith)
+maybe_fair name (Gave value) w = made_fair 1 name value w (omega arith)
+maybe_fair name (Raised failure) w = made_fair 1 name (Fault failure) w (omega arith)
+maybe_fair name (Awaits e) w = done_fair 1 w _ (by_aside (entry.Name e (Some name)) _ w refl)
 
 pub turned_fair : (f : Frame) (o : Performed) (w : World) → Fair w (rank f) (turned f o w)
 turned_fair (frame.Settle d) o w = settled_fair 0 d w (step d w).0 (step d w).1 (record { keeps = λ R l. l.by_step d w }) (step_took d w)
 turned_fair (frame.Place d) o w = settling_fair 1 d w (place d o w) (omega arith) (place_comes d o w)
 turned_fair (frame.Rest rest) o w = rest_fair rest o w
 turned_fair (frame.Canceller d) o w = canceller_fair 1 d (failed_with o) w (omega arith)
+turned_fair (frame.Maybe name) o w = maybe_fair name o w
 turned_fair frame.Tell o w = done_fair 0 w _ (told_comes o w)

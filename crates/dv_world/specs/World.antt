@@ -1,15 +1,17 @@
 -- The world of a run: its Deferreds, their names, the classes of failures and the journal, and one step of each kind.
-use Rattle.std.specs.Prelude.{ℕ, Bool, true, false, not, if◌then◌else◌, List, [], Option, None, Some, Result, Ok, Err, slice_get, bytes_eq, codes}
+use Rattle.std.specs.Prelude.{ℕ, Bool, true, false, not, if◌then◌else◌, List, [], ◌∷◌, ◌++◌, length, Option, None, Some, Result, Ok, Err, slice_get, slice_set, bytes_eq, codes}
 use Rattle.std.specs.Option.{option_map_or}
 use Rattle.dv_value.specs.Builtin.{name_error, assertion_error, already_called_error, cancelled_error}
 use Rattle.dv_value.specs.Failure.{plain_failure}
 use Rattle.dv_value.specs.declared.classes.Class.{Class}
+use Rattle.dv_value.specs.declared.failure.Failure.{Failure}
 use Rattle.dv_value.specs.declared.value.Value.{Value, Null, Fault}
 use Rattle.dv_journal.specs.Journal.{Written, empty, fits, with_entry}
 use Rattle.dv_journal.specs.declared.entry.Entry.{Entry}
 use Rattle.dv_journal.specs.declared.entry.Entry.TheVariants as entry
 use Rattle.dv_journal.specs.declared.error.Stop.{Stop}
 use Rattle.dv_script.specs.declared.body.Body.{Body}
+use Rattle.dv_prims.specs.Tokens.{Semaphore, new_semaphore, is_unheld, asked, released, forgotten}
 use Rattle.dv_store.specs.Callbacks as callbacks
 use Rattle.dv_store.specs.Cancelling.{guard, end_of_chain}
 use Rattle.dv_store.specs.Chaining as chaining
@@ -28,6 +30,8 @@ use Rattle.dv_store.specs.declared.store.Step.{Step}
 use Rattle.dv_store.specs.declared.store.Step.TheVariants.{Nothing}
 use Rattle.dv_world.specs.Names.{Names, number_of, with_name}
 use Rattle.dv_world.specs.Pair.{passes}
+use Rattle.dv_world.specs.declared.canceller.Canceller.{Canceller}
+use Rattle.dv_world.specs.declared.canceller.Canceller.TheVariants as canceller
 use Rattle.dv_world.specs.declared.follow.Follow.{Follow}
 use Rattle.dv_world.specs.declared.follow.Follow.TheVariants as follow
 use Rattle.dv_world.specs.declared.pair.Pair.{Pair}
@@ -38,26 +42,36 @@ use Rattle.dv_world.specs.declared.reached.Reached.TheVariants as reached
 
 -- the records of all Deferreds, in order of making
 abbrev pub Records : Type 0
-Records = List (Record Pair Body)
+Records = List (Record Pair Canceller)
+
+-- what stands beside the Deferreds: their names, and locks and semaphores with theirs
+pub record Objects : Type 0 where
+  pub names : Names ℕ
+  pub locks : Names ℕ
+  pub semaphores : List Semaphore
+
+-- nothing stands there at first
+abbrev pub no_objects : Objects
+no_objects = record { names = []; locks = []; semaphores = [] }
 
 -- what a run has made so far and what it has told; once an entry didn't fit it has stopped
 pub record World : Type 0 where
   pub classes : List Class
-  pub names : Names
+  pub objects : Objects
   pub records : Records
   pub journal : Written
   pub stopped : Bool
 
 -- nothing is made and nothing is told at first
 abbrev pub first_world : List Class → ℕ → World
-first_world classes limit = record { classes = classes; names = []; records = []; journal = empty limit; stopped = false }
+first_world classes limit = record { classes = classes; objects = no_objects; records = []; journal = empty limit; stopped = false }
 
 -- the Deferreds and the journal
-abbrev pub state_of : World → State Pair Body
+abbrev pub state_of : World → State Pair Canceller
 state_of w = (w.records, w.journal)
 
 -- these Deferreds and this journal
-abbrev pub with_state : State Pair Body → World → World
+abbrev pub with_state : State Pair Canceller → World → World
 with_state s w = record w { records = s.0; journal = s.1 }
 
 -- stopped, and otherwise as before
@@ -70,15 +84,15 @@ value_of d w = option_map_or (λ r. r.value) (slice_get w.records d) Null
 
 -- the Deferred that a name stands for; `@` is the one that is given, where one is
 abbrev pub deferred_at : Option ℕ → List ℕ → World → Option ℕ
-deferred_at self name w = if bytes_eq name (codes "@") then self else number_of name w.names
+deferred_at self name w = if bytes_eq name (codes "@") then self else number_of name w.objects.names
 
 -- a change that was told is made; one that can't be told stops the run
-abbrev pub after : {A : Type 0} → Result A Stop → State Pair Body → World → World
+abbrev pub after : {A : Type 0} → Result A Stop → State Pair Canceller → World → World
 after (Ok done) s w = with_state s w
 after (Err stop) s w = with_stop (with_state s w)
 
 -- the move that was made; one that can't be told stops the run, and is none
-abbrev pub moved : Result (Step Pair) Stop → State Pair Body → World → Step Pair × World
+abbrev pub moved : Result (Step Pair) Stop → State Pair Canceller → World → Step Pair × World
 moved (Ok move) s w = (move, with_state s w)
 moved (Err stop) s w = (Nothing, with_stop (with_state s w))
 
@@ -112,19 +126,23 @@ pause d w =
     if w.stopped then w else
     let told = pausing.pause d (state_of w) in after told.0 told.1 w
 
+-- a name of a Deferred is bound
+abbrev pub naming : List ℕ → ℕ → Objects → Objects
+naming name d objects = record objects { names = with_name name d objects.names }
+
 -- a Deferred that is made is what its name is bound to
-abbrev pub named : List ℕ → Result ℕ Stop → State Pair Body → World → World
-named name (Ok d) s w = record (with_state s w) { names = with_name name d w.names }
+abbrev pub named : List ℕ → Result ℕ Stop → State Pair Canceller → World → World
+named name (Ok d) s w = record (with_state s w) { objects = naming name d w.objects }
 named name (Err stop) s w = with_stop (with_state s w)
 
 -- a Deferred is made, which may have a canceller, and its name is bound to it
-unfoldable pub make : List ℕ → Option Body → World → World
+unfoldable pub make : List ℕ → Option Canceller → World → World
 make name canceller w =
     if w.stopped then w else
     let told = records.make (Some name) canceller (state_of w) in named name told.0 told.1 w
 
 -- a further firing raises, unless it is swallowed; one that can't be told stops the run
-abbrev pub fired : Result Fired StoreFault → State Pair Body → World → Follow × World
+abbrev pub fired : Result Fired StoreFault → State Pair Canceller → World → Follow × World
 fired (Ok Set) s w = (follow.Settle, with_state s w)
 fired (Ok Swallowed) s w = (follow.Nothing, with_state s w)
 fired (Err firing_fault.AlreadyCalled) s w = (follow.Raise (plain_failure already_called_error []), with_state s w)
@@ -142,7 +160,7 @@ abbrev pub cancelled : Value
 cancelled = Fault (plain_failure cancelled_error [])
 
 -- once its firing is told, the next one is swallowed; a firing that can't be told stops the run
-abbrev pub guarded : ℕ → Result Fired StoreFault → State Pair Body → World → World
+abbrev pub guarded : ℕ → Result Fired StoreFault → State Pair Canceller → World → World
 guarded d (Ok Set) s w = with_state (guard d s.0, s.1) w
 guarded d (Ok Swallowed) s w = with_state s w
 guarded d (Err firing_fault.AlreadyCalled) s w = with_state s w
@@ -160,7 +178,7 @@ abbrev pub is_unfired : ℕ → World → Bool
 is_unfired d w = option_map_or (λ r. not r.fired) (slice_get w.records d) false
 
 -- an unpausing of what isn't paused raises; one that can't be told stops the run
-abbrev pub unpaused : Result Unit UnpauseFault → State Pair Body → World → Follow × World
+abbrev pub unpaused : Result Unit UnpauseFault → State Pair Canceller → World → Follow × World
 unpaused (Ok done) s w = (follow.Settle, with_state s w)
 unpaused (Err unpause_fault.NotPaused) s w = (follow.Raise (plain_failure assertion_error (codes "not paused")), with_state s w)
 unpaused (Err unpause_fault.Limit) s w = (follow.Nothing, with_stop (with_state s w))
@@ -172,13 +190,14 @@ unpause d w =
     if w.stopped then (follow.Nothing, w) else
     let told = pausing.unpause d (state_of w) in unpaused told.0 told.1 w
 
--- an unfired Deferred is to be fired, or its canceller is to run
-abbrev pub unfired_reached : ℕ → Option Body → Reached
+-- an unfired Deferred is to be fired, after its canceller has run, or after it was taken out of where it waits
+abbrev pub unfired_reached : ℕ → Option Canceller → Reached
 unfired_reached d None = reached.Fire d
-unfired_reached d (Some canceller) = reached.Run d canceller
+unfired_reached d (Some (canceller.Body body)) = reached.Run d body
+unfired_reached d (Some (canceller.Token l)) = reached.Withdraw d l
 
 -- nothing happens to one that is fired
-abbrev pub record_reached : ℕ → Option (Record Pair Body) → Reached
+abbrev pub record_reached : ℕ → Option (Record Pair Canceller) → Reached
 record_reached d None = reached.Nothing
 record_reached d (Some r) = if r.fired then reached.Nothing else unfired_reached d r.canceller
 
@@ -199,11 +218,62 @@ cancel d w =
     then (reached_from d w.records, record w { journal = with_entry w.journal (entry.Cancel d) })
     else (reached.Nothing, with_stop w)
 
--- an entry that tells of no Deferred's change
-unfoldable pub tell : Entry → World → World
-tell entry w =
+-- an entry that tells of no Deferred's change is written, and what stands beside the Deferreds changes; one that doesn't fit stops the run
+unfoldable pub aside : Entry → (Objects → Objects) → World → World
+aside entry change w =
     if w.stopped then w else
-    if fits w.journal entry then record w { journal = with_entry w.journal entry } else with_stop w
+    if fits w.journal entry then record w { objects = change w.objects; journal = with_entry w.journal entry } else with_stop w
+
+-- what stands beside the Deferreds changes, which isn't told
+unfoldable pub arrange : (Objects → Objects) → World → World
+arrange change w = if w.stopped then w else record w { objects = change w.objects }
+
+-- an entry that tells of no change
+abbrev pub tell : Entry → World → World
+tell entry w = aside entry (λ objects. objects) w
+
+-- a lock is added, and its name is bound to it
+abbrev pub with_added_lock : List ℕ → Semaphore → Objects → Objects
+with_added_lock name s objects = record objects { locks = with_name name (length objects.semaphores) objects.locks; semaphores = objects.semaphores ++ s ∷ [] }
+
+-- a lock is made, of which no token is given
+abbrev pub with_new_lock : List ℕ → ℕ → Objects → Objects
+with_new_lock name tokens objects = with_added_lock name (new_semaphore name tokens) objects
+
+-- a lock is now this
+abbrev pub with_lock : ℕ → Semaphore → Objects → Objects
+with_lock l s objects = record objects { semaphores = slice_set objects.semaphores l s }
+
+-- the lock that is found changes, which its entry tells; an id of no lock changes nothing
+abbrev pub lock_told : ℕ → (Semaphore → Entry) → (Semaphore → Semaphore) → Option Semaphore → World → World
+lock_told l entry change None w = w
+lock_told l entry change (Some s) w = aside (entry s) (with_lock l (change s)) w
+
+-- the lock that is found changes, which isn't told; an id of no lock changes nothing
+abbrev pub lock_changed : ℕ → (Semaphore → Semaphore) → Option Semaphore → Objects → Objects
+lock_changed l change None objects = objects
+lock_changed l change (Some s) objects = with_lock l (change s) objects
+
+-- d asks a lock for a token
+abbrev pub ask : ℕ → ℕ → World → World
+ask l d w = lock_told l (λ s. entry.Acquire s.name d) (asked d) (slice_get w.objects.semaphores l) w
+
+-- a token is given back to the lock that is found, where one is given
+abbrev pub release_found : ℕ → Option Semaphore → World → World
+release_found l None w = w
+release_found l (Some s) w = if is_unheld s then w else aside (entry.Release s.name) (with_lock l (released s)) w
+
+-- a token is given back to a lock
+abbrev pub release : ℕ → World → World
+release l w = release_found l (slice_get w.objects.semaphores l) w
+
+-- d waits for a token of a lock no longer
+abbrev pub forget : ℕ → ℕ → World → World
+forget l d w = arrange (λ objects. lock_changed l (forgotten d) (slice_get objects.semaphores l) objects) w
+
+-- what the giving back of a token raises where none is given
+abbrev pub not_held : Failure
+not_held = plain_failure assertion_error (codes "not held")
 
 -- what a name that isn't bound raises
 abbrev pub unbound : List ℕ → Performed

@@ -1,8 +1,10 @@
-ghost use Rattle.std.specs.Prelude.{◌≡◌, ◌<◌, ◌^◌, ◌-◌, length, IfOk, OnOk, OnErr};
+ghost use Rattle.std.specs.Prelude.{◌≡◌, ◌<◌, ◌^◌, ◌-◌, Some, length, slice_get, IfOk, OnOk, OnErr};
 ghost use Rattle.dv_value.specs.Failure.{plain_failure};
-ghost use Rattle.dv_world.specs.World.{cancelled, unbound};
+ghost use Rattle.dv_world.specs.World.{cancelled, unbound, not_held};
+ghost use Rattle.dv_world.specs.declared.performed.Performed.TheVariants.{Raised};
 ghost use Rattle.dv_world.specs.declared.follow.Follow.TheVariants.{Raise};
 
+use crate::canceller::Canceller;
 use crate::fault::{failure, fault};
 use crate::follow::Follow;
 use crate::lent::BodyRef;
@@ -14,6 +16,8 @@ use dv_journal::deferred_id::DeferredId;
 use dv_journal::entry::Entry;
 use dv_journal::error::Stop;
 use dv_journal::journal::Journal;
+use dv_prims::lock_id::LockId;
+use dv_prims::semaphore::Semaphore;
 use dv_store::error::{StoreFault, UnpauseFault};
 use dv_store::record::Record;
 use dv_store::store::{Fired, Step, Store};
@@ -33,8 +37,10 @@ use std::marker::Model;
 pub struct World<'s> {
     alloc: Global,
     classes: &'s Classes,
-    names: Names,
-    store: Store<Pair<'s>, BodyRef<'s>>,
+    names: Names<DeferredId>,
+    locks: Names<LockId>,
+    semaphores: Vec<Semaphore>,
+    store: Store<Pair<'s>, Canceller<'s>>,
     journal: Journal,
     stopped: bool,
 }
@@ -51,12 +57,15 @@ impl<'s> Model for World<'s> {
 
     ghost coded = { Prim.hlevel (codes, body_contract.the_row.coded, class_contract.the_row.coded, failure_contract.the_row.coded, value_contract.the_row.coded) };
 
-    ghost view = { λ w. record { classes = w.classes.now; names = w.names; records = w.store; journal = w.journal; stopped = w.stopped } };
+    ghost view = { λ w. record { classes = w.classes.now; objects = record { names = w.names; locks = w.locks; semaphores = w.semaphores.items }; records = w.store; journal = w.journal; stopped = w.stopped } };
 }
 
 impl<'s> World<'s> {
     ghost use Rattle.dv_store.specs.Pausing.{pauses_of};
-    ghost use Rattle.dv_world.specs.World.{first_world, value_of, deferred_at, step, put, put_deferred, append, make, fire, fire_guarded, is_unfired, reached_from, cancel, pause, unpause, tell, with_stop};
+    ghost use Rattle.dv_world.specs.World.{first_world, value_of, deferred_at, step, put, put_deferred, append, make, fire, fire_guarded, is_unfired, reached_from, cancel, pause, unpause, aside, tell, naming, with_new_lock, with_added_lock, ask, release, forget, with_stop};
+    ghost use Rattle.dv_world.specs.Names.{number_of};
+    ghost use Rattle.std.specs.Option.{option_copied};
+    ghost use Rattle.dv_journal.specs.declared.entry.Entry.TheVariants as entry;
 
     /// A world in which nothing is made, and whose journal takes so much weight.
     pub fn new(alloc: Global, classes: &'s Classes, limit: u64) -> World<'s>
@@ -67,6 +76,8 @@ impl<'s> World<'s> {
             alloc,
             classes,
             names: Names::new(alloc),
+            locks: Names::new(alloc),
+            semaphores: Vec::new(alloc),
             store: Store::new(alloc),
             journal: Journal::new(alloc, limit),
             stopped: false,
@@ -96,6 +107,14 @@ impl<'s> World<'s> {
         } else {
             self.names.find(name)
         }
+    }
+
+    /// The number that the next Deferred gets.
+    pub fn next_id(&self) -> DeferredId
+        requires { length self.now.records < 2 ^ 32 }
+        ensures { result ≡ length self.now.records }
+    {
+        DeferredId::new(self.store.len() as u32)
     }
 
     /// The value of a Deferred, copied; null where there is none.
@@ -166,7 +185,7 @@ impl<'s> World<'s> {
 
     /// Makes a Deferred, which may have a canceller, and binds its name to it, also where that was bound to another.
     #[tactic(auto, unfolding(crate::specs::World::make))]
-    pub fn make(&mut self, name: &str, canceller: Option<BodyRef<'s>>) -> Result<(), AllocError>
+    pub fn make(&mut self, name: &str, canceller: Option<Canceller<'s>>) -> Result<(), AllocError>
         requires { length self.old.records < 2 ^ 32 - 1 }
         ensures { OnOk result (self.new ≡ make name.now canceller.entry self.old) }
     {
@@ -270,7 +289,8 @@ impl<'s> World<'s> {
                 }
                 match &record.canceller {
                     None => Reached::Fire(end),
-                    Some(body) => Reached::Run(end, BodyRef::new(body.get())),
+                    Some(Canceller::Body(body)) => Reached::Run(end, BodyRef::new(body.get())),
+                    Some(Canceller::Token(lock)) => Reached::Withdraw(end, *lock),
                 }
             }
         }
@@ -315,7 +335,7 @@ impl<'s> World<'s> {
     }
 
     /// Writes an entry that tells of no Deferred's change.
-    #[tactic(auto, unfolding(crate::specs::World::tell))]
+    #[tactic(auto, unfolding(crate::specs::World::aside))]
     pub fn tell(&mut self, entry: Entry) -> Result<(), AllocError>
         ensures { OnOk result (self.new ≡ tell entry self.old) }
     {
@@ -326,6 +346,138 @@ impl<'s> World<'s> {
         match self.journal.write(entry) {
             Ok(()) => Ok(()),
             Err(stop) => self.stopped_by(stop, ()),
+        }
+    }
+
+    /// Binds a name to a Deferred that was made already, and tells of it.
+    #[tactic(auto, unfolding(crate::specs::World::aside))]
+    pub fn rename(&mut self, name: &str, id: DeferredId) -> Result<(), AllocError>
+        ensures { OnOk result (self.new ≡ aside (entry.Name id (Some name.now)) (naming name.now id) self.old) }
+    {
+        if self.stopped {
+            return Ok(());
+        }
+        let shown = Text::of(self.alloc, name)?;
+        match self.journal.write(Entry::Name(id, Some(shown))) {
+            Ok(()) => self.names.bind(name, id),
+            Err(stop) => self.stopped_by(stop, ()),
+        }
+    }
+
+    /// Makes a lock, and binds its name to it, also where that was bound to another (Twisted: `DeferredLock`).
+    #[tactic(auto, unfolding(crate::specs::World::aside))]
+    pub fn make_lock(&mut self, name: &str) -> Result<(), AllocError>
+        ensures { OnOk result (self.new ≡ aside (entry.Lock name.now) (with_new_lock name.now 1) self.old) }
+    {
+        if self.stopped {
+            return Ok(());
+        }
+        if !self.journal.fits_plain() {
+            self.stopped = true;
+            return Ok(());
+        }
+        match Semaphore::lock(self.alloc, &mut self.journal, name) {
+            Ok(lock) => self.add_lock(name, lock),
+            Err(_) => Err(AllocError),
+        }
+    }
+
+    /// Makes a semaphore, and binds its name to it, also where that was bound to another (Twisted:
+    /// `DeferredSemaphore`).
+    #[tactic(auto, unfolding(crate::specs::World::aside))]
+    pub fn make_semaphore(&mut self, name: &str, tokens: u32) -> Result<(), AllocError>
+        ensures { OnOk result (self.new ≡ aside (entry.Semaphore name.now tokens) (with_new_lock name.now tokens) self.old) }
+    {
+        if self.stopped {
+            return Ok(());
+        }
+        if !self.journal.fits_plain() {
+            self.stopped = true;
+            return Ok(());
+        }
+        match Semaphore::new(self.alloc, &mut self.journal, name, tokens) {
+            Ok(semaphore) => self.add_lock(name, semaphore),
+            Err(_) => Err(AllocError),
+        }
+    }
+
+    /// Adds a lock that was told, and binds its name to it.
+    fn add_lock(&mut self, name: &str, lock: Semaphore) -> Result<(), AllocError>
+        ensures { OnOk result (self.new ≡ record self.old { objects = with_added_lock name.now lock self.old.objects }) }
+    {
+        self.locks.bind(name, LockId::new(self.semaphores.len()))?;
+        self.semaphores.push(lock)?;
+        Ok(())
+    }
+
+    /// The lock that a name stands for.
+    pub fn find_lock(&self, name: &str) -> Option<LockId>
+        ensures { result ≡ number_of name.now self.now.objects.locks }
+    {
+        self.locks.find(name)
+    }
+
+    /// A lock by its id.
+    pub fn lock(&self, lock: LockId) -> Option<&Semaphore>
+        ensures { option_copied result ≡ slice_get self.now.objects.semaphores lock }
+    {
+        self.semaphores.get(lock.number())
+    }
+
+    /// A Deferred asks a lock for a token, and has it or waits for it.
+    #[tactic(auto, unfolding(crate::specs::World::aside))]
+    pub fn ask(&mut self, lock: LockId, id: DeferredId) -> Result<(), AllocError>
+        ensures { OnOk result (self.new ≡ ask lock id self.old) }
+    {
+        if self.stopped {
+            return Ok(());
+        }
+        let place = lock.number();
+        if place >= self.semaphores.len() {
+            return Ok(());
+        }
+        if !self.journal.fits_plain() {
+            self.stopped = true;
+            return Ok(());
+        }
+        match self.semaphores[place].acquire(&mut self.journal, id) {
+            Ok(_) => Ok(()),
+            Err(_) => Err(AllocError),
+        }
+    }
+
+    /// A token is given back to a lock, which gives it to the first that waits, where somebody does.
+    #[tactic(auto, unfolding(crate::specs::World::aside))]
+    pub fn release(&mut self, lock: LockId) -> Result<(), AllocError>
+        ensures { OnOk result (self.new ≡ release lock self.old) }
+    {
+        if self.stopped {
+            return Ok(());
+        }
+        let place = lock.number();
+        if place >= self.semaphores.len() || self.semaphores[place].is_unheld() {
+            return Ok(());
+        }
+        if !self.journal.fits_plain() {
+            self.stopped = true;
+            return Ok(());
+        }
+        match self.semaphores[place].release(&mut self.journal) {
+            Ok(_) => Ok(()),
+            Err(_) => Err(AllocError),
+        }
+    }
+
+    /// A Deferred waits for a token of a lock no longer.
+    #[tactic(auto, unfolding(crate::specs::World::arrange))]
+    pub fn forget(&mut self, lock: LockId, id: DeferredId)
+        ensures { self.new ≡ forget lock id self.old }
+    {
+        if self.stopped {
+            return;
+        }
+        if let Some(semaphore) = self.semaphores.get_mut(lock.number()) {
+            let _ = semaphore.forget(id);
         }
     }
 
@@ -345,7 +497,7 @@ impl<'s> World<'s> {
     }
 
     /// Its journal, whether it has stopped, and all records in order of making.
-    pub fn into_parts(self) -> (Journal, bool, Vec<Record<Pair<'s>, BodyRef<'s>>>)
+    pub fn into_parts(self) -> (Journal, bool, Vec<Record<Pair<'s>, Canceller<'s>>>)
         ensures journal { result.0 ≡ self.entry.journal }
         ensures stopped { result.1 ≡ self.entry.stopped }
         ensures records { result.2.items ≡ self.entry.records }
@@ -359,6 +511,14 @@ pub fn unbound<'s>(alloc: Global, name: &str) -> Result<Performed<'s>, AllocErro
     ensures { IfOk result (λ p. p ≡ unbound name.now) }
 {
     let failure = failure(alloc, ClassId::NAME_ERROR, name)?;
+    Ok(Performed::Raised(failure))
+}
+
+/// What the giving back of a token raises where none is given.
+pub fn not_held<'s>(alloc: Global) -> Result<Performed<'s>, AllocError>
+    ensures { IfOk result (λ p. p ≡ Raised not_held) }
+{
+    let failure = failure(alloc, ClassId::ASSERTION_ERROR, "not held")?;
     Ok(Performed::Raised(failure))
 }
 
