@@ -29,7 +29,7 @@ use Rattle.dv_engine.proofs.Budget.{Spares, budget, spares, step_took, reaches, 
 use Rattle.dv_engine.proofs.Lasting.{Comes}
 use Rattle.dv_engine.proofs.Sizes.{actions_size, body_size_out, deed_size, deed_fits}
 use Rattle.dv_world.specs.Ending.{failed_with}
-use Rattle.dv_world.specs.Aside.{change_of, nothing}
+use Rattle.dv_journal.specs.Change.{change_of, Aside}
 use Rattle.dv_world.specs.Names.{number_of}
 use Rattle.dv_world.specs.Pair.{chain}
 use Rattle.dv_world.specs.World.{World, state_of, deferred_at, step, append, fire, is_unfired, cancelled, cancel, pause, unpause, make, aside, arrange, lock_told, with_new_lock, ask, release_found, release, forget, Objects, value_of}
@@ -136,15 +136,15 @@ then_fair : (m : ℕ) (w u : World) (t : Turned) → Comes w u → Fair u m t �
 then_fair m w u t c h = record { comes = join w u t.2 c h.comes; falls = then_falls (can u) (can w) m t (pays w u c) h.falls }
 
 -- steps beside the Deferreds
-by_aside : (e : Entry) (change : Objects → Objects) (w : World) → change_of e ≡ nothing → Comes w (aside e change w)
+by_aside : (e : Entry) (change : Objects → Objects) (w : World) → change_of e ≡ Aside → Comes w (aside e change w)
 by_aside e change w a = record { keeps = λ R l. l.by_aside e change w a }
 
-by_lock : (l : ℕ) (e : Semaphore → Entry) (change : Semaphore → Semaphore) (o : Option Semaphore) (w : World) → ((s : Semaphore) → change_of (e s) ≡ nothing) → Comes w (lock_told l e change o w)
+by_lock : (l : ℕ) (e : Semaphore → Entry) (change : Semaphore → Semaphore) (o : Option Semaphore) (w : World) → ((s : Semaphore) → change_of (e s) ≡ Aside) → Comes w (lock_told l e change o w)
 by_lock l e change None w a = same w
 by_lock l e change (Some s) w a = by_aside (e s) _ w (a s)
 
 -- unless the run stops by it, an entry aside pays for whatever follows
-told_fair : (m : ℕ) (e : Entry) (change : Objects → Objects) (w : World) (b : Bool) (t : Turned) → change_of e ≡ nothing → (aside e change w).stopped ≡ b → Comes (aside e change w) t.2 → Fair w m (if b then done (aside e change w) else t)
+told_fair : (m : ℕ) (e : Entry) (change : Objects → Objects) (w : World) (b : Bool) (t : Turned) → change_of e ≡ Aside → (aside e change w).stopped ≡ b → Comes (aside e change w) t.2 → Fair w m (if b then done (aside e change w) else t)
 told_fair m e change w true t a x c = done_fair m w _ (by_aside e change w a)
 told_fair m e change w false t a x c = paid_fair m 1 w (aside e change w) t (by_aside e change w a) (aside_took e change w x) (omega arith) c
 

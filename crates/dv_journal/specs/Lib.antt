@@ -1,4 +1,5 @@
 pub mod Entry
+pub mod Change
 pub mod Journal
 pub mod Line
 pub mod Sink

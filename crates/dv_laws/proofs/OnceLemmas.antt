@@ -3,6 +3,7 @@ use Rattle.std.proofs.Common.{◌≡◌, ◌⊎◌, inl, inr, ⊎_elim, append_a
 use Rattle.std.proofs.lemmas.Bool.{eqb-true}
 use Rattle.std.proofs.lemmas.List.Sums.{sum_by_push}
 use Rattle.dv_value.specs.declared.value.Value.{Null}
+use Rattle.dv_journal.specs.Change.{change_of, Aside, Refuses, Swallows}
 use Rattle.dv_journal.specs.declared.entry.Entry.{Entry}
 use Rattle.dv_journal.specs.declared.entry.Entry.TheVariants as entry
 use Rattle.dv_journal.specs.Journal.{Written}
@@ -203,6 +204,13 @@ plain : (n : ℕ) (e : Entry) (rs : Records) (s : Both) → swallowing n e ≡ 0
     → Counts n s (telling_of e rs s)
 plain n e rs s none never p m refused swallowed = told n e rs s none (omega (arith, never, p)) m (λ q. absurd (refused q)) swallowed
 
+-- an entry that tells of no Deferred tells of no further firing
+not_refused : (n : ℕ) (e : Entry) → change_of e ≡ Aside → entry.Refuse n ≡ e → ⊥
+not_refused n e a q = let same : Refuses n ≡ Aside = ap change_of q ∙ a in absurd cc
+
+not_swallowed : (n : ℕ) (e : Entry) → change_of e ≡ Aside → entry.Swallow n ≡ e → ⊥
+not_swallowed n e a q = let same : Swallows n ≡ Aside = ap change_of q ∙ a in absurd cc
+
 -- a firing by a cancel, by whether it is of n
 guarded_source : (b : Bool) (n d : ℕ) (before after : ℕ) → nat_eq d n ≡ b → after ≤ before + cond b 1 0 → before ≤ 1 → after ≡ 1 → (before ≡ 1) ⊎ (entry.Fire n cancelled ≡ entry.Fire d cancelled)
 guarded_source true n d before after e h k m = inr (ap (λ x. entry.Fire x cancelled) (sym (eqb-true d n e)))
@@ -246,8 +254,7 @@ counts n = record {
       };
   news = λ name canceller s x.
       plain n (entry.New (length s.0) name) _ s refl refl (push_at fired_of n (new_record name canceller) s.0 refl) (push_at marks_of n (new_record name canceller) s.0 refl) (λ q. absurd cc) (λ q. absurd cc);
-  notes = λ text s x. plain n (entry.Note text) _ s refl refl refl refl (λ q. absurd cc) (λ q. absurd cc);
-  unhandles = λ failure s x. plain n (entry.Unhandled failure) _ s refl refl refl refl (λ q. absurd cc) (λ q. absurd cc);
+  asides = λ e s a x. plain n e _ s (rw a refl) (rw a refl) refl refl (not_refused n e a) (not_swallowed n e a);
   refuses = λ d r s x h f. told n (entry.Refuse d) _ s refl (omega arith) refl (λ q. cc) (λ q. absurd cc);
   swallows = λ d r s x h f. tells n (entry.Swallow d) _ s (swallows_tell n d r s h f);
   cancels = λ d s x. plain n (entry.Cancel d) _ s refl refl refl refl (λ q. absurd cc) (λ q. absurd cc);

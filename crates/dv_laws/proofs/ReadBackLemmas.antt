@@ -105,8 +105,7 @@ reads = record {
   joins = λ s t u p q. record { goes_on = λ k. q.goes_on (p.goes_on k) };
   drops = λ d r pair rest s h e. record { goes_on = λ k n. k n ∙ sym (set_hidden n d r _ s.0 h refl) };
   news = λ name canceller s x. tells (entry.New (length s.0) name) _ s (λ n. push_at n (new_record name canceller) s.0);
-  notes = λ text s x. tells (entry.Note text) _ s (λ n. refl);
-  unhandles = λ failure s x. tells (entry.Unhandled failure) _ s (λ n. refl);
+  asides = λ e s a x. tells e _ s (λ n. rw a refl);
   refuses = λ d r s x h f. tells (entry.Refuse d) _ s (λ n. refl);
   swallows = λ d r s x h f. tells (entry.Swallow d) _ s (λ n. set_hidden n d r _ s.0 h refl);
   cancels = λ d s x. tells (entry.Cancel d) _ s (λ n. refl);

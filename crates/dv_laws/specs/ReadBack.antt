@@ -1,8 +1,8 @@
 -- What a journal tells of a Deferred, read without a thought of callbacks: each entry in turn, from the first.
 use Rattle.std.specs.Prelude.{ℕ, ◌≡◌, ◌+◌, ◌-◌, Bool, true, false, if◌then◌else◌, nat_eq, List, Option, None, Some, fold, option_map, slice_get}
 use Rattle.dv_value.specs.declared.value.Value.{Value, Null}
+use Rattle.dv_journal.specs.Change.{Change, change_of, Aside, Makes, Adds, Fires, Swallows, Refuses, Runs, Sets, Takes, Waits, Hands, Pauses, Unpauses, Cancels}
 use Rattle.dv_journal.specs.declared.entry.Entry.{Entry}
-use Rattle.dv_journal.specs.declared.entry.Entry.TheVariants as entry
 use Rattle.dv_script.specs.declared.script.Script.{Script}
 use Rattle.dv_engine.specs.Report.{state_of, Reports}
 use Rattle.dv_engine.specs.declared.report.Outcome.{Outcome}
@@ -48,54 +48,26 @@ without_pause s = record s { pauses = s.pauses - 1 }
 abbrev pub told_at : ℕ → ℕ → (Shown → Shown) → Option Shown → Option Shown
 told_at d n change s = if nat_eq d n then option_map change s else s
 
--- what is told of n after one more entry
+-- what is told of n after one more entry, by what it tells of Deferreds
+abbrev pub told_change : ℕ → Option Shown → Change → Option Shown
+told_change n s Aside = s
+told_change n s (Makes d name) = if nat_eq d n then Some (shown_new name) else s
+told_change n s (Adds d) = s
+told_change n s (Fires d value) = told_at d n (with_firing value) s
+told_change n s (Swallows d) = s
+told_change n s (Refuses d) = s
+told_change n s (Runs d) = s
+told_change n s (Sets d value) = told_at d n (with_value value) s
+told_change n s (Takes d e value) = told_at d n (with_value value) (told_at e n (with_value Null) s)
+told_change n s (Waits d e) = told_at d n (with_wait e) s
+told_change n s (Hands e d value) = told_at d n (with_handed value) (told_at e n (with_value Null) s)
+told_change n s (Pauses d) = told_at d n with_pause s
+told_change n s (Unpauses d) = told_at d n without_pause s
+told_change n s (Cancels d) = s
+
+-- so by the entry
 abbrev pub told : ℕ → Option Shown → Entry → Option Shown
-told n s (entry.New d name) = if nat_eq d n then Some (shown_new name) else s
-told n s (entry.Name d name) = s
-told n s (entry.Add d) = s
-told n s (entry.Fire d value) = told_at d n (with_firing value) s
-told n s (entry.Swallow d) = s
-told n s (entry.Refuse d) = s
-told n s (entry.Run d) = s
-told n s (entry.Set d value) = told_at d n (with_value value) s
-told n s (entry.Take d e value) = told_at d n (with_value value) (told_at e n (with_value Null) s)
-told n s (entry.Wait d e) = told_at d n (with_wait e) s
-told n s (entry.Hand e d value) = told_at d n (with_handed value) (told_at e n (with_value Null) s)
-told n s (entry.Pause d) = told_at d n with_pause s
-told n s (entry.Unpause d) = told_at d n without_pause s
-told n s (entry.Cancel d) = s
-told n s (entry.Note text) = s
-told n s (entry.Unhandled failure) = s
-told n s (entry.Lock lock) = s
-told n s (entry.Semaphore lock tokens) = s
-told n s (entry.Acquire lock d) = s
-told n s (entry.Release lock) = s
-told n s (entry.Queue queue size backlog) = s
-told n s (entry.Put queue value) = s
-told n s (entry.Get queue d) = s
-told n s (entry.LaterCall call time) = s
-told n s (entry.LaterLoop loop_name time) = s
-told n s (entry.LaterTick time) = s
-told n s (entry.LaterJob job time) = s
-told n s (entry.Uncall call) = s
-told n s (entry.Call call) = s
-told n s entry.Tick = s
-told n s (entry.Deliver job) = s
-told n s (entry.Loop loop_name d) = s
-told n s (entry.Turn loop_name) = s
-told n s (entry.Stop loop_name) = s
-told n s (entry.Task task) = s
-told n s (entry.Step task) = s
-told n s (entry.Hold task d) = s
-told n s (entry.End task value) = s
-told n s (entry.PauseTask task) = s
-told n s (entry.ResumeTask task) = s
-told n s (entry.WhenDone task d) = s
-told n s (entry.Await d e) = s
-told n s (entry.Job job d) = s
-told n s (entry.Advance time) = s
-told n s entry.Drain = s
-told n s (entry.Post caller number) = s
+told n s e = told_change n s (change_of e)
 
 -- what is told of n by all entries; nothing where it isn't made
 abbrev pub told_by : ℕ → List Entry → Option Shown
