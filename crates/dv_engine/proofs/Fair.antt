@@ -5,6 +5,7 @@ use Rattle.dv_value.specs.declared.failure.Failure.{Failure}
 use Rattle.dv_value.specs.declared.value.Value.{Value, Null, Fault, Text}
 use Rattle.dv_journal.specs.declared.entry.Entry.{Entry}
 use Rattle.dv_journal.specs.declared.entry.Entry.TheVariants as entry
+use Rattle.dv_prims.specs.Queue.{Queue, may_put, may_get, receiver, put_to}
 use Rattle.dv_prims.specs.Tokens.{Semaphore, has_free, is_unheld, first_waiting}
 use Rattle.dv_script.specs.declared.action.Action.{Action, out-Action}
 use Rattle.dv_script.specs.declared.body.End.{End}
@@ -12,13 +13,15 @@ use Rattle.dv_store.specs.Laws.{used}
 use Rattle.dv_store.specs.declared.store.Step.{Step}
 use Rattle.dv_store.specs.declared.store.Step.TheVariants.{Nothing, Passed, Run, Handed}
 use Rattle.dv_engine.specs.Acting.{with_object, with_named, with_lock, begun}
+use Rattle.dv_engine.specs.Acting as acting
 use Rattle.dv_engine.specs.Cancelling.{cancel_begun, canceller_ended}
 use Rattle.dv_engine.specs.Deed.{deed_of}
 use Rattle.dv_engine.specs.declared.deed.Deed.{Deed}
-use Rattle.dv_engine.specs.declared.deed.Deed.TheVariants.{Idle, NoteOf, Make, FireWith, AddTo, ChainTo, PauseOf, UnpauseOf, CancelOf, MakeLock, MakeSemaphore, AcquireOf, ReleaseOf, MaybeOf}
+use Rattle.dv_engine.specs.declared.deed.Deed.TheVariants.{Idle, NoteOf, Make, FireWith, AddTo, ChainTo, PauseOf, UnpauseOf, CancelOf, MakeLock, MakeSemaphore, AcquireOf, ReleaseOf, MaybeOf, MakeQueue, PutInto, GetFrom}
 use Rattle.dv_engine.specs.Locking.{granted, asked_of, released_of}
 use Rattle.dv_engine.specs.Meaning.{told_of, turned}
 use Rattle.dv_engine.specs.Maybe.{made_with, maybe_ended}
+use Rattle.dv_engine.specs.Queueing.{handed_out, put_of, got, asked_for, get_of}
 use Rattle.dv_engine.specs.Performing.{gone_on, rest_turned}
 use Rattle.dv_engine.specs.Settling.{place, side_begun, settled}
 use Rattle.dv_engine.specs.Turn.{Turned, ◌over◌, done, settling, settle_next}
@@ -32,8 +35,9 @@ use Rattle.dv_world.specs.Ending.{failed_with}
 use Rattle.dv_journal.specs.Change.{change_of, Aside}
 use Rattle.dv_world.specs.Names.{number_of}
 use Rattle.dv_world.specs.Pair.{chain}
-use Rattle.dv_world.specs.World.{World, state_of, deferred_at, step, append, fire, is_unfired, cancelled, cancel, pause, unpause, make, aside, arrange, lock_told, with_new_lock, ask, release_found, release, forget, Objects, value_of}
-use Rattle.dv_world.specs.declared.canceller.Canceller.TheVariants.{Body, Token}
+use Rattle.dv_world.specs.World.{World, state_of, deferred_at, step, append, fire, is_unfired, cancelled, cancel, pause, unpause, make, aside, arrange, lock_told, ask, release_found, release, forget, unless_stopped, put_found, put_into, get_found, get_from, withdraw, value_of}
+use Rattle.dv_world.specs.Objects.{Objects, with_queue}
+use Rattle.dv_world.specs.declared.canceller.Canceller.TheVariants.{Body, Token, Item}
 use Rattle.dv_world.specs.declared.follow.Follow.{Follow}
 use Rattle.dv_world.specs.declared.follow.Follow.TheVariants as follow
 use Rattle.dv_world.specs.declared.pair.Pair.{Pair}
@@ -112,6 +116,9 @@ with_fair m itself name w next h = found_fair m (deferred_at itself name w) name
 lock_fair : (m : ℕ) (name : List ℕ) (w : World) (next : ℕ → Turned) → ((l : ℕ) → Fair w m (next l)) → Fair w m (with_lock name w next)
 lock_fair m name w next h = found_fair m (number_of name w.objects.locks) name w next h
 
+queue_fair : (m : ℕ) (name : List ℕ) (w : World) (next : ℕ → Turned) → ((k : ℕ) → Fair w m (next k)) → Fair w m (acting.with_queue name w next)
+queue_fair m name w next h = found_fair m (number_of name w.objects.queue_names) name w next h
+
 each_append : (P : Frame → Type 0) (fs gs : List Frame) → Each P fs → Each P gs → Each P (fs ++ gs)
 each_append P [] gs h k = k
 each_append P (f ∷ fs) gs h k = (h.0, each_append P fs gs h.1 k)
@@ -168,10 +175,15 @@ cancel_fair m w0 reached.Nothing w c h = done_fair m w0 w c
 cancel_fair m w0 (reached.Fire d) w c h = paid_fair m 1 w0 w (cancel_begun (reached.Fire d) w) c h (omega arith) (record { keeps = λ R l. l.by_fire_guarded d w })
 cancel_fair m w0 (reached.Run d canceller) w c h = paid_fair m 1 w0 w (cancel_begun (reached.Run d canceller) w) c h (omega arith) (same w)
 
-cancel_fair m w0 (reached.Withdraw d l) w c h =
+cancel_fair m w0 (reached.ForToken d l) w c h =
     let free = forget l d w in
     let arranged : Comes w free = record { keeps = λ R k. k.by_arrange _ w } in
-    paid_fair m 1 w0 w (cancel_begun (reached.Withdraw d l) w) c h (omega arith) (join w free _ arranged (next_fair 1 d (fire d cancelled free).0 free (fire d cancelled free).1 (omega arith) (by_fire d cancelled free)).comes)
+    paid_fair m 1 w0 w (cancel_begun (reached.ForToken d l) w) c h (omega arith) (join w free _ arranged (next_fair 1 d (fire d cancelled free).0 free (fire d cancelled free).1 (omega arith) (by_fire d cancelled free)).comes)
+
+cancel_fair m w0 (reached.ForItem d k) w c h =
+    let free = withdraw k d w in
+    let arranged : Comes w free = record { keeps = λ R l. l.by_arrange _ w } in
+    paid_fair m 1 w0 w (cancel_begun (reached.ForItem d k) w) c h (omega arith) (join w free _ arranged (next_fair 1 d (fire d cancelled free).0 free (fire d cancelled free).1 (omega arith) (by_fire d cancelled free)).comes)
 
 granted_fair : (m : ℕ) (o : Option ℕ) (name : List ℕ) (w : World) → 0 < m → Fair w m (granted o name w)
 granted_fair m None name w q = now_fair m Done w
@@ -193,6 +205,39 @@ released_fair : (m l : ℕ) (o : Option Semaphore) (w : World) → 0 < m → Fai
 released_fair m l None w q = now_fair m Done w
 released_fair m l (Some s) w q = if_fair m (is_unheld s) w _ _ (now_fair m _ w) (then_fair m w (release l w) _ (release_comes l (slice_get w.objects.semaphores l) w) (granted_fair m (first_waiting s) s.name (release l w) q))
 
+first_comes : {A : Type 0} (b : Bool) (t u : A × World) (w : World) → Comes w t.1 → Comes w u.1 → Comes w (if b then t else u).1
+first_comes true t u w c d = c
+first_comes false t u w c d = d
+
+put_comes : (k : ℕ) (value : Value) (o : Option Queue) (w : World) → Comes w (put_found k value o w).1
+put_comes k value None w = same w
+put_comes k value (Some q) w = first_comes (may_put q) (unless_stopped (receiver q.waiting value) (aside (entry.Put q.name value) (with_queue k (put_to q.waiting value q)) w)) (None, w) w (by_aside (entry.Put q.name value) _ w refl) (same w)
+
+handed_fair : (m : ℕ) (o : Option (ℕ × Value)) (w : World) → 0 < m → Fair w m (handed_out o w)
+handed_fair m None w q = now_fair m Done w
+handed_fair m (Some given) w q = next_fair m given.0 (fire given.0 given.1 w).0 w (fire given.0 given.1 w).1 q (by_fire given.0 given.1 w)
+
+put_fair : (m k : ℕ) (value : Value) (o : Option Queue) (w : World) → 0 < m → Fair w m (put_of k value o w)
+put_fair m k value None w q = now_fair m Done w
+put_fair m k value (Some s) w q = let t = put_into k value w in if_fair m (may_put s) w (handed_out t.0 t.1) _ (then_fair m w t.1 (handed_out t.0 t.1) (put_comes k value (slice_get w.objects.queues k) w) (handed_fair m t.0 t.1 q)) (now_fair m _ w)
+
+get_comes : (k d : ℕ) (o : Option Queue) (w : World) → Comes w (get_found k d o w).1
+get_comes k d None w = same w
+get_comes k d (Some q) w = by_aside (entry.Get q.name d) _ w refl
+
+got_fair : (m d : ℕ) (o : Option Value) (w : World) → 0 < m → Fair w m (got d o w)
+got_fair m d None w q = now_fair m Done w
+got_fair m d (Some value) w q = next_fair m d (fire d value w).0 w (fire d value w).1 q (by_fire d value w)
+
+asked_for_fair : (m k d : ℕ) (w : World) → 0 < m → Fair w m (asked_for k d w)
+asked_for_fair m k d w q = let t = get_from k d w in then_fair m w t.1 (got d t.0 t.1) (get_comes k d (slice_get w.objects.queues k) w) (got_fair m d t.0 t.1 q)
+
+get_fair : (m : ℕ) (name : List ℕ) (k : ℕ) (o : Option Queue) (w : World) → 0 < m → Fair w m (get_of name k o w)
+get_fair m name k None w q = now_fair m Done w
+get_fair m name k (Some s) w q =
+    let made = make name (Some (Item k)) w in
+    if_fair m (may_get s) w (asked_for k (length w.records) made) _ (then_fair m w made (asked_for k (length w.records) made) (record { keeps = λ R l. l.by_make name (Some (Item k)) w }) (asked_for_fair m k (length w.records) made q)) (now_fair m _ w)
+
 canceller_fair : (m d : ℕ) (failure : Option Failure) (w : World) → 0 < m → Fair w m (canceller_ended d failure w)
 canceller_fair m d (Some failure) w q = now_fair m _ w
 canceller_fair m d None w q = if_fair m (is_unfired d w) w _ _ (next_fair m d (fire d cancelled w).0 w (fire d cancelled w).1 q (by_fire d cancelled w)) (now_fair m Done w)
@@ -212,6 +257,9 @@ begun_fair m itself (MakeSemaphore name tokens) w q = done_fair m w _ (by_aside 
 begun_fair m itself (AcquireOf name lock) w q = lock_fair m lock w _ (λ l. let made = make name (Some (Token l)) w in then_fair m w made _ (record { keeps = λ R k. k.by_make name (Some (Token l)) w }) (asked_fair m l (length w.records) (slice_get made.objects.semaphores l) made q))
 begun_fair m itself (ReleaseOf lock) w q = lock_fair m lock w _ (λ l. released_fair m l (slice_get w.objects.semaphores l) w q)
 begun_fair m itself (MaybeOf name body) w q = record { comes = same w; falls = lighter (omega (arith, q, body_size_out body), (omega (arith, q, body_size_out body), tt)) }
+begun_fair m itself (MakeQueue name size backlog) w q = done_fair m w _ (by_aside (entry.Queue name size backlog) _ w refl)
+begun_fair m itself (PutInto queue value) w q = queue_fair m queue w _ (λ k. put_fair m k value (slice_get w.objects.queues k) w q)
+begun_fair m itself (GetFrom name queue) w q = queue_fair m queue w _ (λ k. get_fair m name k (slice_get w.objects.queues k) w q)
 
 pub begun_comes : (itself : Option ℕ) (deed : Deed) (w : World) → Comes w (begun itself deed w).2
 begun_comes itself deed w = (begun_fair (1 + deed_size deed) itself deed w (omega arith)).comes

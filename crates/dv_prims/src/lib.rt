@@ -6,5 +6,6 @@ pub mod gather;
 pub mod laws;
 pub mod lock_id;
 pub mod queue;
+pub mod queue_id;
 pub mod semaphore;
 mod waiting;

@@ -1,7 +1,7 @@
 -- The world of a run: its Deferreds, their names, the classes of failures and the journal, and one step of each kind.
 use Rattle.std.specs.Prelude.{ℕ, Bool, true, false, not, if◌then◌else◌, List, [], ◌∷◌, ◌++◌, length, Option, None, Some, Result, Ok, Err, slice_get, slice_set, bytes_eq, codes}
 use Rattle.std.specs.Option.{option_map_or}
-use Rattle.dv_value.specs.Builtin.{name_error, assertion_error, already_called_error, cancelled_error}
+use Rattle.dv_value.specs.Builtin.{name_error, assertion_error, already_called_error, cancelled_error, queue_overflow, queue_underflow}
 use Rattle.dv_value.specs.Failure.{plain_failure}
 use Rattle.dv_value.specs.declared.classes.Class.{Class}
 use Rattle.dv_value.specs.declared.failure.Failure.{Failure}
@@ -11,7 +11,8 @@ use Rattle.dv_journal.specs.declared.entry.Entry.{Entry}
 use Rattle.dv_journal.specs.declared.entry.Entry.TheVariants as entry
 use Rattle.dv_journal.specs.declared.error.Stop.{Stop}
 use Rattle.dv_script.specs.declared.body.Body.{Body}
-use Rattle.dv_prims.specs.Tokens.{Semaphore, new_semaphore, is_unheld, asked, released, forgotten}
+use Rattle.dv_prims.specs.Queue.{Queue, may_put, receiver, put_to, got_from, withdrawn}
+use Rattle.dv_prims.specs.Tokens.{Semaphore, is_unheld, asked, released, forgotten}
 use Rattle.dv_store.specs.Callbacks as callbacks
 use Rattle.dv_store.specs.Cancelling.{guard, end_of_chain}
 use Rattle.dv_store.specs.Chaining as chaining
@@ -28,7 +29,8 @@ use Rattle.dv_store.specs.declared.store.Fired.{Fired}
 use Rattle.dv_store.specs.declared.store.Fired.TheVariants.{Set, Swallowed}
 use Rattle.dv_store.specs.declared.store.Step.{Step}
 use Rattle.dv_store.specs.declared.store.Step.TheVariants.{Nothing}
-use Rattle.dv_world.specs.Names.{Names, number_of, with_name}
+use Rattle.dv_world.specs.Names.{number_of}
+use Rattle.dv_world.specs.Objects.{Objects, no_objects, naming, with_lock, lock_changed, with_queue, queue_changed}
 use Rattle.dv_world.specs.Pair.{passes}
 use Rattle.dv_world.specs.declared.canceller.Canceller.{Canceller}
 use Rattle.dv_world.specs.declared.canceller.Canceller.TheVariants as canceller
@@ -43,16 +45,6 @@ use Rattle.dv_world.specs.declared.reached.Reached.TheVariants as reached
 -- the records of all Deferreds, in order of making
 abbrev pub Records : Type 0
 Records = List (Record Pair Canceller)
-
--- what stands beside the Deferreds: their names, and locks and semaphores with theirs
-pub record Objects : Type 0 where
-  pub names : Names ℕ
-  pub locks : Names ℕ
-  pub semaphores : List Semaphore
-
--- nothing stands there at first
-abbrev pub no_objects : Objects
-no_objects = record { names = []; locks = []; semaphores = [] }
 
 -- what a run has made so far and what it has told; once an entry didn't fit it has stopped
 pub record World : Type 0 where
@@ -126,10 +118,6 @@ pause d w =
     if w.stopped then w else
     let told = pausing.pause d (state_of w) in after told.0 told.1 w
 
--- a name of a Deferred is bound
-abbrev pub naming : List ℕ → ℕ → Objects → Objects
-naming name d objects = record objects { names = with_name name d objects.names }
-
 -- a Deferred that is made is what its name is bound to
 abbrev pub named : List ℕ → Result ℕ Stop → State Pair Canceller → World → World
 named name (Ok d) s w = record (with_state s w) { objects = naming name d w.objects }
@@ -194,7 +182,8 @@ unpause d w =
 abbrev pub unfired_reached : ℕ → Option Canceller → Reached
 unfired_reached d None = reached.Fire d
 unfired_reached d (Some (canceller.Body body)) = reached.Run d body
-unfired_reached d (Some (canceller.Token l)) = reached.Withdraw d l
+unfired_reached d (Some (canceller.Token l)) = reached.ForToken d l
+unfired_reached d (Some (canceller.Item k)) = reached.ForItem d k
 
 -- nothing happens to one that is fired
 abbrev pub record_reached : ℕ → Option (Record Pair Canceller) → Reached
@@ -232,27 +221,10 @@ arrange change w = if w.stopped then w else record w { objects = change w.object
 abbrev pub tell : Entry → World → World
 tell entry w = aside entry (λ objects. objects) w
 
--- a lock is added, and its name is bound to it
-abbrev pub with_added_lock : List ℕ → Semaphore → Objects → Objects
-with_added_lock name s objects = record objects { locks = with_name name (length objects.semaphores) objects.locks; semaphores = objects.semaphores ++ s ∷ [] }
-
--- a lock is made, of which no token is given
-abbrev pub with_new_lock : List ℕ → ℕ → Objects → Objects
-with_new_lock name tokens objects = with_added_lock name (new_semaphore name tokens) objects
-
--- a lock is now this
-abbrev pub with_lock : ℕ → Semaphore → Objects → Objects
-with_lock l s objects = record objects { semaphores = slice_set objects.semaphores l s }
-
 -- the lock that is found changes, which its entry tells; an id of no lock changes nothing
 abbrev pub lock_told : ℕ → (Semaphore → Entry) → (Semaphore → Semaphore) → Option Semaphore → World → World
 lock_told l entry change None w = w
 lock_told l entry change (Some s) w = aside (entry s) (with_lock l (change s)) w
-
--- the lock that is found changes, which isn't told; an id of no lock changes nothing
-abbrev pub lock_changed : ℕ → (Semaphore → Semaphore) → Option Semaphore → Objects → Objects
-lock_changed l change None objects = objects
-lock_changed l change (Some s) objects = with_lock l (change s) objects
 
 -- d asks a lock for a token
 abbrev pub ask : ℕ → ℕ → World → World
@@ -270,6 +242,41 @@ release l w = release_found l (slice_get w.objects.semaphores l) w
 -- d waits for a token of a lock no longer
 abbrev pub forget : ℕ → ℕ → World → World
 forget l d w = arrange (λ objects. lock_changed l (forgotten d) (slice_get objects.semaphores l) objects) w
+
+-- what is answered, unless the run has stopped
+abbrev pub unless_stopped : {A : Type 0} → Option A → World → Option A × World
+unless_stopped answer w = (if w.stopped then None else answer, w)
+
+-- a value is put into the queue that is found, where it may be, and who gets it is answered
+abbrev pub put_found : ℕ → Value → Option Queue → World → Option (ℕ × Value) × World
+put_found k value None w = (None, w)
+put_found k value (Some q) w =
+    if may_put q then unless_stopped (receiver q.waiting value) (aside (entry.Put q.name value) (with_queue k (put_to q.waiting value q)) w) else (None, w)
+
+-- a value is put into a queue
+abbrev pub put_into : ℕ → Value → World → Option (ℕ × Value) × World
+put_into k value w = put_found k value (slice_get w.objects.queues k) w
+
+-- d asks the queue that is found for a value, and which it gets is answered, if it doesn't wait
+abbrev pub get_found : ℕ → ℕ → Option Queue → World → Option Value × World
+get_found k d None w = (None, w)
+get_found k d (Some q) w = unless_stopped (slice_get q.stored 0) (aside (entry.Get q.name d) (with_queue k (got_from q.stored d q)) w)
+
+-- d asks a queue for a value
+abbrev pub get_from : ℕ → ℕ → World → Option Value × World
+get_from k d w = get_found k d (slice_get w.objects.queues k) w
+
+-- d waits for a value of a queue no longer
+abbrev pub withdraw : ℕ → ℕ → World → World
+withdraw k d w = arrange (λ objects. queue_changed k (withdrawn d) (slice_get objects.queues k) objects) w
+
+-- what a putting raises where as many values are stored as may be
+abbrev pub overflow : Failure
+overflow = plain_failure queue_overflow []
+
+-- what an asking raises where as many wait as may
+abbrev pub underflow : Failure
+underflow = plain_failure queue_underflow []
 
 -- what the giving back of a token raises where none is given
 abbrev pub not_held : Failure

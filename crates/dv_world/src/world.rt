@@ -1,6 +1,6 @@
 ghost use Rattle.std.specs.Prelude.{◌≡◌, ◌<◌, ◌^◌, ◌-◌, Some, length, slice_get, IfOk, OnOk, OnErr};
 ghost use Rattle.dv_value.specs.Failure.{plain_failure};
-ghost use Rattle.dv_world.specs.World.{cancelled, unbound, not_held};
+ghost use Rattle.dv_world.specs.World.{cancelled, unbound, not_held, overflow, underflow};
 ghost use Rattle.dv_world.specs.declared.performed.Performed.TheVariants.{Raised};
 ghost use Rattle.dv_world.specs.declared.follow.Follow.TheVariants.{Raise};
 
@@ -17,6 +17,8 @@ use dv_journal::entry::Entry;
 use dv_journal::error::Stop;
 use dv_journal::journal::Journal;
 use dv_prims::lock_id::LockId;
+use dv_prims::queue::Queue;
+use dv_prims::queue_id::QueueId;
 use dv_prims::semaphore::Semaphore;
 use dv_store::error::{StoreFault, UnpauseFault};
 use dv_store::record::Record;
@@ -40,6 +42,8 @@ pub struct World<'s> {
     names: Names<DeferredId>,
     locks: Names<LockId>,
     semaphores: Vec<Semaphore>,
+    queue_names: Names<QueueId>,
+    queues: Vec<Queue>,
     store: Store<Pair<'s>, Canceller<'s>>,
     journal: Journal,
     stopped: bool,
@@ -57,12 +61,13 @@ impl<'s> Model for World<'s> {
 
     ghost coded = { Prim.hlevel (codes, body_contract.the_row.coded, class_contract.the_row.coded, failure_contract.the_row.coded, value_contract.the_row.coded) };
 
-    ghost view = { λ w. record { classes = w.classes.now; objects = record { names = w.names; locks = w.locks; semaphores = w.semaphores.items }; records = w.store; journal = w.journal; stopped = w.stopped } };
+    ghost view = { λ w. record { classes = w.classes.now; objects = record { names = w.names; locks = w.locks; semaphores = w.semaphores.items; queue_names = w.queue_names; queues = w.queues.items }; records = w.store; journal = w.journal; stopped = w.stopped } };
 }
 
 impl<'s> World<'s> {
     ghost use Rattle.dv_store.specs.Pausing.{pauses_of};
-    ghost use Rattle.dv_world.specs.World.{first_world, value_of, deferred_at, step, put, put_deferred, append, make, fire, fire_guarded, is_unfired, reached_from, cancel, pause, unpause, aside, tell, naming, with_new_lock, with_added_lock, ask, release, forget, with_stop};
+    ghost use Rattle.dv_world.specs.World.{first_world, value_of, deferred_at, step, put, put_deferred, append, make, fire, fire_guarded, is_unfired, reached_from, cancel, pause, unpause, aside, tell, ask, release, forget, put_into, get_from, withdraw, with_stop};
+    ghost use Rattle.dv_world.specs.Objects.{naming, with_new_lock, with_added_lock, with_new_queue, with_added_queue};
     ghost use Rattle.dv_world.specs.Names.{number_of};
     ghost use Rattle.std.specs.Option.{option_copied};
     ghost use Rattle.dv_journal.specs.declared.entry.Entry.TheVariants as entry;
@@ -78,6 +83,8 @@ impl<'s> World<'s> {
             names: Names::new(alloc),
             locks: Names::new(alloc),
             semaphores: Vec::new(alloc),
+            queue_names: Names::new(alloc),
+            queues: Vec::new(alloc),
             store: Store::new(alloc),
             journal: Journal::new(alloc, limit),
             stopped: false,
@@ -290,7 +297,8 @@ impl<'s> World<'s> {
                 match &record.canceller {
                     None => Reached::Fire(end),
                     Some(Canceller::Body(body)) => Reached::Run(end, BodyRef::new(body.get())),
-                    Some(Canceller::Token(lock)) => Reached::Withdraw(end, *lock),
+                    Some(Canceller::Token(lock)) => Reached::ForToken(end, *lock),
+                    Some(Canceller::Item(queue)) => Reached::ForItem(end, *queue),
                 }
             }
         }
@@ -481,6 +489,98 @@ impl<'s> World<'s> {
         }
     }
 
+    /// Makes a queue, and binds its name to it, also where that was bound to another (Twisted: `DeferredQueue`).
+    #[tactic(auto, unfolding(crate::specs::World::aside))]
+    pub fn make_queue(&mut self, name: &str, size: Option<u32>, backlog: Option<u32>) -> Result<(), AllocError>
+        ensures { OnOk result (self.new ≡ aside (entry.Queue name.now size backlog) (with_new_queue name.now size backlog) self.old) }
+    {
+        if self.stopped {
+            return Ok(());
+        }
+        if !self.journal.fits_plain() {
+            self.stopped = true;
+            return Ok(());
+        }
+        match Queue::new(self.alloc, &mut self.journal, name, size, backlog) {
+            Ok(queue) => self.add_queue(name, queue),
+            Err(_) => Err(AllocError),
+        }
+    }
+
+    /// Adds a queue that was told, and binds its name to it.
+    fn add_queue(&mut self, name: &str, queue: Queue) -> Result<(), AllocError>
+        ensures { OnOk result (self.new ≡ record self.old { objects = with_added_queue name.now queue self.old.objects }) }
+    {
+        self.queue_names.bind(name, QueueId::new(self.queues.len()))?;
+        self.queues.push(queue)?;
+        Ok(())
+    }
+
+    /// The queue that a name stands for.
+    pub fn find_queue(&self, name: &str) -> Option<QueueId>
+        ensures { result ≡ number_of name.now self.now.objects.queue_names }
+    {
+        self.queue_names.find(name)
+    }
+
+    /// A queue by its id.
+    pub fn queue(&self, queue: QueueId) -> Option<&Queue>
+        ensures { option_copied result ≡ slice_get self.now.objects.queues queue }
+    {
+        self.queues.get(queue.number())
+    }
+
+    /// A value is put into a queue, where it may be: whoever waits first gets it, and both are answered, or it is stored.
+    #[tactic(auto, unfolding(crate::specs::World::aside))]
+    pub fn put_into(&mut self, queue: QueueId, value: Value) -> Result<Option<(DeferredId, Value)>, AllocError>
+        ensures { IfOk result (λ given. (given, self.new) ≡ put_into queue value self.old) }
+    {
+        let place = queue.number();
+        if self.stopped || place >= self.queues.len() || !self.queues[place].may_put() {
+            return Ok(None);
+        }
+        if !self.journal.fits_value(&value) {
+            self.stopped = true;
+            return Ok(None);
+        }
+        match self.queues[place].put(&mut self.journal, value) {
+            Ok(given) => Ok(given),
+            Err(_) => Err(AllocError),
+        }
+    }
+
+    /// A Deferred asks a queue for a value: the first that is stored is answered, or the Deferred waits.
+    #[tactic(auto, unfolding(crate::specs::World::aside))]
+    pub fn get_from(&mut self, queue: QueueId, id: DeferredId) -> Result<Option<Value>, AllocError>
+        ensures { IfOk result (λ value. (value, self.new) ≡ get_from queue id self.old) }
+    {
+        let place = queue.number();
+        if self.stopped || place >= self.queues.len() {
+            return Ok(None);
+        }
+        if !self.journal.fits_plain() {
+            self.stopped = true;
+            return Ok(None);
+        }
+        match self.queues[place].get(&mut self.journal, id) {
+            Ok(value) => Ok(value),
+            Err(_) => Err(AllocError),
+        }
+    }
+
+    /// A Deferred waits for a value of a queue no longer.
+    #[tactic(auto, unfolding(crate::specs::World::arrange))]
+    pub fn withdraw(&mut self, queue: QueueId, id: DeferredId)
+        ensures { self.new ≡ withdraw queue id self.old }
+    {
+        if self.stopped {
+            return;
+        }
+        if let Some(queue) = self.queues.get_mut(queue.number()) {
+            let _ = queue.forget(id);
+        }
+    }
+
     /// What a change that couldn't be told answers: the run stops, and it is this, or memory was refused.
     fn stopped_by<T: Drop>(&mut self, stop: Stop, otherwise: T) -> Result<T, AllocError>
         ensures stopped { OnOk result ((stop ≡ Stop.Limit) × (self.new ≡ with_stop self.old)) }
@@ -511,6 +611,22 @@ pub fn unbound<'s>(alloc: Global, name: &str) -> Result<Performed<'s>, AllocErro
     ensures { IfOk result (λ p. p ≡ unbound name.now) }
 {
     let failure = failure(alloc, ClassId::NAME_ERROR, name)?;
+    Ok(Performed::Raised(failure))
+}
+
+/// What a putting raises where as many values are stored as may be (Twisted: `QueueOverflow`).
+pub fn overflow<'s>(alloc: Global) -> Result<Performed<'s>, AllocError>
+    ensures { IfOk result (λ p. p ≡ Raised overflow) }
+{
+    let failure = failure(alloc, ClassId::QUEUE_OVERFLOW, "")?;
+    Ok(Performed::Raised(failure))
+}
+
+/// What an asking raises where as many wait as may (Twisted: `QueueUnderflow`).
+pub fn underflow<'s>(alloc: Global) -> Result<Performed<'s>, AllocError>
+    ensures { IfOk result (λ p. p ≡ Raised underflow) }
+{
+    let failure = failure(alloc, ClassId::QUEUE_UNDERFLOW, "")?;
     Ok(Performed::Raised(failure))
 }
 

@@ -1,0 +1,55 @@
+-- What stands beside the Deferreds: names, locks and semaphores, and queues.
+use Rattle.std.specs.Prelude.{ℕ, List, [], ◌∷◌, ◌++◌, length, Option, None, Some, slice_set}
+use Rattle.dv_prims.specs.Queue.{Queue, new_queue}
+use Rattle.dv_prims.specs.Tokens.{Semaphore, new_semaphore}
+use Rattle.dv_world.specs.Names.{Names, with_name}
+
+-- what stands beside the Deferreds: their names, locks and semaphores with theirs, and queues with theirs
+pub record Objects : Type 0 where
+  pub names : Names ℕ
+  pub locks : Names ℕ
+  pub semaphores : List Semaphore
+  pub queue_names : Names ℕ
+  pub queues : List Queue
+
+-- nothing stands there at first
+abbrev pub no_objects : Objects
+no_objects = record { names = []; locks = []; semaphores = []; queue_names = []; queues = [] }
+
+-- a name of a Deferred is bound
+abbrev pub naming : List ℕ → ℕ → Objects → Objects
+naming name d objects = record objects { names = with_name name d objects.names }
+
+-- a lock is added, and its name is bound to it
+abbrev pub with_added_lock : List ℕ → Semaphore → Objects → Objects
+with_added_lock name s objects = record objects { locks = with_name name (length objects.semaphores) objects.locks; semaphores = objects.semaphores ++ s ∷ [] }
+
+-- a lock is made, of which no token is given
+abbrev pub with_new_lock : List ℕ → ℕ → Objects → Objects
+with_new_lock name tokens objects = with_added_lock name (new_semaphore name tokens) objects
+
+-- a lock is now this
+abbrev pub with_lock : ℕ → Semaphore → Objects → Objects
+with_lock l s objects = record objects { semaphores = slice_set objects.semaphores l s }
+
+-- the lock that is found changes, which isn't told; an id of no lock changes nothing
+abbrev pub lock_changed : ℕ → (Semaphore → Semaphore) → Option Semaphore → Objects → Objects
+lock_changed l change None objects = objects
+lock_changed l change (Some s) objects = with_lock l (change s) objects
+
+-- a queue is added, and its name is bound to it
+abbrev pub with_added_queue : List ℕ → Queue → Objects → Objects
+with_added_queue name q objects = record objects { queue_names = with_name name (length objects.queues) objects.queue_names; queues = objects.queues ++ q ∷ [] }
+
+-- a queue is made, in which nothing is stored
+abbrev pub with_new_queue : List ℕ → Option ℕ → Option ℕ → Objects → Objects
+with_new_queue name size backlog objects = with_added_queue name (new_queue name size backlog) objects
+
+-- a queue is now this
+abbrev pub with_queue : ℕ → Queue → Objects → Objects
+with_queue k q objects = record objects { queues = slice_set objects.queues k q }
+
+-- the queue that is found changes, which isn't told; an id of no queue changes nothing
+abbrev pub queue_changed : ℕ → (Queue → Queue) → Option Queue → Objects → Objects
+queue_changed k change None objects = objects
+queue_changed k change (Some q) objects = with_queue k (change q) objects
