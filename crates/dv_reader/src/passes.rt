@@ -1,9 +1,10 @@
 //! The passes of the reader, in the order of the refusals that they find.
 
-ghost use Rattle.std.specs.Prelude.{◌≡◌, length};
+ghost use Rattle.std.specs.Prelude.{◌≡◌, ◌≤◌, length, IfOk, IfErr};
 ghost use Rattle.std.specs.List.{list_all};
 ghost use Rattle.serde_json.specs.View.{view};
-ghost use Rattle.dv_reader.specs.Refusal.{is_named, are_named, are_known};
+ghost use Rattle.dv_reader.specs.Limits.{most_nodes, most_limit};
+ghost use Rattle.dv_reader.specs.Refusal.{is_named, are_named, are_known, Says, Refuses};
 ghost use Rattle.dv_reader.specs.Passes.{is_version, Accepts, Judged, Passes};
 
 use crate::draft::{Declaration, Draft};
@@ -78,8 +79,8 @@ fn judge(alloc: Global, json: &Json) -> Result<Script, ScriptFault>
     Ok(draft.script)
 }
 
-/// The script that the bytes say, or the least refusal.
-pub fn passed(alloc: Global, bytes: &[u8]) -> Result<Script, ScriptFault>
+/// The script that the passes find in the bytes, or the least refusal.
+fn passed(alloc: Global, bytes: &[u8]) -> Result<Script, ScriptFault>
     ensures { Passes bytes.now result }
 {
     if bytes.len() > MOST_BYTES {
@@ -93,4 +94,15 @@ pub fn passed(alloc: Global, bytes: &[u8]) -> Result<Script, ScriptFault>
             Err(ScriptFault::NotJson)
         },
     }
+}
+
+/// The script that the bytes say, or the least refusal.
+#[tactic(auto, using(crate::proofs::Answers::says, crate::proofs::Answers::refuses, crate::proofs::Answers::few, crate::proofs::Answers::limited))]
+pub fn read_script(alloc: Global, bytes: &[u8]) -> Result<Script, ScriptFault>
+    ensures ok { IfOk result (λ script. Says bytes.now script) }
+    ensures err { IfErr result (λ fault. Refuses fault bytes.now) }
+    ensures few { IfOk result (λ script. length script.events ≤ most_nodes) }
+    ensures limited { IfOk result (λ script. script.limit ≤ most_limit) }
+{
+    passed(alloc, bytes)
 }

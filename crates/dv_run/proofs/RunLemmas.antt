@@ -14,14 +14,14 @@ use Rattle.dv_reader.specs.declared.error.ScriptFault.TheVariants as script
 use Rattle.dv_script.specs.declared.script.Script.{Script}
 use Rattle.dv_run.specs.Faults.{of_read, of_script, of_print}
 use Rattle.dv_run.specs.Output.{report_text}
-use Rattle.dv_run.specs.Run.{Told, most_read, SaysReport, Prints, RefusesInput, GivesUp, ReaderFailed, WriterFailed}
+use Rattle.dv_run.specs.Run.{Told, most_read, SaysPerformed, SaysReport, Prints, RefusesInput, GivesUp, ReaderFailed, WriterFailed, GivesNoScript}
 use Rattle.dv_run.specs.Source.{IsFrontOf}
 use Rattle.dv_run.specs.declared.error.RunFault.TheVariants.{ScriptRefused, OutOfMemory}
 use Rattle.dv_run.specs.declared.source.ReadError.{ReadError}
 use Rattle.dv_run.specs.declared.source.ReadError.TheVariants as reading
 
 -- a read that gave up: nothing was written
-pub after_read : (input old : Told) (error : ReadError) → GivesUp (of_read error) input old old
+after_read : (input old : Told) (error : ReadError) → GivesUp (of_read error) input old old
 after_read input old reading.ReadFault = Keeps-refl old
 after_read input old reading.OutOfMemory = inl (Keeps-refl old)
 
@@ -30,12 +30,12 @@ refused_as : (input old : Told) (bytes : List ℕ) (fault : ScriptFault) → IsF
 refused_as input old bytes fault front refused reason = record { bytes = bytes; read = front; refused = inl refused; reason = reason; written = Keeps-refl old }
 
 -- a script that uses what isn't performed yet: nothing was written
-pub after_more : (input old : Told) (bytes : List ℕ) (read : Script) → IsFrontOf input most_read bytes → Says bytes read → performs read ≡ false → GivesUp (ScriptRefused script.BadShape) input old old
+after_more : (input old : Told) (bytes : List ℕ) (read : Script) → IsFrontOf input most_read bytes → Says bytes read → performs read ≡ false → GivesUp (ScriptRefused script.BadShape) input old old
 after_more input old bytes read front says more =
     record { bytes = bytes; read = front; refused = inr (refl, record { script = read; says = says; more = more }); reason = λ e. cc; written = Keeps-refl old }
 
 -- a script that is refused: nothing was written
-pub after_script : (input old : Told) (bytes : List ℕ) (fault : ScriptFault) → IsFrontOf input most_read bytes → Refuses fault bytes → GivesUp (of_script fault) input old old
+after_script : (input old : Told) (bytes : List ℕ) (fault : ScriptFault) → IsFrontOf input most_read bytes → Refuses fault bytes → GivesUp (of_script fault) input old old
 after_script input old bytes script.TooLong front refused = refused_as input old bytes script.TooLong front refused (λ e. cc)
 after_script input old bytes script.NotJson front refused = refused_as input old bytes script.NotJson front refused (λ e. cc)
 after_script input old bytes script.BadVersion front refused = refused_as input old bytes script.BadVersion front refused (λ e. cc)
@@ -50,38 +50,38 @@ pub after_perform : (input old : Told) → GivesUp OutOfMemory input old old
 after_perform input old = inl (Keeps-refl old)
 
 -- the report of the script that the input says
-says_report : (input : Told) (bytes : List ℕ) (read : Script) (report : Report) → IsFrontOf input most_read bytes → Says bytes read → performs read ≡ true → Reports read report → SaysReport input read report
-says_report input bytes read report front says performed reports =
-    record { bytes = bytes; read = front; says = says; performed = performed; reports = reports }
+says_report : (input : Told) (read : Script) (report : Report) → SaysPerformed input read → Reports read report → SaysReport input read report
+says_report input read report says reports =
+    record { bytes = says.bytes; read = says.read; says = says.says; performed = says.performed; reports = reports }
 
 -- a print that gave up: a prefix was written
-pub after_print : (input old new : Told) (bytes : List ℕ) (read : Script) (report : Report) (fault : PrintFault) → IsFrontOf input most_read bytes → Says bytes read → performs read ≡ true → Reports read report
+pub after_print : (input old new : Told) (read : Script) (report : Report) (fault : PrintFault) → SaysPerformed input read → Reports read report
     → AppendsPrefix old new (report_text read.classes report) → GivesUp (of_print fault) input old new
-after_print input old new bytes read report printing.WriteFault front says performed reports written =
-    record { script = read; report = report; says = says_report input bytes read report front says performed reports; written = written }
-after_print input old new bytes read report printing.OutOfMemory front says performed reports written =
-    inr (record { script = read; report = report; says = says_report input bytes read report front says performed reports; written = written })
+after_print input old new read report printing.WriteFault says reports written =
+    record { script = read; report = report; says = says_report input read report says reports; written = written }
+after_print input old new read report printing.OutOfMemory says reports written =
+    inr (record { script = read; report = report; says = says_report input read report says reports; written = written })
 
 -- all was written
-pub after_all : (input old new : Told) (bytes : List ℕ) (read : Script) (report : Report) → IsFrontOf input most_read bytes → Says bytes read → performs read ≡ true → Reports read report
+pub after_all : (input old new : Told) (read : Script) (report : Report) → SaysPerformed input read → Reports read report
     → Appends old new (report_text read.classes report) → Prints input old new report
-after_all input old new bytes read report front says performed reports written =
-    record { script = read; says = says_report input bytes read report front says performed reports; written = written }
+after_all input old new read report says reports written =
+    record { script = read; says = says_report input read report says reports; written = written }
 
 -- what the reader's count says after a read that gave up
-pub reader_after_read : (error : ReadError) (old new : ℕ) → ((error ≡ reading.ReadFault) → HasFailed old new) → ((error ≡ reading.OutOfMemory) → new ≡ old) → ReaderFailed (Err (of_read error)) old new
+reader_after_read : (error : ReadError) (old new : ℕ) → ((error ≡ reading.ReadFault) → HasFailed old new) → ((error ≡ reading.OutOfMemory) → new ≡ old) → ReaderFailed (Err (of_read error)) old new
 unfolding ReaderFailed
 reader_after_read reading.ReadFault old new failed kept = failed refl
 reader_after_read reading.OutOfMemory old new failed kept = kept refl
 
 -- and the writer's: it hasn't failed
-pub writer_after_read : (error : ReadError) (old : ℕ) → WriterFailed (Err (of_read error)) old old
+writer_after_read : (error : ReadError) (old : ℕ) → WriterFailed (Err (of_read error)) old old
 unfolding WriterFailed
 writer_after_read reading.ReadFault old = refl
 writer_after_read reading.OutOfMemory old = refl
 
 -- where a script is refused, the reader hasn't failed
-pub reader_after_script : (fault : ScriptFault) (old new : ℕ) → new ≡ old → ReaderFailed (Err (of_script fault)) old new
+reader_after_script : (fault : ScriptFault) (old new : ℕ) → new ≡ old → ReaderFailed (Err (of_script fault)) old new
 unfolding ReaderFailed
 reader_after_script script.TooLong old new kept = kept
 reader_after_script script.NotJson old new kept = kept
@@ -93,7 +93,7 @@ reader_after_script script.BadClass old new kept = kept
 reader_after_script script.OutOfMemory old new kept = kept
 
 -- nor has the writer
-pub writer_after_script : (fault : ScriptFault) (old : ℕ) → WriterFailed (Err (of_script fault)) old old
+writer_after_script : (fault : ScriptFault) (old : ℕ) → WriterFailed (Err (of_script fault)) old old
 unfolding WriterFailed
 writer_after_script script.TooLong old = refl
 writer_after_script script.NotJson old = refl
@@ -117,13 +117,32 @@ writer_after_print printing.WriteFault old new failed kept = failed refl
 writer_after_print printing.OutOfMemory old new failed kept = kept refl
 
 -- a script that uses what isn't performed yet is refused, and neither has failed
-pub reader_after_more : (fault : ScriptFault) (old new : ℕ) → new ≡ old → ReaderFailed (Err (ScriptRefused fault)) old new
+reader_after_more : (fault : ScriptFault) (old new : ℕ) → new ≡ old → ReaderFailed (Err (ScriptRefused fault)) old new
 unfolding ReaderFailed
 reader_after_more fault old new kept = kept
 
-pub writer_after_more : (fault : ScriptFault) (old : ℕ) → WriterFailed (Err (ScriptRefused fault)) old old
+writer_after_more : (fault : ScriptFault) (old : ℕ) → WriterFailed (Err (ScriptRefused fault)) old old
 unfolding WriterFailed
 writer_after_more fault old = refl
+
+-- a read that gave up leads to no script
+pub read_gives_none : (input : Told) (error : ReadError) (old new : ℕ) → ((error ≡ reading.ReadFault) → HasFailed old new) → ((error ≡ reading.OutOfMemory) → new ≡ old) → GivesNoScript (of_read error) input old new
+read_gives_none input error old new failed kept =
+    record { untouched = λ told. after_read input told error; reader = reader_after_read error old new failed kept; writer = λ count. writer_after_read error count }
+
+-- nor do bytes that say none
+pub bytes_give_none : (input : Told) (bytes : List ℕ) (fault : ScriptFault) (old new : ℕ) → IsFrontOf input most_read bytes → Refuses fault bytes → new ≡ old → GivesNoScript (of_script fault) input old new
+bytes_give_none input bytes fault old new front refused kept =
+    record { untouched = λ told. after_script input told bytes fault front refused; reader = reader_after_script fault old new kept; writer = λ count. writer_after_script fault count }
+
+-- nor does a script that uses what isn't performed yet
+pub more_gives_none : (input : Told) (bytes : List ℕ) (read : Script) (old new : ℕ) → IsFrontOf input most_read bytes → Says bytes read → performs read ≡ false → new ≡ old → GivesNoScript (ScriptRefused script.BadShape) input old new
+more_gives_none input bytes read old new front says more kept =
+    record { untouched = λ told. after_more input told bytes read front says more; reader = reader_after_more script.BadShape old new kept; writer = λ count. writer_after_more script.BadShape count }
+
+-- any other is one
+pub all_is_performed : (input : Told) (bytes : List ℕ) (read : Script) → IsFrontOf input most_read bytes → Says bytes read → performs read ≡ true → SaysPerformed input read
+all_is_performed input bytes read front says performed = record { bytes = bytes; read = front; says = says; performed = performed }
 
 -- nor has either where a script isn't performed for want of memory
 pub reader_after_perform : (old new : ℕ) → new ≡ old → ReaderFailed (Err OutOfMemory) old new
@@ -143,4 +162,6 @@ pub writer_after_all : (report : Report) (old new : ℕ) → new ≡ old → Wri
 unfolding WriterFailed
 writer_after_all report old new kept = kept
 
-pub ruleset run_rules = (after_read, after_script, after_more, after_perform, after_print, after_all, reader_after_read, writer_after_read, reader_after_script, writer_after_script, reader_after_more, writer_after_more, reader_after_perform, writer_after_perform, reader_after_print, writer_after_print, reader_after_all, writer_after_all)
+pub ruleset script_rules = (read_gives_none, bytes_give_none, more_gives_none, all_is_performed)
+
+pub ruleset run_rules = (after_perform, after_print, after_all, reader_after_perform, writer_after_perform, reader_after_print, writer_after_print, reader_after_all, writer_after_all)

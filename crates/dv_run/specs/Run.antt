@@ -22,6 +22,13 @@ Told = Option (List ℕ)
 abbrev pub most_read : ℕ
 most_read = 1048577
 
+-- the input says a script that is performed
+pub record SaysPerformed (input : Told) (script : Script) : Type 0 where
+  pub bytes : List ℕ
+  pub read : IsFrontOf input most_read bytes
+  pub says : Says bytes script
+  pub performed : performs script ≡ true
+
 -- the input says a script that is performed, and this is the report of it
 pub record SaysReport (input : Told) (script : Script) (report : Report) : Type 0 where
   pub bytes : List ℕ
@@ -83,3 +90,9 @@ WriterFailed (Err (ScriptRefused fault)) old new = new ≡ old
 WriterFailed (Err OutOfMemory) old new = new ≡ old
 WriterFailed (Err ReadFault) old new = new ≡ old
 WriterFailed (Err WriteFault) old new = HasFailed old new
+
+-- no script was come to: why, while nothing is written, and the writer is left as it is
+pub record GivesNoScript (fault : RunFault) (input : Told) (old new : ℕ) : Type 0 where
+  pub untouched : (told : Told) → GivesUp fault input told told
+  pub reader : ReaderFailed (Err fault) old new
+  pub writer : (count : ℕ) → WriterFailed (Err fault) count count

@@ -1,5 +1,6 @@
-ghost use Rattle.std.specs.Prelude.{IfOk, IfErr};
-ghost use Rattle.dv_run.specs.Run.{Prints, GivesUp, ReaderFailed, WriterFailed};
+ghost use Rattle.std.specs.Prelude.{◌≡◌, ◌≤◌, OnOk, IfOk, IfErr};
+ghost use Rattle.dv_reader.specs.Limits.{most_limit};
+ghost use Rattle.dv_run.specs.Run.{SaysPerformed, GivesNoScript, Prints, GivesUp, ReaderFailed, WriterFailed};
 
 use crate::error::RunFault;
 use crate::output::print_report;
@@ -8,6 +9,7 @@ use dv_engine::engine::perform;
 use dv_engine::performs::performs;
 use dv_engine::report::Report;
 use dv_journal::sink::Sink;
+use dv_reader::MOST_BYTES;
 use dv_reader::error::ScriptFault;
 use dv_reader::read_script::ReadScript;
 use dv_script::script::Script;
@@ -32,12 +34,25 @@ pub fn run<R: Source, W: Sink>(
     ensures reader { ReaderFailed result (R.failures reader.old) (R.failures reader.new) }
     ensures writer { WriterFailed result (W.failures writer.old) (W.failures writer.new) }
 {
-    let bytes = read_up_to(alloc, reader, 1_048_577)?;
-    let script = Script::read(alloc, bytes.as_slice())?;
-    if !performs(&script) {
-        return Err(RunFault::ScriptRefused(ScriptFault::BadShape));
-    }
+    let script = script_of(alloc, reader)?;
     let report = perform(alloc, &script)?;
     print_report(alloc, &script.classes, &report, writer)?;
     Ok(report)
+}
+
+/// The script that the input says, all of which is performed.
+#[tactic(auto, using(crate::proofs::RunLemmas::script_rules))]
+fn script_of<R: Source>(alloc: Global, reader: &mut R) -> Result<Script, RunFault>
+    ensures ok { IfOk result (λ script. SaysPerformed (R.left reader.old) script) }
+    ensures limited { IfOk result (λ script. script.limit ≤ most_limit) }
+    ensures kept { OnOk result (R.failures reader.new ≡ R.failures reader.old) }
+    ensures err { IfErr result (λ fault. GivesNoScript fault (R.left reader.old) (R.failures reader.old) (R.failures reader.new)) }
+{
+    let bytes = read_up_to(alloc, reader, MOST_BYTES + 1)?;
+    let script = Script::read(alloc, bytes.as_slice())?;
+    if !performs(&script) {
+        drop(script);
+        return Err(RunFault::ScriptRefused(ScriptFault::BadShape));
+    }
+    Ok(script)
 }

@@ -35,7 +35,7 @@ use std::marker::Model;
 ///
 /// Where a call answers AllocError, nothing is promised of what the world holds then: its clauses speak of the other
 /// answers only. An engine that was refused memory asks no more of its world.
-#[derive(Drop)]
+#[derive(Debug, Drop)]
 pub struct World<'s> {
     alloc: Global,
     classes: &'s Classes,
