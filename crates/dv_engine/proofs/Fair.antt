@@ -6,7 +6,7 @@ use Rattle.dv_value.specs.declared.value.Value.{Value, Null, Fault, Text}
 use Rattle.dv_journal.specs.declared.entry.Entry.{Entry}
 use Rattle.dv_journal.specs.declared.entry.Entry.TheVariants as entry
 use Rattle.dv_prims.specs.Queue.{Queue, may_put, may_get, receiver, put_to}
-use Rattle.dv_prims.specs.Tokens.{Semaphore, has_free, is_unheld, first_waiting}
+use Rattle.dv_prims.specs.Tokens.{Semaphore, is_unheld, first_waiting}
 use Rattle.dv_script.specs.declared.action.Action.{Action, out-Action}
 use Rattle.dv_script.specs.declared.body.End.{End}
 use Rattle.dv_store.specs.Laws.{used}
@@ -35,7 +35,7 @@ use Rattle.dv_world.specs.Ending.{failed_with}
 use Rattle.dv_journal.specs.Change.{change_of, Aside}
 use Rattle.dv_world.specs.Names.{number_of}
 use Rattle.dv_world.specs.Pair.{chain}
-use Rattle.dv_world.specs.World.{World, state_of, deferred_at, step, append, fire, is_unfired, cancelled, cancel, pause, unpause, make, aside, arrange, lock_told, ask, release_found, release, forget, unless_stopped, put_found, put_into, get_found, get_from, withdraw, value_of}
+use Rattle.dv_world.specs.World.{World, state_of, deferred_at, step, append, fire, is_unfired, cancelled, cancel, pause, unpause, make, aside, lock_told, ask, release_found, release, forget, unless_stopped, put_found, put_into, get_found, get_from, withdraw, value_of}
 use Rattle.dv_world.specs.Objects.{Objects, with_queue}
 use Rattle.dv_world.specs.declared.canceller.Canceller.TheVariants.{Body, Token, Item}
 use Rattle.dv_world.specs.declared.follow.Follow.{Follow}
@@ -174,12 +174,10 @@ cancel_fair : (m : ℕ) (w0 : World) (o : Reached) (w : World) → Comes w0 w �
 cancel_fair m w0 reached.Nothing w c h = done_fair m w0 w c
 cancel_fair m w0 (reached.Fire d) w c h = paid_fair m 1 w0 w (cancel_begun (reached.Fire d) w) c h (omega arith) (record { keeps = λ R l. l.by_fire_guarded d w })
 cancel_fair m w0 (reached.Run d canceller) w c h = paid_fair m 1 w0 w (cancel_begun (reached.Run d canceller) w) c h (omega arith) (same w)
-
 cancel_fair m w0 (reached.ForToken d l) w c h =
     let free = forget l d w in
     let arranged : Comes w free = record { keeps = λ R k. k.by_arrange _ w } in
     paid_fair m 1 w0 w (cancel_begun (reached.ForToken d l) w) c h (omega arith) (join w free _ arranged (next_fair 1 d (fire d cancelled free).0 free (fire d cancelled free).1 (omega arith) (by_fire d cancelled free)).comes)
-
 cancel_fair m w0 (reached.ForItem d k) w c h =
     let free = withdraw k d w in
     let arranged : Comes w free = record { keeps = λ R l. l.by_arrange _ w } in

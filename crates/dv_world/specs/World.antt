@@ -1,5 +1,5 @@
 -- The world of a run: its Deferreds, their names, the classes of failures and the journal, and one step of each kind.
-use Rattle.std.specs.Prelude.{ℕ, Bool, true, false, not, if◌then◌else◌, List, [], ◌∷◌, ◌++◌, length, Option, None, Some, Result, Ok, Err, slice_get, slice_set, bytes_eq, codes}
+use Rattle.std.specs.Prelude.{ℕ, Bool, true, false, not, if◌then◌else◌, List, [], Option, None, Some, Result, Ok, Err, slice_get, bytes_eq, codes}
 use Rattle.std.specs.Option.{option_map_or}
 use Rattle.dv_value.specs.Builtin.{name_error, assertion_error, already_called_error, cancelled_error, queue_overflow, queue_underflow}
 use Rattle.dv_value.specs.Failure.{plain_failure}
@@ -10,7 +10,6 @@ use Rattle.dv_journal.specs.Journal.{Written, empty, fits, with_entry}
 use Rattle.dv_journal.specs.declared.entry.Entry.{Entry}
 use Rattle.dv_journal.specs.declared.entry.Entry.TheVariants as entry
 use Rattle.dv_journal.specs.declared.error.Stop.{Stop}
-use Rattle.dv_script.specs.declared.body.Body.{Body}
 use Rattle.dv_prims.specs.Queue.{Queue, may_put, receiver, put_to, got_from, withdrawn}
 use Rattle.dv_prims.specs.Tokens.{Semaphore, is_unheld, asked, released, forgotten}
 use Rattle.dv_store.specs.Callbacks as callbacks

@@ -491,7 +491,12 @@ impl<'s> World<'s> {
 
     /// Makes a queue, and binds its name to it, also where that was bound to another (Twisted: `DeferredQueue`).
     #[tactic(auto, unfolding(crate::specs::World::aside))]
-    pub fn make_queue(&mut self, name: &str, size: Option<u32>, backlog: Option<u32>) -> Result<(), AllocError>
+    pub fn make_queue(
+        &mut self,
+        name: &str,
+        size: Option<u32>,
+        backlog: Option<u32>,
+    ) -> Result<(), AllocError>
         ensures { OnOk result (self.new ≡ aside (entry.Queue name.now size backlog) (with_new_queue name.now size backlog) self.old) }
     {
         if self.stopped {
@@ -511,7 +516,8 @@ impl<'s> World<'s> {
     fn add_queue(&mut self, name: &str, queue: Queue) -> Result<(), AllocError>
         ensures { OnOk result (self.new ≡ record self.old { objects = with_added_queue name.now queue self.old.objects }) }
     {
-        self.queue_names.bind(name, QueueId::new(self.queues.len()))?;
+        self.queue_names
+            .bind(name, QueueId::new(self.queues.len()))?;
         self.queues.push(queue)?;
         Ok(())
     }
@@ -532,7 +538,11 @@ impl<'s> World<'s> {
 
     /// A value is put into a queue, where it may be: whoever waits first gets it, and both are answered, or it is stored.
     #[tactic(auto, unfolding(crate::specs::World::aside))]
-    pub fn put_into(&mut self, queue: QueueId, value: Value) -> Result<Option<(DeferredId, Value)>, AllocError>
+    pub fn put_into(
+        &mut self,
+        queue: QueueId,
+        value: Value,
+    ) -> Result<Option<(DeferredId, Value)>, AllocError>
         ensures { IfOk result (λ given. (given, self.new) ≡ put_into queue value self.old) }
     {
         let place = queue.number();
