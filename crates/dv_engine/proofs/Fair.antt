@@ -35,7 +35,7 @@ use Rattle.dv_world.specs.Ending.{failed_with}
 use Rattle.dv_journal.specs.Change.{change_of, Aside}
 use Rattle.dv_world.specs.Names.{number_of}
 use Rattle.dv_world.specs.Pair.{chain}
-use Rattle.dv_world.specs.World.{World, state_of, deferred_at, step, append, fire, is_unfired, cancelled, cancel, pause, unpause, make, aside, lock_told, ask, release_found, release, forget, unless_stopped, put_found, put_into, get_found, get_from, withdraw, value_of}
+use Rattle.dv_world.specs.World.{World, state_of, deferred_at, step, append, fire, is_unfired, cancelled, cancel, pause, unpause, make, aside, lock_told, ask, release_found, release, forget, unless_stopped, put_into_found, put_into, get_from_found, get_from, withdraw, value_of}
 use Rattle.dv_world.specs.Objects.{Objects, with_queue}
 use Rattle.dv_world.specs.declared.canceller.Canceller.TheVariants.{Body, Token, Item}
 use Rattle.dv_world.specs.declared.follow.Follow.{Follow}
@@ -207,7 +207,7 @@ first_comes : {A : Type 0} (b : Bool) (t u : A × World) (w : World) → Comes w
 first_comes true t u w c d = c
 first_comes false t u w c d = d
 
-put_comes : (k : ℕ) (value : Value) (o : Option Queue) (w : World) → Comes w (put_found k value o w).1
+put_comes : (k : ℕ) (value : Value) (o : Option Queue) (w : World) → Comes w (put_into_found k value o w).1
 put_comes k value None w = same w
 put_comes k value (Some q) w = first_comes (may_put q) (unless_stopped (receiver q.waiting value) (aside (entry.Put q.name value) (with_queue k (put_to q.waiting value q)) w)) (None, w) w (by_aside (entry.Put q.name value) _ w refl) (same w)
 
@@ -219,7 +219,7 @@ put_fair : (m k : ℕ) (value : Value) (o : Option Queue) (w : World) → 0 < m 
 put_fair m k value None w q = now_fair m Done w
 put_fair m k value (Some s) w q = let t = put_into k value w in if_fair m (may_put s) w (handed_out t.0 t.1) _ (then_fair m w t.1 (handed_out t.0 t.1) (put_comes k value (slice_get w.objects.queues k) w) (handed_fair m t.0 t.1 q)) (now_fair m _ w)
 
-get_comes : (k d : ℕ) (o : Option Queue) (w : World) → Comes w (get_found k d o w).1
+get_comes : (k d : ℕ) (o : Option Queue) (w : World) → Comes w (get_from_found k d o w).1
 get_comes k d None w = same w
 get_comes k d (Some q) w = by_aside (entry.Get q.name d) _ w refl
 

@@ -14,9 +14,9 @@ use Rattle.dv_reader.specs.Refusal.{are_named, are_known}
 use Rattle.dv_reader.specs.Shape.{script_at}
 
 -- the refusal of a reader that stops
-abbrev pub fault_of : Stop → ScriptFault
-fault_of stop.BadShape = BadShape
-fault_of stop.OutOfMemory = OutOfMemory
+abbrev pub script_fault_of : Stop → ScriptFault
+script_fault_of stop.BadShape = BadShape
+script_fault_of stop.OutOfMemory = OutOfMemory
 
 -- there is a number, and it is 1
 abbrev pub is_one : Option ℕ → Bool

@@ -35,9 +35,9 @@ pub enum ScriptFault {
 
 impl From<Stop> for ScriptFault {
     ghost use Rattle.std.specs.Prelude.{◌≡◌};
-    ghost use Rattle.dv_reader.specs.Passes.{fault_of};
+    ghost use Rattle.dv_reader.specs.Passes.{script_fault_of};
 
-    ghost from_gives = { λ stop fault. fault ≡ fault_of stop };
+    ghost from_gives = { λ stop fault. fault ≡ script_fault_of stop };
 
     fn from(stop: Stop) -> ScriptFault {
         match stop {

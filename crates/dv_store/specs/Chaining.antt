@@ -44,11 +44,11 @@ put_from d e r s =
     else telling (entry.Take d e r.value) Taken (taking d e r.value s.0) s
 
 -- an id of no record changes nothing
-abbrev pub put_found : {P K : Type 0} → ℕ → ℕ → Option (Record P K) → Option (Record P K) → State P K → Told Placed P K
-put_found d e None given s = untold Waits s
-put_found d e (Some r) None s = untold Waits s
-put_found d e (Some r) (Some given) s = put_from d e given s
+abbrev pub put_deferred_found : {P K : Type 0} → ℕ → ℕ → Option (Record P K) → Option (Record P K) → State P K → Told Placed P K
+put_deferred_found d e None given s = untold Waits s
+put_deferred_found d e (Some r) None s = untold Waits s
+put_deferred_found d e (Some r) (Some given) s = put_from d e given s
 
 -- a side of d has ended with the Deferred e
 unfoldable pub put_deferred : {P K : Type 0} → ℕ → ℕ → State P K → Told Placed P K
-put_deferred d e s = put_found d e (slice_get s.0 d) (slice_get s.0 e) s
+put_deferred d e s = put_deferred_found d e (slice_get s.0 d) (slice_get s.0 e) s

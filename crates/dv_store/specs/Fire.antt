@@ -23,8 +23,8 @@ abbrev pub Firing : Type 0 → Type 0 → Type 0
 Firing P K = Result Fired StoreFault × State P K
 
 -- the entry is written and then the change is made, or the entry doesn't fit and nothing changes
-abbrev pub telling : {P K : Type 0} → Entry → Result Fired StoreFault → List (Record P K) → State P K → Firing P K
-telling entry answer changed s = if fits s.1 entry then (answer, (changed, with_entry s.1 entry)) else (Err Limit, s)
+abbrev pub telling_firing : {P K : Type 0} → Entry → Result Fired StoreFault → List (Record P K) → State P K → Firing P K
+telling_firing entry answer changed s = if fits s.1 entry then (answer, (changed, with_entry s.1 entry)) else (Err Limit, s)
 
 -- a fired record has the value that it was fired with
 abbrev pub with_firing : {P K : Type 0} → Value → Record P K → Record P K
@@ -38,8 +38,8 @@ with_guard swallows r = record r { swallows = swallows }
 abbrev pub fire_again : {P K : Type 0} → ℕ → Record P K → State P K → Firing P K
 fire_again id r s =
     if r.swallows
-    then telling (entry.Swallow id) (Ok Swallowed) (slice_set s.0 id (with_guard false r)) s
-    else telling (entry.Refuse id) (Err AlreadyCalled) s.0 s
+    then telling_firing (entry.Swallow id) (Ok Swallowed) (slice_set s.0 id (with_guard false r)) s
+    else telling_firing (entry.Refuse id) (Err AlreadyCalled) s.0 s
 
 -- the Deferred that is found is fired already; an id of no record changes nothing
 abbrev pub fire_again_found : {P K : Type 0} → ℕ → Option (Record P K) → State P K → Firing P K
@@ -50,7 +50,7 @@ fire_again_found id (Some r) s = fire_again id r s
 abbrev pub fire_found : {P K : Type 0} → ℕ → Value → Option (Record P K) → State P K → Firing P K
 fire_found id value None s = (Ok Set, s)
 fire_found id value (Some r) s =
-    if r.fired then fire_again id r s else telling (entry.Fire id value) (Ok Set) (slice_set s.0 id (with_firing value r)) s
+    if r.fired then fire_again id r s else telling_firing (entry.Fire id value) (Ok Set) (slice_set s.0 id (with_firing value r)) s
 
 -- a Deferred is fired once, with one value
 abbrev pub fire : {P K : Type 0} → ℕ → Value → State P K → Firing P K

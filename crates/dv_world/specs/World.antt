@@ -247,23 +247,23 @@ abbrev pub unless_stopped : {A : Type 0} → Option A → World → Option A × 
 unless_stopped answer w = (if w.stopped then None else answer, w)
 
 -- a value is put into the queue that is found, where it may be, and who gets it is answered
-abbrev pub put_found : ℕ → Value → Option Queue → World → Option (ℕ × Value) × World
-put_found k value None w = (None, w)
-put_found k value (Some q) w =
+abbrev pub put_into_found : ℕ → Value → Option Queue → World → Option (ℕ × Value) × World
+put_into_found k value None w = (None, w)
+put_into_found k value (Some q) w =
     if may_put q then unless_stopped (receiver q.waiting value) (aside (entry.Put q.name value) (with_queue k (put_to q.waiting value q)) w) else (None, w)
 
 -- a value is put into a queue
 abbrev pub put_into : ℕ → Value → World → Option (ℕ × Value) × World
-put_into k value w = put_found k value (slice_get w.objects.queues k) w
+put_into k value w = put_into_found k value (slice_get w.objects.queues k) w
 
 -- d asks the queue that is found for a value, and which it gets is answered, if it doesn't wait
-abbrev pub get_found : ℕ → ℕ → Option Queue → World → Option Value × World
-get_found k d None w = (None, w)
-get_found k d (Some q) w = unless_stopped (slice_get q.stored 0) (aside (entry.Get q.name d) (with_queue k (got_from q.stored d q)) w)
+abbrev pub get_from_found : ℕ → ℕ → Option Queue → World → Option Value × World
+get_from_found k d None w = (None, w)
+get_from_found k d (Some q) w = unless_stopped (slice_get q.stored 0) (aside (entry.Get q.name d) (with_queue k (got_from q.stored d q)) w)
 
 -- d asks a queue for a value
 abbrev pub get_from : ℕ → ℕ → World → Option Value × World
-get_from k d w = get_found k d (slice_get w.objects.queues k) w
+get_from k d w = get_from_found k d (slice_get w.objects.queues k) w
 
 -- d waits for a value of a queue no longer
 abbrev pub withdraw : ℕ → ℕ → World → World
