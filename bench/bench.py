@@ -117,6 +117,24 @@ def cancellers_that_give_a_long_list(n):
     return script(events + [["cancel", "d"] for _ in range(n)])
 
 
+def waiters_for_a_token(n):
+    events = [["lock", "l"], ["acquire", "first", "l"]]
+    events += [["acquire", "d%d" % i, "l"] for i in range(n)]
+    events += [["cancel", "d%d" % i] for i in range(0, n, 2)]
+    return script(events + [["release", "l"] for _ in range(n // 2 + 1)])
+
+
+def a_queue_of_eight(n):
+    puts = [["put", "q", i] for i in range(8)]
+    gets = [["get", "d", "q"] for _ in range(8)]
+    return script([["queue", "q", 8, None]] + (puts + gets) * (n // 8))
+
+
+def waiters_for_a_value(n):
+    gets = [["get", "d", "q"] for _ in range(n)]
+    return script([["queue", "q", 0, None]] + gets + [["put", "q", i] for i in range(n)])
+
+
 def swallowed_firings(n):
     return script([event for _ in range(n) for event in (["deferred", "d"], ["cancel", "d"], ["callback", "d", 1])])
 
@@ -136,6 +154,9 @@ BENCHES = [
     ("a stop inside long bodies", stop_inside_long_bodies, 10000),
     ("refused firings of a list", refused_firings_of_a_long_list, 1000),
     ("cancellers' lists", cancellers_that_give_a_long_list, 1000),
+    ("half the waiters cancelled", waiters_for_a_token, 700),
+    ("a queue of eight", a_queue_of_eight, 800),
+    ("waiters for a value", waiters_for_a_value, 800),
     ("pairs that pass", pairs_that_pass, 2000),
     ("refused firings", refused_firings, 2000),
     ("many notes", many_notes, 2600),
@@ -177,7 +198,7 @@ def main():
     parser.add_argument("--instructions", action="store_true")
     options = parser.parse_args()
     if not os.path.exists(options.program):
-        sys.exit("no program at %s: build it by ./deferreds < examples/first.json" % options.program)
+        sys.exit("no program at %s: build it by ./deferreds --build" % options.program)
     measure, unit = (instructions, "instructions") if options.instructions else (seconds, "s")
     print("%-26s %8s %10s %14s %14s %8s" % ("script", "n", "lines", unit, unit + " per n", "growth"))
     for name, make, least in BENCHES:
