@@ -51,35 +51,25 @@ fn nested(alloc: Global) -> Result<Value, AllocError> {
 
 fn write_what_lists_make(alloc: Global, journal: &mut Journal) -> Result<(), Stop> {
     journal.write(Entry::New(id(2), None))?;
-    journal.write(Entry::Name(id(0), Some(text(alloc, "k")?)))?;
     journal.write(Entry::Name(id(3), None))?;
     journal.write(Entry::Fire(id(2), first_error(alloc)?))?;
     journal.write(Entry::Fire(id(4), nested(alloc)?))
 }
 
 const WHAT_LISTS_MAKE: &str = r#"new #2 -
-name #0 k
 name #3 -
 fire #2 fail FirstError "" at 1 of ValueError "no"
 fire #4 ok [[false,{"fail":"ValueError","message":"no"}]]
 "#;
 
-fn write_locks_and_queues(alloc: Global, journal: &mut Journal) -> Result<(), Stop> {
-    journal.write(Entry::Lock(text(alloc, "l")?))?;
-    journal.write(Entry::Semaphore(text(alloc, "s")?, 2))?;
-    journal.write(Entry::Acquire(text(alloc, "s")?, id(3)))?;
-    journal.write(Entry::Release(text(alloc, "s")?))?;
+fn write_queues(alloc: Global, journal: &mut Journal) -> Result<(), Stop> {
     journal.write(Entry::Queue(text(alloc, "q")?, Some(1), Some(0)))?;
     journal.write(Entry::Queue(text(alloc, "q")?, None, Some(2)))?;
     journal.write(Entry::Put(text(alloc, "q")?, Value::Int(5)))?;
     journal.write(Entry::Get(text(alloc, "q")?, id(0)))
 }
 
-const LOCKS_AND_QUEUES: &str = "lock l
-semaphore s 2
-acquire s #3
-release s
-queue q 1 0
+const QUEUES: &str = "queue q 1 0
 queue q none 2
 put q 5
 get q #0
@@ -147,13 +137,13 @@ fn each_entry_that_no_script_leads_to_yet_has_its_line(rt: HostRuntime) -> Resul
     let classes = Classes::builtin(alloc)?;
     let mut journal = Journal::new(alloc, 2000);
     write_what_lists_make(alloc, &mut journal)?;
-    write_locks_and_queues(alloc, &mut journal)?;
+    write_queues(alloc, &mut journal)?;
     write_calls_and_loops(alloc, &mut journal)?;
     write_tasks_and_posts(alloc, &mut journal)?;
     let mut text = String::new(alloc);
     for part in [
         WHAT_LISTS_MAKE,
-        LOCKS_AND_QUEUES,
+        QUEUES,
         CALLS_AND_LOOPS,
         TASKS_AND_POSTS,
     ] {

@@ -64,7 +64,7 @@ fn a_work_is_copied_whole(rt: HostRuntime) -> Result<(), Fail> {
 }
 
 /// Each event that isn't performed yet, and what is read of it.
-static READ: [(&str, &str); 26] = [
+static READ: [(&str, &str); 21] = [
     (
         r#"["list","a",["x","y"],["consumeErrors","fireOnOneErrback","fireOnOneCallback","consumeErrors"]]"#,
         r#"Action(List(Text { text: "a" }, Items { items: [Text { text: "x" }, Text { text: "y" }] }, Items { items: [ConsumeErrors, FireOnOneErrback, FireOnOneCallback, ConsumeErrors] }))"#,
@@ -72,23 +72,6 @@ static READ: [(&str, &str); 26] = [
     (
         r#"["gather","a",["x","y"],["consumeErrors"]]"#,
         r#"Action(Gather(Text { text: "a" }, Items { items: [Text { text: "x" }, Text { text: "y" }] }, Items { items: [ConsumeErrors] }))"#,
-    ),
-    (
-        r#"["maybe","a",{"do":[["pause","p"]],"end":["plus",-2]}]"#,
-        r#"Action(Maybe(Text { text: "a" }, Body { actions: Items { items: [Pause(Text { text: "p" })] }, end: Plus(-2) }))"#,
-    ),
-    (r#"["lock","a"]"#, r#"Action(Lock(Text { text: "a" }))"#),
-    (
-        r#"["semaphore","a",65536]"#,
-        r#"Action(Semaphore(Text { text: "a" }, 65536))"#,
-    ),
-    (
-        r#"["acquire","a","b"]"#,
-        r#"Action(Acquire(Text { text: "a" }, Text { text: "b" }))"#,
-    ),
-    (
-        r#"["release","a"]"#,
-        r#"Action(Release(Text { text: "a" }))"#,
     ),
     (
         r#"["runWith","a","b",{"do":[["pause","p"]],"end":["plus",-2]}]"#,
