@@ -62,19 +62,6 @@ fire #2 fail FirstError "" at 1 of ValueError "no"
 fire #4 ok [[false,{"fail":"ValueError","message":"no"}]]
 "#;
 
-fn write_queues(alloc: Global, journal: &mut Journal) -> Result<(), Stop> {
-    journal.write(Entry::Queue(text(alloc, "q")?, Some(1), Some(0)))?;
-    journal.write(Entry::Queue(text(alloc, "q")?, None, Some(2)))?;
-    journal.write(Entry::Put(text(alloc, "q")?, Value::Int(5)))?;
-    journal.write(Entry::Get(text(alloc, "q")?, id(0)))
-}
-
-const QUEUES: &str = "queue q 1 0
-queue q none 2
-put q 5
-get q #0
-";
-
 fn write_calls_and_loops(alloc: Global, journal: &mut Journal) -> Result<(), Stop> {
     journal.write(Entry::LaterCall(text(alloc, "c1")?, 3))?;
     journal.write(Entry::LaterLoop(text(alloc, "p")?, 12))?;
@@ -137,16 +124,10 @@ fn each_entry_that_no_script_leads_to_yet_has_its_line(rt: HostRuntime) -> Resul
     let classes = Classes::builtin(alloc)?;
     let mut journal = Journal::new(alloc, 2000);
     write_what_lists_make(alloc, &mut journal)?;
-    write_queues(alloc, &mut journal)?;
     write_calls_and_loops(alloc, &mut journal)?;
     write_tasks_and_posts(alloc, &mut journal)?;
     let mut text = String::new(alloc);
-    for part in [
-        WHAT_LISTS_MAKE,
-        QUEUES,
-        CALLS_AND_LOOPS,
-        TASKS_AND_POSTS,
-    ] {
+    for part in [WHAT_LISTS_MAKE, CALLS_AND_LOOPS, TASKS_AND_POSTS] {
         text.push_str(part)?;
     }
     let mut bytes = Vec::new(alloc);

@@ -64,7 +64,7 @@ fn a_work_is_copied_whole(rt: HostRuntime) -> Result<(), Fail> {
 }
 
 /// Each event that isn't performed yet, and what is read of it.
-static READ: [(&str, &str); 21] = [
+static READ: [(&str, &str); 18] = [
     (
         r#"["list","a",["x","y"],["consumeErrors","fireOnOneErrback","fireOnOneCallback","consumeErrors"]]"#,
         r#"Action(List(Text { text: "a" }, Items { items: [Text { text: "x" }, Text { text: "y" }] }, Items { items: [ConsumeErrors, FireOnOneErrback, FireOnOneCallback, ConsumeErrors] }))"#,
@@ -76,18 +76,6 @@ static READ: [(&str, &str); 21] = [
     (
         r#"["runWith","a","b",{"do":[["pause","p"]],"end":["plus",-2]}]"#,
         r#"Action(RunWith(Text { text: "a" }, Text { text: "b" }, Body { actions: Items { items: [Pause(Text { text: "p" })] }, end: Plus(-2) }))"#,
-    ),
-    (
-        r#"["queue","a",null,65536]"#,
-        r#"Action(Queue(Text { text: "a" }, None, Some(65536)))"#,
-    ),
-    (
-        r#"["put","a",[1,"x",null]]"#,
-        r#"Action(Put(Text { text: "a" }, List(Items { items: [Int(1), Text(Text { text: "x" }), Null] })))"#,
-    ),
-    (
-        r#"["get","a","b"]"#,
-        r#"Action(Get(Text { text: "a" }, Text { text: "b" }))"#,
     ),
     (
         r#"["later","a",1000000000000,{"do":[["pause","p"]],"end":["plus",-2]}]"#,
