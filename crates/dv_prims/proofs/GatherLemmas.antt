@@ -1,5 +1,5 @@
 -- A DeferredList fires once at most, and how many of its children haven't come.
-use Rattle.std.proofs.Common.{◌≡◌, ℕ, ◌+◌, ◌<◌, ◌≤◌, List, length, replicate, get_or, slice_get, sym, ap, ◌∙◌, arith, Bool, true, false, ◌&&◌, if◌then◌else◌, nat_eq, Option, None, Some, slice_set, refl}
+use Rattle.std.proofs.Common.{◌≡◌, ℕ, ◌+◌, ◌<◌, ◌≤◌, List, length, replicate, get_or, slice_get, sym, ap, ◌∙◌, arith, Bool, true, false, ◌&&◌, if◌then◌else◌, nat_eq, Option, None, Some, option_map, slice_set, refl, ◌++◌}
 use Rattle.std.proofs.lemmas.List.Folds.{sum_by-replicate}
 use Rattle.std.proofs.lemmas.List.Sums.{sum_by-set}
 use Rattle.std.proofs.lemmas.Option.{none-some, get_or_from_slice_get}
@@ -61,3 +61,7 @@ put_counts places i kept old h g k =
 -- there is no other place
 pub set_nowhere : (places : List Value) (i : ℕ) (kept : Value) → length places ≤ i → slice_set places i kept ≡ places
 set_nowhere places i kept h = set_out places i kept h
+
+-- what was gathered of the first, and what the rest comes to
+abbrev pub with_front : List Value → Option (List Value) → Option (List Value)
+with_front front rest = option_map (λ vs. front ++ vs) rest

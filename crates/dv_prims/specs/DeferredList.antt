@@ -1,5 +1,5 @@
 -- What a DeferredList has of its children (Twisted: `DeferredList`, of which `gatherResults` makes one).
-use Rattle.std.specs.Prelude.{ℕ, pos, Bool, true, false, not, ◌&&◌, if◌then◌else◌, List, [], ◌∷◌, replicate, sum_by, nat_eq, Option, None, Some, slice_set}
+use Rattle.std.specs.Prelude.{ℕ, pos, Bool, true, false, not, ◌&&◌, if◌then◌else◌, List, [], ◌∷◌, length, replicate, sum_by, nat_eq, Option, None, Some, option_and_then, option_map, slice_get, slice_set}
 use Rattle.dv_value.specs.Builtin as builtin
 use Rattle.dv_value.specs.Failure.{is_fault, failure_in}
 use Rattle.dv_value.specs.declared.failure.Failure.{Failure, roll-Failure}
@@ -91,3 +91,35 @@ passed_on v g = if g.flags.consume_errors && is_fault v then value.Null else v
 -- what is answered for child i, and what the list has then
 abbrev pub came : ℕ → Value → Gather → Came × Gather
 came i v g = (record { fire = (due i v g).0; pass = passed_on v g }, (due i v g).1)
+
+-- the second part of a list of two
+abbrev pub second_in : List Value → Option Value
+second_in parts = if nat_eq (length parts) 2 then slice_get parts 1 else None
+
+abbrev pub second_step : Value-F Value → Option Value
+second_step (Value-F.List parts) = second_in parts
+second_step Value-F.Null = None
+second_step (Value-F.Bool b) = None
+second_step (Value-F.Int n) = None
+second_step (Value-F.Text t) = None
+second_step (Value-F.Fault f) = None
+
+abbrev pub second_of : Value → Option Value
+second_of v = second_step (out-Value v)
+
+-- the second parts of lists of two, whatever the first parts are
+abbrev pub seconds_in : List Value → Option (List Value)
+seconds_in [] = Some []
+seconds_in (v ∷ vs) = option_and_then (λ x. option_map (λ xs. x ∷ xs) (seconds_in vs)) (second_of v)
+
+abbrev pub seconds_step : Value-F Value → Option Value
+seconds_step (Value-F.List places) = option_map value.List (seconds_in places)
+seconds_step Value-F.Null = None
+seconds_step (Value-F.Bool b) = None
+seconds_step (Value-F.Int n) = None
+seconds_step (Value-F.Text t) = None
+seconds_step (Value-F.Fault f) = None
+
+-- what is gathered: what the children gave, without whether they succeeded
+abbrev pub seconds_of : Value → Option Value
+seconds_of v = seconds_step (out-Value v)

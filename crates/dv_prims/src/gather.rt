@@ -31,7 +31,7 @@ pub struct Came {
 }
 
 /// What a DeferredList has of its children (Twisted: `DeferredList`).
-#[derive(Drop)]
+#[derive(Debug, Drop)]
 pub struct Gather {
     alloc: Global,
     flags: Flags,
@@ -218,4 +218,47 @@ fn first_failure(alloc: Global, index: u32, failure: &Failure) -> Result<Value, 
         sub: Some(Sub { index, failure }),
     };
     Ok(Value::Fault(Boxed::new(alloc, first)?))
+}
+
+ghost use Rattle.std.specs.Option.{option_copied};
+ghost use Rattle.dv_prims.specs.DeferredList.{second_of, seconds_in, seconds_of};
+
+/// What the children of a DeferredList gave, without whether they succeeded: the second parts of a list of lists of two.
+/// None where the value isn't such a list (Twisted: what `gatherResults` does with the results of its list).
+pub fn seconds(alloc: Global, value: &Value) -> Result<Option<Value>, AllocError>
+    ensures { IfOk result (λ seconds. seconds ≡ seconds_of value.now) }
+{
+    match value {
+        Value::List(places) => Ok(seconds_in(alloc, places.as_slice())?.map(Value::List)),
+        Value::Null | Value::Bool(_) | Value::Int(_) | Value::Text(_) | Value::Fault(_) => Ok(None),
+    }
+}
+
+/// The second part of each.
+fn seconds_in(alloc: Global, places: &[Value]) -> Result<Option<Items<Value>>, AllocError>
+    ensures { IfOk result (λ seconds. seconds ≡ seconds_in places.now) }
+{
+    let mut seconds = Items::new(alloc);
+    for place in places {
+        let Some(second) = second_of(place) else {
+            return Ok(None);
+        };
+        seconds.push(second.copy(alloc)?)?;
+    }
+    Ok(Some(seconds))
+}
+
+/// The second part of a list of two.
+fn second_of(place: &Value) -> Option<&Value>
+    ensures { option_copied result ≡ second_of place.now }
+{
+    match place {
+        Value::List(parts) if parts.as_slice().len() == 2 => parts.as_slice().get(1),
+        Value::List(_)
+        | Value::Null
+        | Value::Bool(_)
+        | Value::Int(_)
+        | Value::Text(_)
+        | Value::Fault(_) => None,
+    }
 }

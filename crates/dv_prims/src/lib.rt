@@ -4,6 +4,7 @@
 pub mod error;
 pub mod gather;
 pub mod laws;
+pub mod list_id;
 pub mod lock_id;
 pub mod queue;
 pub mod queue_id;

@@ -1,7 +1,7 @@
 -- What is kept of a Deferred, and how one is made (Twisted: the Deferred Reference, "Deferreds").
 use Rattle.std.specs.Prelude.{ℕ, false, List, [], ◌∷◌, ◌++◌, ◌-◌, length, take, Option, Some, None, slice_get, slice_set}
 use Rattle.dv_value.specs.declared.value.Value.TheVariants.{Null}
-use Rattle.dv_journal.specs.declared.entry.Entry.TheVariants.{New, Add}
+use Rattle.dv_journal.specs.declared.entry.Entry.TheVariants.{New, Name, Add}
 use Rattle.dv_store.specs.Telling.{State, Told, untold, telling}
 use Rattle.dv_store.specs.declared.record.Item.{Item}
 use Rattle.dv_store.specs.declared.record.Item.TheVariants.{Pair}
@@ -15,6 +15,10 @@ new_record name canceller =
 -- a Deferred is made after the others, and known by their number
 abbrev pub make : {P K : Type 0} → Option (List ℕ) → Option K → State P K → Told ℕ P K
 make name canceller s = telling (New (length s.0) name) (length s.0) (s.0 ++ new_record name canceller ∷ []) s
+
+-- the name that a Deferred gets is told; what is kept of it is its name at its making
+abbrev pub rename : {P K : Type 0} → ℕ → List ℕ → State P K → Told Unit P K
+rename id name s = telling (Name id (Some name)) tt s.0 s
 
 -- an item is added after those that aren't used yet
 abbrev pub with_item : {P K : Type 0} → Item P → Record P K → Record P K

@@ -76,7 +76,7 @@ impl<P, K> Model for Store<P, K> {
 }
 
 impl<P: Sides + Drop, K: Drop> Store<P, K> {
-    ghost use Rattle.dv_store.specs.Record.{make, append, changing, with_item, without_last};
+    ghost use Rattle.dv_store.specs.Record.{make, rename, append, changing, with_item, without_last};
     ghost use Rattle.dv_store.specs.Fire.{fire, fire_again_found, with_firing, with_guard, FiresUnlessMemory};
     ghost use Rattle.dv_store.specs.Callbacks.{step, first_of, is_pair, run_found, without_first, hand_found, put, with_handed, with_result};
     ghost use Rattle.dv_store.specs.Cancelling.{guard, link, end_of_chain};
@@ -137,6 +137,13 @@ impl<P: Sides + Drop, K: Drop> Store<P, K> {
         };
         self.records.push(record).unwrap();
         Ok(id)
+    }
+
+    /// Tells of a name that a Deferred gets which was made already. Its record keeps the name of its making.
+    pub fn rename(&self, journal: &mut Journal, id: DeferredId, name: Text) -> Result<(), Stop>
+        ensures { UnlessMemory result (self.now, journal.old) (self.now, journal.new) (rename id name (self.now, journal.old)) }
+    {
+        journal.write(Entry::Name(id, Some(name)))
     }
 
     /// Adds a pair after the others, and uses none (Twisted: `Deferred.addCallbacks`, which also runs what it can).

@@ -1,24 +1,32 @@
--- What stands beside the Deferreds: names, locks and semaphores, and queues.
+-- What stands beside the Deferreds: names, locks and semaphores, queues, and what DeferredLists have of their children.
 use Rattle.std.specs.Prelude.{ℕ, List, [], ◌∷◌, ◌++◌, length, Option, None, Some, slice_set}
+use Rattle.dv_prims.specs.DeferredList.{Gather, new_gather}
 use Rattle.dv_prims.specs.Queue.{Queue, new_queue}
 use Rattle.dv_prims.specs.Tokens.{Semaphore, new_semaphore}
+use Rattle.dv_prims.specs.declared.gather.Flags.{Flags}
 use Rattle.dv_world.specs.Names.{Names, with_name}
 
--- what stands beside the Deferreds: their names, locks and semaphores with theirs, and queues with theirs
+-- what stands beside the Deferreds: their names, locks and semaphores with theirs, queues with theirs, and the lists
 pub record Objects : Type 0 where
   pub names : Names ℕ
   pub locks : Names ℕ
   pub semaphores : List Semaphore
   pub queue_names : Names ℕ
   pub queues : List Queue
+  pub lists : List Gather
 
 -- nothing stands there at first
 abbrev pub no_objects : Objects
-no_objects = record { names = []; locks = []; semaphores = []; queue_names = []; queues = [] }
+no_objects = record { names = []; locks = []; semaphores = []; queue_names = []; queues = []; lists = [] }
 
 -- a name of a Deferred is bound
 abbrev pub naming : List ℕ → ℕ → Objects → Objects
 naming name d objects = record objects { names = with_name name d objects.names }
+
+-- the same where there is a name
+abbrev pub naming_where : Option (List ℕ) → ℕ → Objects → Objects
+naming_where None d objects = objects
+naming_where (Some name) d objects = naming name d objects
 
 -- a lock is added, and its name is bound to it
 abbrev pub with_added_lock : List ℕ → Semaphore → Objects → Objects
@@ -53,3 +61,11 @@ with_queue k q objects = record objects { queues = slice_set objects.queues k q 
 abbrev pub queue_changed : ℕ → (Queue → Queue) → Option Queue → Objects → Objects
 queue_changed k change None objects = objects
 queue_changed k change (Some q) objects = with_queue k (change q) objects
+
+-- a list is added, to which no child has come
+abbrev pub with_new_list : ℕ → Flags → Objects → Objects
+with_new_list children flags objects = record objects { lists = objects.lists ++ new_gather children flags ∷ [] }
+
+-- a list is now this
+abbrev pub with_list : ℕ → Gather → Objects → Objects
+with_list l g objects = record objects { lists = slice_set objects.lists l g }

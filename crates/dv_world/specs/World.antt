@@ -1,7 +1,7 @@
 -- The world of a run: its Deferreds, their names, the classes of failures and the journal, and one step of each kind.
 use Rattle.std.specs.Prelude.{ℕ, Bool, true, false, not, if◌then◌else◌, List, [], Option, None, Some, Result, Ok, Err, slice_get, bytes_eq, codes}
 use Rattle.std.specs.Option.{option_map_or}
-use Rattle.dv_value.specs.Builtin.{name_error, assertion_error, already_called_error, cancelled_error, queue_overflow, queue_underflow}
+use Rattle.dv_value.specs.Builtin.{name_error, assertion_error, already_called_error, cancelled_error, type_error, queue_overflow, queue_underflow}
 use Rattle.dv_value.specs.Failure.{plain_failure}
 use Rattle.dv_value.specs.declared.classes.Class.{Class}
 use Rattle.dv_value.specs.declared.failure.Failure.{Failure}
@@ -10,8 +10,10 @@ use Rattle.dv_journal.specs.Journal.{Written, empty, fits, with_entry}
 use Rattle.dv_journal.specs.declared.entry.Entry.{Entry}
 use Rattle.dv_journal.specs.declared.entry.Entry.TheVariants as entry
 use Rattle.dv_journal.specs.declared.error.Stop.{Stop}
+use Rattle.dv_prims.specs.DeferredList.{Gather, came}
 use Rattle.dv_prims.specs.Queue.{Queue, may_put, receiver, put_to, got_from, withdrawn}
 use Rattle.dv_prims.specs.Tokens.{Semaphore, is_unheld, asked, released, forgotten}
+use Rattle.dv_prims.specs.declared.gather.Came.{Came}
 use Rattle.dv_store.specs.Callbacks as callbacks
 use Rattle.dv_store.specs.Cancelling.{guard, end_of_chain}
 use Rattle.dv_store.specs.Chaining as chaining
@@ -29,7 +31,7 @@ use Rattle.dv_store.specs.declared.store.Fired.TheVariants.{Set, Swallowed}
 use Rattle.dv_store.specs.declared.store.Step.{Step}
 use Rattle.dv_store.specs.declared.store.Step.TheVariants.{Nothing}
 use Rattle.dv_world.specs.Names.{number_of}
-use Rattle.dv_world.specs.Objects.{Objects, no_objects, naming, with_lock, lock_changed, with_queue, queue_changed}
+use Rattle.dv_world.specs.Objects.{Objects, no_objects, naming_where, with_list, with_lock, lock_changed, with_queue, queue_changed}
 use Rattle.dv_world.specs.Pair.{passes}
 use Rattle.dv_world.specs.declared.canceller.Canceller.{Canceller}
 use Rattle.dv_world.specs.declared.canceller.Canceller.TheVariants as canceller
@@ -117,16 +119,16 @@ pause d w =
     if w.stopped then w else
     let told = pausing.pause d (state_of w) in after told.0 told.1 w
 
--- a Deferred that is made is what its name is bound to
-abbrev pub named : List ℕ → Result ℕ Stop → State Pair Canceller → World → World
-named name (Ok d) s w = record (with_state s w) { objects = naming name d w.objects }
+-- a Deferred that is made is what its name is bound to, where it has one
+abbrev pub named : Option (List ℕ) → Result ℕ Stop → State Pair Canceller → World → World
+named name (Ok d) s w = record (with_state s w) { objects = naming_where name d w.objects }
 named name (Err stop) s w = with_stop (with_state s w)
 
--- a Deferred is made, which may have a canceller, and its name is bound to it
-unfoldable pub make : List ℕ → Option Canceller → World → World
+-- a Deferred is made, which may have a canceller, and its name is bound to it, where it has one
+unfoldable pub make : Option (List ℕ) → Option Canceller → World → World
 make name canceller w =
     if w.stopped then w else
-    let told = records.make (Some name) canceller (state_of w) in named name told.0 told.1 w
+    let told = records.make name canceller (state_of w) in named name told.0 told.1 w
 
 -- a further firing raises, unless it is swallowed; one that can't be told stops the run
 abbrev pub fired : Result Fired StoreFault → State Pair Canceller → World → Follow × World
@@ -177,12 +179,13 @@ unpause d w =
     if w.stopped then (follow.Nothing, w) else
     let told = pausing.unpause d (state_of w) in unpaused told.0 told.1 w
 
--- an unfired Deferred is to be fired, after its canceller has run, or after it was taken out of where it waits
+-- an unfired Deferred is to be fired, after its canceller has run, or after it was taken out of where it waits; of a list the children are to be cancelled
 abbrev pub unfired_reached : ℕ → Option Canceller → Reached
 unfired_reached d None = reached.Fire d
 unfired_reached d (Some (canceller.Body body)) = reached.Run d body
 unfired_reached d (Some (canceller.Token l)) = reached.ForToken d l
 unfired_reached d (Some (canceller.Item k)) = reached.ForItem d k
+unfired_reached d (Some (canceller.Children children)) = reached.Children children
 
 -- nothing happens to one that is fired
 abbrev pub record_reached : ℕ → Option (Record Pair Canceller) → Reached
@@ -268,6 +271,19 @@ get_from k d w = get_from_found k d (slice_get w.objects.queues k) w
 -- d waits for a value of a queue no longer
 abbrev pub withdraw : ℕ → ℕ → World → World
 withdraw k d w = arrange (λ objects. queue_changed k (withdrawn d) (slice_get objects.queues k) objects) w
+
+-- a child comes to the list that is found, and what follows is answered; an id of no list fires nothing
+abbrev pub came_to_found : ℕ → ℕ → Value → Option Gather → World → Came × World
+came_to_found l i v None w = (record { fire = None; pass = v }, w)
+came_to_found l i v (Some g) w = ((came i v g).0, arrange (with_list l (came i v g).1) w)
+
+-- a child comes to a list with its value, which isn't told; to a stopped run nothing comes
+unfoldable pub came_to : ℕ → ℕ → Value → World → Came × World
+came_to l i v w = if w.stopped then (record { fire = None; pass = v }, w) else came_to_found l i v (slice_get w.objects.lists l) w
+
+-- what the gathering of what isn't the result of a list raises
+abbrev pub not_gathered : Failure
+not_gathered = plain_failure type_error (codes "gather")
 
 -- what a putting raises where as many values are stored as may be
 abbrev pub overflow : Failure

@@ -1,13 +1,13 @@
 ghost use Rattle.std.specs.Prelude.{◌≡◌, ◌<◌, ◌^◌, ◌-◌, Some, length, slice_get, IfOk, OnOk, OnErr};
 ghost use Rattle.dv_value.specs.Failure.{plain_failure};
-ghost use Rattle.dv_world.specs.World.{cancelled, unbound, not_held, overflow, underflow};
+ghost use Rattle.dv_world.specs.World.{cancelled, unbound, not_held, not_gathered, overflow, underflow};
 ghost use Rattle.dv_world.specs.declared.performed.Performed.TheVariants.{Raised};
 ghost use Rattle.dv_world.specs.declared.follow.Follow.TheVariants.{Raise};
 
 use crate::canceller::Canceller;
 use crate::fault::{failure, fault};
 use crate::follow::Follow;
-use crate::lent::BodyRef;
+use crate::lent::{BodyRef, TextRef};
 use crate::names::Names;
 use crate::pair::Pair;
 use crate::performed::Performed;
@@ -16,6 +16,8 @@ use dv_journal::deferred_id::DeferredId;
 use dv_journal::entry::Entry;
 use dv_journal::error::Stop;
 use dv_journal::journal::Journal;
+use dv_prims::gather::{Came, Flags, Gather};
+use dv_prims::list_id::ListId;
 use dv_prims::lock_id::LockId;
 use dv_prims::queue::Queue;
 use dv_prims::queue_id::QueueId;
@@ -25,6 +27,7 @@ use dv_store::record::Record;
 use dv_store::store::{Fired, Step, Store};
 use dv_value::class_id::ClassId;
 use dv_value::classes::Classes;
+use dv_value::items::Items;
 use dv_value::text::Text;
 use dv_value::value::Value;
 use std::alloc::{AllocError, Global};
@@ -44,6 +47,7 @@ pub struct World<'s> {
     semaphores: Vec<Semaphore>,
     queue_names: Names<QueueId>,
     queues: Vec<Queue>,
+    lists: Vec<Gather>,
     store: Store<Pair<'s>, Canceller<'s>>,
     journal: Journal,
     stopped: bool,
@@ -61,13 +65,13 @@ impl<'s> Model for World<'s> {
 
     ghost coded = { Prim.hlevel (codes, body_contract.the_row.coded, class_contract.the_row.coded, failure_contract.the_row.coded, value_contract.the_row.coded) };
 
-    ghost view = { λ w. record { classes = w.classes.now; objects = record { names = w.names; locks = w.locks; semaphores = w.semaphores.items; queue_names = w.queue_names; queues = w.queues.items }; records = w.store; journal = w.journal; stopped = w.stopped } };
+    ghost view = { λ w. record { classes = w.classes.now; objects = record { names = w.names; locks = w.locks; semaphores = w.semaphores.items; queue_names = w.queue_names; queues = w.queues.items; lists = w.lists.items }; records = w.store; journal = w.journal; stopped = w.stopped } };
 }
 
 impl<'s> World<'s> {
     ghost use Rattle.dv_store.specs.Pausing.{pauses_of};
-    ghost use Rattle.dv_world.specs.World.{first_world, value_of, deferred_at, step, put, put_deferred, append, make, fire, fire_guarded, is_unfired, reached_from, cancel, pause, unpause, aside, tell, ask, release, forget, put_into, get_from, withdraw, with_stop};
-    ghost use Rattle.dv_world.specs.Objects.{naming, with_new_lock, with_added_lock, with_new_queue, with_added_queue};
+    ghost use Rattle.dv_world.specs.World.{first_world, value_of, deferred_at, step, put, put_deferred, append, make, fire, fire_guarded, is_unfired, reached_from, cancel, pause, unpause, aside, arrange, tell, ask, release, forget, put_into, get_from, withdraw, came_to, with_stop};
+    ghost use Rattle.dv_world.specs.Objects.{naming, naming_where, with_new_list, with_new_lock, with_added_lock, with_new_queue, with_added_queue};
     ghost use Rattle.dv_world.specs.Names.{number_of};
     ghost use Rattle.std.specs.Option.{option_copied};
     ghost use Rattle.dv_journal.specs.declared.entry.Entry.TheVariants as entry;
@@ -85,6 +89,7 @@ impl<'s> World<'s> {
             semaphores: Vec::new(alloc),
             queue_names: Names::new(alloc),
             queues: Vec::new(alloc),
+            lists: Vec::new(alloc),
             store: Store::new(alloc),
             journal: Journal::new(alloc, limit),
             stopped: false,
@@ -190,19 +195,34 @@ impl<'s> World<'s> {
         }
     }
 
-    /// Makes a Deferred, which may have a canceller, and binds its name to it, also where that was bound to another.
+    /// Makes a Deferred, which may have a canceller, and binds its name to it, where it has one, also where that was
+    /// bound to another.
     #[tactic(auto, unfolding(crate::specs::World::make))]
-    pub fn make(&mut self, name: &str, canceller: Option<Canceller<'s>>) -> Result<(), AllocError>
+    pub fn make(
+        &mut self,
+        name: Option<TextRef<'s>>,
+        canceller: Option<Canceller<'s>>,
+    ) -> Result<(), AllocError>
         requires { length self.old.records < 2 ^ 32 - 1 }
-        ensures { OnOk result (self.new ≡ make name.now canceller.entry self.old) }
+        ensures { OnOk result (self.new ≡ make name.entry canceller.entry self.old) }
     {
         if self.stopped {
             return Ok(());
         }
-        let kept = Text::of(self.alloc, name)?;
-        match self.store.make(&mut self.journal, Some(kept), canceller) {
-            Ok(id) => self.names.bind(name, id),
+        let kept = text_of(self.alloc, &name)?;
+        match self.store.make(&mut self.journal, kept, canceller) {
+            Ok(id) => self.bind_where(name, id),
             Err(stop) => self.stopped_by(stop, ()),
+        }
+    }
+
+    /// Binds a name to a Deferred, where there is one.
+    fn bind_where(&mut self, name: Option<TextRef<'s>>, id: DeferredId) -> Result<(), AllocError>
+        ensures { OnOk result (self.new ≡ record self.old { objects = naming_where name.entry id self.old.objects }) }
+    {
+        match name {
+            None => Ok(()),
+            Some(name) => self.names.bind(name.as_str(), id),
         }
     }
 
@@ -276,30 +296,25 @@ impl<'s> World<'s> {
             return Ok(Reached::Nothing);
         }
         match self.journal.write(Entry::Cancel(id)) {
-            Ok(()) => Ok(self.reached(id)),
+            Ok(()) => self.reached(id),
             Err(stop) => self.stopped_by(stop, Reached::Nothing),
         }
     }
 
     /// Whom a cancel reaches.
-    fn reached(&self, id: DeferredId) -> Reached<'s>
-        ensures { result ≡ reached_from id self.now.records }
+    fn reached(&self, id: DeferredId) -> Result<Reached<'s>, AllocError>
+        ensures { IfOk result (λ reached. reached ≡ reached_from id self.now.records) }
     {
         let Some(end) = self.store.end_of_chain(id) else {
-            return Reached::Nothing;
+            return Ok(Reached::Nothing);
         };
         match self.store.record(end) {
-            None => Reached::Nothing,
+            None => Ok(Reached::Nothing),
             Some(record) => {
                 if record.fired {
-                    return Reached::Nothing;
+                    return Ok(Reached::Nothing);
                 }
-                match &record.canceller {
-                    None => Reached::Fire(end),
-                    Some(Canceller::Body(body)) => Reached::Run(end, BodyRef::new(body.get())),
-                    Some(Canceller::Token(lock)) => Reached::ForToken(end, *lock),
-                    Some(Canceller::Item(queue)) => Reached::ForItem(end, *queue),
-                }
+                reached_unfired(self.alloc, end, &record.canceller)
             }
         }
     }
@@ -366,7 +381,7 @@ impl<'s> World<'s> {
             return Ok(());
         }
         let shown = Text::of(self.alloc, name)?;
-        match self.journal.write(Entry::Name(id, Some(shown))) {
+        match self.store.rename(&mut self.journal, id, shown) {
             Ok(()) => self.names.bind(name, id),
             Err(stop) => self.stopped_by(stop, ()),
         }
@@ -591,6 +606,40 @@ impl<'s> World<'s> {
         }
     }
 
+    /// Makes what a DeferredList of so many children has of them, which isn't told.
+    #[tactic(auto, unfolding(crate::specs::World::arrange))]
+    pub fn make_list(&mut self, children: usize, flags: Flags) -> Result<ListId, AllocError>
+        ensures list { OnOk result (self.new ≡ arrange (with_new_list children flags) self.old) }
+        ensures id { IfOk result (λ list. list ≡ length self.old.objects.lists) }
+    {
+        let list = ListId::new(self.lists.len());
+        if !self.stopped {
+            self.lists
+                .push(Gather::new(self.alloc, children, flags)?)?;
+        }
+        Ok(list)
+    }
+
+    /// A child comes to a DeferredList with its value, and what follows is answered.
+    #[tactic(auto, unfolding(crate::specs::World::came_to, crate::specs::World::arrange))]
+    pub fn come(&mut self, list: ListId, place: u32, value: Value) -> Result<Came, AllocError>
+        ensures { IfOk result (λ came. (came, self.new) ≡ came_to list place value self.old) }
+    {
+        if self.stopped {
+            return Ok(Came {
+                fire: None,
+                pass: value,
+            });
+        }
+        match self.lists.get_mut(list.number()) {
+            None => Ok(Came {
+                fire: None,
+                pass: value,
+            }),
+            Some(gather) => gather.came(place, value),
+        }
+    }
+
     /// What a change that couldn't be told answers: the run stops, and it is this, or memory was refused.
     fn stopped_by<T: Drop>(&mut self, stop: Stop, otherwise: T) -> Result<T, AllocError>
         ensures stopped { OnOk result ((stop ≡ Stop.Limit) × (self.new ≡ with_stop self.old)) }
@@ -614,6 +663,49 @@ impl<'s> World<'s> {
     {
         (self.journal, self.stopped, self.store.into_records())
     }
+}
+
+ghost use Rattle.dv_world.specs.World.{unfired_reached};
+
+/// The text of a name, where there is one.
+fn text_of<'s>(alloc: Global, name: &Option<TextRef<'s>>) -> Result<Option<Text>, AllocError>
+    ensures { IfOk result (λ text. text ≡ name.now) }
+{
+    match name {
+        None => Ok(None),
+        Some(name) => Ok(Some(Text::of(alloc, name.as_str())?)),
+    }
+}
+
+/// What is to happen to an unfired Deferred that a cancel reaches, by its canceller.
+fn reached_unfired<'s>(
+    alloc: Global,
+    id: DeferredId,
+    canceller: &Option<Canceller<'s>>,
+) -> Result<Reached<'s>, AllocError>
+    ensures { IfOk result (λ reached. reached ≡ unfired_reached id canceller.now) }
+{
+    match canceller {
+        None => Ok(Reached::Fire(id)),
+        Some(Canceller::Body(body)) => Ok(Reached::Run(id, BodyRef::new(body.get()))),
+        Some(Canceller::Token(lock)) => Ok(Reached::ForToken(id, *lock)),
+        Some(Canceller::Item(queue)) => Ok(Reached::ForItem(id, *queue)),
+        Some(Canceller::Children(children)) => {
+            let children = copy_of(alloc, children.as_slice())?;
+            Ok(Reached::Children(children))
+        }
+    }
+}
+
+/// A copy of a list of Deferreds.
+fn copy_of(alloc: Global, ids: &[DeferredId]) -> Result<Items<DeferredId>, AllocError>
+    ensures { IfOk result (λ copy. copy ≡ ids.now) }
+{
+    let mut copy = Items::new(alloc);
+    for id in ids {
+        copy.push(*id)?;
+    }
+    Ok(copy)
 }
 
 /// What a name that isn't bound raises.
@@ -645,6 +737,14 @@ pub fn not_held<'s>(alloc: Global) -> Result<Performed<'s>, AllocError>
     ensures { IfOk result (λ p. p ≡ Raised not_held) }
 {
     let failure = failure(alloc, ClassId::ASSERTION_ERROR, "not held")?;
+    Ok(Performed::Raised(failure))
+}
+
+/// What the gathering of what isn't the result of a DeferredList raises.
+pub fn not_gathered<'s>(alloc: Global) -> Result<Performed<'s>, AllocError>
+    ensures { IfOk result (λ p. p ≡ Raised not_gathered) }
+{
+    let failure = failure(alloc, ClassId::TYPE_ERROR, "gather")?;
     Ok(Performed::Raised(failure))
 }
 
