@@ -3,10 +3,14 @@ use Rattle.std.proofs.Common.{ℕ, ◌+◌, ◌<◌, ◌≤◌, ◌≡◌, Bool,
 use Rattle.std.specs.Option.{option_map}
 use Rattle.dv_value.specs.declared.failure.Failure.{Failure}
 use Rattle.dv_value.specs.declared.value.Value.{Value, Null, Fault, Text}
+use Rattle.dv_value.specs.declared.value.Value.TheVariants as value
 use Rattle.dv_journal.specs.declared.entry.Entry.{Entry}
 use Rattle.dv_journal.specs.declared.entry.Entry.TheVariants as entry
+use Rattle.dv_prims.specs.DeferredList.{Gather, came, seconds_of}
 use Rattle.dv_prims.specs.Queue.{Queue, may_put, may_get, receiver, put_to}
 use Rattle.dv_prims.specs.Tokens.{Semaphore, is_unheld, first_waiting}
+use Rattle.dv_prims.specs.declared.gather.Came.{Came}
+use Rattle.dv_prims.specs.declared.gather.Flags.{Flags}
 use Rattle.dv_script.specs.declared.action.Action.{Action, out-Action}
 use Rattle.dv_script.specs.declared.body.End.{End}
 use Rattle.dv_store.specs.Laws.{used}
@@ -17,29 +21,36 @@ use Rattle.dv_engine.specs.Acting as acting
 use Rattle.dv_engine.specs.Cancelling.{cancel_begun, canceller_ended}
 use Rattle.dv_engine.specs.Deed.{deed_of}
 use Rattle.dv_engine.specs.declared.deed.Deed.{Deed}
-use Rattle.dv_engine.specs.declared.deed.Deed.TheVariants.{Idle, NoteOf, Make, FireWith, AddTo, ChainTo, PauseOf, UnpauseOf, CancelOf, MakeLock, MakeSemaphore, AcquireOf, ReleaseOf, MaybeOf, MakeQueue, PutInto, GetFrom}
-use Rattle.dv_engine.specs.Locking.{granted, asked_of, released_of}
+use Rattle.dv_engine.specs.declared.deed.Deed.TheVariants.{Idle, NoteOf, Make, FireWith, AddTo, ChainTo, PauseOf, UnpauseOf, CancelOf, MakeLock, MakeSemaphore, AcquireOf, ReleaseOf, RunOf, MaybeOf, MakeQueue, PutInto, GetFrom, ListOf, GatherOf}
+use Rattle.dv_engine.specs.Listing.{with_children, added_to_children, has_all_at_once, fired_at_once, with_listed, listed, gathered, fired_by_child, come_by, results_given, children_cancelled}
+use Rattle.dv_engine.specs.Locking.{granted, asked_of, acquired, released_of}
 use Rattle.dv_engine.specs.Meaning.{told_of, turned}
-use Rattle.dv_engine.specs.Maybe.{made_with, maybe_ended}
+use Rattle.dv_engine.specs.Maybe.{name_for, used_for, made_with, taken_for, maybe_ended, given_after}
 use Rattle.dv_engine.specs.Queueing.{handed_out, put_of, got, asked_for, get_of}
 use Rattle.dv_engine.specs.Performing.{gone_on, rest_turned}
 use Rattle.dv_engine.specs.Settling.{place, side_begun, settled}
 use Rattle.dv_engine.specs.Turn.{Turned, ◌over◌, done, settling, settle_next}
 use Rattle.dv_engine.specs.declared.frame.Frame.{Frame}
 use Rattle.dv_engine.specs.declared.frame.Frame.TheVariants as frame
+use Rattle.dv_engine.specs.declared.frame.Purpose.{Purpose}
+use Rattle.dv_engine.specs.declared.frame.Purpose.TheVariants.{Named, Holding}
 use Rattle.dv_engine.specs.declared.frame.Rest.{Rest}
 use Rattle.dv_engine.proofs.Budget.{Spares, budget, spares, step_took, reaches, cancel_took, aside_took}
 use Rattle.dv_engine.proofs.Lasting.{Comes}
 use Rattle.dv_engine.proofs.Sizes.{actions_size, body_size_out, deed_size, deed_fits}
 use Rattle.dv_world.specs.Ending.{failed_with}
 use Rattle.dv_journal.specs.Change.{change_of, Aside}
+use Rattle.dv_world.specs.Found.{deferreds_at}
 use Rattle.dv_world.specs.Names.{number_of}
-use Rattle.dv_world.specs.Pair.{chain}
-use Rattle.dv_world.specs.World.{World, state_of, deferred_at, step, append, fire, is_unfired, cancelled, cancel, pause, unpause, make, aside, lock_told, ask, release_found, release, forget, unless_stopped, put_into_found, put_into, get_from_found, get_from, withdraw, value_of}
-use Rattle.dv_world.specs.Objects.{Objects, with_queue}
-use Rattle.dv_world.specs.declared.canceller.Canceller.TheVariants.{Body, Token, Item}
+use Rattle.dv_world.specs.Pair.{chain, coming, results, holding, releasing}
+use Rattle.dv_world.specs.World.{World, state_of, deferred_at, step, append, fire, is_unfired, cancelled, cancel, pause, unpause, make, aside, lock_told, ask, release_found, release, forget, unless_stopped, put_into_found, put_into, get_from_found, get_from, withdraw, value_of, arrange, came_to_found, came_to}
+use Rattle.dv_world.specs.Objects.{Objects, with_queue, with_new_list, with_list}
+use Rattle.dv_world.specs.declared.canceller.Canceller.TheVariants.{Body, Token, Item, Children}
 use Rattle.dv_world.specs.declared.follow.Follow.{Follow}
 use Rattle.dv_world.specs.declared.follow.Follow.TheVariants as follow
+use Rattle.dv_world.specs.declared.found.Found.{Found}
+use Rattle.dv_world.specs.declared.found.Found.TheVariants.{All, Unbound}
+use Rattle.dv_world.specs.declared.pair.Child.{Child}
 use Rattle.dv_world.specs.declared.pair.Pair.{Pair}
 use Rattle.dv_world.specs.declared.pair.Side.{Side}
 use Rattle.dv_world.specs.declared.pair.Side.TheVariants as side
@@ -61,7 +72,10 @@ rank (frame.Settle d) = 0
 rank (frame.Place d) = 1
 rank (frame.Rest rest) = 1 + actions_size rest.actions
 rank (frame.Canceller d) = 1
-rank (frame.Maybe name) = 1
+rank (frame.Maybe purpose) = 2
+rank (frame.Add d pair) = 1
+rank (frame.Cancel d) = 0
+rank (frame.Give given) = 0
 rank frame.Tell = 0
 
 -- so it is with each frame
@@ -159,30 +173,6 @@ told_fair m e change w false t a x c = paid_fair m 1 w (aside e change w) t (by_
 by_fire : (d : ℕ) (value : Value) (w : World) → Comes w (fire d value w).1
 by_fire d value w = record { keeps = λ R l. l.by_fire d value w }
 
-side_comes : (d : ℕ) (s : Option Side) (input : Value) (w : World) → Comes w (side_begun d s input w).2
-side_comes d None input w = same w
-side_comes d (Some (side.Body body)) input w = same w
-side_comes d (Some (side.Fire e)) input w = (next_fair 1 e (fire e input w).0 w (fire e input w).1 (omega arith) (by_fire e input w)).comes
-
-settled_fair : (m d : ℕ) (w0 : World) (move : Step Pair) (w : World) → Comes w0 w → can w + used move ≤ can w0 → Fair w0 m (settled d move w)
-settled_fair m d w0 Nothing w c h = done_fair m w0 w c
-settled_fair m d w0 Passed w c h = paid_fair m 1 w0 w (settling d w) c h (omega arith) (same w)
-settled_fair m d w0 (Run pair) w c h = paid_fair m 1 w0 w (settled d (Run pair) w) c h (omega arith) (side_comes d _ (value_of d w) w)
-settled_fair m d w0 (Handed e) w c h = paid_fair m 1 w0 w (settled d (Handed e) w) c h (omega arith) (same w)
-
-cancel_fair : (m : ℕ) (w0 : World) (o : Reached) (w : World) → Comes w0 w → can w + reaches o ≤ can w0 → Fair w0 m (cancel_begun o w)
-cancel_fair m w0 reached.Nothing w c h = done_fair m w0 w c
-cancel_fair m w0 (reached.Fire d) w c h = paid_fair m 1 w0 w (cancel_begun (reached.Fire d) w) c h (omega arith) (record { keeps = λ R l. l.by_fire_guarded d w })
-cancel_fair m w0 (reached.Run d canceller) w c h = paid_fair m 1 w0 w (cancel_begun (reached.Run d canceller) w) c h (omega arith) (same w)
-cancel_fair m w0 (reached.ForToken d l) w c h =
-    let free = forget l d w in
-    let arranged : Comes w free = record { keeps = λ R k. k.by_arrange _ w } in
-    paid_fair m 1 w0 w (cancel_begun (reached.ForToken d l) w) c h (omega arith) (join w free _ arranged (next_fair 1 d (fire d cancelled free).0 free (fire d cancelled free).1 (omega arith) (by_fire d cancelled free)).comes)
-cancel_fair m w0 (reached.ForItem d k) w c h =
-    let free = withdraw k d w in
-    let arranged : Comes w free = record { keeps = λ R l. l.by_arrange _ w } in
-    paid_fair m 1 w0 w (cancel_begun (reached.ForItem d k) w) c h (omega arith) (join w free _ arranged (next_fair 1 d (fire d cancelled free).0 free (fire d cancelled free).1 (omega arith) (by_fire d cancelled free)).comes)
-
 granted_fair : (m : ℕ) (o : Option ℕ) (name : List ℕ) (w : World) → 0 < m → Fair w m (granted o name w)
 granted_fair m None name w q = now_fair m Done w
 granted_fair m (Some d) name w q = next_fair m d (fire d (Text name) w).0 w (fire d (Text name) w).1 q (by_fire d (Text name) w)
@@ -206,6 +196,56 @@ released_fair m l (Some s) w q = if_fair m (is_unheld s) w _ _ (now_fair m _ w) 
 first_comes : {A : Type 0} (b : Bool) (t u : A × World) (w : World) → Comes w t.1 → Comes w u.1 → Comes w (if b then t else u).1
 first_comes true t u w c d = c
 first_comes false t u w c d = d
+
+came_comes : (l i : ℕ) (v : Value) (o : Option Gather) (w : World) → Comes w (came_to_found l i v o w).1
+came_comes l i v None w = same w
+came_comes l i v (Some g) w = record { keeps = λ R k. k.by_arrange (with_list l (came i v g).1) w }
+
+came_to_comes : (l i : ℕ) (v : Value) (w : World) → Comes w (came_to l i v w).1
+unfolding came_to
+came_to_comes l i v w = first_comes w.stopped _ (came_to_found l i v (slice_get w.objects.lists l) w) w (same w) (came_comes l i v (slice_get w.objects.lists l) w)
+
+child_fair : (m d : ℕ) (o : Option Value) (w : World) → 0 < m → Fair w m (fired_by_child d o w)
+child_fair m d None w q = now_fair m Done w
+child_fair m d (Some due) w q = if_fair m (is_unfired d w) w _ _ (next_fair m d (fire d due w).0 w (fire d due w).1 q (by_fire d due w)) (now_fair m Done w)
+
+come_comes : (child : Child) (input : Value) (w : World) → Comes w (come_by child input w).2
+come_comes child input w =
+    let t = came_to child.list child.place input w in
+    join w t.1 _ (came_to_comes child.list child.place input w) (child_fair 1 child.of t.0.fire t.1 (omega arith)).comes
+
+results_comes : (o : Option Value) (w : World) → Comes w (results_given o w).2
+results_comes None w = same w
+results_comes (Some seconds) w = same w
+
+side_comes : (d : ℕ) (s : Option Side) (input : Value) (w : World) → Comes w (side_begun d s input w).2
+side_comes d None input w = same w
+side_comes d (Some (side.Body body)) input w = same w
+side_comes d (Some (side.Fire e)) input w = (next_fair 1 e (fire e input w).0 w (fire e input w).1 (omega arith) (by_fire e input w)).comes
+side_comes d (Some (side.Come child)) input w = come_comes child input w
+side_comes d (Some side.Results) input w = results_comes (seconds_of input) w
+side_comes d (Some (side.Hold l body)) input w = same w
+side_comes d (Some (side.Release l)) input w = (released_fair 1 l (slice_get w.objects.semaphores l) w (omega arith)).comes
+
+settled_fair : (m d : ℕ) (w0 : World) (move : Step Pair) (w : World) → Comes w0 w → can w + used move ≤ can w0 → Fair w0 m (settled d move w)
+settled_fair m d w0 Nothing w c h = done_fair m w0 w c
+settled_fair m d w0 Passed w c h = paid_fair m 1 w0 w (settling d w) c h (omega arith) (same w)
+settled_fair m d w0 (Run pair) w c h = paid_fair m 1 w0 w (settled d (Run pair) w) c h (omega arith) (side_comes d _ (value_of d w) w)
+settled_fair m d w0 (Handed e) w c h = paid_fair m 1 w0 w (settled d (Handed e) w) c h (omega arith) (same w)
+
+cancel_fair : (m : ℕ) (w0 : World) (o : Reached) (w : World) → Comes w0 w → can w + reaches o ≤ can w0 → Fair w0 m (cancel_begun o w)
+cancel_fair m w0 reached.Nothing w c h = done_fair m w0 w c
+cancel_fair m w0 (reached.Fire d) w c h = paid_fair m 1 w0 w (cancel_begun (reached.Fire d) w) c h (omega arith) (record { keeps = λ R l. l.by_fire_guarded d w })
+cancel_fair m w0 (reached.Run d canceller) w c h = paid_fair m 1 w0 w (cancel_begun (reached.Run d canceller) w) c h (omega arith) (same w)
+cancel_fair m w0 (reached.Children children) w c h = paid_fair m 1 w0 w (cancel_begun (reached.Children children) w) c h (omega arith) (same w)
+cancel_fair m w0 (reached.ForToken d l) w c h =
+    let free = forget l d w in
+    let arranged : Comes w free = record { keeps = λ R k. k.by_arrange _ w } in
+    paid_fair m 1 w0 w (cancel_begun (reached.ForToken d l) w) c h (omega arith) (join w free _ arranged (next_fair 1 d (fire d cancelled free).0 free (fire d cancelled free).1 (omega arith) (by_fire d cancelled free)).comes)
+cancel_fair m w0 (reached.ForItem d k) w c h =
+    let free = withdraw k d w in
+    let arranged : Comes w free = record { keeps = λ R l. l.by_arrange _ w } in
+    paid_fair m 1 w0 w (cancel_begun (reached.ForItem d k) w) c h (omega arith) (join w free _ arranged (next_fair 1 d (fire d cancelled free).0 free (fire d cancelled free).1 (omega arith) (by_fire d cancelled free)).comes)
 
 put_comes : (k : ℕ) (value : Value) (o : Option Queue) (w : World) → Comes w (put_into_found k value o w).1
 put_comes k value None w = same w
@@ -233,8 +273,37 @@ asked_for_fair m k d w q = let t = get_from k d w in then_fair m w t.1 (got d t.
 get_fair : (m : ℕ) (name : List ℕ) (k : ℕ) (o : Option Queue) (w : World) → 0 < m → Fair w m (get_of name k o w)
 get_fair m name k None w q = now_fair m Done w
 get_fair m name k (Some s) w q =
-    let made = make name (Some (Item k)) w in
-    if_fair m (may_get s) w (asked_for k (length w.records) made) _ (then_fair m w made (asked_for k (length w.records) made) (record { keeps = λ R l. l.by_make name (Some (Item k)) w }) (asked_for_fair m k (length w.records) made q)) (now_fair m _ w)
+    let made = make (Some name) (Some (Item k)) w in
+    if_fair m (may_get s) w (asked_for k (length w.records) made) _ (then_fair m w made (asked_for k (length w.records) made) (record { keeps = λ R l. l.by_make (Some name) (Some (Item k)) w }) (asked_for_fair m k (length w.records) made q)) (now_fair m _ w)
+
+acquired_fair : (m : ℕ) (name : List ℕ) (l : ℕ) (w : World) → 0 < m → Fair w m (acquired name l w)
+acquired_fair m name l w q =
+    let made = make (Some name) (Some (Token l)) w in
+    then_fair m w made _ (record { keeps = λ R k. k.by_make (Some name) (Some (Token l)) w }) (asked_fair m l (length w.records) (slice_get made.objects.semaphores l) made q)
+
+children_fair : (m : ℕ) (found : Found) (w : World) (next : List ℕ → Turned) → ((ds : List ℕ) → Fair w m (next ds)) → Fair w m (with_children found w next)
+children_fair m (All ds) w next h = h ds
+children_fair m (Unbound name) w next h = now_fair m _ w
+
+added_lighter : (m l d i : ℕ) (cs : List ℕ) → 1 < m → Lighter m (added_to_children l d i cs)
+added_lighter m l d i [] q = tt
+added_lighter m l d i (c ∷ cs) q = (q, added_lighter m l d (1 + i) cs q)
+
+at_once_fair : (m d : ℕ) (b : Bool) (w : World) → 0 < m → Fair w m (fired_at_once d b w)
+at_once_fair m d false w q = now_fair m Done w
+at_once_fair m d true w q = next_fair m d (fire d (value.List []) w).0 w (fire d (value.List []) w).1 q (by_fire d (value.List []) w)
+
+listed_comes : (name children : List ℕ) (flags : Flags) (w : World) → Comes w (with_listed name children flags w)
+listed_comes name children flags w =
+    let begun = arrange (with_new_list (length children) flags) w in
+    join w begun _ (record { keeps = λ R l. l.by_arrange _ w }) (record { keeps = λ R l. l.by_make (Some name) (Some (Children children)) begun })
+
+listed_fair : (m : ℕ) (name children : List ℕ) (flags : Flags) (w : World) → 1 < m → Fair w m (listed name children flags w)
+listed_fair m name children flags w q =
+    let d = length w.records in
+    let made = with_listed name children flags w in
+    let at_once = fired_at_once d (has_all_at_once children flags) made in
+    over_fair m w at_once _ (added_lighter m (length w.objects.lists) d 0 children q) (then_fair m w made at_once (listed_comes name children flags w) (at_once_fair m d (has_all_at_once children flags) made (omega (arith, q))))
 
 canceller_fair : (m d : ℕ) (failure : Option Failure) (w : World) → 0 < m → Fair w m (canceller_ended d failure w)
 canceller_fair m d (Some failure) w q = now_fair m _ w
@@ -243,7 +312,7 @@ canceller_fair m d None w q = if_fair m (is_unfired d w) w _ _ (next_fair m d (f
 begun_fair : (m : ℕ) (itself : Option ℕ) (deed : Deed) (w : World) → deed_size deed < m → Fair w m (begun itself deed w)
 begun_fair m itself Idle w q = now_fair m Done w
 begun_fair m itself (NoteOf text) w q = done_fair m w _ (record { keeps = λ R l. l.by_aside (entry.Note text) _ w refl })
-begun_fair m itself (Make name canceller) w q = done_fair m w _ (record { keeps = λ R l. l.by_make name (option_map Body canceller) w })
+begun_fair m itself (Make name canceller) w q = done_fair m w _ (record { keeps = λ R l. l.by_make (Some name) (option_map Body canceller) w })
 begun_fair m itself (FireWith name value) w q = with_fair m itself name w _ (λ d. next_fair m d (fire d value w).0 w (fire d value w).1 q (by_fire d value w))
 begun_fair m itself (AddTo name pair) w q = with_fair m itself name w _ (λ d. settling_fair m d w (append d pair w) q (record { keeps = λ R l. l.by_append d pair w }))
 begun_fair m itself (ChainTo name next) w q = with_fair m itself name w _ (λ d. with_fair m itself next w _ (λ c. settling_fair m d w (append d (chain c) w) q (record { keeps = λ R l. l.by_append d (chain c) w })))
@@ -252,12 +321,15 @@ begun_fair m itself (UnpauseOf name) w q = with_fair m itself name w _ (λ d. ne
 begun_fair m itself (CancelOf name) w q = with_fair m itself name w _ (λ d. cancel_fair m w (cancel d w).0 (cancel d w).1 (record { keeps = λ R l. l.by_cancel d w }) (cancel_took d w))
 begun_fair m itself (MakeLock name) w q = done_fair m w _ (by_aside (entry.Lock name) _ w refl)
 begun_fair m itself (MakeSemaphore name tokens) w q = done_fair m w _ (by_aside (entry.Semaphore name tokens) _ w refl)
-begun_fair m itself (AcquireOf name lock) w q = lock_fair m lock w _ (λ l. let made = make name (Some (Token l)) w in then_fair m w made _ (record { keeps = λ R k. k.by_make name (Some (Token l)) w }) (asked_fair m l (length w.records) (slice_get made.objects.semaphores l) made q))
+begun_fair m itself (AcquireOf name lock) w q = lock_fair m lock w _ (λ l. acquired_fair m name l w (omega (arith, q)))
+begun_fair m itself (RunOf name lock body) w q = lock_fair m lock w _ (λ l. over_fair m w (acquired name l w) _ (omega (arith, q), tt) (acquired_fair m name l w (omega (arith, q))))
 begun_fair m itself (ReleaseOf lock) w q = lock_fair m lock w _ (λ l. released_fair m l (slice_get w.objects.semaphores l) w q)
 begun_fair m itself (MaybeOf name body) w q = record { comes = same w; falls = lighter (omega (arith, q, body_size_out body), (omega (arith, q, body_size_out body), tt)) }
 begun_fair m itself (MakeQueue name size backlog) w q = done_fair m w _ (by_aside (entry.Queue name size backlog) _ w refl)
 begun_fair m itself (PutInto queue value) w q = queue_fair m queue w _ (λ k. put_fair m k value (slice_get w.objects.queues k) w q)
 begun_fair m itself (GetFrom name queue) w q = queue_fair m queue w _ (λ k. get_fair m name k (slice_get w.objects.queues k) w q)
+begun_fair m itself (ListOf name children flags) w q = children_fair m (deferreds_at itself children w) w _ (λ ds. listed_fair m name ds flags w q)
+begun_fair m itself (GatherOf name children flags) w q = children_fair m (deferreds_at itself children w) w _ (λ ds. over_fair m w (listed name ds flags w) _ (q, tt) (listed_fair m name ds flags w q))
 
 pub begun_comes : (itself : Option ℕ) (deed : Deed) (w : World) → Comes w (begun itself deed w).2
 begun_comes itself deed w = (begun_fair (1 + deed_size deed) itself deed w (omega arith)).comes
@@ -285,22 +357,40 @@ told_comes (Gave value) w = same w
 told_comes (Raised failure) w = record { keeps = λ R l. l.by_aside (entry.Unhandled failure) _ w refl }
 told_comes (Awaits e) w = same w
 
-made_fair : (m : ℕ) (name : List ℕ) (value : Value) (w : World) → 0 < m → Fair w m (made_with name value w)
-made_fair m name value w q =
-    let d = length w.records in
-    let made = make name None w in
-    then_fair m w made _ (record { keeps = λ R l. l.by_make name None w }) (next_fair m d (fire d value made).0 made (fire d value made).1 q (by_fire d value made))
+used_lighter : (purpose : Purpose) (d : ℕ) → Lighter 2 (used_for purpose d)
+used_lighter (Named name) d = tt
+used_lighter (Holding l) d = (omega arith, (omega arith, tt))
 
-maybe_fair : (name : List ℕ) (o : Performed) (w : World) → Fair w 1 (maybe_ended name o w)
-maybe_fair name Done w = made_fair 1 name Null w (omega arith)
-maybe_fair name (Gave value) w = made_fair 1 name value w (omega arith)
-maybe_fair name (Raised failure) w = made_fair 1 name (Fault failure) w (omega arith)
-maybe_fair name (Awaits e) w = done_fair 1 w _ (by_aside (entry.Name e (Some name)) _ w refl)
+made_fair : (purpose : Purpose) (value : Value) (w : World) → Fair w 2 (made_with purpose value w)
+made_fair purpose value w =
+    let d = length w.records in
+    let made = make (name_for purpose) None w in
+    let next = settle_next d (fire d value made).0 (fire d value made).1 in
+    over_fair 2 w next _ (used_lighter purpose d) (then_fair 2 w made next (record { keeps = λ R l. l.by_make (name_for purpose) None w }) (next_fair 2 d (fire d value made).0 made (fire d value made).1 (omega arith) (by_fire d value made)))
+
+taken_fair : (purpose : Purpose) (e : ℕ) (w : World) → Fair w 2 (taken_for purpose e w)
+taken_fair (Named name) e w = done_fair 2 w _ (by_aside (entry.Name e (Some name)) _ w refl)
+taken_fair (Holding l) e w = record { comes = same w; falls = lighter (used_lighter (Holding l) e) }
+
+maybe_fair : (purpose : Purpose) (o : Performed) (w : World) → Fair w 2 (maybe_ended purpose o w)
+maybe_fair purpose Done w = made_fair purpose Null w
+maybe_fair purpose (Gave value) w = made_fair purpose value w
+maybe_fair purpose (Raised failure) w = made_fair purpose (Fault failure) w
+maybe_fair purpose (Awaits e) w = taken_fair purpose e w
+
+given_fair : (given o : Performed) (w : World) → Fair w 0 (given_after given o w)
+given_fair given Done w = now_fair 0 given w
+given_fair given (Gave value) w = now_fair 0 given w
+given_fair given (Raised failure) w = now_fair 0 _ w
+given_fair given (Awaits e) w = now_fair 0 given w
 
 pub turned_fair : (f : Frame) (o : Performed) (w : World) → Fair w (rank f) (turned f o w)
 turned_fair (frame.Settle d) o w = settled_fair 0 d w (step d w).0 (step d w).1 (record { keeps = λ R l. l.by_step d w }) (step_took d w)
 turned_fair (frame.Place d) o w = settling_fair 1 d w (place d o w) (omega arith) (place_comes d o w)
 turned_fair (frame.Rest rest) o w = rest_fair rest o w
 turned_fair (frame.Canceller d) o w = canceller_fair 1 d (failed_with o) w (omega arith)
-turned_fair (frame.Maybe name) o w = maybe_fair name o w
+turned_fair (frame.Maybe purpose) o w = maybe_fair purpose o w
+turned_fair (frame.Add d pair) o w = settling_fair 1 d w (append d pair w) (omega arith) (record { keeps = λ R l. l.by_append d pair w })
+turned_fair (frame.Cancel d) o w = cancel_fair 0 w (cancel d w).0 (cancel d w).1 (record { keeps = λ R l. l.by_cancel d w }) (cancel_took d w)
+turned_fair (frame.Give given) o w = given_fair given o w
 turned_fair frame.Tell o w = done_fair 0 w _ (told_comes o w)

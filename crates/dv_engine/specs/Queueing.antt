@@ -28,4 +28,4 @@ asked_for k d w = got d (get_from k d w).0 (get_from k d w).1
 -- a Deferred is made that asks the queue that is found for a value, where it may
 abbrev pub get_of : List ℕ → ℕ → Option Queue → World → Turned
 get_of name k None w = done w
-get_of name k (Some q) w = if may_get q then asked_for k (length w.records) (make name (Some (Item k)) w) else raised underflow w
+get_of name k (Some q) w = if may_get q then asked_for k (length w.records) (make (Some name) (Some (Item k)) w) else raised underflow w

@@ -13,6 +13,7 @@ use dv_prims::queue_id::QueueId;
 use dv_value::value::Value;
 use dv_world::canceller::Canceller;
 use dv_world::given::Given;
+use dv_world::lent::TextRef;
 use dv_world::performed::Performed;
 use dv_world::world::{World, overflow, unbound, underflow};
 use std::alloc::{AllocError, Global};
@@ -76,11 +77,11 @@ pub fn get<'s>(
     alloc: Global,
     world: &mut World<'s>,
     stack: &mut Stack<Frame<'s>>,
-    name: &str,
+    name: TextRef<'s>,
     queue: &str,
 ) -> Result<Performed<'s>, AllocError>
     requires bounded { Bounded world.old }
-    ensures { IfOk result (λ performed. (stack.new, performed, world.new) ≡ begun None (GetFrom name.now queue.now) world.old over stack.old) }
+    ensures { IfOk result (λ performed. (stack.new, performed, world.new) ≡ begun None (GetFrom name.entry queue.now) world.old over stack.old) }
 {
     match world.find_queue(queue) {
         None => Ok(unbound(alloc, queue)?),
@@ -94,11 +95,11 @@ fn get_where_it_may<'s>(
     alloc: Global,
     world: &mut World<'s>,
     stack: &mut Stack<Frame<'s>>,
-    name: &str,
+    name: TextRef<'s>,
     queue: QueueId,
 ) -> Result<Performed<'s>, AllocError>
     requires bounded { Bounded world.old }
-    ensures { IfOk result (λ performed. (stack.new, performed, world.new) ≡ get_of name.now queue (slice_get world.old.objects.queues queue) world.old over stack.old) }
+    ensures { IfOk result (λ performed. (stack.new, performed, world.new) ≡ get_of name.entry queue (slice_get world.old.objects.queues queue) world.old over stack.old) }
 {
     let Some(found) = world.queue(queue) else {
         return Ok(Performed::Done);
@@ -107,7 +108,7 @@ fn get_where_it_may<'s>(
         return Ok(underflow(alloc)?);
     }
     let id = world.next_id();
-    world.make(name, Some(Canceller::Item(queue)))?;
+    world.make(Some(name), Some(Canceller::Item(queue)))?;
     Ok(ask(world, stack, queue, id)?)
 }
 
