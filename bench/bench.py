@@ -135,6 +135,33 @@ def waiters_for_a_value(n):
     return script([["queue", "q", 0, None]] + gets + [["put", "q", i] for i in range(n)])
 
 
+def children_from_the_last_to_the_first(n):
+    children = ["d%d" % i for i in range(n)]
+    events = [["deferred", child] for child in children] + [["list", "l", children, []]]
+    return script(events + [["callback", child, i] for i, child in enumerate(reversed(children))])
+
+
+def lists_over_one(n):
+    events = [["deferred", "d"]] + [["list", "l", ["d"], []] for _ in range(n)]
+    return script(events + [["callback", "d", 1]])
+
+
+def a_list_cancelled(n):
+    children = ["d%d" % i for i in range(n)]
+    events = [["deferred", child] for child in children] + [["list", "l", children, ["consumeErrors"]]]
+    return script(events + [["cancel", "l"]])
+
+
+def runs_with_a_token(n):
+    return script([["lock", "l"]] + [["runWith", "r", "l", {"end": ["return", 1]}] for _ in range(n)])
+
+
+def runs_that_wait_for_a_token(n):
+    events = [["lock", "l"], ["acquire", "first", "l"]]
+    events += [["runWith", "r", "l", {"end": ["return", 1]}] for _ in range(n)]
+    return script(events + [["release", "l"]])
+
+
 def swallowed_firings(n):
     return script([event for _ in range(n) for event in (["deferred", "d"], ["cancel", "d"], ["callback", "d", 1])])
 
@@ -157,6 +184,11 @@ BENCHES = [
     ("half the waiters cancelled", waiters_for_a_token, 700),
     ("a queue of eight", a_queue_of_eight, 800),
     ("waiters for a value", waiters_for_a_value, 800),
+    ("children from the last on", children_from_the_last_to_the_first, 700),
+    ("lists over one Deferred", lists_over_one, 700),
+    ("a list cancelled", a_list_cancelled, 700),
+    ("runs with a token", runs_with_a_token, 700),
+    ("runs that wait for one", runs_that_wait_for_a_token, 700),
     ("pairs that pass", pairs_that_pass, 2000),
     ("refused firings", refused_firings, 2000),
     ("many notes", many_notes, 2600),
