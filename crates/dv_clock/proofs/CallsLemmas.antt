@@ -15,13 +15,13 @@ use Rattle.dv_clock.specs.declared.call.Call.{Call}
 use Rattle.dv_clock.specs.declared.call.CallState.{CallState}
 
 -- what is put in a place is there
-placed_there : {X : Type 0} (xs : List X) (i : ℕ) (x y : X) → slice_get xs i ≡ Some x → slice_get (slice_set xs i y) i ≡ Some y
+pub placed_there : {X : Type 0} (xs : List X) (i : ℕ) (x y : X) → slice_get xs i ≡ Some x → slice_get (slice_set xs i y) i ≡ Some y
 placed_there [] i x y h = absurd cc
 placed_there (z ∷ zs) zero x y h = refl
 placed_there (z ∷ zs) (suc i) x y h = placed_there zs i x y h
 
 -- and what stands elsewhere stays
-others_stay : {X : Type 0} (xs : List X) (i j : ℕ) (y : X) → j ≢ i → slice_get (slice_set xs i y) j ≡ slice_get xs j
+pub others_stay : {X : Type 0} (xs : List X) (i j : ℕ) (y : X) → j ≢ i → slice_get (slice_set xs i y) j ≡ slice_get xs j
 others_stay [] i j y h = refl
 others_stay (z ∷ zs) zero zero y h = absurd (h refl)
 others_stay (z ∷ zs) zero (suc j) y h = refl

@@ -6,4 +6,6 @@ pub mod call_id;
 pub mod clock;
 pub mod due;
 pub mod error;
+pub mod laws;
 pub mod limits;
+pub mod looping_call;
