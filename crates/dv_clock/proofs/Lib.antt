@@ -1,0 +1,4 @@
+pub mod CallsLemmas
+pub mod NextLemmas
+pub mod ClockLemmas
+pub mod LoopLemmas

@@ -1,0 +1,202 @@
+-- Delayed calls, and the time that they wait for (Twisted: `Clock`, `DelayedCall`).
+use Rattle.std.specs.Prelude.{◌≡◌, ◌≢◌, ℕ, ◌+◌, Bool, true, false, ◌&&◌, nat_eq, nat_lt, if◌then◌else◌, List, [], ◌∷◌, ◌++◌, length, Option, Some, None, Result, Ok, Err, slice_get, slice_set}
+use Rattle.std.specs.BTreeMap.{is_at}
+use Rattle.std.specs.BTreeSet.{BTreeSet, contains}
+use Rattle.std.specs.Option.{option_map_or}
+use Rattle.std.specs.Ordering.{nat_cmp, ordering_then, is_gt}
+use Rattle.std.specs.declared.cmp.Ordering.{Ordering}
+use Rattle.dv_journal.specs.Journal.{fits, with_entry}
+use Rattle.dv_journal.specs.declared.entry.Entry.TheVariants as entry
+use Rattle.dv_journal.specs.declared.error.Stop.{Stop}
+use Rattle.dv_journal.specs.declared.error.Stop.TheVariants as stop
+use Rattle.dv_clock.specs.Due.{scheduling, coming_due}
+use Rattle.dv_clock.specs.Telling.{State, Told, untold, telling}
+use Rattle.dv_clock.specs.declared.call.Call.{Call}
+use Rattle.dv_clock.specs.declared.call.CallState.{CallState}
+use Rattle.dv_clock.specs.declared.call.CallState.TheVariants.{Waiting, Called, Cancelled, Dropped}
+use Rattle.dv_clock.specs.declared.due.Due.{Due}
+use Rattle.dv_clock.specs.declared.due.Due.TheVariants as what
+use Rattle.dv_clock.specs.declared.error.CancelFault.{CancelFault}
+use Rattle.dv_clock.specs.declared.error.CancelFault.TheVariants.{AlreadyCalled, AlreadyCancelled, Limit, OutOfMemory}
+
+-- the time, and all calls that were scheduled, in order of number
+pub record Clock : Type 0 where
+  pub time : ℕ
+  pub calls : List Call
+
+-- time begins at 0, and nothing is scheduled
+abbrev pub new_clock : Clock
+new_clock = record { time = 0; calls = [] }
+
+-- a call that waits: the time that it is due at, its number, and what it is
+pub record Upcoming : Type 0 where
+  pub due : ℕ
+  pub number : ℕ
+  pub what : Due
+
+-- calls run by the time that they are due at, and then in the order in which they were scheduled
+abbrev pub by_due : ℕ × ℕ → ℕ × ℕ → Ordering
+by_due a b = ordering_then (nat_cmp a.0 b.0) (nat_cmp a.1 b.1)
+
+-- the one that runs first of two
+abbrev pub sooner : Upcoming → Upcoming → Upcoming
+sooner a b = if is_gt (by_due (a.due, a.number) (b.due, b.number)) then b else a
+
+-- the same, where there may be none
+abbrev pub first_of : Option Upcoming → Option Upcoming → Option Upcoming
+first_of None b = b
+first_of (Some a) None = Some a
+first_of (Some a) (Some b) = Some (sooner a b)
+
+-- the call of a number, where it waits
+abbrev pub upcoming_in : ℕ → ℕ → CallState → Option Upcoming
+upcoming_in number due (Waiting what) = Some (record { due = due; number = number; what = what })
+upcoming_in number due Called = None
+upcoming_in number due Cancelled = None
+upcoming_in number due Dropped = None
+
+abbrev pub upcoming : ℕ → Call → Option Upcoming
+upcoming number call = upcoming_in number call.due call.state
+
+-- the one that runs first of those that wait, from a number on
+abbrev pub first_from : ℕ → List Call → Option Upcoming
+first_from number [] = None
+first_from number (call ∷ calls) = first_of (upcoming number call) (first_from (number + 1) calls)
+
+-- it is due, where its time isn't later than now
+abbrev pub due_at : ℕ → Option Upcoming → Option Upcoming
+due_at now None = None
+due_at now (Some call) = if nat_lt now call.due then None else Some call
+
+-- the call that runs next: the first of all that wait, where it is due
+abbrev pub next_call : Clock → Option Upcoming
+next_call c = due_at c.time (first_from 0 c.calls)
+
+-- what a call is, where it waits
+abbrev pub what_in : CallState → Option Due
+what_in (Waiting what) = Some what
+what_in Called = None
+what_in Cancelled = None
+what_in Dropped = None
+
+-- whether it waits
+abbrev pub is_waiting : CallState → Bool
+is_waiting (Waiting what) = true
+is_waiting Called = false
+is_waiting Cancelled = false
+is_waiting Dropped = false
+
+-- a call waits no longer, since it was called, cancelled or dropped; one that doesn't wait stays as it is
+abbrev pub with_end : ℕ → CallState → Call → List Call → List Call
+with_end number state call calls = if is_waiting call.state then slice_set calls number (record call { state = state }) else calls
+
+abbrev pub ended : ℕ → CallState → Clock → Clock
+ended number state c = record c { calls = option_map_or (λ call. with_end number state call c.calls) (slice_get c.calls number) c.calls }
+
+-- one call more, which waits
+abbrev pub with_call : ℕ → Due → Clock → Clock
+with_call due what c = record c { calls = c.calls ++ (record { due = due; state = Waiting what }) ∷ [] }
+
+-- a call is scheduled, due so much later than now, and its number is answered
+abbrev pub later : Due → ℕ → State Clock → Told ℕ Clock
+later what delay s = telling (scheduling what (s.0.time + delay)) (length s.0.calls) (with_call (s.0.time + delay) what s.0) s
+
+-- time goes on
+abbrev pub advance_to : ℕ → State Clock → Told Unit Clock
+advance_to time s = telling (entry.Advance time) tt (record s.0 { time = time }) s
+
+-- the call that runs next has been called from now on, and what it is, is answered
+abbrev pub due_found : Option Upcoming → State Clock → Told (Option Due) Clock
+due_found None s = untold None s
+due_found (Some call) s = telling (coming_due call.what) (Some call.what) (ended call.number Called s.0) s
+
+abbrev pub due : State Clock → Told (Option Due) Clock
+due s = due_found (next_call s.0) s
+
+-- what a cancelling answers, and what it leaves
+abbrev pub Cancelling : Type 0
+Cancelling = Result Unit CancelFault × State Clock
+
+-- the entry is written and then the call waits no longer, or the entry doesn't fit and nothing changes
+abbrev pub uncall : ℕ → List ℕ → State Clock → Cancelling
+uncall number name s =
+    if fits s.1 (entry.Uncall name)
+    then (Ok tt, (ended number Cancelled s.0, with_entry s.1 (entry.Uncall name)))
+    else (Err Limit, s)
+
+-- a call of the script that waits is cancelled; what else waits is left alone
+abbrev pub cancel_waiting : ℕ → Due → State Clock → Cancelling
+cancel_waiting number (what.Call name key) s = uncall number name s
+cancel_waiting number (what.Turn name key) s = (Ok tt, s)
+cancel_waiting number what.Tick s = (Ok tt, s)
+cancel_waiting number (what.Delivery job key) s = (Ok tt, s)
+
+-- a call that waits no longer isn't cancelled
+abbrev pub cancel_in : ℕ → CallState → State Clock → Cancelling
+cancel_in number (Waiting what) s = cancel_waiting number what s
+cancel_in number Called s = (Err AlreadyCalled, s)
+cancel_in number Cancelled s = (Err AlreadyCancelled, s)
+cancel_in number Dropped s = (Err AlreadyCancelled, s)
+
+-- a call is cancelled; a number of no call changes nothing
+abbrev pub cancel_found : ℕ → Option Call → State Clock → Cancelling
+cancel_found number None s = (Ok tt, s)
+cancel_found number (Some call) s = cancel_in number call.state s
+
+abbrev pub cancel : ℕ → State Clock → Cancelling
+cancel number s = cancel_found number (slice_get s.0.calls number) s
+
+-- the journal's reason to stop, as one of a cancelling
+abbrev pub cancel_fault : Stop → CancelFault
+cancel_fault stop.Limit = Limit
+cancel_fault stop.OutOfMemory = OutOfMemory
+
+-- a cancelling did what the rule says, or memory was refused where the rule has no other reason to refuse it, and nothing changed
+abbrev pub CancelsUnlessMemory : Result Unit CancelFault → State Clock → State Clock → Cancelling → Type 0
+CancelsUnlessMemory (Ok done) before after rule = (Ok done, after) ≡ rule
+CancelsUnlessMemory (Err AlreadyCalled) before after rule = (Err AlreadyCalled, after) ≡ rule
+CancelsUnlessMemory (Err AlreadyCancelled) before after rule = (Err AlreadyCancelled, after) ≡ rule
+CancelsUnlessMemory (Err Limit) before after rule = (Err Limit, after) ≡ rule
+CancelsUnlessMemory (Err OutOfMemory) before after rule = (rule.0 ≢ Err AlreadyCalled) × (rule.0 ≢ Err AlreadyCancelled) × (rule.0 ≢ Err Limit) × (after ≡ before)
+
+-- what the call of a number is, where it waits
+abbrev pub what_of : ℕ → List Call → Option Due
+what_of number calls = option_map_or (λ call. what_in call.state) (slice_get calls number) None
+
+-- the time that the call of a number is due at, where it waits
+abbrev pub due_in : Call → Option ℕ
+due_in call = if is_waiting call.state then Some call.due else None
+
+abbrev pub due_of : ℕ → List Call → Option ℕ
+due_of number calls = option_map_or due_in (slice_get calls number) None
+
+-- a number and what is scheduled under it
+abbrev pub with_number : ℕ → Due → ℕ × Due
+with_number number what = (number, what)
+
+abbrev pub numbered : Upcoming → ℕ × Due
+numbered call = (call.number, call.what)
+
+-- whether the call of a number waits
+abbrev pub waits : ℕ → List Call → Bool
+waits number calls = option_map_or (λ call. is_waiting call.state) (slice_get calls number) false
+
+-- whether it waits for this time
+abbrev pub waits_at : ℕ × ℕ → List Call → Bool
+waits_at place calls = option_map_or (λ call. nat_eq call.due place.0 && is_waiting call.state) (slice_get calls place.1) false
+
+-- those that wait are found by the times that they are due at and their numbers
+abbrev pub IsIndexOf : BTreeSet (ℕ × ℕ) → List Call → Type 0
+IsIndexOf index calls = (place : ℕ × ℕ) → contains by_due index place ≡ waits_at place calls
+
+-- a place joins an index
+abbrev pub Joins : BTreeSet (ℕ × ℕ) → BTreeSet (ℕ × ℕ) → ℕ × ℕ → Type 0
+Joins old new place = (other : ℕ × ℕ) → contains by_due new other ≡ (if is_at (by_due place) other then true else contains by_due old other)
+
+-- a place leaves an index
+abbrev pub Leaves : BTreeSet (ℕ × ℕ) → BTreeSet (ℕ × ℕ) → ℕ × ℕ → Type 0
+Leaves old new place = (other : ℕ × ℕ) → contains by_due new other ≡ (if is_at (by_due place) other then false else contains by_due old other)
+
+-- an index has the places that it had
+abbrev pub Keeps : BTreeSet (ℕ × ℕ) → BTreeSet (ℕ × ℕ) → Type 0
+Keeps old new = (other : ℕ × ℕ) → contains by_due new other ≡ contains by_due old other

@@ -1,0 +1,20 @@
+-- What waits for its time, and what the journal tells of it.
+use Rattle.std.specs.Prelude.{ℕ}
+use Rattle.dv_journal.specs.declared.entry.Entry.{Entry}
+use Rattle.dv_journal.specs.declared.entry.Entry.TheVariants as entry
+use Rattle.dv_clock.specs.declared.due.Due.{Due}
+use Rattle.dv_clock.specs.declared.due.Due.TheVariants.{Call, Turn, Tick, Delivery}
+
+-- what is told when it is scheduled, with the time that it is due at
+abbrev pub scheduling : Due → ℕ → Entry
+scheduling (Call name key) time = entry.LaterCall name time
+scheduling (Turn name key) time = entry.LaterLoop name time
+scheduling Tick time = entry.LaterTick time
+scheduling (Delivery job key) time = entry.LaterJob job time
+
+-- what is told when its time has come
+abbrev pub coming_due : Due → Entry
+coming_due (Call name key) = entry.Call name
+coming_due (Turn name key) = entry.Turn name
+coming_due Tick = entry.Tick
+coming_due (Delivery job key) = entry.Deliver job

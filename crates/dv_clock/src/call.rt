@@ -1,0 +1,23 @@
+use crate::due::Due;
+
+/// What became of a call.
+#[derive(Debug, Drop)]
+pub enum CallState {
+    /// It waits for its time.
+    Waiting(Due),
+    /// Its time has come (Twisted: `called`).
+    Called,
+    /// It was cancelled before that (Twisted: `cancelled`).
+    Cancelled,
+    /// It was dropped before that, which isn't told.
+    Dropped,
+}
+
+/// A call that was scheduled.
+#[derive(Debug, Drop)]
+pub struct Call {
+    /// The time that it is due at, in ticks.
+    pub due: u64,
+    /// Whether it still waits.
+    pub state: CallState,
+}

@@ -1,0 +1,287 @@
+ghost use Rattle.std.specs.Prelude.{◌≡◌, ◌≤◌, false, Some, IfSome};
+ghost use Rattle.std.specs.Option.{option_map, option_copied};
+
+use crate::call::{Call, CallState};
+use crate::call_id::CallId;
+use crate::due::Due;
+use crate::error::CancelFault;
+use crate::limits::{MOST_DELAY, MOST_TICKS};
+use dv_journal::entry::Entry;
+use dv_journal::error::Stop;
+use dv_journal::journal::Journal;
+use std::alloc::{AllocError, Global};
+use std::collections::BTreeSet;
+use std::marker::Model;
+use std::mem;
+
+/// A clock that is moved by hand, with what waits for its time (Twisted: `Clock`). Times are in ticks.
+///
+/// A number that isn't of this clock means nothing to it: `cancel` answers Ok and `drop_call` answers that it didn't wait.
+#[derive(Debug, Drop)]
+pub struct Clock {
+    alloc: Global,
+    time: u64,
+    calls: Vec<Call>,
+    waiting: BTreeSet<(u64, usize)>,
+}
+
+impl Model for Clock {
+    ghost use Rattle.std.specs.Prelude.{◌≤◌};
+    ghost use Rattle.std.specs.Coded.{codes};
+    ghost use Rattle.dv_clock.specs.Clock.{Clock as Seen, IsIndexOf};
+    ghost use Rattle.dv_clock.specs.declared.limits.TheConstants.{MOST_TICKS};
+
+    ghost Value = { Seen };
+
+    ghost coded = { Prim.hlevel codes };
+
+    ghost view = { λ c. record { time = c.time; calls = c.calls.items } };
+
+    ghost invariant = { λ c. (c.time ≤ MOST_TICKS) × IsIndexOf c.waiting c.calls.items };
+}
+
+impl Clock {
+    ghost use Rattle.dv_clock.specs.Clock.{new_clock, later, advance_to, due, cancel, CancelsUnlessMemory, ended, due_of, what_of, waits, is_waiting, next_call, numbered, with_number};
+    ghost use Rattle.dv_clock.specs.Telling.{UnlessMemory};
+
+    /// Time begins at 0, and nothing is scheduled.
+    pub fn new(alloc: Global) -> Clock
+        ensures { result ≡ new_clock }
+    {
+        Clock {
+            alloc,
+            time: 0,
+            calls: Vec::new(alloc),
+            waiting: BTreeSet::new(alloc),
+        }
+    }
+
+    /// The time, in ticks (Twisted: `Clock.seconds`).
+    pub fn now(&self) -> u64
+        ensures time { result ≡ self.now.time }
+        ensures early { result ≤ MOST_TICKS }
+    {
+        self.time
+    }
+
+    /// Schedules what is due so many ticks from now, and answers its number (Twisted: `Clock.callLater`).
+    pub fn later(&mut self, journal: &mut Journal, what: Due, delay: u64) -> Result<CallId, Stop>
+        requires short { delay ≤ MOST_DELAY }
+        ensures { UnlessMemory result (self.old, journal.old) (self.new, journal.new) (later what delay (self.old, journal.old)) }
+    {
+        if !journal.fits_plain() {
+            return Err(Stop::Limit);
+        }
+        let due = self.time + delay;
+        let number = self.calls.len();
+        make_room(&mut self.calls)?;
+        schedule(self.alloc, journal, &what, &mut self.waiting, (due, number))?;
+        add(&mut self.calls, due, what);
+        Ok(CallId::new(number))
+    }
+
+    /// Cancels a call of the script (Twisted: `DelayedCall.cancel`). What else waits, as a loop's turn, is left alone.
+    pub fn cancel(&mut self, journal: &mut Journal, id: CallId) -> Result<(), CancelFault>
+        ensures { CancelsUnlessMemory result (self.old, journal.old) (self.new, journal.new) (cancel id (self.old, journal.old)) }
+    {
+        let Some(call) = self.calls.get(id.number()) else {
+            return Ok(());
+        };
+        let name = match &call.state {
+            CallState::Waiting(Due::Call(name, _)) => name,
+            CallState::Waiting(Due::Turn(_, _) | Due::Tick | Due::Delivery(_, _)) => return Ok(()),
+            CallState::Called => return Err(CancelFault::AlreadyCalled),
+            CallState::Cancelled | CallState::Dropped => return Err(CancelFault::AlreadyCancelled),
+        };
+        if !journal.fits_plain() {
+            return Err(CancelFault::Limit);
+        }
+        let shown = name.copy(self.alloc)?;
+        journal.write(Entry::Uncall(shown))?;
+        let _ = self.end(id.number(), CallState::Cancelled);
+        Ok(())
+    }
+
+    /// Drops a call, so that it never runs, and answers whether it still waited. That isn't told.
+    pub fn drop_call(&mut self, id: CallId) -> bool
+        ensures waited { result ≡ waits id self.old.calls }
+        ensures rest { self.new ≡ ended id CallState.Dropped self.old }
+    {
+        self.end(id.number(), CallState::Dropped).is_some()
+    }
+
+    /// Lets time go on to `time`, in ticks from the beginning; what is due by then is then given by `due`, at this time,
+    /// one after the other (Twisted: `Clock.advance`).
+    pub fn advance_to(&mut self, journal: &mut Journal, time: u64) -> Result<(), Stop>
+        requires onward { self.old.time ≤ time }
+        requires early { time ≤ MOST_TICKS }
+        ensures { UnlessMemory result (self.old, journal.old) (self.new, journal.new) (advance_to time (self.old, journal.old)) }
+    {
+        journal.write(Entry::Advance(time))?;
+        self.time = time;
+        Ok(())
+    }
+
+    /// Takes what is to run next, of what is due by now: what is due first, and of what is due at one time what was
+    /// scheduled first. None where nothing is due, which isn't told.
+    pub fn due(&mut self, journal: &mut Journal) -> Result<Option<Due>, Stop>
+        ensures { UnlessMemory result (self.old, journal.old) (self.new, journal.new) (due (self.old, journal.old)) }
+    {
+        let Some((number, what)) = self.next() else {
+            return Ok(None);
+        };
+        if !journal.fits_plain() {
+            return Err(Stop::Limit);
+        }
+        let entry = what.coming_due(self.alloc)?;
+        journal.write(entry)?;
+        Ok(self.end(number, CallState::Called))
+    }
+
+    /// The number of what is to run next, and what it is, where something is due.
+    fn next(&self) -> Option<(usize, &Due)>
+        ensures next { option_map (λ found. with_number found.0 found.1.now) result ≡ option_map numbered (next_call self.now) }
+        ensures waits { IfSome result (λ found. what_of found.0 self.now.calls ≡ Some found.1.now) }
+    {
+        let number = self.next_number()?;
+        let what = self.what(number)?;
+        Some((number, what))
+    }
+
+    /// The number of what is to run next, where something is due.
+    fn next_number(&self) -> Option<usize>
+        ensures { result ≡ option_map (λ call. call.number) (next_call self.now) }
+    {
+        match self.waiting.first() {
+            None => None,
+            Some((due, number)) => {
+                if self.time < *due {
+                    None
+                } else {
+                    Some(*number)
+                }
+            }
+        }
+    }
+
+    /// A call waits no longer, and what it is comes back; None where it didn't wait.
+    fn end(&mut self, number: usize, state: CallState) -> Option<Due>
+        requires over { is_waiting state ≡ false }
+        ensures what { result ≡ what_of number self.old.calls }
+        ensures rest { self.new ≡ ended number state self.old }
+    {
+        let due = self.due_time(number)?;
+        self.waiting.remove(&(due, number));
+        take_what(&mut self.calls[number], state)
+    }
+
+    /// The time that a call is due at, where it waits.
+    fn due_time(&self, number: usize) -> Option<u64>
+        ensures { result ≡ due_of number self.now.calls }
+    {
+        match self.calls.get(number) {
+            None => None,
+            Some(call) => match &call.state {
+                CallState::Waiting(_) => Some(call.due),
+                CallState::Called | CallState::Cancelled | CallState::Dropped => None,
+            },
+        }
+    }
+
+    /// What a call is, where it waits.
+    fn what(&self, number: usize) -> Option<&Due>
+        ensures { option_copied result ≡ what_of number self.now.calls }
+    {
+        match self.calls.get(number) {
+            None => None,
+            Some(call) => match &call.state {
+                CallState::Waiting(what) => Some(what),
+                CallState::Called | CallState::Cancelled | CallState::Dropped => None,
+            },
+        }
+    }
+}
+
+ghost use Rattle.dv_clock.specs.Clock.{what_in};
+
+/// The state of a call is replaced, and what it is comes back where it waited.
+fn take_what(call: &mut Call, state: CallState) -> Option<Due>
+    ensures what { result ≡ what_in call.old.state }
+    ensures rest { call.new ≡ record call.old { state = state } }
+{
+    match mem::replace(&mut call.state, state) {
+        CallState::Waiting(what) => Some(what),
+        CallState::Called | CallState::Cancelled | CallState::Dropped => None,
+    }
+}
+
+ghost use Rattle.std.specs.Prelude.{true, ◌&&◌, cond, OnOk, OnErr, ◌+◌, [], ◌∷◌, ◌++◌, vec_len, vec_capacity};
+ghost use Rattle.dv_clock.specs.Due.{scheduling};
+ghost use Rattle.std.specs.BTreeMap.{is_at};
+ghost use Rattle.std.specs.BTreeSet.{contains};
+ghost use Rattle.dv_clock.specs.Clock.{by_due, Joins, Keeps};
+ghost use Rattle.dv_journal.specs.Journal.{fits, with_entry};
+
+/// Makes room for a call.
+fn make_room(calls: &mut Vec<Call>) -> Result<(), AllocError>
+    ensures room { OnOk result (vec_len calls.new + 1 ≤ vec_capacity calls.new) }
+    ensures kept { calls.new.items ≡ calls.old.items }
+    ensures len { vec_len calls.new ≡ vec_len calls.old }
+{
+    calls.try_reserve(1)
+}
+
+/// A call is added, which waits.
+fn add(calls: &mut Vec<Call>, due: u64, what: Due)
+    requires { vec_len calls.old + 1 ≤ vec_capacity calls.old }
+    ensures { calls.new.items ≡ calls.old.items ++ (record { due = due; state = CallState.Waiting what }) ∷ [] }
+{
+    let state = CallState::Waiting(what);
+    calls.push(Call { due, state }).unwrap();
+}
+
+/// The place of what is scheduled joins the index, and that is told. Where memory is refused, it doesn't.
+fn schedule(
+    alloc: Global,
+    journal: &mut Journal,
+    what: &Due,
+    waiting: &mut BTreeSet<(u64, usize)>,
+    place: (u64, usize),
+) -> Result<(), AllocError>
+    requires room { fits journal.old (scheduling what.now place.0) ≡ true }
+    requires new { contains by_due waiting.old place ≡ false }
+    ensures joined { OnOk result (Joins waiting.old waiting.new place) }
+    ensures written { OnOk result (journal.new ≡ with_entry journal.old (scheduling what.now place.0)) }
+    ensures kept { OnErr result (Keeps waiting.old waiting.new) }
+    ensures err { OnErr result (journal.new ≡ journal.old) }
+{
+    let entry = what.scheduling(alloc, place.0)?;
+    join(journal, entry, waiting, place)
+}
+
+/// A place joins the index, and that is told. Where memory is refused, it doesn't.
+fn join(
+    journal: &mut Journal,
+    entry: Entry,
+    waiting: &mut BTreeSet<(u64, usize)>,
+    place: (u64, usize),
+) -> Result<(), AllocError>
+    requires room { fits journal.old entry ≡ true }
+    requires new { contains by_due waiting.old place ≡ false }
+    ensures joined { OnOk result (Joins waiting.old waiting.new place) }
+    ensures written { OnOk result (journal.new ≡ with_entry journal.old entry) }
+    ensures kept { OnErr result (Keeps waiting.old waiting.new) }
+    ensures err { OnErr result (journal.new ≡ journal.old) }
+{
+    let Ok(_) = waiting.insert(place) else {
+        return Err(AllocError);
+    };
+    match journal.write(entry) {
+        Ok(()) => Ok(()),
+        Err(Stop::Limit) => unreachable!(),
+        Err(Stop::OutOfMemory) => {
+            waiting.remove(&place);
+            Err(AllocError)
+        }
+    }
+}

@@ -1,0 +1,46 @@
+ghost use Rattle.std.specs.Prelude.{◌≡◌, IfOk};
+ghost use Rattle.dv_clock.specs.Due.{scheduling, coming_due};
+
+use dv_journal::entry::Entry;
+use dv_value::text::Text;
+use std::alloc::{AllocError, Global};
+
+/// What waits for its time. The names and the job's number are those that the journal's lines show; the number that comes
+/// last in each is the caller's own, by which it knows what is due, since a name can be bound anew.
+#[derive(Debug, Drop)]
+pub enum Due {
+    /// A delayed call of the script (Twisted: `callLater`).
+    Call(Text, u32),
+    /// The next turn of a loop (Twisted: `LoopingCall`).
+    Turn(Text, u32),
+    /// The next tick of the Cooperator, of which there is one.
+    Tick,
+    /// The delivery of a job's result (Twisted: `deferToThread`).
+    Delivery(u32, u32),
+}
+
+impl Due {
+    /// What the journal tells when it is scheduled, due at that time.
+    pub fn scheduling(&self, alloc: Global, time: u64) -> Result<Entry, AllocError>
+        ensures { IfOk result (λ entry. entry ≡ scheduling self.now time) }
+    {
+        match self {
+            Due::Call(name, _) => Ok(Entry::LaterCall(name.copy(alloc)?, time)),
+            Due::Turn(name, _) => Ok(Entry::LaterLoop(name.copy(alloc)?, time)),
+            Due::Tick => Ok(Entry::LaterTick(time)),
+            Due::Delivery(job, _) => Ok(Entry::LaterJob(*job, time)),
+        }
+    }
+
+    /// What the journal tells when its time has come.
+    pub fn coming_due(&self, alloc: Global) -> Result<Entry, AllocError>
+        ensures { IfOk result (λ entry. entry ≡ coming_due self.now) }
+    {
+        match self {
+            Due::Call(name, _) => Ok(Entry::Call(name.copy(alloc)?)),
+            Due::Turn(name, _) => Ok(Entry::Turn(name.copy(alloc)?)),
+            Due::Tick => Ok(Entry::Tick),
+            Due::Delivery(job, _) => Ok(Entry::Deliver(*job)),
+        }
+    }
+}

@@ -1,0 +1,34 @@
+//! Laws of the definitions, each a function with an empty body whose clauses are the laws.
+
+ghost use Rattle.dv_clock.specs.Laws.{TheFirstRunsNext, WhatIsDueRuns, TimeNeverGoesBack, EndedCallsNeverRun, CallsRunOnceAtMost, TheNextTurnIsTheFirstLater};
+
+/// What runs next is due, and of all that wait it is due first, and of those that are due with it, it was scheduled first.
+pub fn the_first_runs_next()
+    ensures { TheFirstRunsNext }
+{}
+
+/// Where nothing runs next, nothing that waits is due.
+#[tactic(auto, using(crate::proofs::ClockLemmas::due_runs))]
+pub fn what_is_due_runs()
+    ensures { WhatIsDueRuns }
+{}
+
+/// Time never goes back, whatever is done with a clock.
+pub fn time_never_goes_back()
+    ensures { TimeNeverGoesBack }
+{}
+
+/// A call that was called, cancelled or dropped never runs again, whatever is done with its clock.
+pub fn ended_calls_never_run()
+    ensures { EndedCallsNeverRun }
+{}
+
+/// A call that runs never runs again, whatever is done with its clock.
+pub fn calls_run_once_at_most()
+    ensures { CallsRunOnceAtMost }
+{}
+
+/// A loop's next turn is at the first time after now that is a whole number of intervals after its start.
+pub fn the_next_turn_is_the_first_later()
+    ensures { TheNextTurnIsTheFirstLater }
+{}

@@ -1,0 +1,11 @@
+//! Virtual time: delayed calls, the turns of loops, and whose turn it is among tasks.
+#![tactic(auto)]
+
+pub mod call;
+pub mod call_id;
+pub mod clock;
+pub mod due;
+pub mod error;
+pub mod laws;
+pub mod limits;
+pub mod looping_call;

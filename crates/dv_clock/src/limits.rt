@@ -1,0 +1,5 @@
+/// The latest time that a clock comes to, in ticks.
+pub const MOST_TICKS: u64 = 1_000_000_000_000_000;
+
+/// The longest that a call waits for, in ticks.
+pub const MOST_DELAY: u64 = 1_000_000_000_000;
