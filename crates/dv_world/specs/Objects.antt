@@ -1,12 +1,16 @@
--- What stands beside the Deferreds: names, locks and semaphores, queues, and what DeferredLists have of their children.
+-- What stands beside the Deferreds: names, locks and semaphores, queues, what DeferredLists have of their children, and the clock with its delayed calls.
 use Rattle.std.specs.Prelude.{ℕ, List, [], ◌∷◌, ◌++◌, length, Option, None, Some, slice_set}
+use Rattle.dv_clock.specs.Clock.{Clock, new_clock, with_call, ended}
+use Rattle.dv_clock.specs.declared.call.CallState.{CallState}
+use Rattle.dv_clock.specs.declared.due.Due.TheVariants.{Call}
 use Rattle.dv_prims.specs.DeferredList.{Gather, new_gather}
 use Rattle.dv_prims.specs.Queue.{Queue, new_queue}
 use Rattle.dv_prims.specs.Tokens.{Semaphore, new_semaphore}
 use Rattle.dv_prims.specs.declared.gather.Flags.{Flags}
+use Rattle.dv_script.specs.declared.body.Body.{Body}
 use Rattle.dv_world.specs.Names.{Names, with_name}
 
--- what stands beside the Deferreds: their names, locks and semaphores with theirs, queues with theirs, and the lists
+-- what stands beside the Deferreds: their names, locks and semaphores with theirs, queues with theirs, and the lists; the clock, delayed calls with their names, and their bodies
 pub record Objects : Type 0 where
   pub names : Names ℕ
   pub locks : Names ℕ
@@ -14,10 +18,13 @@ pub record Objects : Type 0 where
   pub queue_names : Names ℕ
   pub queues : List Queue
   pub lists : List Gather
+  pub clock : Clock
+  pub call_names : Names ℕ
+  pub bodies : List Body
 
 -- nothing stands there at first
 abbrev pub no_objects : Objects
-no_objects = record { names = []; locks = []; semaphores = []; queue_names = []; queues = []; lists = [] }
+no_objects = record { names = []; locks = []; semaphores = []; queue_names = []; queues = []; lists = []; clock = new_clock; call_names = []; bodies = [] }
 
 -- a name of a Deferred is bound
 abbrev pub naming : List ℕ → ℕ → Objects → Objects
@@ -69,3 +76,16 @@ with_new_list children flags objects = record objects { lists = objects.lists ++
 -- a list is now this
 abbrev pub with_list : ℕ → Gather → Objects → Objects
 with_list l g objects = record objects { lists = slice_set objects.lists l g }
+
+-- a delayed call of this body is added, which is due at this time, and its name is bound to it
+abbrev pub with_new_call : List ℕ → ℕ → Body → Objects → Objects
+with_new_call name due body objects =
+    record objects { clock = with_call due (Call name (length objects.bodies)) objects.clock; call_names = with_name name (length objects.clock.calls) objects.call_names; bodies = objects.bodies ++ body ∷ [] }
+
+-- a call waits no longer
+abbrev pub with_ended_call : ℕ → CallState → Objects → Objects
+with_ended_call number state objects = record objects { clock = ended number state objects.clock }
+
+-- it is this time
+abbrev pub with_time : ℕ → Objects → Objects
+with_time time objects = record objects { clock = record objects.clock { time = time } }

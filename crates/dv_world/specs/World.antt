@@ -1,5 +1,5 @@
 -- The world of a run: its Deferreds, their names, the classes of failures and the journal, and one step of each kind.
-use Rattle.std.specs.Prelude.{ℕ, Bool, true, false, not, if◌then◌else◌, List, [], Option, None, Some, Result, Ok, Err, slice_get, bytes_eq, codes}
+use Rattle.std.specs.Prelude.{ℕ, ◌+◌, min, Bool, true, false, not, if◌then◌else◌, List, [], Option, None, Some, Result, Ok, Err, slice_get, bytes_eq, codes}
 use Rattle.std.specs.Option.{option_map_or}
 use Rattle.dv_value.specs.Builtin.{name_error, assertion_error, already_called_error, cancelled_error, type_error, queue_overflow, queue_underflow}
 use Rattle.dv_value.specs.Failure.{plain_failure}
@@ -10,6 +10,15 @@ use Rattle.dv_journal.specs.Journal.{Written, empty, fits, with_entry}
 use Rattle.dv_journal.specs.declared.entry.Entry.{Entry}
 use Rattle.dv_journal.specs.declared.entry.Entry.TheVariants as entry
 use Rattle.dv_journal.specs.declared.error.Stop.{Stop}
+use Rattle.dv_clock.specs.Clock.{Upcoming, next_call}
+use Rattle.dv_clock.specs.Due.{coming_due}
+use Rattle.dv_clock.specs.declared.call.Call.{Call}
+use Rattle.dv_clock.specs.declared.call.CallState.{CallState}
+use Rattle.dv_clock.specs.declared.call.CallState.TheVariants as call_state
+use Rattle.dv_clock.specs.declared.due.Due.{Due}
+use Rattle.dv_clock.specs.declared.due.Due.TheVariants as what
+use Rattle.dv_clock.specs.declared.limits.TheConstants.{MOST_TICKS}
+use Rattle.dv_script.specs.declared.body.Body.{Body}
 use Rattle.dv_prims.specs.DeferredList.{Gather, came}
 use Rattle.dv_prims.specs.Queue.{Queue, may_put, receiver, put_to, got_from, withdrawn}
 use Rattle.dv_prims.specs.Tokens.{Semaphore, is_unheld, asked, released, forgotten}
@@ -31,7 +40,7 @@ use Rattle.dv_store.specs.declared.store.Fired.TheVariants.{Set, Swallowed}
 use Rattle.dv_store.specs.declared.store.Step.{Step}
 use Rattle.dv_store.specs.declared.store.Step.TheVariants.{Nothing}
 use Rattle.dv_world.specs.Names.{number_of}
-use Rattle.dv_world.specs.Objects.{Objects, no_objects, naming_where, with_list, with_lock, lock_changed, with_queue, queue_changed}
+use Rattle.dv_world.specs.Objects.{Objects, no_objects, naming_where, with_list, with_new_call, with_ended_call, with_time, with_lock, lock_changed, with_queue, queue_changed}
 use Rattle.dv_world.specs.Pair.{passes}
 use Rattle.dv_world.specs.declared.canceller.Canceller.{Canceller}
 use Rattle.dv_world.specs.declared.canceller.Canceller.TheVariants as canceller
@@ -39,7 +48,7 @@ use Rattle.dv_world.specs.declared.follow.Follow.{Follow}
 use Rattle.dv_world.specs.declared.follow.Follow.TheVariants as follow
 use Rattle.dv_world.specs.declared.pair.Pair.{Pair}
 use Rattle.dv_world.specs.declared.performed.Performed.{Performed}
-use Rattle.dv_world.specs.declared.performed.Performed.TheVariants.{Raised}
+use Rattle.dv_world.specs.declared.performed.Performed.TheVariants.{Done, Raised}
 use Rattle.dv_world.specs.declared.reached.Reached.{Reached}
 use Rattle.dv_world.specs.declared.reached.Reached.TheVariants as reached
 
@@ -280,6 +289,59 @@ came_to_found l i v (Some g) w = ((came i v g).0, arrange (with_list l (came i v
 -- a child comes to a list with its value, which isn't told; to a stopped run nothing comes
 unfoldable pub came_to : ℕ → ℕ → Value → World → Came × World
 came_to l i v w = if w.stopped then (record { fire = None; pass = v }, w) else came_to_found l i v (slice_get w.objects.lists l) w
+
+-- a delayed call of this body is scheduled, which is due so much later than now, and its name is bound to it
+abbrev pub call_later : List ℕ → ℕ → Body → World → World
+call_later name delay body w = let due = w.objects.clock.time + delay in aside (entry.LaterCall name due) (with_new_call name due body) w
+
+-- time goes on by so much, and no further than clocks go
+abbrev pub advance : ℕ → World → World
+advance ticks w = let time = min (w.objects.clock.time + ticks) MOST_TICKS in aside (entry.Advance time) (with_time time) w
+
+-- what runs next, where something is due, has been called from now on
+abbrev pub come_due_found : Option Upcoming → World → Option Due × World
+come_due_found None w = (None, w)
+come_due_found (Some call) w = unless_stopped (Some call.what) (aside (coming_due call.what) (with_ended_call call.number call_state.Called) w)
+
+abbrev pub come_due : World → Option Due × World
+come_due w = come_due_found (next_call w.objects.clock) w
+
+abbrev pub already_called : ℕ
+already_called = 13
+
+abbrev pub already_cancelled : ℕ
+already_cancelled = 14
+
+-- what a cancelling of a call raises that was called
+abbrev pub was_called : Failure
+was_called = plain_failure already_called []
+
+-- and of one that was cancelled or dropped
+abbrev pub was_cancelled : Failure
+was_cancelled = plain_failure already_cancelled []
+
+-- a delayed call of the script waits no longer; what else waits is left alone
+abbrev pub waiting_cancelled : ℕ → Due → World → World
+waiting_cancelled number (what.Call name key) w = aside (entry.Uncall name) (with_ended_call number call_state.Cancelled) w
+waiting_cancelled number (what.Turn name key) w = w
+waiting_cancelled number what.Tick w = w
+waiting_cancelled number (what.Delivery job key) w = w
+
+-- a call is cancelled while it waits; else that is refused
+abbrev pub state_cancelled : ℕ → CallState → World → Performed × World
+state_cancelled number (call_state.Waiting what) w = (Done, waiting_cancelled number what w)
+state_cancelled number call_state.Called w = (Raised was_called, w)
+state_cancelled number call_state.Cancelled w = (Raised was_cancelled, w)
+state_cancelled number call_state.Dropped w = (Raised was_cancelled, w)
+
+-- the call that is found is cancelled; a number of no call changes nothing
+abbrev pub call_cancelled : ℕ → Option Call → World → Performed × World
+call_cancelled number None w = (Done, w)
+call_cancelled number (Some call) w = state_cancelled number call.state w
+
+-- a delayed call is cancelled; in a stopped run nothing is
+unfoldable pub cancel_call : ℕ → World → Performed × World
+cancel_call number w = if w.stopped then (Done, w) else call_cancelled number (slice_get w.objects.clock.calls number) w
 
 -- what the gathering of what isn't the result of a list raises
 abbrev pub not_gathered : Failure
