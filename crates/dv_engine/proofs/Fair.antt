@@ -12,7 +12,17 @@ use Rattle.dv_prims.specs.Tokens.{Semaphore, is_unheld, first_waiting}
 use Rattle.dv_prims.specs.declared.gather.Came.{Came}
 use Rattle.dv_prims.specs.declared.gather.Flags.{Flags}
 use Rattle.dv_script.specs.declared.action.Action.{Action, out-Action}
+use Rattle.dv_clock.specs.Clock.{Upcoming, next_call}
+use Rattle.dv_clock.specs.Due.{coming_due}
+use Rattle.dv_clock.specs.declared.call.Call.{Call}
+use Rattle.dv_clock.specs.declared.call.CallState.{CallState}
+use Rattle.dv_clock.specs.declared.call.CallState.TheVariants as call_state
+use Rattle.dv_clock.specs.declared.due.Due.{Due}
+use Rattle.dv_clock.specs.declared.due.Due.TheVariants as what
+use Rattle.dv_script.specs.declared.body.Body as body_of
 use Rattle.dv_script.specs.declared.body.End.{End}
+use Rattle.dv_script.specs.declared.event.Event.{Event}
+use Rattle.dv_script.specs.declared.event.Event.TheVariants as event
 use Rattle.dv_store.specs.Laws.{used}
 use Rattle.dv_store.specs.declared.store.Step.{Step}
 use Rattle.dv_store.specs.declared.store.Step.TheVariants.{Nothing, Passed, Run, Handed}
@@ -21,14 +31,15 @@ use Rattle.dv_engine.specs.Acting as acting
 use Rattle.dv_engine.specs.Cancelling.{cancel_begun, canceller_ended}
 use Rattle.dv_engine.specs.Deed.{deed_of}
 use Rattle.dv_engine.specs.declared.deed.Deed.{Deed}
-use Rattle.dv_engine.specs.declared.deed.Deed.TheVariants.{Idle, NoteOf, Make, FireWith, AddTo, ChainTo, PauseOf, UnpauseOf, CancelOf, MakeLock, MakeSemaphore, AcquireOf, ReleaseOf, RunOf, MaybeOf, MakeQueue, PutInto, GetFrom, ListOf, GatherOf}
+use Rattle.dv_engine.specs.declared.deed.Deed.TheVariants.{Idle, NoteOf, Make, FireWith, AddTo, ChainTo, PauseOf, UnpauseOf, CancelOf, MakeLock, MakeSemaphore, AcquireOf, ReleaseOf, RunOf, MaybeOf, MakeQueue, PutInto, GetFrom, ListOf, GatherOf, LaterOf, CancelCallOf}
 use Rattle.dv_engine.specs.Listing.{with_children, added_to_children, has_all_at_once, fired_at_once, with_listed, listed, gathered, fired_by_child, come_by, results_given, children_cancelled}
 use Rattle.dv_engine.specs.Locking.{granted, asked_of, acquired, released_of}
-use Rattle.dv_engine.specs.Meaning.{told_of, turned}
+use Rattle.dv_engine.specs.Meaning.{told_of, turned, happening}
 use Rattle.dv_engine.specs.Maybe.{name_for, used_for, made_with, taken_for, maybe_ended, given_after}
 use Rattle.dv_engine.specs.Queueing.{handed_out, put_of, got, asked_for, get_of}
 use Rattle.dv_engine.specs.Performing.{gone_on, rest_turned}
 use Rattle.dv_engine.specs.Settling.{place, side_begun, settled}
+use Rattle.dv_engine.specs.Timing.{called_off, body_called, come_due_with}
 use Rattle.dv_engine.specs.Turn.{Turned, ◌over◌, done, settling, settle_next}
 use Rattle.dv_engine.specs.declared.frame.Frame.{Frame}
 use Rattle.dv_engine.specs.declared.frame.Frame.TheVariants as frame
@@ -43,8 +54,8 @@ use Rattle.dv_journal.specs.Change.{change_of, Aside}
 use Rattle.dv_world.specs.Found.{deferreds_at}
 use Rattle.dv_world.specs.Names.{number_of}
 use Rattle.dv_world.specs.Pair.{chain, coming, results, holding, releasing}
-use Rattle.dv_world.specs.World.{World, state_of, deferred_at, step, append, fire, is_unfired, cancelled, cancel, pause, unpause, make, aside, lock_told, ask, release_found, release, forget, unless_stopped, put_into_found, put_into, get_from_found, get_from, withdraw, value_of, arrange, came_to_found, came_to}
-use Rattle.dv_world.specs.Objects.{Objects, with_queue, with_new_list, with_list}
+use Rattle.dv_world.specs.World.{World, state_of, deferred_at, step, append, fire, is_unfired, cancelled, cancel, pause, unpause, make, aside, lock_told, ask, release_found, release, forget, unless_stopped, put_into_found, put_into, get_from_found, get_from, withdraw, value_of, arrange, came_to_found, came_to, call_later, advance, come_due_found, come_due, waiting_cancelled, state_cancelled, call_cancelled, cancel_call}
+use Rattle.dv_world.specs.Objects.{Objects, with_queue, with_new_list, with_list, with_ended_call}
 use Rattle.dv_world.specs.declared.canceller.Canceller.TheVariants.{Body, Token, Item, Children}
 use Rattle.dv_world.specs.declared.follow.Follow.{Follow}
 use Rattle.dv_world.specs.declared.follow.Follow.TheVariants as follow
@@ -77,6 +88,7 @@ rank (frame.Add d pair) = 1
 rank (frame.Cancel d) = 0
 rank (frame.Give given) = 0
 rank frame.Tell = 0
+rank frame.Due = 0
 
 -- so it is with each frame
 abbrev pub Each : (Frame → Type 0) → List Frame → Type 0
@@ -281,6 +293,26 @@ acquired_fair m name l w q =
     let made = make (Some name) (Some (Token l)) w in
     then_fair m w made _ (record { keeps = λ R k. k.by_make (Some name) (Some (Token l)) w }) (asked_fair m l (length w.records) (slice_get made.objects.semaphores l) made q)
 
+waiting_comes : (number : ℕ) (due : Due) (w : World) → Comes w (waiting_cancelled number due w)
+waiting_comes number (what.Call name key) w = by_aside (entry.Uncall name) _ w refl
+waiting_comes number (what.Turn name key) w = same w
+waiting_comes number what.Tick w = same w
+waiting_comes number (what.Delivery job key) w = same w
+
+state_comes : (number : ℕ) (state : CallState) (w : World) → Comes w (state_cancelled number state w).1
+state_comes number (call_state.Waiting due) w = waiting_comes number due w
+state_comes number call_state.Called w = same w
+state_comes number call_state.Cancelled w = same w
+state_comes number call_state.Dropped w = same w
+
+call_comes : (number : ℕ) (o : Option Call) (w : World) → Comes w (call_cancelled number o w).1
+call_comes number None w = same w
+call_comes number (Some call) w = state_comes number call.state w
+
+off_comes : (number : ℕ) (w : World) → Comes w (cancel_call number w).1
+unfolding cancel_call
+off_comes number w = first_comes w.stopped _ (call_cancelled number (slice_get w.objects.clock.calls number) w) w (same w) (call_comes number (slice_get w.objects.clock.calls number) w)
+
 children_fair : (m : ℕ) (found : Found) (w : World) (next : List ℕ → Turned) → ((ds : List ℕ) → Fair w m (next ds)) → Fair w m (with_children found w next)
 children_fair m (All ds) w next h = h ds
 children_fair m (Unbound name) w next h = now_fair m _ w
@@ -330,6 +362,8 @@ begun_fair m itself (PutInto queue value) w q = queue_fair m queue w _ (λ k. pu
 begun_fair m itself (GetFrom name queue) w q = queue_fair m queue w _ (λ k. get_fair m name k (slice_get w.objects.queues k) w q)
 begun_fair m itself (ListOf name children flags) w q = children_fair m (deferreds_at itself children w) w _ (λ ds. listed_fair m name ds flags w q)
 begun_fair m itself (GatherOf name children flags) w q = children_fair m (deferreds_at itself children w) w _ (λ ds. over_fair m w (listed name ds flags w) _ (q, tt) (listed_fair m name ds flags w q))
+begun_fair m itself (LaterOf name delay body) w q = done_fair m w _ (by_aside (entry.LaterCall name (w.objects.clock.time + delay)) _ w refl)
+begun_fair m itself (CancelCallOf name) w q = found_fair m (number_of name w.objects.call_names) name w _ (λ number. record { comes = off_comes number w; falls = lighter tt })
 
 pub begun_comes : (itself : Option ℕ) (deed : Deed) (w : World) → Comes w (begun itself deed w).2
 begun_comes itself deed w = (begun_fair (1 + deed_size deed) itself deed w (omega arith)).comes
@@ -351,11 +385,36 @@ place_comes d (Gave value) w = record { keeps = λ R l. l.by_put d value w }
 place_comes d (Raised failure) w = record { keeps = λ R l. l.by_put d (Fault failure) w }
 place_comes d (Awaits e) w = record { keeps = λ R l. l.by_put_deferred d e w }
 
-told_comes : (o : Performed) (w : World) → Comes w (told_of o w)
-told_comes Done w = same w
-told_comes (Gave value) w = same w
-told_comes (Raised failure) w = record { keeps = λ R l. l.by_aside (entry.Unhandled failure) _ w refl }
-told_comes (Awaits e) w = same w
+told_comes : (o : Option Failure) (w : World) → Comes w (told_of o w)
+told_comes None w = same w
+told_comes (Some failure) w = by_aside (entry.Unhandled failure) _ w refl
+
+body_comes : (o : Option body_of.Body) (w : World) → Comes w (body_called o w).2
+body_comes None w = same w
+body_comes (Some body) w = same w
+
+due_comes : (o : Option Due) (w : World) → Comes w (come_due_with o w).2
+due_comes None w = same w
+due_comes (Some (what.Call name key)) w = body_comes (slice_get w.objects.bodies key) w
+due_comes (Some (what.Turn name key)) w = same w
+due_comes (Some what.Tick) w = same w
+due_comes (Some (what.Delivery job key)) w = same w
+
+-- what comes due is told, and tells of no Deferred
+due_aside : (due : Due) → change_of (coming_due due) ≡ Aside
+due_aside (what.Call name key) = refl
+due_aside (what.Turn name key) = refl
+due_aside what.Tick = refl
+due_aside (what.Delivery job key) = refl
+
+-- it pays for what it does, unless the run stops by it
+unless_fair : (m : ℕ) (e : Entry) (change : Objects → Objects) (w : World) (due : Due) (b : Bool) → change_of e ≡ Aside → (aside e change w).stopped ≡ b → Fair w m (come_due_with (if b then None else Some due) (aside e change w))
+unless_fair m e change w due true a x = done_fair m w _ (by_aside e change w a)
+unless_fair m e change w due false a x = paid_fair m 1 w (aside e change w) (come_due_with (Some due) (aside e change w)) (by_aside e change w a) (aside_took e change w x) (omega arith) (due_comes (Some due) (aside e change w))
+
+due_fair : (m : ℕ) (o : Option Upcoming) (w : World) → Fair w m (come_due_with (come_due_found o w).0 (come_due_found o w).1)
+due_fair m None w = now_fair m Done w
+due_fair m (Some call) w = unless_fair m (coming_due call.what) (with_ended_call call.number call_state.Called) w call.what _ (due_aside call.what) refl
 
 used_lighter : (purpose : Purpose) (d : ℕ) → Lighter 2 (used_for purpose d)
 used_lighter (Named name) d = tt
@@ -393,4 +452,10 @@ turned_fair (frame.Maybe purpose) o w = maybe_fair purpose o w
 turned_fair (frame.Add d pair) o w = settling_fair 1 d w (append d pair w) (omega arith) (record { keeps = λ R l. l.by_append d pair w })
 turned_fair (frame.Cancel d) o w = cancel_fair 0 w (cancel d w).0 (cancel d w).1 (record { keeps = λ R l. l.by_cancel d w }) (cancel_took d w)
 turned_fair (frame.Give given) o w = given_fair given o w
-turned_fair frame.Tell o w = done_fair 0 w _ (told_comes o w)
+turned_fair frame.Tell o w = done_fair 0 w _ (told_comes (failed_with o) w)
+turned_fair frame.Due o w = due_fair 0 (next_call w.objects.clock) w
+
+pub happening_comes : (event : Event) (w : World) → Comes w (happening event w).2
+happening_comes (event.Action action) w = begun_comes None (deed_of (out-Action action)) w
+happening_comes (event.Advance ticks) w = by_aside (entry.Advance _) _ w refl
+happening_comes (event.Drain most) w = same w

@@ -1,0 +1,67 @@
+ghost use Rattle.std.specs.Prelude.{◌≡◌, None, IfOk};
+ghost use Rattle.dv_engine.specs.Acting.{begun};
+ghost use Rattle.dv_engine.specs.Timing.{body_called, come_due_with};
+ghost use Rattle.dv_engine.specs.Turn.{◌over◌};
+ghost use Rattle.dv_engine.specs.declared.deed.Deed.TheVariants.{CancelCallOf};
+ghost use Rattle.dv_world.specs.World.{World as Seen, come_due};
+
+use crate::frame::Frame;
+use crate::settling::whole;
+use crate::stack::Stack;
+use dv_clock::due::Due;
+use dv_value::value::Value;
+use dv_world::lent::BodyRef;
+use dv_world::performed::Performed;
+use dv_world::world::{World, unbound};
+use std::alloc::{AllocError, Global};
+
+/// Cancels a delayed call by its name (Twisted: `DelayedCall.cancel`).
+pub fn cancel_call<'s>(
+    alloc: Global,
+    world: &mut World<'s>,
+    stack: &mut Stack<Frame<'s>>,
+    name: &str,
+) -> Result<Performed<'s>, AllocError>
+    ensures { IfOk result (λ performed. (stack.new, performed, world.new) ≡ begun None (CancelCallOf name.now) world.old over stack.old) }
+{
+    let _ = stack;
+    match world.find_call(name) {
+        None => Ok(unbound(alloc, name)?),
+        Some(call) => Ok(world.cancel_call(call)?),
+    }
+}
+
+/// What is due next is run, where something is, and then what is due after it (Twisted: `Clock.advance`).
+pub fn run_due<'s>(
+    world: &mut World<'s>,
+    stack: &mut Stack<Frame<'s>>,
+) -> Result<Performed<'s>, AllocError>
+    ensures { IfOk result (λ performed. (stack.new, performed, world.new) ≡ come_due_with (come_due world.old).0 (come_due world.old).1 over stack.old) }
+{
+    match world.come_due()? {
+        None => Ok(Performed::Done),
+        Some(Due::Call(_, key)) => Ok(call_body(stack, world.body(key))?),
+        Some(Due::Turn(_, _) | Due::Tick | Due::Delivery(_, _)) => {
+            stack.push(Frame::Due)?;
+            Ok(Performed::Done)
+        }
+    }
+}
+
+/// The body of a delayed call is to be performed, and then what is due next.
+fn call_body<'s>(
+    stack: &mut Stack<Frame<'s>>,
+    body: Option<BodyRef<'s>>,
+) -> Result<Performed<'s>, AllocError>
+    ensures { IfOk result (λ performed. (w : Seen) → (stack.new, performed, w) ≡ body_called body.entry w over stack.old) }
+{
+    stack.push(Frame::Due)?;
+    match body {
+        None => Ok(Performed::Done),
+        Some(body) => {
+            stack.push(Frame::Tell)?;
+            stack.push(Frame::Rest(whole(None, body, Value::Null)))?;
+            Ok(Performed::Done)
+        }
+    }
+}
