@@ -17,7 +17,7 @@ fn text(alloc: Global, text: &str) -> Result<Text, AllocError> {
     Text::of(alloc, text)
 }
 
-/// No run gives a Deferred back its having no name.
+/// A run that gives a Deferred another name always has one to give.
 fn write_no_name(journal: &mut Journal) -> Result<(), Stop> {
     journal.write(Entry::Name(id(3), None))
 }
