@@ -626,8 +626,7 @@ impl<'s> World<'s> {
     {
         let list = ListId::new(self.lists.len());
         if !self.stopped {
-            self.lists
-                .push(Gather::new(self.alloc, children, flags)?)?;
+            self.lists.push(Gather::new(self.alloc, children, flags)?)?;
         }
         Ok(list)
     }

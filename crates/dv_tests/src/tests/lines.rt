@@ -3,11 +3,7 @@ use dv_journal::entry::Entry;
 use dv_journal::error::Stop;
 use dv_journal::io_sink::IoSink;
 use dv_journal::journal::Journal;
-use dv_value::boxed::Boxed;
-use dv_value::class_id::ClassId;
 use dv_value::classes::Classes;
-use dv_value::failure::{Failure, Sub};
-use dv_value::items::Items;
 use dv_value::text::Text;
 use dv_value::value::Value;
 use std::alloc::{AllocError, Global};
@@ -21,46 +17,13 @@ fn text(alloc: Global, text: &str) -> Result<Text, AllocError> {
     Text::of(alloc, text)
 }
 
-fn value_error(alloc: Global) -> Result<Failure, AllocError> {
-    Ok(Failure::new(ClassId::VALUE_ERROR, Text::of(alloc, "no")?))
+/// A run that gives a Deferred another name always has one to give.
+fn write_no_name(journal: &mut Journal) -> Result<(), Stop> {
+    journal.write(Entry::Name(id(3), None))
 }
 
-/// The failure of a list whose second Deferred failed.
-fn first_error(alloc: Global) -> Result<Value, AllocError> {
-    let inside = Boxed::new(alloc, value_error(alloc)?)?;
-    let failure = Failure {
-        class: ClassId::new(9),
-        message: Text::of(alloc, "")?,
-        sub: Some(Sub {
-            index: 1,
-            failure: inside,
-        }),
-    };
-    Ok(Value::Fault(Boxed::new(alloc, failure)?))
-}
-
-/// A list of a list that holds a failure.
-fn nested(alloc: Global) -> Result<Value, AllocError> {
-    let mut pair = Items::new(alloc);
-    pair.push(Value::Bool(false))?;
-    pair.push(Value::Fault(Boxed::new(alloc, value_error(alloc)?)?))?;
-    let mut pairs = Items::new(alloc);
-    pairs.push(Value::List(pair))?;
-    Ok(Value::List(pairs))
-}
-
-fn write_what_lists_make(alloc: Global, journal: &mut Journal) -> Result<(), Stop> {
-    journal.write(Entry::New(id(2), None))?;
-    journal.write(Entry::Name(id(3), None))?;
-    journal.write(Entry::Fire(id(2), first_error(alloc)?))?;
-    journal.write(Entry::Fire(id(4), nested(alloc)?))
-}
-
-const WHAT_LISTS_MAKE: &str = r#"new #2 -
-name #3 -
-fire #2 fail FirstError "" at 1 of ValueError "no"
-fire #4 ok [[false,{"fail":"ValueError","message":"no"}]]
-"#;
+const NO_NAME: &str = "name #3 -
+";
 
 fn write_calls_and_loops(alloc: Global, journal: &mut Journal) -> Result<(), Stop> {
     journal.write(Entry::LaterCall(text(alloc, "c1")?, 3))?;
@@ -123,11 +86,11 @@ fn each_entry_that_no_script_leads_to_yet_has_its_line(rt: HostRuntime) -> Resul
     let alloc = rt.alloc();
     let classes = Classes::builtin(alloc)?;
     let mut journal = Journal::new(alloc, 2000);
-    write_what_lists_make(alloc, &mut journal)?;
+    write_no_name(&mut journal)?;
     write_calls_and_loops(alloc, &mut journal)?;
     write_tasks_and_posts(alloc, &mut journal)?;
     let mut text = String::new(alloc);
-    for part in [WHAT_LISTS_MAKE, CALLS_AND_LOOPS, TASKS_AND_POSTS] {
+    for part in [NO_NAME, CALLS_AND_LOOPS, TASKS_AND_POSTS] {
         text.push_str(part)?;
     }
     let mut bytes = Vec::new(alloc);

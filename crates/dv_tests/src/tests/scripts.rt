@@ -64,19 +64,7 @@ fn a_work_is_copied_whole(rt: HostRuntime) -> Result<(), Fail> {
 }
 
 /// Each event that isn't performed yet, and what is read of it.
-static READ: [(&str, &str); 18] = [
-    (
-        r#"["list","a",["x","y"],["consumeErrors","fireOnOneErrback","fireOnOneCallback","consumeErrors"]]"#,
-        r#"Action(List(Text { text: "a" }, Items { items: [Text { text: "x" }, Text { text: "y" }] }, Items { items: [ConsumeErrors, FireOnOneErrback, FireOnOneCallback, ConsumeErrors] }))"#,
-    ),
-    (
-        r#"["gather","a",["x","y"],["consumeErrors"]]"#,
-        r#"Action(Gather(Text { text: "a" }, Items { items: [Text { text: "x" }, Text { text: "y" }] }, Items { items: [ConsumeErrors] }))"#,
-    ),
-    (
-        r#"["runWith","a","b",{"do":[["pause","p"]],"end":["plus",-2]}]"#,
-        r#"Action(RunWith(Text { text: "a" }, Text { text: "b" }, Body { actions: Items { items: [Pause(Text { text: "p" })] }, end: Plus(-2) }))"#,
-    ),
+static READ: [(&str, &str); 15] = [
     (
         r#"["later","a",1000000000000,{"do":[["pause","p"]],"end":["plus",-2]}]"#,
         r#"Action(Later(Text { text: "a" }, 1000000000000, Body { actions: Items { items: [Pause(Text { text: "p" })] }, end: Plus(-2) }))"#,
