@@ -1,13 +1,12 @@
 -- What the calls of a clock keep, whatever is done with it.
-use Rattle.std.proofs.Common.{◌≡◌, ◌≢◌, ℕ, zero, suc, ◌+◌, ◌<◌, ◌≤◌, Bool, true, false, cond, if◌then◌else◌, nat_lt, List, [], ◌∷◌, ◌++◌, length, Option, Some, None, Result, Ok, Err, slice_get, slice_set, refl, sym, ap, ◌∙◌, subst, arith, eqb, ⊎_elim}
+use Rattle.std.proofs.Common.{◌≡◌, ◌≢◌, ℕ, zero, suc, ◌+◌, ◌<◌, ◌≤◌, Bool, true, false, if◌then◌else◌, nat_lt, List, [], ◌∷◌, ◌++◌, length, Option, Some, None, Ok, Err, slice_get, slice_set, refl, sym, ap, ◌∙◌, subst, arith, eqb, ⊎_elim}
 use Rattle.std.proofs.lemmas.Bool.Decides.{nat_tests, eqb_tells}
 use Rattle.std.specs.Option.{option_map_or}
-use Rattle.dv_journal.specs.Journal.{Written, fits, with_entry}
+use Rattle.dv_journal.specs.Journal.{fits, with_entry}
 use Rattle.dv_journal.specs.declared.entry.Entry.{Entry}
 use Rattle.dv_journal.specs.declared.entry.Entry.TheVariants as entry
-use Rattle.dv_journal.specs.declared.error.Stop.{Stop}
 use Rattle.dv_journal.specs.declared.error.Stop.TheVariants.{Limit}
-use Rattle.dv_clock.specs.Clock.{Clock, Upcoming, is_waiting, next_call, first_from, due_at, later, advance_to, due, due_found, cancel, cancel_found, cancel_in, cancel_waiting, uncall, ended, with_end, with_call, Cancelling}
+use Rattle.dv_clock.specs.Clock.{Clock, Upcoming, is_waiting, next_call, first_from, due_at, due, due_found, cancel_found, cancel_in, cancel_waiting, ended, with_end, with_call, Cancelling}
 use Rattle.dv_clock.specs.Telling.{State, Told, telling}
 use Rattle.dv_clock.specs.Laws.{RunsBeforeOthers, TheFirstRunsNext, WhatIsDueRuns, Becomes, Same, Schedules, Advances, Runs, Cancels, Drops, TimeNeverGoesBack, EndedCallsNeverRun, CallsRunOnceAtMost}
 use Rattle.dv_clock.specs.declared.call.Call.{Call}
