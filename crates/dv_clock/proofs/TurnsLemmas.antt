@@ -1,6 +1,6 @@
 -- Tasks that take turns, by the numbers under which they joined.
 use Rattle.std.proofs.Common.{◌≡◌, ◌≢◌, ℕ, zero, suc, ◌+◌, ◌-◌, ◌<◌, ◌≤◌, Bool, true, false, cond, ◌||◌, if◌then◌else◌, nat_eq, nat_lt, eqb, is_le, ◌&&◌, List, [], ◌∷◌, ◌++◌, length, take, Option, Some, None, slice_get, refl, sym, ap, ◌∙◌, subst, arith, ⊎_elim, ◌⊎◌, inl, inr, is_some}
-use Rattle.std.proofs.lemmas.List.{length-map, map-append, length-take-le}
+use Rattle.std.proofs.lemmas.List.{length-map, map-append, length-take-le, take_all}
 use Rattle.std.proofs.lemmas.Bool.Decides.{nat_tests, eqb_tells}
 use Rattle.std.proofs.lemmas.Map.Keys.{sorted_head, sorted_tail}
 use Rattle.std.proofs.lemmas.Map.Made.{length-remove_key}
@@ -16,6 +16,7 @@ use Rattle.std.specs.Ordering.{nat_cmp}
 use Rattle.std.specs.Set.{remove_key}
 use Rattle.std.specs.declared.cmp.Ordering.TheVariants.{Less, Greater}
 use Rattle.std.specs.declared.ops.Bound.TheVariants.{Included, Unbounded}
+use Rattle.dv_clock.specs.Laws.{NobodyIsSkipped}
 use Rattle.dv_clock.specs.Turns.{Turns, is_among, joined, left, place_of_turn, turn_of, gone_on, gone_on_by, Joined, tasks_of, stepped, found_from, turn_from, number_of, AreBelow, AreOnce, IsKept, FindsToo}
 
 -- what is looked for from a number on begins after those below it
@@ -414,3 +415,53 @@ number_is order numbers given next task key k e = ap (get nat_cmp numbers) e ∙
 pub is_none : (o : Option ℕ) → is_some o ≡ false → o ≡ None
 is_none None h = refl
 is_none (Some n) h = absurd cc
+
+suc-sub-one : (n : ℕ) → suc n - 1 ≡ n
+suc-sub-one n = omega arith
+
+same_task : (a b : ℕ) → nat_eq a b ≡ true → a ≡ b
+same_task a b h = grind (arith, nat_tests)
+
+-- who stands at a place is moved with it when another leaves
+moved_by : (p task t u : ℕ) (ts : List ℕ) (here among : Bool) → slice_get (remove_key (nat_eq task) ts) (if among then p - 1 else p) ≡ Some u → is_among task (take p ts) ≡ among → slice_get ts p ≡ Some u →
+    slice_get (cond here ts (t ∷ remove_key (nat_eq task) ts)) (if here || among then suc p - 1 else suc p) ≡ Some u
+moved_by p task t u ts true among h a k = rw (suc-sub-one p) k
+moved_by zero task t u ts false true h a k = absurd cc
+moved_by (suc p) task t u ts false true h a k = rw (suc-sub-one (suc p)) (rw (suc-sub-one p) at h)
+moved_by p task t u ts false false h a k = h
+
+first_moved : (task t u : ℕ) (ts : List ℕ) (here : Bool) → nat_eq task t ≡ here → t ≡ u → u ≢ task → slice_get (cond here ts (t ∷ remove_key (nat_eq task) ts)) 0 ≡ Some u
+first_moved task t u ts true e h ne = absurd (ne (sym h ∙ sym (same_task task t e)))
+first_moved task t u ts false e h ne = ap Some h
+
+moved : (p task u : ℕ) (ts : List ℕ) → slice_get ts p ≡ Some u → u ≢ task → slice_get (remove_key (nat_eq task) ts) (if is_among task (take p ts) then p - 1 else p) ≡ Some u
+moved p task u [] h ne = absurd cc
+moved zero task u (t ∷ ts) h ne = let same : t ≡ u = cc in first_moved task t u ts (nat_eq task t) refl same ne
+moved (suc p) task u (t ∷ ts) h ne = moved_by p task t u ts (nat_eq task t) (is_among task (take p ts)) (moved p task u ts h ne) refl h
+
+-- so it is still the turn of whoever's turn it was
+end_by_among : (p task : ℕ) (ts : List ℕ) (among : Bool) → length ts ≤ p → is_among task ts ≡ among → length (remove_key (nat_eq task) ts) ≤ (if among then p - 1 else p)
+end_by_among p task ts true h k = let fewer = length-remove_key (nat_eq task) ts k in omega (arith, h, fewer)
+end_by_among p task ts false h k = rw (none_removed task ts k) h
+
+end_moved : (p task : ℕ) (ts : List ℕ) → length ts ≤ p → length (remove_key (nat_eq task) ts) ≤ (if is_among task (take p ts) then p - 1 else p)
+end_moved p task ts h = rw (take_all p ts h) (end_by_among p task ts (is_among task ts) h refl)
+
+head_moved : (task u : ℕ) (ts : List ℕ) → slice_get ts 0 ≡ Some u → u ≢ task → slice_get (remove_key (nat_eq task) ts) 0 ≡ Some u
+head_moved task u [] h ne = absurd cc
+head_moved task u (t ∷ ts) h ne = let same : t ≡ u = cc in first_moved task t u ts (nat_eq task t) refl same ne
+
+turn_by_place : (t : Turns) (task u : ℕ) (inside : Bool) → nat_lt t.position (length t.tasks) ≡ inside → slice_get t.tasks (if inside then t.position else 0) ≡ Some u → u ≢ task → turn_of (left task t) ≡ Some u
+turn_by_place t task u true e h ne =
+    let there = moved t.position task u t.tasks h ne in
+    let within = slice_get_within (left task t).tasks (left task t).position u there in
+    let inside : nat_lt (left task t).position (length (left task t).tasks) ≡ true = grind (arith, nat_tests, within) in
+    rw inside there
+turn_by_place t task u false e h ne =
+    let many : length t.tasks ≤ t.position = grind (arith, nat_tests) in
+    let most = end_moved t.position task t.tasks many in
+    let outside : nat_lt (left task t).position (length (left task t).tasks) ≡ false = grind (arith, nat_tests, most) in
+    rw outside (head_moved task u t.tasks h ne)
+
+pub nobody_skipped : NobodyIsSkipped
+nobody_skipped t task u h ne = turn_by_place t task u (nat_lt t.position (length t.tasks)) refl h ne
