@@ -16,7 +16,7 @@ use Rattle.dv_clock.specs.declared.due.Due.{Due}
 use Rattle.dv_clock.specs.declared.error.CancelFault.TheVariants as fault
 use Rattle.dv_clock.specs.Due.{scheduling, coming_due}
 use Rattle.dv_clock.proofs.CallsLemmas.{placed_there, others_stay}
-use Rattle.dv_clock.specs.declared.due.Due.TheVariants as what
+use Rattle.dv_clock.specs.declared.due.Due.TheVariants as kind
 use Rattle.dv_clock.proofs.NextLemmas.{Answers, IsFirst, first_is_first}
 
 -- what runs next is the first of all that wait, and is due
@@ -72,10 +72,10 @@ uncall_keeps P s n name true h k = k
 uncall_keeps P s n name false h k = h
 
 waiting_keeps : (P : Clock → Type 0) (s : State Clock) (n : ℕ) (what : Due) → P s.0 → P (ended n Cancelled s.0) → P (cancel_waiting n what s).1.0
-waiting_keeps P s n (what.Call name key) h k = uncall_keeps P s n name (fits s.1 (entry.Uncall name)) h k
-waiting_keeps P s n (what.Turn name key) h k = h
-waiting_keeps P s n what.Tick h k = h
-waiting_keeps P s n (what.Delivery job key) h k = h
+waiting_keeps P s n (kind.Call name key) h k = uncall_keeps P s n name (fits s.1 (entry.Uncall name)) h k
+waiting_keeps P s n (kind.Turn name key) h k = h
+waiting_keeps P s n kind.Tick h k = h
+waiting_keeps P s n (kind.Delivery job key) h k = h
 
 state_keeps : (P : Clock → Type 0) (s : State Clock) (n : ℕ) (state : CallState) → P s.0 → P (ended n Cancelled s.0) → P (cancel_in n state s).1.0
 state_keeps P s n (Waiting what) h k = waiting_keeps P s n what h k
