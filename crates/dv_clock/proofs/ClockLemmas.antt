@@ -1,13 +1,12 @@
 -- What the calls of a clock keep, whatever is done with it.
-use Rattle.std.proofs.Common.{◌≡◌, ◌≢◌, ℕ, zero, suc, ◌+◌, ◌<◌, ◌≤◌, Bool, true, false, cond, if◌then◌else◌, nat_lt, List, [], ◌∷◌, ◌++◌, length, Option, Some, None, Result, Ok, Err, slice_get, slice_set, refl, sym, ap, ◌∙◌, subst, arith, eqb, ⊎_elim}
+use Rattle.std.proofs.Common.{◌≡◌, ◌≢◌, ℕ, zero, suc, ◌+◌, ◌<◌, ◌≤◌, Bool, true, false, if◌then◌else◌, nat_lt, List, [], ◌∷◌, ◌++◌, length, Option, Some, None, Ok, Err, slice_get, slice_set, refl, sym, ap, ◌∙◌, subst, arith, eqb, ⊎_elim}
 use Rattle.std.proofs.lemmas.Bool.Decides.{nat_tests, eqb_tells}
 use Rattle.std.specs.Option.{option_map_or}
-use Rattle.dv_journal.specs.Journal.{Written, fits, with_entry}
+use Rattle.dv_journal.specs.Journal.{fits, with_entry}
 use Rattle.dv_journal.specs.declared.entry.Entry.{Entry}
 use Rattle.dv_journal.specs.declared.entry.Entry.TheVariants as entry
-use Rattle.dv_journal.specs.declared.error.Stop.{Stop}
 use Rattle.dv_journal.specs.declared.error.Stop.TheVariants.{Limit}
-use Rattle.dv_clock.specs.Clock.{Clock, Upcoming, is_waiting, next_call, first_from, due_at, later, advance_to, due, due_found, cancel, cancel_found, cancel_in, cancel_waiting, uncall, ended, with_end, with_call, Cancelling}
+use Rattle.dv_clock.specs.Clock.{Clock, Upcoming, is_waiting, next_call, first_from, due_at, due, due_found, cancel_found, cancel_in, cancel_waiting, ended, with_end, with_call, Cancelling}
 use Rattle.dv_clock.specs.Telling.{State, Told, telling}
 use Rattle.dv_clock.specs.Laws.{RunsBeforeOthers, TheFirstRunsNext, WhatIsDueRuns, Becomes, Same, Schedules, Advances, Runs, Cancels, Drops, TimeNeverGoesBack, EndedCallsNeverRun, CallsRunOnceAtMost}
 use Rattle.dv_clock.specs.declared.call.Call.{Call}
@@ -17,7 +16,7 @@ use Rattle.dv_clock.specs.declared.due.Due.{Due}
 use Rattle.dv_clock.specs.declared.error.CancelFault.TheVariants as fault
 use Rattle.dv_clock.specs.Due.{scheduling, coming_due}
 use Rattle.dv_clock.proofs.CallsLemmas.{placed_there, others_stay}
-use Rattle.dv_clock.specs.declared.due.Due.TheVariants as what
+use Rattle.dv_clock.specs.declared.due.Due.TheVariants as kind
 use Rattle.dv_clock.proofs.NextLemmas.{Answers, IsFirst, first_is_first}
 
 -- what runs next is the first of all that wait, and is due
@@ -73,10 +72,10 @@ uncall_keeps P s n name true h k = k
 uncall_keeps P s n name false h k = h
 
 waiting_keeps : (P : Clock → Type 0) (s : State Clock) (n : ℕ) (what : Due) → P s.0 → P (ended n Cancelled s.0) → P (cancel_waiting n what s).1.0
-waiting_keeps P s n (what.Call name key) h k = uncall_keeps P s n name (fits s.1 (entry.Uncall name)) h k
-waiting_keeps P s n (what.Turn name key) h k = h
-waiting_keeps P s n what.Tick h k = h
-waiting_keeps P s n (what.Delivery job key) h k = h
+waiting_keeps P s n (kind.Call name key) h k = uncall_keeps P s n name (fits s.1 (entry.Uncall name)) h k
+waiting_keeps P s n (kind.Turn name key) h k = h
+waiting_keeps P s n kind.Tick h k = h
+waiting_keeps P s n (kind.Delivery job key) h k = h
 
 state_keeps : (P : Clock → Type 0) (s : State Clock) (n : ℕ) (state : CallState) → P s.0 → P (ended n Cancelled s.0) → P (cancel_in n state s).1.0
 state_keeps P s n (Waiting what) h k = waiting_keeps P s n what h k

@@ -2,3 +2,4 @@ pub mod CallsLemmas
 pub mod NextLemmas
 pub mod ClockLemmas
 pub mod LoopLemmas
+pub mod TurnsLemmas

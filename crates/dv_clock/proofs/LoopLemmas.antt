@@ -1,7 +1,7 @@
 -- A loop's next turn is the first after now.
-use Rattle.std.proofs.Common.{◌≡◌, ℕ, ◌+◌, ◌-◌, ◌*◌, ◌/◌, ◌<◌, ◌≤◌, refl, arith}
+use Rattle.std.proofs.Common.{ℕ, ◌+◌, ◌-◌, ◌*◌, ◌/◌, ◌<◌, ◌≤◌, refl, arith}
 use Rattle.std.proofs.Math.Nat.{lt-div-mul-add, div-mul-le_self, lt_of_mul-lt-mul_right, mul-le-mul_right, add-mul}
-use Rattle.dv_clock.specs.LoopingCall.{loop_next, IsNextTurn}
+use Rattle.dv_clock.specs.LoopingCall.{IsNextTurn}
 use Rattle.dv_clock.specs.Laws.{TheNextTurnIsTheFirstLater}
 
 next_by : (start interval now past : ℕ) → start ≤ now → past * interval ≤ now - start → now - start < past * interval + interval → IsNextTurn start interval now (start + (past + 1) * interval)

@@ -15,7 +15,7 @@ use Rattle.dv_clock.specs.declared.call.Call.{Call}
 use Rattle.dv_clock.specs.declared.call.CallState.{CallState}
 use Rattle.dv_clock.specs.declared.call.CallState.TheVariants.{Waiting, Called, Cancelled, Dropped}
 use Rattle.dv_clock.specs.declared.due.Due.{Due}
-use Rattle.dv_clock.specs.declared.due.Due.TheVariants as what
+use Rattle.dv_clock.specs.declared.due.Due.TheVariants as kind
 use Rattle.dv_clock.specs.declared.error.CancelFault.{CancelFault}
 use Rattle.dv_clock.specs.declared.error.CancelFault.TheVariants.{AlreadyCalled, AlreadyCancelled, Limit, OutOfMemory}
 
@@ -126,10 +126,10 @@ uncall number name s =
 
 -- a call of the script that waits is cancelled; what else waits is left alone
 abbrev pub cancel_waiting : ℕ → Due → State Clock → Cancelling
-cancel_waiting number (what.Call name key) s = uncall number name s
-cancel_waiting number (what.Turn name key) s = (Ok tt, s)
-cancel_waiting number what.Tick s = (Ok tt, s)
-cancel_waiting number (what.Delivery job key) s = (Ok tt, s)
+cancel_waiting number (kind.Call name key) s = uncall number name s
+cancel_waiting number (kind.Turn name key) s = (Ok tt, s)
+cancel_waiting number kind.Tick s = (Ok tt, s)
+cancel_waiting number (kind.Delivery job key) s = (Ok tt, s)
 
 -- a call that waits no longer isn't cancelled
 abbrev pub cancel_in : ℕ → CallState → State Clock → Cancelling

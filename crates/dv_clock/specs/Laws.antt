@@ -4,6 +4,7 @@ use Rattle.dv_journal.specs.Journal.{Written, fits}
 use Rattle.dv_clock.specs.Clock.{Clock, Upcoming, is_waiting, next_call, later, advance_to, due, cancel, ended}
 use Rattle.dv_clock.specs.Due.{coming_due}
 use Rattle.dv_clock.specs.LoopingCall.{loop_next, IsNextTurn}
+use Rattle.dv_clock.specs.Turns.{Turns, turn_of, left}
 use Rattle.dv_clock.specs.declared.call.Call.{Call}
 use Rattle.dv_clock.specs.declared.call.CallState.TheVariants.{Waiting, Dropped}
 use Rattle.dv_clock.specs.declared.due.Due.{Due}
@@ -47,3 +48,7 @@ CallsRunOnceAtMost = (c d : Clock) (j : Written) (once again : Upcoming) → nex
 -- a loop's next turn is at the first time after now that is a whole number of intervals after its start
 abbrev pub TheNextTurnIsTheFirstLater : Type 0
 TheNextTurnIsTheFirstLater = (start interval now : ℕ) → start ≤ now → 0 < interval → IsNextTurn start interval now (loop_next start interval now)
+
+-- when a task leaves, it is still the turn of whoever's turn it was, if that is another
+abbrev pub NobodyIsSkipped : Type 0
+NobodyIsSkipped = (t : Turns) (task u : ℕ) → turn_of t ≡ Some u → u ≢ task → turn_of (left task t) ≡ Some u

@@ -2,4 +2,5 @@ pub mod Telling
 pub mod Due
 pub mod Clock
 pub mod LoopingCall
+pub mod Turns
 pub mod Laws

@@ -215,9 +215,8 @@ fn take_what(call: &mut Call, state: CallState) -> Option<Due>
     }
 }
 
-ghost use Rattle.std.specs.Prelude.{true, ◌&&◌, cond, OnOk, OnErr, ◌+◌, [], ◌∷◌, ◌++◌, vec_len, vec_capacity};
+ghost use Rattle.std.specs.Prelude.{true, OnOk, OnErr, ◌+◌, [], ◌∷◌, ◌++◌, vec_len, vec_capacity};
 ghost use Rattle.dv_clock.specs.Due.{scheduling};
-ghost use Rattle.std.specs.BTreeMap.{is_at};
 ghost use Rattle.std.specs.BTreeSet.{contains};
 ghost use Rattle.dv_clock.specs.Clock.{by_due, Joins, Keeps};
 ghost use Rattle.dv_journal.specs.Journal.{fits, with_entry};

@@ -9,3 +9,5 @@ pub mod error;
 pub mod laws;
 pub mod limits;
 pub mod looping_call;
+pub mod task_id;
+pub mod turns;

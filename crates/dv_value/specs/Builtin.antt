@@ -43,6 +43,12 @@ queue_underflow = 11
 abbrev pub scheduler_error : ℕ
 scheduler_error = 12
 
+abbrev pub already_called : ℕ
+already_called = 13
+
+abbrev pub already_cancelled : ℕ
+already_cancelled = 14
+
 abbrev pub task_finished : ℕ
 task_finished = 15
 

@@ -43,6 +43,10 @@ impl ClassId {
     pub const QUEUE_UNDERFLOW: ClassId = ClassId { place: 11 };
     /// Above what a cooperative task raises (Twisted: `task.SchedulerError`).
     pub const SCHEDULER_ERROR: ClassId = ClassId { place: 12 };
+    /// For the cancelling of a delayed call that has run (Twisted: `error.AlreadyCalled`).
+    pub const ALREADY_CALLED: ClassId = ClassId { place: 13 };
+    /// For the cancelling of a delayed call that was cancelled (Twisted: `error.AlreadyCancelled`).
+    pub const ALREADY_CANCELLED: ClassId = ClassId { place: 14 };
     /// Above how a cooperative task has ended (Twisted: `task.TaskFinished`).
     pub const TASK_FINISHED: ClassId = ClassId { place: 15 };
 

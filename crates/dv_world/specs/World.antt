@@ -1,7 +1,7 @@
 -- The world of a run: its Deferreds, their names, the classes of failures and the journal, and one step of each kind.
 use Rattle.std.specs.Prelude.{ℕ, ◌+◌, min, Bool, true, false, not, if◌then◌else◌, List, [], Option, None, Some, Result, Ok, Err, slice_get, bytes_eq, codes}
 use Rattle.std.specs.Option.{option_map_or}
-use Rattle.dv_value.specs.Builtin.{name_error, assertion_error, already_called_error, cancelled_error, type_error, queue_overflow, queue_underflow}
+use Rattle.dv_value.specs.Builtin.{name_error, assertion_error, already_called_error, cancelled_error, type_error, already_called, already_cancelled, queue_overflow, queue_underflow}
 use Rattle.dv_value.specs.Failure.{plain_failure}
 use Rattle.dv_value.specs.declared.classes.Class.{Class}
 use Rattle.dv_value.specs.declared.failure.Failure.{Failure}
@@ -305,12 +305,6 @@ come_due_found (Some call) w = unless_stopped (Some call.what) (aside (coming_du
 
 abbrev pub come_due : World → Option Due × World
 come_due w = come_due_found (next_call w.objects.clock) w
-
-abbrev pub already_called : ℕ
-already_called = 13
-
-abbrev pub already_cancelled : ℕ
-already_cancelled = 14
 
 -- what a cancelling of a call raises that was called
 abbrev pub was_called : Failure

@@ -1,6 +1,6 @@
 ghost use Rattle.std.specs.Prelude.{◌≡◌, ◌<◌, ◌^◌, ◌-◌, Some, length, slice_get, IfOk, OnOk, OnErr};
 ghost use Rattle.dv_value.specs.Failure.{plain_failure};
-ghost use Rattle.dv_world.specs.World.{cancelled, unbound, not_held, not_gathered, was_called, was_cancelled, overflow, underflow};
+ghost use Rattle.dv_world.specs.World.{cancelled, unbound, not_held, not_gathered, overflow, underflow};
 ghost use Rattle.dv_world.specs.declared.performed.Performed.TheVariants.{Raised};
 ghost use Rattle.dv_world.specs.declared.follow.Follow.TheVariants.{Raise};
 
@@ -14,9 +14,6 @@ use crate::performed::Performed;
 use crate::reached::Reached;
 use dv_clock::call_id::CallId;
 use dv_clock::clock::Clock;
-use dv_clock::due::Due;
-use dv_clock::error::CancelFault;
-use dv_clock::limits::MOST_TICKS;
 use dv_journal::deferred_id::DeferredId;
 use dv_journal::entry::Entry;
 use dv_journal::error::Stop;
@@ -37,6 +34,8 @@ use dv_value::text::Text;
 use dv_value::value::Value;
 use std::alloc::{AllocError, Global};
 use std::marker::Model;
+
+mod clock;
 
 /// The world of a run: its Deferreds, their names, the classes of failures and the journal. Once an entry doesn't fit
 /// into the journal the run has stopped: from then on nothing changes.
@@ -78,10 +77,9 @@ impl<'s> Model for World<'s> {
 
 impl<'s> World<'s> {
     ghost use Rattle.dv_store.specs.Pausing.{pauses_of};
-    ghost use Rattle.dv_world.specs.World.{first_world, value_of, deferred_at, step, put, put_deferred, append, make, fire, fire_guarded, is_unfired, reached_from, cancel, pause, unpause, aside, arrange, tell, ask, release, forget, put_into, get_from, withdraw, came_to, call_later, advance, come_due, cancel_call, with_stop};
-    ghost use Rattle.dv_world.specs.Objects.{naming, naming_where, with_new_list, with_new_call, with_ended_call, with_time, with_new_lock, with_added_lock, with_new_queue, with_added_queue};
-    ghost use Rattle.dv_world.specs.Names.{number_of, with_name};
-    ghost use Rattle.std.specs.Prelude.{[], ◌∷◌, ◌++◌};
+    ghost use Rattle.dv_world.specs.World.{first_world, value_of, deferred_at, step, put, put_deferred, append, make, fire, fire_guarded, is_unfired, reached_from, cancel, pause, unpause, aside, arrange, tell, ask, release, forget, put_into, get_from, withdraw, came_to, with_stop};
+    ghost use Rattle.dv_world.specs.Objects.{naming, naming_where, with_new_list, with_new_lock, with_added_lock, with_new_queue, with_added_queue};
+    ghost use Rattle.dv_world.specs.Names.{number_of};
     ghost use Rattle.std.specs.Option.{option_copied};
     ghost use Rattle.dv_journal.specs.declared.entry.Entry.TheVariants as entry;
 
@@ -651,114 +649,6 @@ impl<'s> World<'s> {
         }
     }
 
-    /// Schedules a delayed call of a body, which is due so many ticks later than now, and binds its name to it, also where
-    /// that was bound to another (Twisted: `Clock.callLater`). AllocError where there are more calls than numbers of 32 bits.
-    #[tactic(auto, unfolding(crate::specs::World::aside))]
-    pub fn call_later(
-        &mut self,
-        name: TextRef<'s>,
-        delay: u64,
-        body: BodyRef<'s>,
-    ) -> Result<(), AllocError>
-        requires short { delay ≤ MOST_DELAY }
-        ensures { OnOk result (self.new ≡ call_later name.entry delay body.entry self.old) }
-    {
-        if self.stopped {
-            return Ok(());
-        }
-        if !self.journal.fits_plain() {
-            self.stopped = true;
-            return Ok(());
-        }
-        let what = due_call(self.alloc, name.as_str(), self.bodies.len())?;
-        match self.clock.later(&mut self.journal, what, delay) {
-            Ok(call) => self.add_call(name.as_str(), call, body),
-            Err(_) => Err(AllocError),
-        }
-    }
-
-    /// Keeps the body of a call that was told, and binds its name to it.
-    fn add_call(
-        &mut self,
-        name: &str,
-        call: CallId,
-        body: BodyRef<'s>,
-    ) -> Result<(), AllocError>
-        ensures { OnOk result (self.new ≡ record self.old { objects = record self.old.objects { call_names = with_name name.now call self.old.objects.call_names; bodies = self.old.objects.bodies ++ body.entry ∷ [] } }) }
-    {
-        self.call_names.bind(name, call)?;
-        self.bodies.push(body)?;
-        Ok(())
-    }
-
-    /// The delayed call that a name stands for.
-    pub fn find_call(&self, name: &str) -> Option<CallId>
-        ensures { result ≡ number_of name.now self.now.objects.call_names }
-    {
-        self.call_names.find(name)
-    }
-
-    /// The body of a delayed call, by what its `Due` says.
-    pub fn body(&self, key: u32) -> Option<BodyRef<'s>>
-        ensures { result ≡ slice_get self.now.objects.bodies key }
-    {
-        match self.bodies.get(key as usize) {
-            None => None,
-            Some(body) => Some(BodyRef::new(body.get())),
-        }
-    }
-
-    /// Cancels a delayed call (Twisted: `DelayedCall.cancel`). One that was called raises AlreadyCalled, and one that was
-    /// cancelled or dropped AlreadyCancelled.
-    #[tactic(auto, unfolding(crate::specs::World::cancel_call, crate::specs::World::aside))]
-    pub fn cancel_call(&mut self, call: CallId) -> Result<Performed<'s>, AllocError>
-        ensures { IfOk result (λ performed. (performed, self.new) ≡ cancel_call call self.old) }
-    {
-        if self.stopped {
-            return Ok(Performed::Done);
-        }
-        match self.clock.cancel(&mut self.journal, call) {
-            Ok(()) => Ok(Performed::Done),
-            Err(CancelFault::AlreadyCalled) => was_called(self.alloc),
-            Err(CancelFault::AlreadyCancelled) => was_cancelled(self.alloc),
-            Err(CancelFault::Limit) => {
-                self.stopped = true;
-                Ok(Performed::Done)
-            }
-            Err(CancelFault::OutOfMemory) => Err(AllocError),
-        }
-    }
-
-    /// Time goes on by so many ticks, and no further than clocks go, to which no script gets that is read (Twisted:
-    /// `Clock.advance`, of which this is the first part: what is due is to be run then).
-    #[tactic(auto, unfolding(crate::specs::World::aside))]
-    pub fn advance(&mut self, ticks: u64) -> Result<(), AllocError>
-        ensures { OnOk result (self.new ≡ advance ticks self.old) }
-    {
-        if self.stopped {
-            return Ok(());
-        }
-        let time = self.clock.now().saturating_add(ticks).min(MOST_TICKS);
-        match self.clock.advance_to(&mut self.journal, time) {
-            Ok(()) => Ok(()),
-            Err(stop) => self.stopped_by(stop, ()),
-        }
-    }
-
-    /// Takes what is to run next, where something is due by now.
-    #[tactic(auto, unfolding(crate::specs::World::aside))]
-    pub fn come_due(&mut self) -> Result<Option<Due>, AllocError>
-        ensures { IfOk result (λ what. (what, self.new) ≡ come_due self.old) }
-    {
-        if self.stopped {
-            return Ok(None);
-        }
-        match self.clock.due(&mut self.journal) {
-            Ok(what) => Ok(what),
-            Err(stop) => self.stopped_by(stop, None),
-        }
-    }
-
     /// What a change that couldn't be told answers: the run stops, and it is this, or memory was refused.
     fn stopped_by<T: Drop>(&mut self, stop: Stop, otherwise: T) -> Result<T, AllocError>
         ensures stopped { OnOk result ((stop ≡ Stop.Limit) × (self.new ≡ with_stop self.old)) }
@@ -856,36 +746,6 @@ pub fn not_held<'s>(alloc: Global) -> Result<Performed<'s>, AllocError>
     ensures { IfOk result (λ p. p ≡ Raised not_held) }
 {
     let failure = failure(alloc, ClassId::ASSERTION_ERROR, "not held")?;
-    Ok(Performed::Raised(failure))
-}
-
-ghost use Rattle.std.specs.Prelude.{◌≤◌};
-ghost use Rattle.dv_clock.specs.declared.due.Due.TheVariants.{Call as CallOf};
-ghost use Rattle.dv_clock.specs.declared.limits.TheConstants.{MOST_DELAY};
-
-/// A delayed call, by the name that its lines show and the number of its body.
-fn due_call(alloc: Global, name: &str, body: usize) -> Result<Due, AllocError>
-    ensures { IfOk result (λ what. what ≡ CallOf name.now body) }
-{
-    let Ok(key) = u32::try_from(body) else {
-        return Err(AllocError);
-    };
-    Ok(Due::Call(Text::of(alloc, name)?, key))
-}
-
-/// What a cancelling of a call raises that was called.
-fn was_called<'s>(alloc: Global) -> Result<Performed<'s>, AllocError>
-    ensures { IfOk result (λ p. p ≡ Raised was_called) }
-{
-    let failure = failure(alloc, ClassId::new(13), "")?;
-    Ok(Performed::Raised(failure))
-}
-
-/// What a cancelling of a call raises that was cancelled or dropped.
-fn was_cancelled<'s>(alloc: Global) -> Result<Performed<'s>, AllocError>
-    ensures { IfOk result (λ p. p ≡ Raised was_cancelled) }
-{
-    let failure = failure(alloc, ClassId::new(14), "")?;
     Ok(Performed::Raised(failure))
 }
 

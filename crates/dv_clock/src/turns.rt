@@ -1,0 +1,141 @@
+ghost use Rattle.std.specs.Prelude.{◌≡◌, length, OnOk, OnErr};
+
+use crate::task_id::TaskId;
+use std::alloc::{AllocError, Global};
+use std::collections::BTreeMap;
+use std::marker::Model;
+
+/// The tasks that take turns, each in its order of joining, round and round (Twisted: `Cooperator`). Where one leaves,
+/// nobody's turn is skipped.
+///
+/// Each task is kept under a number that grows with each that joins; `next` is the number from which on the next is
+/// looked for.
+#[derive(Debug, Drop)]
+pub struct Turns {
+    order: BTreeMap<u64, u32>,
+    numbers: BTreeMap<u32, u64>,
+    given: u64,
+    next: u64,
+}
+
+impl Model for Turns {
+    ghost use Rattle.std.specs.Coded.{codes};
+    ghost use Rattle.dv_clock.specs.Turns.{Turns as Seen, IsKept, tasks_of, stepped};
+
+    ghost Value = { Seen };
+
+    ghost coded = { Prim.hlevel codes };
+
+    ghost view = { λ t. record { tasks = tasks_of t.order.entries; position = stepped t.next t.order.entries } };
+
+    ghost invariant = { λ t. IsKept t.order.entries t.numbers t.given t.next };
+}
+
+impl Turns {
+    ghost use Rattle.dv_clock.specs.Turns.{new_turns, joined, is_among, left, turn_of, gone_on};
+
+    /// Nobody takes turns.
+    pub fn new(alloc: Global) -> Turns
+        ensures { result ≡ new_turns }
+    {
+        Turns {
+            order: BTreeMap::new(alloc),
+            numbers: BTreeMap::new(alloc),
+            given: 0,
+            next: 0,
+        }
+    }
+
+    /// How many tasks take turns.
+    pub fn len(&self) -> usize
+        ensures { result ≡ length self.now.tasks }
+    {
+        self.order.len()
+    }
+
+    /// A task joins, last; one that takes turns already stays where it is. Where it is refused memory, or as the 2^64th
+    /// that joins, it doesn't join.
+    pub fn add(&mut self, task: TaskId) -> Result<(), AllocError>
+        ensures ok { OnOk result (self.new ≡ joined task self.old) }
+        ensures err { OnErr result (self.new ≡ self.old) }
+    {
+        let joining = task.number();
+        if self.numbers.contains_key(&joining) {
+            return Ok(());
+        }
+        let Some(given) = self.given.checked_add(1) else {
+            return Err(AllocError);
+        };
+        join(&mut self.order, &mut self.numbers, joining, self.given)?;
+        self.given = given;
+        Ok(())
+    }
+
+    /// A task leaves, and whether it took turns is answered.
+    pub fn remove(&mut self, task: TaskId) -> bool
+        ensures was { result ≡ is_among task self.old.tasks }
+        ensures rest { self.new ≡ left task self.old }
+    {
+        let leaving = task.number();
+        let Some(number) = self.numbers.remove(&leaving) else {
+            return false;
+        };
+        self.order.remove(&number);
+        true
+    }
+
+    /// The task whose turn it is; then it is the turn of the one after it. None where nobody takes turns.
+    pub fn next(&mut self) -> Option<TaskId>
+        ensures turn { result ≡ turn_of self.old }
+        ensures rest { self.new ≡ gone_on self.old }
+    {
+        let (number, task) = turn(&self.order, self.next)?;
+        self.next = number + 1;
+        Some(TaskId::new(task))
+    }
+}
+
+ghost use Rattle.dv_clock.specs.Turns.{turn_from, found_from};
+
+#[tactic(auto, using(crate::proofs::TurnsLemmas::between_from))]
+/// Whose turn it is, with the number under which it joined.
+fn turn(order: &BTreeMap<u64, u32>, next: u64) -> Option<(u64, u32)>
+    ensures { result ≡ turn_from (found_from next order.now.entries) order.now.entries }
+{
+    match order.range(next..).next() {
+        Some((number, task)) => Some((*number, *task)),
+        None => match order.first_key_value() {
+            Some((number, task)) => Some((*number, *task)),
+            None => None,
+        },
+    }
+}
+
+ghost use Rattle.std.specs.Prelude.{None};
+ghost use Rattle.std.specs.BTreeMap.{get, insert_entry, IsOrdered};
+ghost use Rattle.std.specs.Ordering.{nat_cmp};
+ghost use Rattle.dv_clock.specs.Turns.{FindsToo, FindsSame};
+
+/// A task that hasn't joined joins under a number. Where memory is refused, it doesn't.
+fn join(
+    order: &mut BTreeMap<u64, u32>,
+    numbers: &mut BTreeMap<u32, u64>,
+    task: u32,
+    number: u64,
+) -> Result<(), AllocError>
+    requires new { get nat_cmp numbers.old task ≡ None }
+    ensures ordered { OnOk result (order.new.entries ≡ insert_entry nat_cmp order.old.entries number task) }
+    ensures ascends { OnOk result (IsOrdered nat_cmp order.new) }
+    ensures found { OnOk result (FindsToo numbers.old numbers.new task number) }
+    ensures same_order { OnErr result (order.new.entries ≡ order.old.entries) }
+    ensures same_found { OnErr result (FindsSame numbers.old numbers.new) }
+{
+    let Ok(_) = numbers.insert(task, number) else {
+        return Err(AllocError);
+    };
+    let Ok(_) = order.insert(number, task) else {
+        numbers.remove(&task);
+        return Err(AllocError);
+    };
+    Ok(())
+}
