@@ -162,6 +162,27 @@ def runs_that_wait_for_a_token(n):
     return script(events + [["release", "l"]])
 
 
+def calls_due_in_another_order(n):
+    events = [["later", "c%d" % i, (i * 7919) % n, {}] for i in range(n)]
+    return script(events + [["advance", n]])
+
+
+def calls_cancelled(n):
+    events = [["later", "c%d" % i, n - i, {}] for i in range(n)]
+    return script(events + [["cancelCall", "c%d" % i] for i in range(n)])
+
+
+def a_call_that_schedules_the_next(n):
+    body = {}
+    for _ in range(40):
+        body = {"do": [["later", "c", 1, body]]}
+    return script([["later", "c", 1, body] for _ in range(n // 40)] + [["advance", 41]])
+
+
+def advances_over_nothing(n):
+    return script([["later", "c", 10 ** 12, {}]] + [["advance", 1] for _ in range(n)])
+
+
 def swallowed_firings(n):
     return script([event for _ in range(n) for event in (["deferred", "d"], ["cancel", "d"], ["callback", "d", 1])])
 
@@ -189,6 +210,10 @@ BENCHES = [
     ("a list cancelled", a_list_cancelled, 700),
     ("runs with a token", runs_with_a_token, 700),
     ("runs that wait for one", runs_that_wait_for_a_token, 700),
+    ("calls in another order", calls_due_in_another_order, 700),
+    ("calls cancelled", calls_cancelled, 700),
+    ("calls that schedule calls", a_call_that_schedules_the_next, 800),
+    ("advances over nothing", advances_over_nothing, 2000),
     ("pairs that pass", pairs_that_pass, 2000),
     ("refused firings", refused_firings, 2000),
     ("many notes", many_notes, 2600),

@@ -97,8 +97,8 @@ impl Turns {
 
 ghost use Rattle.dv_clock.specs.Turns.{turn_from, found_from};
 
-#[tactic(auto, using(crate::proofs::TurnsLemmas::between_from))]
 /// Whose turn it is, with the number under which it joined.
+#[tactic(auto, using(crate::proofs::TurnsLemmas::between_from))]
 fn turn(order: &BTreeMap<u64, u32>, next: u64) -> Option<(u64, u32)>
     ensures { result ≡ turn_from (found_from next order.now.entries) order.now.entries }
 {
