@@ -174,9 +174,9 @@ def calls_cancelled(n):
 
 def a_call_that_schedules_the_next(n):
     body = {}
-    for _ in range(40):
+    for _ in range(30):
         body = {"do": [["later", "c", 1, body]]}
-    return script([["later", "c", 1, body] for _ in range(n // 40)] + [["advance", 41]])
+    return script([["later", "c", 1, body] for _ in range(n // 30)] + [["advance", 31]])
 
 
 def advances_over_nothing(n):
@@ -212,7 +212,7 @@ BENCHES = [
     ("runs that wait for one", runs_that_wait_for_a_token, 700),
     ("calls in another order", calls_due_in_another_order, 700),
     ("calls cancelled", calls_cancelled, 700),
-    ("calls that schedule calls", a_call_that_schedules_the_next, 800),
+    ("calls that schedule calls", a_call_that_schedules_the_next, 900),
     ("advances over nothing", advances_over_nothing, 2000),
     ("pairs that pass", pairs_that_pass, 2000),
     ("refused firings", refused_firings, 2000),
