@@ -25,13 +25,10 @@ fn write_no_name(journal: &mut Journal) -> Result<(), Stop> {
 const NO_NAME: &str = "name #3 -
 ";
 
-fn write_calls_and_loops(alloc: Global, journal: &mut Journal) -> Result<(), Stop> {
-    journal.write(Entry::LaterCall(text(alloc, "c1")?, 3))?;
+fn write_loops_and_jobs(alloc: Global, journal: &mut Journal) -> Result<(), Stop> {
     journal.write(Entry::LaterLoop(text(alloc, "p")?, 12))?;
     journal.write(Entry::LaterTick(1))?;
     journal.write(Entry::LaterJob(2, 5))?;
-    journal.write(Entry::Uncall(text(alloc, "c")?))?;
-    journal.write(Entry::Call(text(alloc, "c1")?))?;
     journal.write(Entry::Tick)?;
     journal.write(Entry::Deliver(2))?;
     journal.write(Entry::Loop(text(alloc, "p")?, id(0)))?;
@@ -39,12 +36,9 @@ fn write_calls_and_loops(alloc: Global, journal: &mut Journal) -> Result<(), Sto
     journal.write(Entry::Stop(text(alloc, "p")?))
 }
 
-const CALLS_AND_LOOPS: &str = "later call c1 3
-later loop p 12
+const LOOPS_AND_JOBS: &str = "later loop p 12
 later tick 1
 later job 2 5
-uncall c
-call c1
 tick
 deliver 2
 loop p #0
@@ -62,7 +56,6 @@ fn write_tasks_and_posts(alloc: Global, journal: &mut Journal) -> Result<(), Sto
     journal.write(Entry::WhenDone(text(alloc, "t")?, id(1)))?;
     journal.write(Entry::Await(id(1), id(0)))?;
     journal.write(Entry::Job(2, id(3)))?;
-    journal.write(Entry::Advance(10))?;
     journal.write(Entry::Drain)?;
     journal.write(Entry::Post(1, 0))
 }
@@ -76,7 +69,6 @@ resumetask t
 whendone t #1
 await #1 #0
 job 2 #3
-advance 10
 drain
 post 1 0
 "#;
@@ -87,10 +79,10 @@ fn each_entry_that_no_script_leads_to_yet_has_its_line(rt: HostRuntime) -> Resul
     let classes = Classes::builtin(alloc)?;
     let mut journal = Journal::new(alloc, 2000);
     write_no_name(&mut journal)?;
-    write_calls_and_loops(alloc, &mut journal)?;
+    write_loops_and_jobs(alloc, &mut journal)?;
     write_tasks_and_posts(alloc, &mut journal)?;
     let mut text = String::new(alloc);
-    for part in [NO_NAME, CALLS_AND_LOOPS, TASKS_AND_POSTS] {
+    for part in [NO_NAME, LOOPS_AND_JOBS, TASKS_AND_POSTS] {
         text.push_str(part)?;
     }
     let mut bytes = Vec::new(alloc);

@@ -64,15 +64,7 @@ fn a_work_is_copied_whole(rt: HostRuntime) -> Result<(), Fail> {
 }
 
 /// Each event that isn't performed yet, and what is read of it.
-static READ: [(&str, &str); 15] = [
-    (
-        r#"["later","a",1000000000000,{"do":[["pause","p"]],"end":["plus",-2]}]"#,
-        r#"Action(Later(Text { text: "a" }, 1000000000000, Body { actions: Items { items: [Pause(Text { text: "p" })] }, end: Plus(-2) }))"#,
-    ),
-    (
-        r#"["cancelCall","a"]"#,
-        r#"Action(CancelCall(Text { text: "a" }))"#,
-    ),
+static READ: [(&str, &str); 11] = [
     (
         r#"["loop","a","b",1000000000000,true,{"do":[["pause","p"]],"end":["plus",-2]}]"#,
         r#"Action(Loop(Text { text: "a" }, Text { text: "b" }, 1000000000000, true, Body { actions: Items { items: [Pause(Text { text: "p" })] }, end: Plus(-2) }))"#,
@@ -108,11 +100,6 @@ static READ: [(&str, &str); 15] = [
     (
         r#"["thread","a",1000000000000,["sum",1000000]]"#,
         r#"Action(Thread(Text { text: "a" }, 1000000000000, Sum(1000000)))"#,
-    ),
-    (r#"["advance",0]"#, r#"Advance(0)"#),
-    (
-        r#"["advance",1000000000000000]"#,
-        r#"Advance(1000000000000000)"#,
     ),
     (r#"["drain",0]"#, r#"Drain(0)"#),
     (r#"["drain",2048]"#, r#"Drain(2048)"#),
