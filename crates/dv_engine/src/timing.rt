@@ -1,4 +1,4 @@
-ghost use Rattle.std.specs.Prelude.{◌≡◌, None, IfOk};
+ghost use Rattle.std.specs.Prelude.{◌≡◌, [], None, IfOk};
 ghost use Rattle.dv_engine.specs.Acting.{begun};
 ghost use Rattle.dv_engine.specs.Timing.{body_called, come_due_with};
 ghost use Rattle.dv_engine.specs.Turn.{◌over◌};
@@ -19,12 +19,10 @@ use std::alloc::{AllocError, Global};
 pub fn cancel_call<'s>(
     alloc: Global,
     world: &mut World<'s>,
-    stack: &mut Stack<Frame<'s>>,
     name: &str,
 ) -> Result<Performed<'s>, AllocError>
-    ensures { IfOk result (λ performed. (stack.new, performed, world.new) ≡ begun None (CancelCallOf name.now) world.old over stack.old) }
+    ensures { IfOk result (λ performed. ([], performed, world.new) ≡ begun None (CancelCallOf name.now) world.old) }
 {
-    let _ = stack;
     match world.find_call(name) {
         None => Ok(unbound(alloc, name)?),
         Some(call) => Ok(world.cancel_call(call)?),
