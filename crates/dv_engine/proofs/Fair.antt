@@ -362,7 +362,7 @@ begun_fair m itself (PutInto queue value) w q = queue_fair m queue w _ (λ k. pu
 begun_fair m itself (GetFrom name queue) w q = queue_fair m queue w _ (λ k. get_fair m name k (slice_get w.objects.queues k) w q)
 begun_fair m itself (ListOf name children flags) w q = children_fair m (deferreds_at itself children w) w _ (λ ds. listed_fair m name ds flags w q)
 begun_fair m itself (GatherOf name children flags) w q = children_fair m (deferreds_at itself children w) w _ (λ ds. over_fair m w (listed name ds flags w) _ (q, tt) (listed_fair m name ds flags w q))
-begun_fair m itself (LaterOf name delay body) w q = done_fair m w _ (by_aside (entry.LaterCall name (w.objects.clock.time + delay)) _ w refl)
+begun_fair m itself (LaterOf name delay body) w q = done_fair m w _ (by_aside (entry.LaterCall name _) _ w refl)
 begun_fair m itself (CancelCallOf name) w q = found_fair m (number_of name w.objects.call_names) name w _ (λ number. record { comes = off_comes number w; falls = lighter tt })
 
 pub begun_comes : (itself : Option ℕ) (deed : Deed) (w : World) → Comes w (begun itself deed w).2

@@ -17,7 +17,7 @@ use Rattle.dv_clock.specs.declared.call.CallState.{CallState}
 use Rattle.dv_clock.specs.declared.call.CallState.TheVariants as call_state
 use Rattle.dv_clock.specs.declared.due.Due.{Due}
 use Rattle.dv_clock.specs.declared.due.Due.TheVariants as what
-use Rattle.dv_clock.specs.declared.limits.TheConstants.{MOST_TICKS}
+use Rattle.dv_clock.specs.declared.limits.TheConstants.{MOST_TICKS, MOST_DELAY}
 use Rattle.dv_script.specs.declared.body.Body.{Body}
 use Rattle.dv_prims.specs.DeferredList.{Gather, came}
 use Rattle.dv_prims.specs.Queue.{Queue, may_put, receiver, put_to, got_from, withdrawn}
@@ -290,9 +290,9 @@ came_to_found l i v (Some g) w = ((came i v g).0, arrange (with_list l (came i v
 unfoldable pub came_to : ℕ → ℕ → Value → World → Came × World
 came_to l i v w = if w.stopped then (record { fire = None; pass = v }, w) else came_to_found l i v (slice_get w.objects.lists l) w
 
--- a delayed call of this body is scheduled, which is due so much later than now, and its name is bound to it
+-- a delayed call of this body is scheduled, which is due so much later than now, and no later than calls are delayed by, and its name is bound to it
 abbrev pub call_later : List ℕ → ℕ → Body → World → World
-call_later name delay body w = let due = w.objects.clock.time + delay in aside (entry.LaterCall name due) (with_new_call name due body) w
+call_later name delay body w = let due = w.objects.clock.time + min delay MOST_DELAY in aside (entry.LaterCall name due) (with_new_call name due body) w
 
 -- time goes on by so much, and no further than clocks go
 abbrev pub advance : ℕ → World → World

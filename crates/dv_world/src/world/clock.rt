@@ -1,6 +1,5 @@
-ghost use Rattle.std.specs.Prelude.{◌≡◌, ◌≤◌, [], ◌∷◌, ◌++◌, slice_get, IfOk, OnOk};
+ghost use Rattle.std.specs.Prelude.{◌≡◌, [], ◌∷◌, ◌++◌, slice_get, IfOk, OnOk};
 ghost use Rattle.dv_clock.specs.declared.due.Due.TheVariants.{Call as CallOf};
-ghost use Rattle.dv_clock.specs.declared.limits.TheConstants.{MOST_DELAY};
 ghost use Rattle.dv_world.specs.World.{was_called, was_cancelled};
 ghost use Rattle.dv_world.specs.declared.performed.Performed.TheVariants.{Raised};
 
@@ -11,7 +10,7 @@ use crate::performed::Performed;
 use dv_clock::call_id::CallId;
 use dv_clock::due::Due;
 use dv_clock::error::CancelFault;
-use dv_clock::limits::MOST_TICKS;
+use dv_clock::limits::{MOST_DELAY, MOST_TICKS};
 use dv_value::class_id::ClassId;
 use dv_value::text::Text;
 use std::alloc::{AllocError, Global};
@@ -20,8 +19,9 @@ impl<'s> World<'s> {
     ghost use Rattle.dv_world.specs.World.{call_later, advance, come_due, cancel_call};
     ghost use Rattle.dv_world.specs.Names.{number_of, with_name};
 
-    /// Schedules a delayed call of a body, which is due so many ticks later than now, and binds its name to it, also where
-    /// that was bound to another (Twisted: `Clock.callLater`). AllocError where there are more calls than numbers of 32 bits.
+    /// Schedules a delayed call of a body, which is due so many ticks later than now, and no later than calls are delayed
+    /// by, as none is that a script which is read schedules; binds its name to it, also where that was bound to another
+    /// (Twisted: `Clock.callLater`). AllocError where there are more calls than numbers of 32 bits.
     #[tactic(auto, unfolding(crate::specs::World::aside))]
     pub fn call_later(
         &mut self,
@@ -29,7 +29,6 @@ impl<'s> World<'s> {
         delay: u64,
         body: BodyRef<'s>,
     ) -> Result<(), AllocError>
-        requires short { delay ≤ MOST_DELAY }
         ensures { OnOk result (self.new ≡ call_later name.entry delay body.entry self.old) }
     {
         if self.stopped {
@@ -40,19 +39,17 @@ impl<'s> World<'s> {
             return Ok(());
         }
         let what = due_call(self.alloc, name.as_str(), self.bodies.len())?;
-        match self.clock.later(&mut self.journal, what, delay) {
+        match self
+            .clock
+            .later(&mut self.journal, what, delay.min(MOST_DELAY))
+        {
             Ok(call) => self.add_call(name.as_str(), call, body),
             Err(_) => Err(AllocError),
         }
     }
 
     /// Keeps the body of a call that was told, and binds its name to it.
-    fn add_call(
-        &mut self,
-        name: &str,
-        call: CallId,
-        body: BodyRef<'s>,
-    ) -> Result<(), AllocError>
+    fn add_call(&mut self, name: &str, call: CallId, body: BodyRef<'s>) -> Result<(), AllocError>
         ensures { OnOk result (self.new ≡ record self.old { objects = record self.old.objects { call_names = with_name name.now call self.old.objects.call_names; bodies = self.old.objects.bodies ++ body.entry ∷ [] } }) }
     {
         self.call_names.bind(name, call)?;
