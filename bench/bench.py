@@ -19,8 +19,8 @@ HERE = os.path.dirname(os.path.abspath(__file__))
 PROGRAM = os.path.join(HERE, "..", "crates", "deferreds", "out", "deferreds")
 
 
-def script(events, limit=200000):
-    return json.dumps({"version": 1, "limit": limit, "events": events}, separators=(",", ":")).encode()
+def script(events, limit=200000, **keys):
+    return json.dumps({"version": 1, "limit": limit, "events": events, **keys}, separators=(",", ":")).encode()
 
 
 def many_deferreds(n):
@@ -183,6 +183,33 @@ def advances_over_nothing(n):
     return script([["later", "c", 10 ** 12, {}]] + [["advance", 1] for _ in range(n)])
 
 
+def advances_over_a_loop(n):
+    return script([["loop", "p", "l", 1, False, {}]] + [["advance", 1] for _ in range(n)])
+
+
+def loops_stopped(n):
+    events = [["loop", "p%d" % i, "l", n - i, False, {}] for i in range(n)]
+    return script(events + [["stopLoop", "p%d" % i] for i in range(n)])
+
+
+def tasks_of_different_lengths(n):
+    events = [["cooperate", "t%d" % i, [{} for _ in range(i % 10)]] for i in range(n)]
+    steps = sum(i % 10 + 1 for i in range(n))
+    return script(events + [["advance", 1] for _ in range(-(-steps // 100))], cooperator={"units": 100, "delay": 1})
+
+
+def tasks_that_pause_and_resume_others(n):
+    others = ["b%d" % ((i * 7919) % n) for i in range(n)]
+    events = [["cooperate", "a%d" % i, [{"do": [["pauseTask", t], ["resumeTask", t]]}]] for i, t in enumerate(others)]
+    events += [["cooperate", "b%d" % i, [{}]] for i in range(n)]
+    return script(events + [["advance", 1] for _ in range(n // 100)], cooperator={"units": 100, "delay": 1})
+
+
+def waiters_for_an_end(n):
+    events = [["cooperate", "t", []]] + [["whenDone", "d%d" % i, "t"] for i in range(n)]
+    return script(events + [["callback", "d%d" % i, 0] for i in range(0, n, 2)] + [["advance", 1]])
+
+
 def swallowed_firings(n):
     return script([event for _ in range(n) for event in (["deferred", "d"], ["cancel", "d"], ["callback", "d", 1])])
 
@@ -214,6 +241,11 @@ BENCHES = [
     ("calls cancelled", calls_cancelled, 700),
     ("calls that schedule calls", a_call_that_schedules_the_next, 900),
     ("advances over nothing", advances_over_nothing, 2000),
+    ("advances over a loop", advances_over_a_loop, 2000),
+    ("loops stopped", loops_stopped, 700),
+    ("tasks of many lengths", tasks_of_different_lengths, 700),
+    ("pauses inside ticks", tasks_that_pause_and_resume_others, 400),
+    ("waiters for an end", waiters_for_an_end, 1000),
     ("pairs that pass", pairs_that_pass, 2000),
     ("refused firings", refused_firings, 2000),
     ("many notes", many_notes, 2600),

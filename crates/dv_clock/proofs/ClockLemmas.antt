@@ -1,5 +1,5 @@
 -- What the calls of a clock keep, whatever is done with it.
-use Rattle.std.proofs.Common.{◌≡◌, ◌≢◌, ℕ, zero, suc, ◌+◌, ◌<◌, ◌≤◌, Bool, true, false, if◌then◌else◌, nat_lt, List, [], ◌∷◌, ◌++◌, length, Option, Some, None, Ok, Err, slice_get, slice_set, refl, sym, ap, ◌∙◌, subst, arith, eqb, ⊎_elim}
+use Rattle.std.proofs.Common.{◌≡◌, ◌≢◌, ℕ, zero, suc, ◌<◌, ◌≤◌, Bool, true, false, if◌then◌else◌, nat_lt, List, [], ◌∷◌, ◌++◌, length, Option, Some, None, Ok, Err, slice_get, slice_set, refl, sym, ap, ◌∙◌, subst, arith, eqb, ⊎_elim}
 use Rattle.std.proofs.lemmas.Bool.Decides.{nat_tests, eqb_tells}
 use Rattle.std.specs.Option.{option_map_or}
 use Rattle.dv_journal.specs.Journal.{fits, with_entry}
@@ -90,7 +90,7 @@ cancel_keeps P s n (Some call) h k = state_keeps P s n call.state h k
 -- time goes on
 pub time_kept : TimeNeverGoesBack
 time_kept c _ Same = omega arith
-time_kept c _ (Schedules d j what delay b) = told (λ (k : Clock). c.time ≤ k.time) (scheduling what (d.time + delay)) (length d.calls) (with_call (d.time + delay) what d) (d, j) (time_kept c d b) (time_kept c d b)
+time_kept c _ (Schedules d j what due b) = told (λ (k : Clock). c.time ≤ k.time) (scheduling what due) (length d.calls) (with_call due what d) (d, j) (time_kept c d b) (time_kept c d b)
 time_kept c _ (Advances d j time h b) =
     let past = time_kept c d b in
     told (λ (k : Clock). c.time ≤ k.time) (entry.Advance time) tt (record d { time = time }) (d, j) past (omega arith)
@@ -133,9 +133,9 @@ ended_stays d n m call state h k = stays_found d.calls n m call state (slice_get
 -- one that doesn't wait stays, whatever is done
 stays : (c d : Clock) (n : ℕ) (call : Call) → Stands n call c → is_waiting call.state ≡ false → Becomes c d → Stands n call d
 stays c _ n call h k Same = h
-stays c _ n call h k (Schedules d j what delay b) =
+stays c _ n call h k (Schedules d j what due b) =
     let before = stays c d n call h k b in
-    told (Stands n call) (scheduling what (d.time + delay)) (length d.calls) (with_call (d.time + delay) what d) (d, j) before (stands_before d.calls (record { due = d.time + delay; state = Waiting what }) n call before)
+    told (Stands n call) (scheduling what due) (length d.calls) (with_call due what d) (d, j) before (stands_before d.calls (record { due = due; state = Waiting what }) n call before)
 stays c _ n call h k (Advances d j time g b) =
     let before = stays c d n call h k b in
     told (Stands n call) (entry.Advance time) tt (record d { time = time }) (d, j) before before

@@ -1,5 +1,5 @@
 -- Delayed calls, and the time that they wait for (Twisted: `Clock`, `DelayedCall`).
-use Rattle.std.specs.Prelude.{◌≡◌, ◌≢◌, ℕ, ◌+◌, Bool, true, false, ◌&&◌, nat_eq, nat_lt, if◌then◌else◌, List, [], ◌∷◌, ◌++◌, length, Option, Some, None, Result, Ok, Err, slice_get, slice_set}
+use Rattle.std.specs.Prelude.{◌≡◌, ◌≢◌, ℕ, ◌+◌, min, Bool, true, false, ◌&&◌, nat_eq, nat_lt, if◌then◌else◌, List, [], ◌∷◌, ◌++◌, length, Option, Some, None, Result, Ok, Err, slice_get, slice_set}
 use Rattle.std.specs.BTreeMap.{is_at}
 use Rattle.std.specs.BTreeSet.{BTreeSet, contains}
 use Rattle.std.specs.Option.{option_map_or}
@@ -10,6 +10,7 @@ use Rattle.dv_journal.specs.declared.entry.Entry.TheVariants as entry
 use Rattle.dv_journal.specs.declared.error.Stop.{Stop}
 use Rattle.dv_journal.specs.declared.error.Stop.TheVariants as stop
 use Rattle.dv_clock.specs.Due.{scheduling, coming_due}
+use Rattle.dv_clock.specs.LoopingCall.{loop_next}
 use Rattle.dv_clock.specs.Telling.{State, Told, untold, telling}
 use Rattle.dv_clock.specs.declared.call.Call.{Call}
 use Rattle.dv_clock.specs.declared.call.CallState.{CallState}
@@ -97,9 +98,21 @@ ended number state c = record c { calls = option_map_or (λ call. with_end numbe
 abbrev pub with_call : ℕ → Due → Clock → Clock
 with_call due what c = record c { calls = c.calls ++ (record { due = due; state = Waiting what }) ∷ [] }
 
--- a call is scheduled, due so much later than now, and its number is answered
+-- a call is scheduled, due at this time, and its number is answered
+abbrev pub scheduled_at : Due → ℕ → State Clock → Told ℕ Clock
+scheduled_at what due s = telling (scheduling what due) (length s.0.calls) (with_call due what s.0) s
+
+-- a call is scheduled, due so much later than now
 abbrev pub later : Due → ℕ → State Clock → Told ℕ Clock
-later what delay s = telling (scheduling what (s.0.time + delay)) (length s.0.calls) (with_call (s.0.time + delay) what s.0) s
+later what delay s = scheduled_at what (s.0.time + delay) s
+
+-- when the next turn is due of a loop that was started then; a start that isn't past yet counts as now
+abbrev pub turn_after : ℕ → ℕ → Clock → ℕ
+turn_after start interval c = loop_next (min start c.time) interval c.time
+
+-- the next turn of a loop is scheduled
+abbrev pub next_turn : Due → ℕ → ℕ → State Clock → Told ℕ Clock
+next_turn what start interval s = scheduled_at what (turn_after start interval s.0) s
 
 -- time goes on
 abbrev pub advance_to : ℕ → State Clock → Told Unit Clock

@@ -1,7 +1,7 @@
 -- What holds of every clock.
 use Rattle.std.specs.Prelude.{◌≡◌, ◌≢◌, ◌≤◌, ◌<◌, ℕ, true, false, Some, None, slice_get}
 use Rattle.dv_journal.specs.Journal.{Written, fits}
-use Rattle.dv_clock.specs.Clock.{Clock, Upcoming, is_waiting, next_call, later, advance_to, due, cancel, ended}
+use Rattle.dv_clock.specs.Clock.{Clock, Upcoming, is_waiting, next_call, scheduled_at, advance_to, due, cancel, ended}
 use Rattle.dv_clock.specs.Due.{coming_due}
 use Rattle.dv_clock.specs.LoopingCall.{loop_next, IsNextTurn}
 use Rattle.dv_clock.specs.Turns.{Turns, turn_of, left}
@@ -27,7 +27,7 @@ WhatIsDueRuns = (c : Clock) → next_call c ≡ None → (n due : ℕ) (what : D
 -- what comes of a clock, whatever is done with it
 pub data Becomes (c : Clock) : Clock → Type 0 where
   Same : Becomes c c
-  Schedules : (d : Clock) (j : Written) (what : Due) (delay : ℕ) → Becomes c d → Becomes c (later what delay (d, j)).1.0
+  Schedules : (d : Clock) (j : Written) (what : Due) (due : ℕ) → Becomes c d → Becomes c (scheduled_at what due (d, j)).1.0
   Advances : (d : Clock) (j : Written) (time : ℕ) → d.time ≤ time → Becomes c d → Becomes c (advance_to time (d, j)).1.0
   Runs : (d : Clock) (j : Written) → Becomes c d → Becomes c (due (d, j)).1.0
   Cancels : (d : Clock) (j : Written) (n : ℕ) → Becomes c d → Becomes c (cancel n (d, j)).1.0

@@ -5,7 +5,9 @@ use crate::call::{Call, CallState};
 use crate::call_id::CallId;
 use crate::due::Due;
 use crate::error::CancelFault;
+use crate::interval::Interval;
 use crate::limits::{MOST_DELAY, MOST_TICKS};
+use crate::looping_call::loop_next;
 use dv_journal::entry::Entry;
 use dv_journal::error::Stop;
 use dv_journal::journal::Journal;
@@ -41,7 +43,7 @@ impl Model for Clock {
 }
 
 impl Clock {
-    ghost use Rattle.dv_clock.specs.Clock.{new_clock, later, advance_to, due, cancel, CancelsUnlessMemory, ended, due_of, what_of, waits, is_waiting, next_call, numbered, with_number};
+    ghost use Rattle.dv_clock.specs.Clock.{new_clock, later, next_turn, scheduled_at, advance_to, due, cancel, CancelsUnlessMemory, ended, due_of, what_of, waits, is_waiting, next_call, numbered, with_number};
     ghost use Rattle.dv_clock.specs.Telling.{UnlessMemory};
 
     /// Time begins at 0, and nothing is scheduled.
@@ -69,15 +71,45 @@ impl Clock {
         requires short { delay ≤ MOST_DELAY }
         ensures { UnlessMemory result (self.old, journal.old) (self.new, journal.new) (later what delay (self.old, journal.old)) }
     {
+        let due = self.time + delay;
+        self.at(journal, what, due)
+    }
+
+    /// Schedules what is the next turn of a loop that was started at `start`, and answers its number: it is due at the
+    /// first time later than now that is a whole number of intervals after the start (Twisted: `LoopingCall`). A start
+    /// that isn't past yet counts as now.
+    pub fn next_turn(
+        &mut self,
+        journal: &mut Journal,
+        what: Due,
+        start: u64,
+        interval: Interval,
+    ) -> Result<CallId, Stop>
+        ensures { UnlessMemory result (self.old, journal.old) (self.new, journal.new) (next_turn what start interval (self.old, journal.old)) }
+    {
+        let due = loop_next(start.min(self.time), interval.ticks(), self.time);
+        self.at(journal, what, due)
+    }
+
+    /// Schedules what is due at this time.
+    fn at(&mut self, journal: &mut Journal, what: Due, due: u64) -> Result<CallId, Stop>
+        ensures { UnlessMemory result (self.old, journal.old) (self.new, journal.new) (scheduled_at what due (self.old, journal.old)) }
+    {
         if !journal.fits_plain() {
             return Err(Stop::Limit);
         }
-        let due = self.time + delay;
         let number = self.calls.len();
         make_room(&mut self.calls)?;
         schedule(self.alloc, journal, &what, &mut self.waiting, (due, number))?;
         add(&mut self.calls, due, what);
         Ok(CallId::new(number))
+    }
+
+    /// Whether a call still waits.
+    pub fn waits(&self, id: CallId) -> bool
+        ensures { result ≡ waits id self.now.calls }
+    {
+        self.due_time(id.number()).is_some()
     }
 
     /// Cancels a call of the script (Twisted: `DelayedCall.cancel`). What else waits, as a loop's turn, is left alone.

@@ -84,6 +84,14 @@ impl Turns {
         true
     }
 
+    /// The task whose turn it is. None where nobody takes turns.
+    pub fn turn(&self) -> Option<TaskId>
+        ensures { result ≡ turn_of self.now }
+    {
+        let (_, task) = turn(&self.order, self.next)?;
+        Some(TaskId::new(task))
+    }
+
     /// The task whose turn it is; then it is the turn of the one after it. None where nobody takes turns.
     pub fn next(&mut self) -> Option<TaskId>
         ensures turn { result ≡ turn_of self.old }

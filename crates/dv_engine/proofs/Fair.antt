@@ -1,6 +1,7 @@
 -- Each rule leads on by steps of the world, and leaves less to do, or less of each frame.
-use Rattle.std.proofs.Common.{ℕ, ◌+◌, ◌<◌, ◌≤◌, ◌≡◌, Bool, true, false, if◌then◌else◌, List, [], ◌∷◌, ◌++◌, Option, None, Some, length, slice_get, refl, arith}
+use Rattle.std.proofs.Common.{ℕ, ◌+◌, ◌<◌, ◌≤◌, ◌≡◌, is_some, Bool, true, false, if◌then◌else◌, List, [], ◌∷◌, ◌++◌, Option, None, Some, length, nat_eq, ◌-◌, slice_get, refl, arith}
 use Rattle.std.specs.Option.{option_map}
+use Rattle.dv_value.specs.Failure.{failure_in}
 use Rattle.dv_value.specs.declared.failure.Failure.{Failure}
 use Rattle.dv_value.specs.declared.value.Value.{Value, Null, Fault, Text}
 use Rattle.dv_value.specs.declared.value.Value.TheVariants as value
@@ -9,11 +10,11 @@ use Rattle.dv_journal.specs.declared.entry.Entry.TheVariants as entry
 use Rattle.dv_prims.specs.DeferredList.{Gather, came, seconds_of}
 use Rattle.dv_prims.specs.Queue.{Queue, may_put, may_get, receiver, put_to}
 use Rattle.dv_prims.specs.Tokens.{Semaphore, is_unheld, first_waiting}
-use Rattle.dv_prims.specs.declared.gather.Came.{Came}
 use Rattle.dv_prims.specs.declared.gather.Flags.{Flags}
 use Rattle.dv_script.specs.declared.action.Action.{Action, out-Action}
 use Rattle.dv_clock.specs.Clock.{Upcoming, next_call}
 use Rattle.dv_clock.specs.Due.{coming_due}
+use Rattle.dv_clock.specs.Turns.{turn_of}
 use Rattle.dv_clock.specs.declared.call.Call.{Call}
 use Rattle.dv_clock.specs.declared.call.CallState.{CallState}
 use Rattle.dv_clock.specs.declared.call.CallState.TheVariants as call_state
@@ -29,36 +30,42 @@ use Rattle.dv_store.specs.declared.store.Step.TheVariants.{Nothing, Passed, Run,
 use Rattle.dv_engine.specs.Acting.{with_object, with_named, with_lock, begun}
 use Rattle.dv_engine.specs.Acting as acting
 use Rattle.dv_engine.specs.Cancelling.{cancel_begun, canceller_ended}
+use Rattle.dv_engine.specs.Cooperating.{notices, task_over, notified_by, notified, asked_when, when_done, paused_by, paused_of, stopped_by, resumed_of, is_over, hold_over, failed_by, stepped_by, stepped, step_begun, ticked, tick_stepped, tick_gone_on}
+use Rattle.dv_engine.specs.Cooperating as tasks
 use Rattle.dv_engine.specs.Deed.{deed_of}
 use Rattle.dv_engine.specs.declared.deed.Deed.{Deed}
-use Rattle.dv_engine.specs.declared.deed.Deed.TheVariants.{Idle, NoteOf, Make, FireWith, AddTo, ChainTo, PauseOf, UnpauseOf, CancelOf, MakeLock, MakeSemaphore, AcquireOf, ReleaseOf, RunOf, MaybeOf, MakeQueue, PutInto, GetFrom, ListOf, GatherOf, LaterOf, CancelCallOf}
-use Rattle.dv_engine.specs.Listing.{with_children, added_to_children, has_all_at_once, fired_at_once, with_listed, listed, gathered, fired_by_child, come_by, results_given, children_cancelled}
+use Rattle.dv_engine.specs.declared.deed.Deed.TheVariants.{Idle, NoteOf, Make, FireWith, AddTo, ChainTo, PauseOf, UnpauseOf, CancelOf, MakeLock, MakeSemaphore, AcquireOf, ReleaseOf, RunOf, MaybeOf, MakeQueue, PutInto, GetFrom, ListOf, GatherOf, LaterOf, CancelCallOf, LoopOf, StopLoopOf, CooperateOf, WhenDoneOf, PauseTaskOf, StopTaskOf, ResumeTaskOf}
+use Rattle.dv_engine.specs.Listing.{with_children, added_to_children, has_all_at_once, fired_at_once, with_listed, listed, fired_by_child, come_by, results_given}
 use Rattle.dv_engine.specs.Locking.{granted, asked_of, acquired, released_of}
+use Rattle.dv_engine.specs.Looping.{turn_begun, loop_begun, looped, loop_over, turn_ended, loop_failed, over_where, stopped_of}
 use Rattle.dv_engine.specs.Meaning.{told_of, turned, happening}
 use Rattle.dv_engine.specs.Maybe.{name_for, used_for, made_with, taken_for, maybe_ended, given_after}
 use Rattle.dv_engine.specs.Queueing.{handed_out, put_of, got, asked_for, get_of}
 use Rattle.dv_engine.specs.Performing.{gone_on, rest_turned}
 use Rattle.dv_engine.specs.Settling.{place, side_begun, settled}
-use Rattle.dv_engine.specs.Timing.{called_off, body_called, come_due_with}
+use Rattle.dv_engine.specs.Timing.{body_called, come_due_with}
 use Rattle.dv_engine.specs.Turn.{Turned, ◌over◌, done, settling, settle_next}
 use Rattle.dv_engine.specs.declared.frame.Frame.{Frame}
 use Rattle.dv_engine.specs.declared.frame.Frame.TheVariants as frame
 use Rattle.dv_engine.specs.declared.frame.Purpose.{Purpose}
-use Rattle.dv_engine.specs.declared.frame.Purpose.TheVariants.{Named, Holding}
+use Rattle.dv_engine.specs.declared.frame.Purpose.TheVariants.{Named, Holding, Turning}
 use Rattle.dv_engine.specs.declared.frame.Rest.{Rest}
 use Rattle.dv_engine.proofs.Budget.{Spares, budget, spares, step_took, reaches, cancel_took, aside_took}
 use Rattle.dv_engine.proofs.Lasting.{Comes}
-use Rattle.dv_engine.proofs.Sizes.{actions_size, body_size_out, deed_size, deed_fits}
+use Rattle.dv_engine.proofs.Sizes.{actions_size, body_size, body_size_out, deed_size, deed_fits}
 use Rattle.dv_world.specs.Ending.{failed_with}
 use Rattle.dv_journal.specs.Change.{change_of, Aside}
 use Rattle.dv_world.specs.Found.{deferreds_at}
 use Rattle.dv_world.specs.Names.{number_of}
-use Rattle.dv_world.specs.Pair.{chain, coming, results, holding, releasing}
-use Rattle.dv_world.specs.World.{World, state_of, deferred_at, step, append, fire, is_unfired, cancelled, cancel, pause, unpause, make, aside, lock_told, ask, release_found, release, forget, unless_stopped, put_into_found, put_into, get_from_found, get_from, withdraw, value_of, arrange, came_to_found, came_to, call_later, advance, come_due_found, come_due, waiting_cancelled, state_cancelled, call_cancelled, cancel_call}
-use Rattle.dv_world.specs.Objects.{Objects, with_queue, with_new_list, with_list, with_ended_call}
+use Rattle.dv_world.specs.Pair.{chain}
+use Rattle.dv_world.specs.World.{World, state_of, deferred_at, step, append, fire, is_unfired, cancelled, cancel, pause, unpause, make, aside, lock_told, ask, release_found, release, forget, unless_stopped, put_into_found, put_into, get_from_found, get_from, withdraw, value_of, arrange, came_to_found, came_to, come_due_found, waiting_cancelled, state_cancelled, call_cancelled, cancel_call, turn_scheduled, loop_stopped, stop_loop, end_loop, task_told, pause_task, resume_task, hold_task, task_ended, end_task, all_unless_stopped, tick_dropped, keep_tick, end_tick, step_taken, turn_taken}
+use Rattle.dv_world.specs.Cooperator.{Cooperator, with_new_task, with_step, with_end, result_of, wants_tick, idle_tick}
+use Rattle.dv_world.specs.Objects.{Objects, with_queue, with_new_list, with_list, with_ended_call, cooperating}
 use Rattle.dv_world.specs.declared.canceller.Canceller.TheVariants.{Body, Token, Item, Children}
 use Rattle.dv_world.specs.declared.follow.Follow.{Follow}
 use Rattle.dv_world.specs.declared.follow.Follow.TheVariants as follow
+use Rattle.dv_world.specs.Looping.{is_scheduled, with_new_loop}
+use Rattle.dv_world.specs.declared.looping_call.LoopingCall.{LoopingCall}
 use Rattle.dv_world.specs.declared.found.Found.{Found}
 use Rattle.dv_world.specs.declared.found.Found.TheVariants.{All, Unbound}
 use Rattle.dv_world.specs.declared.pair.Child.{Child}
@@ -67,6 +74,9 @@ use Rattle.dv_world.specs.declared.pair.Side.{Side}
 use Rattle.dv_world.specs.declared.pair.Side.TheVariants as side
 use Rattle.dv_world.specs.declared.performed.Performed.{Performed}
 use Rattle.dv_world.specs.declared.performed.Performed.TheVariants.{Done, Gave, Raised, Awaits}
+use Rattle.dv_world.specs.declared.task.Task.{Task}
+use Rattle.dv_world.specs.declared.task.TaskEnd.{TaskEnd}
+use Rattle.dv_world.specs.declared.task.TaskEnd.TheVariants.{Finished, Stopped, Failed}
 use Rattle.dv_world.specs.declared.reached.Reached.{Reached}
 use Rattle.dv_world.specs.declared.reached.Reached.TheVariants as reached
 
@@ -87,6 +97,9 @@ rank (frame.Maybe purpose) = 2
 rank (frame.Add d pair) = 1
 rank (frame.Cancel d) = 0
 rank (frame.Give given) = 0
+rank (frame.Notify d t) = 1
+rank (frame.Stepped t) = 2
+rank (frame.Tick units) = 0
 rank frame.Tell = 0
 rank frame.Due = 0
 
@@ -226,6 +239,158 @@ come_comes child input w =
     let t = came_to child.list child.place input w in
     join w t.1 _ (came_to_comes child.list child.place input w) (child_fair 1 child.of t.0.fire t.1 (omega arith)).comes
 
+scheduled_comes : (l : ℕ) (o : Option LoopingCall) (w : World) → Comes w (turn_scheduled l o w)
+scheduled_comes l None w = same w
+scheduled_comes l (Some x) w = by_aside (entry.LaterLoop x.name _) _ w refl
+
+loop_stopped_comes : (l : ℕ) (o : Option LoopingCall) (w : World) → Comes w (loop_stopped l o w)
+loop_stopped_comes l None w = same w
+loop_stopped_comes l (Some x) w = by_aside (entry.Stop x.name) _ w refl
+
+over_loop_fair : (m d : ℕ) (v : Value) (w : World) → 0 < m → Fair w m (loop_over d v w)
+over_loop_fair m d v w q = next_fair m d (fire d v w).0 w (fire d v w).1 q (by_fire d v w)
+
+turn_ended_fair : (m l : ℕ) (o : Option LoopingCall) (w : World) → 0 < m → Fair w m (turn_ended l o w)
+turn_ended_fair m l None w q = now_fair m Done w
+turn_ended_fair m l (Some x) w q = if_fair m x.running w _ _ (done_fair m w _ (scheduled_comes l (slice_get w.objects.loops l) w)) (over_loop_fair m x.of (Text x.name) w q)
+
+loop_failed_fair : (m : ℕ) (o : Option LoopingCall) (input : Value) (w : World) → 0 < m → Fair w m (loop_failed o input w)
+loop_failed_fair m None input w q = now_fair m Done w
+loop_failed_fair m (Some x) input w q = over_loop_fair m x.of input w q
+
+over_where_fair : (m : ℕ) (b : Bool) (d : ℕ) (name : List ℕ) (w : World) → 0 < m → Fair w m (over_where b d name w)
+over_where_fair m false d name w q = now_fair m Done w
+over_where_fair m true d name w q = over_loop_fair m d (Text name) w q
+
+stopped_fair : (m l : ℕ) (o : Option LoopingCall) (w : World) → 0 < m → Fair w m (stopped_of l o w)
+stopped_fair m l None w q = now_fair m Done w
+stopped_fair m l (Some x) w q =
+    if_fair m x.running w _ _ (then_fair m w (stop_loop l w) _ (loop_stopped_comes l (slice_get w.objects.loops l) w) (over_where_fair m (is_scheduled x w.objects.clock) x.of x.name (stop_loop l w) q)) (now_fair m _ w)
+
+turn_begun_fair : (m : ℕ) (b : Bool) (name : List ℕ) (l : ℕ) (body : body_of.Body) (w : World) → 1 + body_size body < m → Fair w m (turn_begun b name l body w)
+turn_begun_fair m true name l body w q = record { comes = by_aside (entry.Turn name) _ w refl; falls = lighter (omega (arith, q, body_size_out body), (omega (arith, q, body_size_out body), tt)) }
+turn_begun_fair m false name l body w q = done_fair m w _ (scheduled_comes l (slice_get w.objects.loops l) w)
+
+loop_begun_fair : (m : ℕ) (name : List ℕ) (d interval : ℕ) (b : Bool) (body : body_of.Body) (w : World) → 1 + body_size body < m → Fair w m (loop_begun name d interval b body w)
+loop_begun_fair m name d interval b body w q =
+    let made = aside (entry.Loop name d) (with_new_loop name d interval body) w in
+    then_fair m w made _ (by_aside (entry.Loop name d) (with_new_loop name d interval body) w refl) (turn_begun_fair m b name (length w.objects.loops) body made q)
+
+looped_fair : (m : ℕ) (name of : List ℕ) (interval : ℕ) (b : Bool) (body : body_of.Body) (w : World) → 1 + body_size body < m → Fair w m (looped name of interval b body w)
+looped_fair m name of interval b body w q =
+    let made = make (Some of) None w in
+    then_fair m w made _ (record { keeps = λ R l. l.by_make (Some of) None w }) (loop_begun_fair m name (length w.records) interval b body made q)
+
+told_task_comes : (e : Task → Entry) (change : Task → Cooperator → Cooperator) (o : Option Task) (w : World) → ((x : Task) → change_of (e x) ≡ Aside) → Comes w (task_told e change o w)
+told_task_comes e change None w a = same w
+told_task_comes e change (Some x) w a = by_aside (e x) _ w (a x)
+
+dropped_comes : (o : Option ℕ) (w : World) → Comes w (tick_dropped o w)
+dropped_comes None w = same w
+dropped_comes (Some number) w = record { keeps = λ R l. l.by_arrange _ w }
+
+one_comes : (b : Bool) (w u v : World) → Comes w u → Comes w v → Comes w (if b then u else v)
+one_comes true w u v c d = c
+one_comes false w u v c d = d
+
+keep_comes : (w u : World) → Comes w u → Comes w (keep_tick u)
+keep_comes w u c = join w u _ c (one_comes (wants_tick u.objects.cooperator) u _ _ (by_aside (entry.LaterTick _) _ u refl) (dropped_comes (idle_tick u.objects.cooperator) u))
+
+task_ended_comes : (t : ℕ) (end : TaskEnd) (o : Option Task) (w : World) → Comes w (task_ended t end o w).1
+task_ended_comes t end None w = same w
+task_ended_comes t end (Some x) w =
+    first_comes (is_some x.end) ([], w) (all_unless_stopped x.waiting (aside (entry.End x.name (result_of x.name end)) (cooperating (with_end t end x)) w)) w (same w) (by_aside (entry.End x.name (result_of x.name end)) _ w refl)
+
+notices_lighter : (m t : ℕ) (ds : List ℕ) → 1 < m → Lighter m (notices t ds)
+notices_lighter m t [] q = tt
+notices_lighter m t (d ∷ ds) q = (q, (omega (arith, q), notices_lighter m t ds q))
+
+task_over_fair : (m t : ℕ) (end : TaskEnd) (w : World) → 1 < m → Fair w m (task_over t end w)
+task_over_fair m t end w q =
+    let e = end_task t end w in
+    record { comes = keep_comes w e.1 (task_ended_comes t end (slice_get w.objects.cooperator.tasks t) w); falls = lighter (notices_lighter m t e.0 q) }
+
+notified_by_fair : (m d : ℕ) (name : List ℕ) (o : Option TaskEnd) (w : World) → 0 < m → Fair w m (notified_by d name o w)
+notified_by_fair m d name None w q = now_fair m Done w
+notified_by_fair m d name (Some end) w q = next_fair m d (fire d (result_of name end) w).0 w (fire d (result_of name end) w).1 q (by_fire d (result_of name end) w)
+
+notified_fair : (m d : ℕ) (o : Option Task) (w : World) → 0 < m → Fair w m (notified d o w)
+notified_fair m d None w q = now_fair m Done w
+notified_fair m d (Some x) w q = notified_by_fair m d x.name x.end w q
+
+when_fair : (m : ℕ) (name : List ℕ) (t : ℕ) (w : World) → 0 < m → Fair w m (when_done name t w)
+when_fair m name t w q =
+    let d = length w.records in
+    let made = make (Some name) None w in
+    let asked = asked_when name t w in
+    then_fair m w asked _ (join w made asked (record { keeps = λ R l. l.by_make (Some name) None w }) (told_task_comes _ _ (slice_get made.objects.cooperator.tasks t) made (λ x. refl))) (notified_fair m d (slice_get asked.objects.cooperator.tasks t) asked q)
+
+paused_by_fair : (m t : ℕ) (o : Option TaskEnd) (w : World) → Fair w m (paused_by t o w)
+paused_by_fair m t None w = done_fair m w _ (keep_comes w (pause_task t w) (told_task_comes _ _ (slice_get w.objects.cooperator.tasks t) w (λ x. refl)))
+paused_by_fair m t (Some end) w = now_fair m _ w
+
+paused_fair : (m t : ℕ) (o : Option Task) (w : World) → Fair w m (paused_of t o w)
+paused_fair m t None w = now_fair m Done w
+paused_fair m t (Some x) w = paused_by_fair m t x.end w
+
+stopped_by_fair : (m t : ℕ) (o : Option TaskEnd) (w : World) → 1 < m → Fair w m (stopped_by t o w)
+stopped_by_fair m t None w q = task_over_fair m t Stopped w q
+stopped_by_fair m t (Some end) w q = now_fair m _ w
+
+stopped_task_fair : (m t : ℕ) (o : Option Task) (w : World) → 1 < m → Fair w m (tasks.stopped_of t o w)
+stopped_task_fair m t None w q = now_fair m Done w
+stopped_task_fair m t (Some x) w q = stopped_by_fair m t x.end w q
+
+resumed_fair : (m t : ℕ) (o : Option Task) (w : World) → Fair w m (resumed_of t o w)
+resumed_fair m t None w = now_fair m Done w
+resumed_fair m t (Some x) w =
+    if_fair m (nat_eq x.pauses 0) w _ _ (now_fair m _ w) (done_fair m w _ (keep_comes w (resume_task t w) (told_task_comes _ _ (slice_get w.objects.cooperator.tasks t) w (λ y. refl))))
+
+hold_over_fair : (m t : ℕ) (w : World) → Fair w m (hold_over t w)
+hold_over_fair m t w = if_fair m (is_over (slice_get w.objects.cooperator.tasks t)) w _ _ (now_fair m Done w) (resumed_fair m t (slice_get w.objects.cooperator.tasks t) w)
+
+failed_fair : (m t : ℕ) (o : Option Failure) (w : World) → 1 < m → Fair w m (failed_by t o w)
+failed_fair m t None w q = now_fair m Done w
+failed_fair m t (Some failure) w q = task_over_fair m t (Failed failure) w q
+
+stepped_by_fair : (t : ℕ) (o : Performed) (w : World) → Fair w 2 (stepped_by t o w)
+stepped_by_fair t Done w = now_fair 2 Done w
+stepped_by_fair t (Gave value) w = failed_fair 2 t (failure_in value) w (omega arith)
+stepped_by_fair t (Raised failure) w = task_over_fair 2 t (Failed failure) w (omega arith)
+stepped_by_fair t (Awaits e) w =
+    record { comes = keep_comes w (hold_task t e w) (told_task_comes _ _ (slice_get w.objects.cooperator.tasks t) w (λ x. refl)); falls = lighter (omega arith, tt) }
+
+stepped_fair : (t : ℕ) (o : Performed) (w : World) → Fair w 2 (stepped t o w)
+stepped_fair t o w = if_fair 2 (is_over (slice_get w.objects.cooperator.tasks t)) w _ _ (now_fair 2 Done w) (stepped_by_fair t o w)
+
+step_comes : (t : ℕ) (o : Option body_of.Body) (w : World) → Comes w (step_begun t o w).2
+step_comes t None w = (task_over_fair 2 t Finished w (omega arith)).comes
+step_comes t (Some body) w = same w
+
+ticked_comes : (w : World) → Comes w (ticked w).2
+ticked_comes w = keep_comes w (end_tick w) (record { keeps = λ R l. l.by_arrange _ w })
+
+tick_comes : (left : ℕ) (o : Option (ℕ × Option body_of.Body)) (w : World) → Comes w (tick_stepped left o w).2
+tick_comes left None w = ticked_comes w
+tick_comes left (Some step) w = step_comes step.0 step.1 w
+
+-- a step that is told pays for what it does, unless the run stops by it
+unless_stepped : (m left : ℕ) (e : Entry) (change : Objects → Objects) (w : World) (step : ℕ × Option body_of.Body) (b : Bool) → change_of e ≡ Aside → (aside e change w).stopped ≡ b → Fair w m (tick_stepped left (if b then None else Some step) (aside e change w))
+unless_stepped m left e change w step true a x = done_fair m w _ (join w (aside e change w) _ (by_aside e change w a) (ticked_comes (aside e change w)))
+unless_stepped m left e change w step false a x =
+    paid_fair m 1 w (aside e change w) (tick_stepped left (Some step) (aside e change w)) (by_aside e change w a) (aside_took e change w x) (omega arith) (tick_comes left (Some step) (aside e change w))
+
+step_taken_fair : (m left t : ℕ) (o : Option Task) (w : World) → Fair w m (tick_stepped left (step_taken t o w).0 (step_taken t o w).1)
+step_taken_fair m left t None w = done_fair m w _ (ticked_comes w)
+step_taken_fair m left t (Some x) w = unless_stepped m left (entry.Step x.name) (cooperating (with_step t x)) w (t, slice_get x.bodies 0) _ refl refl
+
+turn_taken_fair : (m left : ℕ) (o : Option ℕ) (w : World) → Fair w m (tick_stepped left (turn_taken o w).0 (turn_taken o w).1)
+turn_taken_fair m left None w = done_fair m w _ (ticked_comes w)
+turn_taken_fair m left (Some t) w = step_taken_fair m left t (slice_get w.objects.cooperator.tasks t) w
+
+tick_fair : (m units : ℕ) (w : World) → Fair w m (tick_gone_on units w)
+tick_fair m units w = if_fair m (nat_eq units 0) w _ _ (done_fair m w _ (ticked_comes w)) (turn_taken_fair m (units - 1) (turn_of w.objects.cooperator.turns) w)
+
 results_comes : (o : Option Value) (w : World) → Comes w (results_given o w).2
 results_comes None w = same w
 results_comes (Some seconds) w = same w
@@ -238,6 +403,12 @@ side_comes d (Some (side.Come child)) input w = come_comes child input w
 side_comes d (Some side.Results) input w = results_comes (seconds_of input) w
 side_comes d (Some (side.Hold l body)) input w = same w
 side_comes d (Some (side.Release l)) input w = (released_fair 1 l (slice_get w.objects.semaphores l) w (omega arith)).comes
+side_comes d (Some (side.NextTurn l)) input w = (turn_ended_fair 1 l (slice_get w.objects.loops l) w (omega arith)).comes
+side_comes d (Some (side.EndLoop l)) input w =
+    let ended = end_loop l w in
+    join w ended _ (record { keeps = λ R k. k.by_arrange _ w }) (loop_failed_fair 1 (slice_get ended.objects.loops l) input ended (omega arith)).comes
+side_comes d (Some (side.ResumeTask t)) input w = (hold_over_fair 1 t w).comes
+side_comes d (Some (side.FailTask t)) input w = (failed_fair 2 t (failure_in input) w (omega arith)).comes
 
 settled_fair : (m d : ℕ) (w0 : World) (move : Step Pair) (w : World) → Comes w0 w → can w + used move ≤ can w0 → Fair w0 m (settled d move w)
 settled_fair m d w0 Nothing w c h = done_fair m w0 w c
@@ -364,6 +535,13 @@ begun_fair m itself (ListOf name children flags) w q = children_fair m (deferred
 begun_fair m itself (GatherOf name children flags) w q = children_fair m (deferreds_at itself children w) w _ (λ ds. over_fair m w (listed name ds flags w) _ (q, tt) (listed_fair m name ds flags w q))
 begun_fair m itself (LaterOf name delay body) w q = done_fair m w _ (by_aside (entry.LaterCall name _) _ w refl)
 begun_fair m itself (CancelCallOf name) w q = found_fair m (number_of name w.objects.call_names) name w _ (λ number. record { comes = off_comes number w; falls = lighter tt })
+begun_fair m itself (LoopOf name of interval at_once body) w q = looped_fair m name of interval at_once body w q
+begun_fair m itself (StopLoopOf name) w q = found_fair m (number_of name w.objects.loop_names) name w _ (λ l. stopped_fair m l (slice_get w.objects.loops l) w (omega (arith, q)))
+begun_fair m itself (CooperateOf name bodies) w q = done_fair m w _ (keep_comes w _ (by_aside (entry.Task name) (cooperating (with_new_task name bodies)) w refl))
+begun_fair m itself (WhenDoneOf name task) w q = found_fair m (number_of task w.objects.cooperator.task_names) task w _ (λ t. when_fair m name t w q)
+begun_fair m itself (PauseTaskOf name) w q = found_fair m (number_of name w.objects.cooperator.task_names) name w _ (λ t. paused_fair m t (slice_get w.objects.cooperator.tasks t) w)
+begun_fair m itself (StopTaskOf name) w q = found_fair m (number_of name w.objects.cooperator.task_names) name w _ (λ t. stopped_task_fair m t (slice_get w.objects.cooperator.tasks t) w q)
+begun_fair m itself (ResumeTaskOf name) w q = found_fair m (number_of name w.objects.cooperator.task_names) name w _ (λ t. resumed_fair m t (slice_get w.objects.cooperator.tasks t) w)
 
 pub begun_comes : (itself : Option ℕ) (deed : Deed) (w : World) → Comes w (begun itself deed w).2
 begun_comes itself deed w = (begun_fair (1 + deed_size deed) itself deed w (omega arith)).comes
@@ -397,7 +575,7 @@ due_comes : (o : Option Due) (w : World) → Comes w (come_due_with o w).2
 due_comes None w = same w
 due_comes (Some (what.Call name key)) w = body_comes (slice_get w.objects.bodies key) w
 due_comes (Some (what.Turn name key)) w = same w
-due_comes (Some what.Tick) w = same w
+due_comes (Some what.Tick) w = record { keeps = λ R l. l.by_arrange _ w }
 due_comes (Some (what.Delivery job key)) w = same w
 
 -- what comes due is told, and tells of no Deferred
@@ -419,6 +597,7 @@ due_fair m (Some call) w = unless_fair m (coming_due call.what) (with_ended_call
 used_lighter : (purpose : Purpose) (d : ℕ) → Lighter 2 (used_for purpose d)
 used_lighter (Named name) d = tt
 used_lighter (Holding l) d = (omega arith, (omega arith, tt))
+used_lighter (Turning l) d = (omega arith, tt)
 
 made_fair : (purpose : Purpose) (value : Value) (w : World) → Fair w 2 (made_with purpose value w)
 made_fair purpose value w =
@@ -430,6 +609,7 @@ made_fair purpose value w =
 taken_fair : (purpose : Purpose) (e : ℕ) (w : World) → Fair w 2 (taken_for purpose e w)
 taken_fair (Named name) e w = done_fair 2 w _ (by_aside (entry.Name e (Some name)) _ w refl)
 taken_fair (Holding l) e w = record { comes = same w; falls = lighter (used_lighter (Holding l) e) }
+taken_fair (Turning l) e w = record { comes = same w; falls = lighter (used_lighter (Turning l) e) }
 
 maybe_fair : (purpose : Purpose) (o : Performed) (w : World) → Fair w 2 (maybe_ended purpose o w)
 maybe_fair purpose Done w = made_fair purpose Null w
@@ -452,6 +632,9 @@ turned_fair (frame.Maybe purpose) o w = maybe_fair purpose o w
 turned_fair (frame.Add d pair) o w = settling_fair 1 d w (append d pair w) (omega arith) (record { keeps = λ R l. l.by_append d pair w })
 turned_fair (frame.Cancel d) o w = cancel_fair 0 w (cancel d w).0 (cancel d w).1 (record { keeps = λ R l. l.by_cancel d w }) (cancel_took d w)
 turned_fair (frame.Give given) o w = given_fair given o w
+turned_fair (frame.Notify d t) o w = notified_fair 1 d (slice_get w.objects.cooperator.tasks t) w (omega arith)
+turned_fair (frame.Stepped t) o w = stepped_fair t o w
+turned_fair (frame.Tick units) o w = tick_fair 0 units w
 turned_fair frame.Tell o w = done_fair 0 w _ (told_comes (failed_with o) w)
 turned_fair frame.Due o w = due_fair 0 (next_call w.objects.clock) w
 

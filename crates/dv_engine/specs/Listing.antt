@@ -1,6 +1,5 @@
 -- DeferredLists, and what is gathered of one (Twisted: `DeferredList`, `gatherResults`).
-use Rattle.std.specs.Prelude.{ℕ, ◌+◌, Bool, true, false, not, ◌&&◌, if◌then◌else◌, List, [], ◌∷◌, length, Option, None, Some}
-use Rattle.dv_prims.specs.DeferredList.{seconds_of}
+use Rattle.std.specs.Prelude.{ℕ, ◌+◌, Bool, true, false, not, if◌then◌else◌, List, [], ◌∷◌, length, Option, None, Some}
 use Rattle.dv_prims.specs.declared.gather.Flags.{Flags}
 use Rattle.dv_value.specs.declared.value.Value.{Value}
 use Rattle.dv_value.specs.declared.value.Value.TheVariants as value
@@ -14,7 +13,7 @@ use Rattle.dv_world.specs.declared.canceller.Canceller.TheVariants.{Children}
 use Rattle.dv_world.specs.declared.found.Found.{Found}
 use Rattle.dv_world.specs.declared.found.Found.TheVariants.{All, Unbound}
 use Rattle.dv_world.specs.declared.pair.Child.{Child}
-use Rattle.dv_world.specs.declared.performed.Performed.TheVariants.{Done, Gave}
+use Rattle.dv_world.specs.declared.performed.Performed.TheVariants.{Gave}
 
 -- what is done with the children that are found; a name that isn't bound raises
 abbrev pub with_children : Found → World → (List ℕ → Turned) → Turned

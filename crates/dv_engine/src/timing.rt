@@ -6,9 +6,11 @@ ghost use Rattle.dv_engine.specs.declared.deed.Deed.TheVariants.{CancelCallOf};
 ghost use Rattle.dv_world.specs.World.{World as Seen, come_due};
 
 use crate::frame::Frame;
+use crate::looping::take_turn;
 use crate::settling::whole;
 use crate::stack::Stack;
 use dv_clock::due::Due;
+use dv_clock::loop_id::LoopId;
 use dv_value::value::Value;
 use dv_world::lent::BodyRef;
 use dv_world::performed::Performed;
@@ -39,7 +41,17 @@ pub fn run_due<'s>(
     match world.come_due()? {
         None => Ok(Performed::Done),
         Some(Due::Call(_, key)) => Ok(call_body(stack, world.body(key))?),
-        Some(Due::Turn(_, _) | Due::Tick | Due::Delivery(_, _)) => {
+        Some(Due::Turn(_, key)) => {
+            stack.push(Frame::Due)?;
+            take_turn(world, stack, LoopId::new(key))?;
+            Ok(Performed::Done)
+        }
+        Some(Due::Tick) => {
+            stack.push(Frame::Due)?;
+            stack.push(Frame::Tick(world.begin_tick()))?;
+            Ok(Performed::Done)
+        }
+        Some(Due::Delivery(_, _)) => {
             stack.push(Frame::Due)?;
             Ok(Performed::Done)
         }

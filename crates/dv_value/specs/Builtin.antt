@@ -52,6 +52,18 @@ already_cancelled = 14
 abbrev pub task_finished : ℕ
 task_finished = 15
 
+abbrev pub not_paused : ℕ
+not_paused = 16
+
+abbrev pub task_done : ℕ
+task_done = 17
+
+abbrev pub task_stopped : ℕ
+task_stopped = 18
+
+abbrev pub task_failed : ℕ
+task_failed = 19
+
 -- the names of those right below the root
 abbrev pub of_exception : List (List ℕ)
 of_exception =

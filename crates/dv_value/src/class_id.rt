@@ -49,6 +49,14 @@ impl ClassId {
     pub const ALREADY_CANCELLED: ClassId = ClassId { place: 14 };
     /// Above how a cooperative task has ended (Twisted: `task.TaskFinished`).
     pub const TASK_FINISHED: ClassId = ClassId { place: 15 };
+    /// For the resuming of a cooperative task that isn't paused (Twisted: `task.NotPaused`).
+    pub const NOT_PAUSED: ClassId = ClassId { place: 16 };
+    /// For a cooperative task that has come to its end (Twisted: `task.TaskDone`).
+    pub const TASK_DONE: ClassId = ClassId { place: 17 };
+    /// For a cooperative task that was stopped (Twisted: `task.TaskStopped`).
+    pub const TASK_STOPPED: ClassId = ClassId { place: 18 };
+    /// For a cooperative task that has failed (Twisted: `task.TaskFailed`).
+    pub const TASK_FAILED: ClassId = ClassId { place: 19 };
 
     /// The class at this place, which need not be in any table.
     pub fn new(place: u32) -> ClassId

@@ -1,16 +1,20 @@
--- What stands beside the Deferreds: names, locks and semaphores, queues, what DeferredLists have of their children, and the clock with its delayed calls.
+-- What stands beside the Deferreds: names, locks and semaphores, queues, what DeferredLists have of their children, the clock with its delayed calls, loops, and the Cooperator.
 use Rattle.std.specs.Prelude.{ℕ, List, [], ◌∷◌, ◌++◌, length, Option, None, Some, slice_set}
 use Rattle.dv_clock.specs.Clock.{Clock, new_clock, with_call, ended}
 use Rattle.dv_clock.specs.declared.call.CallState.{CallState}
-use Rattle.dv_clock.specs.declared.due.Due.TheVariants.{Call}
+use Rattle.dv_clock.specs.declared.call.CallState.TheVariants.{Dropped}
+use Rattle.dv_clock.specs.declared.due.Due.TheVariants.{Call, Tick}
 use Rattle.dv_prims.specs.DeferredList.{Gather, new_gather}
 use Rattle.dv_prims.specs.Queue.{Queue, new_queue}
 use Rattle.dv_prims.specs.Tokens.{Semaphore, new_semaphore}
 use Rattle.dv_prims.specs.declared.gather.Flags.{Flags}
 use Rattle.dv_script.specs.declared.body.Body.{Body}
+use Rattle.dv_script.specs.declared.script.Cooperator.{Cooperator as Settings}
+use Rattle.dv_world.specs.Cooperator.{Cooperator, new_cooperator}
 use Rattle.dv_world.specs.Names.{Names, with_name}
+use Rattle.dv_world.specs.declared.looping_call.LoopingCall.{LoopingCall}
 
--- what stands beside the Deferreds: their names, locks and semaphores with theirs, queues with theirs, and the lists; the clock, delayed calls with their names, and their bodies
+-- what stands beside the Deferreds: their names, locks and semaphores with theirs, queues with theirs, and the lists; the clock, delayed calls with their names, and their bodies; loops with theirs, and the Cooperator with its tasks
 pub record Objects : Type 0 where
   pub names : Names ℕ
   pub locks : Names ℕ
@@ -21,10 +25,13 @@ pub record Objects : Type 0 where
   pub clock : Clock
   pub call_names : Names ℕ
   pub bodies : List Body
+  pub loop_names : Names ℕ
+  pub loops : List LoopingCall
+  pub cooperator : Cooperator
 
--- nothing stands there at first
-abbrev pub no_objects : Objects
-no_objects = record { names = []; locks = []; semaphores = []; queue_names = []; queues = []; lists = []; clock = new_clock; call_names = []; bodies = [] }
+-- nothing stands there at first but a Cooperator without tasks
+abbrev pub no_objects : Settings → Objects
+no_objects settings = record { names = []; locks = []; semaphores = []; queue_names = []; queues = []; lists = []; clock = new_clock; call_names = []; bodies = []; loop_names = []; loops = []; cooperator = new_cooperator settings.units settings.delay }
 
 -- a name of a Deferred is bound
 abbrev pub naming : List ℕ → ℕ → Objects → Objects
@@ -89,3 +96,15 @@ with_ended_call number state objects = record objects { clock = ended number sta
 -- it is this time
 abbrev pub with_time : ℕ → Objects → Objects
 with_time time objects = record objects { clock = record objects.clock { time = time } }
+
+-- the Cooperator changes
+abbrev pub cooperating : (Cooperator → Cooperator) → Objects → Objects
+cooperating change objects = record objects { cooperator = change objects.cooperator }
+
+-- a tick is scheduled, which is due at this time
+abbrev pub with_tick : ℕ → Objects → Objects
+with_tick due objects = record objects { clock = with_call due Tick objects.clock; cooperator = record objects.cooperator { tick = Some (length objects.clock.calls) } }
+
+-- the tick that is scheduled is dropped
+abbrev pub without_tick : ℕ → Objects → Objects
+without_tick number objects = record objects { clock = ended number Dropped objects.clock; cooperator = record objects.cooperator { tick = None } }

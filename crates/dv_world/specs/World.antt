@@ -1,7 +1,7 @@
 -- The world of a run: its Deferreds, their names, the classes of failures and the journal, and one step of each kind.
-use Rattle.std.specs.Prelude.{ℕ, ◌+◌, min, Bool, true, false, not, if◌then◌else◌, List, [], Option, None, Some, Result, Ok, Err, slice_get, bytes_eq, codes}
+use Rattle.std.specs.Prelude.{ℕ, ◌+◌, min, Bool, true, false, not, is_some, if◌then◌else◌, List, [], Option, None, Some, Result, Ok, Err, slice_get, bytes_eq, codes}
 use Rattle.std.specs.Option.{option_map_or}
-use Rattle.dv_value.specs.Builtin.{name_error, assertion_error, already_called_error, cancelled_error, type_error, already_called, already_cancelled, queue_overflow, queue_underflow}
+use Rattle.dv_value.specs.Builtin.{name_error, assertion_error, already_called_error, cancelled_error, type_error, already_called, already_cancelled, queue_overflow, queue_underflow, not_paused as paused_not}
 use Rattle.dv_value.specs.Failure.{plain_failure}
 use Rattle.dv_value.specs.declared.classes.Class.{Class}
 use Rattle.dv_value.specs.declared.failure.Failure.{Failure}
@@ -12,6 +12,7 @@ use Rattle.dv_journal.specs.declared.entry.Entry.TheVariants as entry
 use Rattle.dv_journal.specs.declared.error.Stop.{Stop}
 use Rattle.dv_clock.specs.Clock.{Upcoming, next_call}
 use Rattle.dv_clock.specs.Due.{coming_due}
+use Rattle.dv_clock.specs.Turns.{turn_of}
 use Rattle.dv_clock.specs.declared.call.Call.{Call}
 use Rattle.dv_clock.specs.declared.call.CallState.{CallState}
 use Rattle.dv_clock.specs.declared.call.CallState.TheVariants as call_state
@@ -19,6 +20,7 @@ use Rattle.dv_clock.specs.declared.due.Due.{Due}
 use Rattle.dv_clock.specs.declared.due.Due.TheVariants as what
 use Rattle.dv_clock.specs.declared.limits.TheConstants.{MOST_TICKS, MOST_DELAY}
 use Rattle.dv_script.specs.declared.body.Body.{Body}
+use Rattle.dv_script.specs.declared.script.Cooperator.{Cooperator as Settings}
 use Rattle.dv_prims.specs.DeferredList.{Gather, came}
 use Rattle.dv_prims.specs.Queue.{Queue, may_put, receiver, put_to, got_from, withdrawn}
 use Rattle.dv_prims.specs.Tokens.{Semaphore, is_unheld, asked, released, forgotten}
@@ -39,16 +41,21 @@ use Rattle.dv_store.specs.declared.store.Fired.{Fired}
 use Rattle.dv_store.specs.declared.store.Fired.TheVariants.{Set, Swallowed}
 use Rattle.dv_store.specs.declared.store.Step.{Step}
 use Rattle.dv_store.specs.declared.store.Step.TheVariants.{Nothing}
+use Rattle.dv_world.specs.Cooperator.{Cooperator, with_step, with_pause, with_resume, with_end, with_waiting, result_of, wants_tick, idle_tick}
+use Rattle.dv_world.specs.Looping.{next_due, with_turn, with_stopped, with_ended}
 use Rattle.dv_world.specs.Names.{number_of}
-use Rattle.dv_world.specs.Objects.{Objects, no_objects, naming_where, with_list, with_new_call, with_ended_call, with_time, with_lock, lock_changed, with_queue, queue_changed}
+use Rattle.dv_world.specs.Objects.{Objects, no_objects, naming_where, with_list, with_new_call, with_ended_call, with_time, with_lock, lock_changed, with_queue, queue_changed, cooperating, with_tick, without_tick}
 use Rattle.dv_world.specs.Pair.{passes}
 use Rattle.dv_world.specs.declared.canceller.Canceller.{Canceller}
 use Rattle.dv_world.specs.declared.canceller.Canceller.TheVariants as canceller
 use Rattle.dv_world.specs.declared.follow.Follow.{Follow}
 use Rattle.dv_world.specs.declared.follow.Follow.TheVariants as follow
+use Rattle.dv_world.specs.declared.looping_call.LoopingCall.{LoopingCall}
 use Rattle.dv_world.specs.declared.pair.Pair.{Pair}
 use Rattle.dv_world.specs.declared.performed.Performed.{Performed}
 use Rattle.dv_world.specs.declared.performed.Performed.TheVariants.{Done, Raised}
+use Rattle.dv_world.specs.declared.task.Task.{Task}
+use Rattle.dv_world.specs.declared.task.TaskEnd.{TaskEnd}
 use Rattle.dv_world.specs.declared.reached.Reached.{Reached}
 use Rattle.dv_world.specs.declared.reached.Reached.TheVariants as reached
 
@@ -65,8 +72,8 @@ pub record World : Type 0 where
   pub stopped : Bool
 
 -- nothing is made and nothing is told at first
-abbrev pub first_world : List Class → ℕ → World
-first_world classes limit = record { classes = classes; objects = no_objects; records = []; journal = empty limit; stopped = false }
+abbrev pub first_world : List Class → ℕ → Settings → World
+first_world classes limit settings = record { classes = classes; objects = no_objects settings; records = []; journal = empty limit; stopped = false }
 
 -- the Deferreds and the journal
 abbrev pub state_of : World → State Pair Canceller
@@ -336,6 +343,101 @@ call_cancelled number (Some call) w = state_cancelled number call.state w
 -- a delayed call is cancelled; in a stopped run nothing is
 unfoldable pub cancel_call : ℕ → World → Performed × World
 cancel_call number w = if w.stopped then (Done, w) else call_cancelled number (slice_get w.objects.clock.calls number) w
+
+-- the next turn of the loop that is found is scheduled; an id of no loop changes nothing
+abbrev pub turn_scheduled : ℕ → Option LoopingCall → World → World
+turn_scheduled l None w = w
+turn_scheduled l (Some x) w = aside (entry.LaterLoop x.name (next_due x w.objects.clock)) (with_turn l x) w
+
+abbrev pub schedule_turn : ℕ → World → World
+schedule_turn l w = turn_scheduled l (slice_get w.objects.loops l) w
+
+-- the loop that is found is stopped, and its next turn, where it is scheduled, is dropped
+abbrev pub loop_stopped : ℕ → Option LoopingCall → World → World
+loop_stopped l None w = w
+loop_stopped l (Some x) w = aside (entry.Stop x.name) (with_stopped l x) w
+
+abbrev pub stop_loop : ℕ → World → World
+stop_loop l w = loop_stopped l (slice_get w.objects.loops l) w
+
+-- a loop runs no more, which isn't told
+abbrev pub end_loop : ℕ → World → World
+end_loop l w = arrange (λ objects. with_ended l (slice_get objects.loops l) objects) w
+
+-- what the stopping of a loop raises that doesn't run
+abbrev pub not_running : Failure
+not_running = plain_failure assertion_error (codes "not running")
+
+-- the task that is found changes, which its entry tells; an id of no task changes nothing
+abbrev pub task_told : (Task → Entry) → (Task → Cooperator → Cooperator) → Option Task → World → World
+task_told entry change None w = w
+task_told entry change (Some x) w = aside (entry x) (cooperating (change x)) w
+
+-- a task is paused once more
+abbrev pub pause_task : ℕ → World → World
+pause_task t w = task_told (λ x. entry.PauseTask x.name) (with_pause t) (slice_get w.objects.cooperator.tasks t) w
+
+-- and once less
+abbrev pub resume_task : ℕ → World → World
+resume_task t w = task_told (λ x. entry.ResumeTask x.name) (with_resume t) (slice_get w.objects.cooperator.tasks t) w
+
+-- a task is paused until e is fired
+abbrev pub hold_task : ℕ → ℕ → World → World
+hold_task t e w = task_told (λ x. entry.Hold x.name e) (with_pause t) (slice_get w.objects.cooperator.tasks t) w
+
+-- d waits for the end of a task, unless that has ended
+abbrev pub await_task : ℕ → ℕ → World → World
+await_task t d w = task_told (λ x. entry.WhenDone x.name d) (with_waiting t d) (slice_get w.objects.cooperator.tasks t) w
+
+-- the task that is found takes the next step, and is answered with its next body
+abbrev pub step_taken : ℕ → Option Task → World → Option (ℕ × Option Body) × World
+step_taken t None w = (None, w)
+step_taken t (Some x) w = unless_stopped (Some (t, slice_get x.bodies 0)) (aside (entry.Step x.name) (cooperating (with_step t x)) w)
+
+-- whoever's turn it is takes the next step
+abbrev pub turn_taken : Option ℕ → World → Option (ℕ × Option Body) × World
+turn_taken None w = (None, w)
+turn_taken (Some t) w = step_taken t (slice_get w.objects.cooperator.tasks t) w
+
+abbrev pub take_step : World → Option (ℕ × Option Body) × World
+take_step w = turn_taken (turn_of w.objects.cooperator.turns) w
+
+-- who is answered, unless the run has stopped
+abbrev pub all_unless_stopped : List ℕ → World → List ℕ × World
+all_unless_stopped ds w = (if w.stopped then [] else ds, w)
+
+-- the task that is found ends, unless it has ended, and who waits for that is answered
+abbrev pub task_ended : ℕ → TaskEnd → Option Task → World → List ℕ × World
+task_ended t end None w = ([], w)
+task_ended t end (Some x) w =
+    if is_some x.end then ([], w) else all_unless_stopped x.waiting (aside (entry.End x.name (result_of x.name end)) (cooperating (with_end t end x)) w)
+
+abbrev pub end_task : ℕ → TaskEnd → World → List ℕ × World
+end_task t end w = task_ended t end (slice_get w.objects.cooperator.tasks t) w
+
+-- the next tick is scheduled
+abbrev pub schedule_tick : World → World
+schedule_tick w = let due = w.objects.clock.time + w.objects.cooperator.delay in aside (entry.LaterTick due) (with_tick due) w
+
+-- a tick is dropped, where there is one
+abbrev pub tick_dropped : Option ℕ → World → World
+tick_dropped None w = w
+tick_dropped (Some number) w = arrange (without_tick number) w
+
+-- outside of ticks, a tick is scheduled while somebody takes turns, and none while nobody does
+abbrev pub keep_tick : World → World
+keep_tick w = if wants_tick w.objects.cooperator then schedule_tick w else tick_dropped (idle_tick w.objects.cooperator) w
+
+-- a tick is under way, or none is any more
+abbrev pub begin_tick : World → World
+begin_tick w = arrange (cooperating (λ c. record c { tick = None; ticking = true })) w
+
+abbrev pub end_tick : World → World
+end_tick w = arrange (cooperating (λ c. record c { ticking = false })) w
+
+-- what the resuming of a task raises that isn't paused
+abbrev pub not_paused : Failure
+not_paused = plain_failure paused_not []
 
 -- what the gathering of what isn't the result of a list raises
 abbrev pub not_gathered : Failure

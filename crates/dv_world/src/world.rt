@@ -5,15 +5,18 @@ ghost use Rattle.dv_world.specs.declared.performed.Performed.TheVariants.{Raised
 ghost use Rattle.dv_world.specs.declared.follow.Follow.TheVariants.{Raise};
 
 use crate::canceller::Canceller;
+use crate::cooperator::Cooperator;
 use crate::fault::{failure, fault};
 use crate::follow::Follow;
 use crate::lent::{BodyRef, TextRef};
+use crate::looping_call::LoopingCall;
 use crate::names::Names;
 use crate::pair::Pair;
 use crate::performed::Performed;
 use crate::reached::Reached;
 use dv_clock::call_id::CallId;
 use dv_clock::clock::Clock;
+use dv_clock::loop_id::LoopId;
 use dv_journal::deferred_id::DeferredId;
 use dv_journal::entry::Entry;
 use dv_journal::error::Stop;
@@ -24,6 +27,7 @@ use dv_prims::lock_id::LockId;
 use dv_prims::queue::Queue;
 use dv_prims::queue_id::QueueId;
 use dv_prims::semaphore::Semaphore;
+use dv_script::script::Cooperator as Settings;
 use dv_store::error::{StoreFault, UnpauseFault};
 use dv_store::record::Record;
 use dv_store::store::{Fired, Step, Store};
@@ -36,6 +40,8 @@ use std::alloc::{AllocError, Global};
 use std::marker::Model;
 
 mod clock;
+pub mod cooperating;
+pub mod looping;
 
 /// The world of a run: its Deferreds, their names, the classes of failures and the journal. Once an entry doesn't fit
 /// into the journal the run has stopped: from then on nothing changes.
@@ -55,6 +61,9 @@ pub struct World<'s> {
     clock: Clock,
     call_names: Names<CallId>,
     bodies: Vec<BodyRef<'s>>,
+    loop_names: Names<LoopId>,
+    loops: Vec<LoopingCall<'s>>,
+    cooperator: Cooperator<'s>,
     store: Store<Pair<'s>, Canceller<'s>>,
     journal: Journal,
     stopped: bool,
@@ -72,7 +81,7 @@ impl<'s> Model for World<'s> {
 
     ghost coded = { Prim.hlevel (codes, body_contract.the_row.coded, class_contract.the_row.coded, failure_contract.the_row.coded, value_contract.the_row.coded) };
 
-    ghost view = { λ w. record { classes = w.classes.now; objects = record { names = w.names; locks = w.locks; semaphores = w.semaphores.items; queue_names = w.queue_names; queues = w.queues.items; lists = w.lists.items; clock = w.clock; call_names = w.call_names; bodies = w.bodies.items }; records = w.store; journal = w.journal; stopped = w.stopped } };
+    ghost view = { λ w. record { classes = w.classes.now; objects = record { names = w.names; locks = w.locks; semaphores = w.semaphores.items; queue_names = w.queue_names; queues = w.queues.items; lists = w.lists.items; clock = w.clock; call_names = w.call_names; bodies = w.bodies.items; loop_names = w.loop_names; loops = w.loops.items; cooperator = w.cooperator }; records = w.store; journal = w.journal; stopped = w.stopped } };
 }
 
 impl<'s> World<'s> {
@@ -83,11 +92,12 @@ impl<'s> World<'s> {
     ghost use Rattle.std.specs.Option.{option_copied};
     ghost use Rattle.dv_journal.specs.declared.entry.Entry.TheVariants as entry;
 
-    /// A world in which nothing is made, and whose journal takes so much weight.
-    pub fn new(alloc: Global, classes: &'s Classes, limit: u64) -> World<'s>
+    /// A world in which nothing is made, whose journal takes so much weight, and whose Cooperator takes its steps so.
+    pub fn new(alloc: Global, classes: &'s Classes, limit: u64, settings: Settings) -> World<'s>
         requires { limit < 2 ^ 32 }
-        ensures { result ≡ first_world classes.now limit }
+        ensures { result ≡ first_world classes.now limit settings }
     {
+        let Settings { units, delay } = settings;
         World {
             alloc,
             classes,
@@ -100,6 +110,9 @@ impl<'s> World<'s> {
             clock: Clock::new(alloc),
             call_names: Names::new(alloc),
             bodies: Vec::new(alloc),
+            loop_names: Names::new(alloc),
+            loops: Vec::new(alloc),
+            cooperator: Cooperator::new(alloc, units, delay),
             store: Store::new(alloc),
             journal: Journal::new(alloc, limit),
             stopped: false,

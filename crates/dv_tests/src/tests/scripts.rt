@@ -64,35 +64,7 @@ fn a_work_is_copied_whole(rt: HostRuntime) -> Result<(), Fail> {
 }
 
 /// Each event that isn't performed yet, and what is read of it.
-static READ: [(&str, &str); 11] = [
-    (
-        r#"["loop","a","b",1000000000000,true,{"do":[["pause","p"]],"end":["plus",-2]}]"#,
-        r#"Action(Loop(Text { text: "a" }, Text { text: "b" }, 1000000000000, true, Body { actions: Items { items: [Pause(Text { text: "p" })] }, end: Plus(-2) }))"#,
-    ),
-    (
-        r#"["stopLoop","a"]"#,
-        r#"Action(StopLoop(Text { text: "a" }))"#,
-    ),
-    (
-        r#"["cooperate","a",[{},{"end":["wait","w"]}]]"#,
-        r#"Action(Cooperate(Text { text: "a" }, Items { items: [Body { actions: Items { items: [] }, end: Pass }, Body { actions: Items { items: [] }, end: Wait(Text { text: "w" }) }] }))"#,
-    ),
-    (
-        r#"["whenDone","a","b"]"#,
-        r#"Action(WhenDone(Text { text: "a" }, Text { text: "b" }))"#,
-    ),
-    (
-        r#"["pauseTask","a"]"#,
-        r#"Action(PauseTask(Text { text: "a" }))"#,
-    ),
-    (
-        r#"["stopTask","a"]"#,
-        r#"Action(StopTask(Text { text: "a" }))"#,
-    ),
-    (
-        r#"["resumeTask","a"]"#,
-        r#"Action(ResumeTask(Text { text: "a" }))"#,
-    ),
+static READ: [(&str, &str); 4] = [
     (
         r#"["inline","a",[["do",["cancel","@"]],["await","x"],["try",[["end",["pass"]]],["TypeError"],[]]]]"#,
         r#"Action(Inline(Text { text: "a" }, Items { items: [Do(Cancel(Text { text: "@" })), Await(Text { text: "x" }), Try(Items { items: [End(Pass)] }, Items { items: [ClassId { place: 2 }] }, Items { items: [] })] }))"#,

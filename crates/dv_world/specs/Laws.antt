@@ -1,0 +1,37 @@
+-- What holds of every task.
+use Rattle.std.specs.Prelude.{◌≡◌, ℕ, List, [], Option, Some, None, slice_get}
+use Rattle.std.specs.Option.{option_map_or}
+use Rattle.dv_journal.specs.declared.entry.Entry.TheVariants as entry
+use Rattle.dv_script.specs.declared.body.Body.{Body}
+use Rattle.dv_world.specs.Cooperator.{with_new_task}
+use Rattle.dv_world.specs.Objects.{cooperating}
+use Rattle.dv_world.specs.World.{World, aside, take_step, pause_task, resume_task, hold_task, await_task, end_task}
+use Rattle.dv_world.specs.declared.task.Task.{Task}
+use Rattle.dv_world.specs.declared.task.TaskEnd.{TaskEnd}
+
+-- how task t has ended, if it has
+abbrev pub end_in : ℕ → List Task → Option TaskEnd
+end_in t tasks = option_map_or (λ x. x.end) (slice_get tasks t) None
+
+abbrev pub end_of : ℕ → World → Option TaskEnd
+end_of t w = end_in t w.objects.cooperator.tasks
+
+-- what comes of a world, whatever is done with its tasks, and whatever is done that leaves them as they are
+pub data Becomes (w : World) : World → Type 0 where
+  Same : Becomes w w
+  Elsewhere : (v u : World) → u.objects.cooperator.tasks ≡ v.objects.cooperator.tasks → Becomes w v → Becomes w u
+  Makes : (v : World) (name : List ℕ) (bodies : List Body) → Becomes w v → Becomes w (aside (entry.Task name) (cooperating (with_new_task name bodies)) v)
+  Steps : (v : World) → Becomes w v → Becomes w (take_step v).1
+  Pauses : (v : World) (t : ℕ) → Becomes w v → Becomes w (pause_task t v)
+  Resumes : (v : World) (t : ℕ) → Becomes w v → Becomes w (resume_task t v)
+  Holds : (v : World) (t e : ℕ) → Becomes w v → Becomes w (hold_task t e v)
+  Awaits : (v : World) (t d : ℕ) → Becomes w v → Becomes w (await_task t d v)
+  Ends : (v : World) (t : ℕ) (end : TaskEnd) → Becomes w v → Becomes w (end_task t end v).1
+
+-- a task that has ended stays as it has ended
+abbrev pub TasksEndOnce : Type 0
+TasksEndOnce = (w u : World) (t : ℕ) (end : TaskEnd) → end_of t w ≡ Some end → Becomes w u → end_of t u ≡ Some end
+
+-- and where it is to end again, nothing is told, and nobody is answered
+abbrev pub EndedTasksAreLeftAlone : Type 0
+EndedTasksAreLeftAlone = (w : World) (t : ℕ) (end again : TaskEnd) → end_of t w ≡ Some end → end_task t again w ≡ ([], w)

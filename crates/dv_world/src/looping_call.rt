@@ -1,0 +1,21 @@
+use crate::lent::{BodyRef, TextRef};
+use dv_clock::call_id::CallId;
+use dv_clock::interval::Interval;
+use dv_journal::deferred_id::DeferredId;
+
+/// A loop, which performs a body again and again (Twisted: `LoopingCall`).
+#[derive(Debug, Drop)]
+pub struct LoopingCall<'s> {
+    /// Its name at its making.
+    pub name: TextRef<'s>,
+    /// The Deferred that is fired when it ends (Twisted: what `LoopingCall.start` answers).
+    pub of: DeferredId,
+    /// When it was started, in ticks.
+    pub start: u64,
+    pub interval: Interval,
+    /// Whether it was neither stopped nor has failed (Twisted: `LoopingCall.running`).
+    pub running: bool,
+    /// Its turn that was scheduled last, which need not wait any more.
+    pub turn: Option<CallId>,
+    pub body: BodyRef<'s>,
+}
