@@ -210,6 +210,28 @@ def waiters_for_an_end(n):
     return script(events + [["callback", "d%d" % i, 0] for i in range(0, n, 2)] + [["advance", 1]])
 
 
+def inline_statements(n):
+    return script([["inline", "d", [["do", ["note", ""]] for _ in range(n)]]])
+
+
+def inline_awaits(n):
+    names = ["e%d" % i for i in range(n)]
+    events = [["deferred", name] for name in names] + [["inline", "d", [["await", name] for name in names]]]
+    return script(events + [["callback", name, 0] for name in names])
+
+
+def bodies_on_one(n):
+    return script([["deferred", "e"]] + [["inline", "d", [["await", "e"]]] for _ in range(n)] + [["callback", "e", 0]])
+
+
+def nested_tries(n):
+    statements = [["await", "e"]]
+    for _ in range(60):
+        statements = [["try", statements, ["TypeError"], []]]
+    fails = ["errback", "e", "ValueError", ""]
+    return script([event for _ in range(n) for event in (["deferred", "e"], ["inline", "d", statements], fails)])
+
+
 def swallowed_firings(n):
     return script([event for _ in range(n) for event in (["deferred", "d"], ["cancel", "d"], ["callback", "d", 1])])
 
@@ -246,6 +268,10 @@ BENCHES = [
     ("tasks of many lengths", tasks_of_different_lengths, 700),
     ("pauses inside ticks", tasks_that_pause_and_resume_others, 400),
     ("waiters for an end", waiters_for_an_end, 1000),
+    ("statements of a body", inline_statements, 1500),
+    ("awaits one by one", inline_awaits, 800),
+    ("bodies on one Deferred", bodies_on_one, 1100),
+    ("failures in nested tries", nested_tries, 20),
     ("pairs that pass", pairs_that_pass, 2000),
     ("refused firings", refused_firings, 2000),
     ("many notes", many_notes, 2600),

@@ -15,7 +15,7 @@ fn main(rt: HostRuntime) -> ExitCode {
         Ok(0) => {
             let mut reader = IoSource::new(rt.stdin());
             let mut writer = IoSink::new(rt.stdout());
-            exit_of(&run(rt.alloc(), &mut reader, &mut writer))
+            exit_of(&run(&rt, &mut reader, &mut writer))
         }
         Err(error) if error.kind() == io::ErrorKind::OutOfMemory => {
             exit_of(&Err(RunFault::OutOfMemory))

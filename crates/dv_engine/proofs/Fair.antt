@@ -1,7 +1,8 @@
 -- Each rule leads on by steps of the world, and leaves less to do, or less of each frame.
-use Rattle.std.proofs.Common.{ℕ, ◌+◌, ◌<◌, ◌≤◌, ◌≡◌, is_some, Bool, true, false, if◌then◌else◌, List, [], ◌∷◌, ◌++◌, Option, None, Some, length, nat_eq, ◌-◌, slice_get, refl, arith}
+use Rattle.std.proofs.Common.{ℕ, ◌+◌, ◌<◌, ◌≤◌, ◌≡◌, is_some, Bool, true, false, if◌then◌else◌, List, [], ◌∷◌, ◌++◌, Option, None, Some, length, nat_eq, ◌-◌, slice_get, refl, ap, arith}
 use Rattle.std.specs.Option.{option_map}
-use Rattle.dv_value.specs.Failure.{failure_in}
+use Rattle.dv_value.specs.Builtin.{name_error}
+use Rattle.dv_value.specs.Failure.{failure_in, fault}
 use Rattle.dv_value.specs.declared.failure.Failure.{Failure}
 use Rattle.dv_value.specs.declared.value.Value.{Value, Null, Fault, Text}
 use Rattle.dv_value.specs.declared.value.Value.TheVariants as value
@@ -22,6 +23,7 @@ use Rattle.dv_clock.specs.declared.due.Due.{Due}
 use Rattle.dv_clock.specs.declared.due.Due.TheVariants as what
 use Rattle.dv_script.specs.declared.body.Body as body_of
 use Rattle.dv_script.specs.declared.body.End.{End}
+use Rattle.dv_script.specs.declared.body.Statement.{Statement}
 use Rattle.dv_script.specs.declared.event.Event.{Event}
 use Rattle.dv_script.specs.declared.event.Event.TheVariants as event
 use Rattle.dv_store.specs.Laws.{used}
@@ -29,12 +31,13 @@ use Rattle.dv_store.specs.declared.store.Step.{Step}
 use Rattle.dv_store.specs.declared.store.Step.TheVariants.{Nothing, Passed, Run, Handed}
 use Rattle.dv_engine.specs.Acting.{with_object, with_named, with_lock, begun}
 use Rattle.dv_engine.specs.Acting as acting
-use Rattle.dv_engine.specs.Cancelling.{cancel_begun, canceller_ended}
+use Rattle.dv_engine.specs.Cancelling.{awaited_cancelled, cancel_begun, canceller_ended}
 use Rattle.dv_engine.specs.Cooperating.{notices, task_over, notified_by, notified, asked_when, when_done, paused_by, paused_of, stopped_by, resumed_of, is_over, hold_over, failed_by, stepped_by, stepped, step_begun, ticked, tick_stepped, tick_gone_on}
 use Rattle.dv_engine.specs.Cooperating as tasks
 use Rattle.dv_engine.specs.Deed.{deed_of}
 use Rattle.dv_engine.specs.declared.deed.Deed.{Deed}
-use Rattle.dv_engine.specs.declared.deed.Deed.TheVariants.{Idle, NoteOf, Make, FireWith, AddTo, ChainTo, PauseOf, UnpauseOf, CancelOf, MakeLock, MakeSemaphore, AcquireOf, ReleaseOf, RunOf, MaybeOf, MakeQueue, PutInto, GetFrom, ListOf, GatherOf, LaterOf, CancelCallOf, LoopOf, StopLoopOf, CooperateOf, WhenDoneOf, PauseTaskOf, StopTaskOf, ResumeTaskOf}
+use Rattle.dv_engine.specs.declared.deed.Deed.TheVariants.{Idle, NoteOf, Make, FireWith, AddTo, ChainTo, PauseOf, UnpauseOf, CancelOf, MakeLock, MakeSemaphore, AcquireOf, ReleaseOf, RunOf, MaybeOf, MakeQueue, PutInto, GetFrom, ListOf, GatherOf, LaterOf, CancelCallOf, LoopOf, StopLoopOf, CooperateOf, WhenDoneOf, PauseTaskOf, StopTaskOf, ResumeTaskOf, InlineOf}
+use Rattle.dv_engine.specs.Inlining.{inline_begun, going_where, resumed, await_ended, answer_of}
 use Rattle.dv_engine.specs.Listing.{with_children, added_to_children, has_all_at_once, fired_at_once, with_listed, listed, fired_by_child, come_by, results_given}
 use Rattle.dv_engine.specs.Locking.{granted, asked_of, acquired, released_of}
 use Rattle.dv_engine.specs.Looping.{turn_begun, loop_begun, looped, loop_over, turn_ended, loop_failed, over_where, stopped_of}
@@ -44,24 +47,38 @@ use Rattle.dv_engine.specs.Queueing.{handed_out, put_of, got, asked_for, get_of}
 use Rattle.dv_engine.specs.Performing.{gone_on, rest_turned}
 use Rattle.dv_engine.specs.Settling.{place, side_begun, settled}
 use Rattle.dv_engine.specs.Timing.{body_called, come_due_with}
+use Rattle.dv_engine.specs.Wanting.{awaited_by, wanted, inline_turned}
+use Rattle.dv_engine.specs.Wanting as wanting
 use Rattle.dv_engine.specs.Turn.{Turned, ◌over◌, done, settling, settle_next}
 use Rattle.dv_engine.specs.declared.frame.Frame.{Frame}
 use Rattle.dv_engine.specs.declared.frame.Frame.TheVariants as frame
+use Rattle.dv_engine.specs.declared.frame.Inlining.{Inlining}
+use Rattle.dv_engine.specs.declared.frame.Inlining.TheVariants.{Goes, Acted, Awaited}
 use Rattle.dv_engine.specs.declared.frame.Purpose.{Purpose}
 use Rattle.dv_engine.specs.declared.frame.Purpose.TheVariants.{Named, Holding, Turning}
 use Rattle.dv_engine.specs.declared.frame.Rest.{Rest}
 use Rattle.dv_engine.proofs.Budget.{Spares, budget, spares, step_took, reaches, cancel_took, aside_took}
 use Rattle.dv_engine.proofs.Lasting.{Comes}
-use Rattle.dv_engine.proofs.Sizes.{actions_size, body_size, body_size_out, deed_size, deed_fits}
+use Rattle.dv_engine.proofs.InlineSizes.{text_of, waiting_by, waiting_text, come_text, answer_text, action_text}
+use Rattle.dv_engine.proofs.Sizes.{actions_size, statements_size, body_size, body_size_out, deed_size, deed_fits}
 use Rattle.dv_world.specs.Ending.{failed_with}
 use Rattle.dv_journal.specs.Change.{change_of, Aside}
 use Rattle.dv_world.specs.Found.{deferreds_at}
 use Rattle.dv_world.specs.Names.{number_of}
-use Rattle.dv_world.specs.Pair.{chain}
-use Rattle.dv_world.specs.World.{World, state_of, deferred_at, step, append, fire, is_unfired, cancelled, cancel, pause, unpause, make, aside, lock_told, ask, release_found, release, forget, unless_stopped, put_into_found, put_into, get_from_found, get_from, withdraw, value_of, arrange, came_to_found, came_to, come_due_found, waiting_cancelled, state_cancelled, call_cancelled, cancel_call, turn_scheduled, loop_stopped, stop_loop, end_loop, task_told, pause_task, resume_task, hold_task, task_ended, end_task, all_unless_stopped, tick_dropped, keep_tick, end_tick, step_taken, turn_taken}
+use Rattle.dv_world.specs.Pair.{chain, continuing}
+use Rattle.dv_world.specs.World.{World, state_of, deferred_at, step, append, fire, is_unfired, cancelled, cancel, pause, unpause, make, aside, lock_told, ask, release_found, release, forget, unless_stopped, put_into_found, put_into, get_from_found, get_from, withdraw, value_of, arrange, came_to_found, came_to, come_due_found, waiting_cancelled, state_cancelled, call_cancelled, cancel_call, turn_scheduled, loop_stopped, stop_loop, end_loop, task_told, pause_task, resume_task, hold_task, task_ended, end_task, all_unless_stopped, tick_dropped, keep_tick, end_tick, step_taken, turn_taken, add_inline, begin_await, come_to_inline, end_await, awaited_in}
 use Rattle.dv_world.specs.Cooperator.{Cooperator, with_new_task, with_step, with_end, result_of, wants_tick, idle_tick}
-use Rattle.dv_world.specs.Objects.{Objects, with_queue, with_new_list, with_list, with_ended_call, cooperating}
+use Rattle.dv_world.specs.Objects.{Objects, with_queue, with_new_list, with_list, with_ended_call, cooperating, inlining}
 use Rattle.dv_world.specs.declared.canceller.Canceller.TheVariants.{Body, Token, Item, Children}
+use Rattle.dv_world.specs.declared.canceller.Canceller.TheVariants.{Inline as InlineCanceller}
+use Rattle.dv_world.specs.declared.inline_id.Inline.{Inline}
+use Rattle.dv_world.specs.declared.waiting.Waiting.{Waiting}
+use Rattle.dv_world.specs.declared.waiting.Waiting.TheVariants as waits
+use Rattle.dv_world.specs.Inlines.{Inlines, come_to, end_adding, end_adding_at}
+use Rattle.dv_world.specs.Waiting.{added}
+use Rattle.dv_inline.specs.Position.{Position, come, want_at}
+use Rattle.dv_inline.specs.declared.want.Want.{Want}
+use Rattle.dv_inline.specs.declared.want.Want.TheVariants.{Do, Await}
 use Rattle.dv_world.specs.declared.follow.Follow.{Follow}
 use Rattle.dv_world.specs.declared.follow.Follow.TheVariants as follow
 use Rattle.dv_world.specs.Looping.{is_scheduled, with_new_loop}
@@ -87,6 +104,12 @@ can w = budget (state_of w)
 pub pays : (w u : World) → Comes w u → can u ≤ can w
 pays w u c = (c.keeps (λ v x. Spares (state_of v) (state_of x)) spares).pays
 
+-- what is left of an inline body
+abbrev pub inline_rank : Inlining → ℕ
+inline_rank (Goes i p) = 1 + text_of p
+inline_rank (Acted i p) = waiting_text p
+inline_rank (Awaited i e p) = waiting_text p
+
 -- what is left of a frame
 abbrev pub rank : Frame → ℕ
 rank (frame.Settle d) = 0
@@ -102,6 +125,7 @@ rank (frame.Stepped t) = 2
 rank (frame.Tick units) = 0
 rank frame.Tell = 0
 rank frame.Due = 0
+rank (frame.Inline inlining) = inline_rank inlining
 
 -- so it is with each frame
 abbrev pub Each : (Frame → Type 0) → List Frame → Type 0
@@ -395,6 +419,61 @@ results_comes : (o : Option Value) (w : World) → Comes w (results_given o w).2
 results_comes None w = same w
 results_comes (Some seconds) w = same w
 
+-- an inline body
+where_comes : (i : Inline) (o : Option (Position × Value)) (w : World) → Comes w (going_where i o w).2
+where_comes i None w = same w
+where_comes i (Some came) w = same w
+
+inlining_comes : (i : ℕ) (v : Value) (w : World) → Comes w (come_to_inline i v w).1
+unfolding come_to_inline
+inlining_comes i v w = let t = come_to i v w.objects.inlines in first_comes w.stopped (None, w) (t.0, arrange (inlining (λ inlines. t.1)) w) w (same w) (record { keeps = λ R k. k.by_arrange _ w })
+
+resumed_comes : (i : Inline) (v : Value) (w : World) → Comes w (resumed i v w).2
+resumed_comes i v w = let t = come_to_inline i.id v w in join w t.1 _ (inlining_comes i.id v w) (where_comes i t.0 t.1)
+
+awaited_comes : (o : Option ℕ) (w : World) → Comes w (awaited_cancelled o w).2
+awaited_comes None w = same w
+awaited_comes (Some e) w = same w
+
+inline_begun_fair : (m : ℕ) (name : List ℕ) (statements : List Statement) (w : World) → 2 + statements_size statements < m → Fair w m (inline_begun name statements w)
+inline_begun_fair m name statements w q =
+    let added = add_inline w in
+    record { comes = join w added _ (record { keeps = λ R l. l.by_arrange _ w }) (record { keeps = λ R l. l.by_make (Some name) (Some (InlineCanceller (length w.objects.inlines))) added }); falls = lighter (omega (arith, q), tt) }
+
+-- the body that goes on after its pair was added is the one that was to await
+abbrev IsSame : Position → Option (Position × Value) → Type 0
+IsSame p None = Unit {0}
+IsSame p (Some came) = came.0 ≡ p
+
+added_same : (e : ℕ) (p : Position) (waiting : Waiting Position) → IsSame p (added e p waiting).0
+added_same e p waits.Nothing = tt
+added_same e p waits.Adding = tt
+added_same e p (waits.Came input) = refl
+added_same e p (waits.Awaiting awaited body) = tt
+
+end_same : (i e : ℕ) (p : Position) (o : Option (Waiting Position)) (inlines : Inlines) → IsSame p (end_adding_at o i e p inlines).0
+end_same i e p None inlines = tt
+end_same i e p (Some waiting) inlines = added_same e p waiting
+
+first_same : (p : Position) (b : Bool) (w : World) (t : Option (Position × Value) × World) → IsSame p t.0 → IsSame p (if b then (None, w) else t).0
+first_same p true w t h = tt
+first_same p false w t h = h
+
+end_await_same : (i e : ℕ) (p : Position) (w : World) → IsSame p (end_await i e p w).0
+unfolding end_await
+end_await_same i e p w = let t = end_adding i e p w.objects.inlines in first_same p w.stopped w (t.0, arrange (inlining (λ inlines. t.1)) w) (end_same i e p (slice_get w.objects.inlines i) w.objects.inlines)
+
+end_await_comes : (i e : ℕ) (p : Position) (w : World) → Comes w (end_await i e p w).1
+unfolding end_await
+end_await_comes i e p w = let t = end_adding i e p w.objects.inlines in first_comes w.stopped (None, w) (t.0, arrange (inlining (λ inlines. t.1)) w) w (same w) (record { keeps = λ R k. k.by_arrange _ w })
+
+where_fair : (i : Inline) (p : Position) (o : Option (Position × Value)) (w u : World) → Comes w u → IsSame p o → Fair w (waiting_text p) (going_where i o u)
+where_fair i p None w u c h = done_fair _ w u c
+where_fair i p (Some came) w u c h = record { comes = c; falls = lighter (omega (arith, answer_text u.classes came.1 came.0, ap waiting_text h), tt) }
+
+await_ended_fair : (i : Inline) (e : ℕ) (p : Position) (w : World) → Fair w (waiting_text p) (await_ended i e p w)
+await_ended_fair i e p w = let t = end_await i.id e p w in where_fair i p t.0 w t.1 (end_await_comes i.id e p w) (end_await_same i.id e p w)
+
 side_comes : (d : ℕ) (s : Option Side) (input : Value) (w : World) → Comes w (side_begun d s input w).2
 side_comes d None input w = same w
 side_comes d (Some (side.Body body)) input w = same w
@@ -409,6 +488,7 @@ side_comes d (Some (side.EndLoop l)) input w =
     join w ended _ (record { keeps = λ R k. k.by_arrange _ w }) (loop_failed_fair 1 (slice_get ended.objects.loops l) input ended (omega arith)).comes
 side_comes d (Some (side.ResumeTask t)) input w = (hold_over_fair 1 t w).comes
 side_comes d (Some (side.FailTask t)) input w = (failed_fair 2 t (failure_in input) w (omega arith)).comes
+side_comes d (Some (side.Resume i)) input w = resumed_comes i input w
 
 settled_fair : (m d : ℕ) (w0 : World) (move : Step Pair) (w : World) → Comes w0 w → can w + used move ≤ can w0 → Fair w0 m (settled d move w)
 settled_fair m d w0 Nothing w c h = done_fair m w0 w c
@@ -421,6 +501,7 @@ cancel_fair m w0 reached.Nothing w c h = done_fair m w0 w c
 cancel_fair m w0 (reached.Fire d) w c h = paid_fair m 1 w0 w (cancel_begun (reached.Fire d) w) c h (omega arith) (record { keeps = λ R l. l.by_fire_guarded d w })
 cancel_fair m w0 (reached.Run d canceller) w c h = paid_fair m 1 w0 w (cancel_begun (reached.Run d canceller) w) c h (omega arith) (same w)
 cancel_fair m w0 (reached.Children children) w c h = paid_fair m 1 w0 w (cancel_begun (reached.Children children) w) c h (omega arith) (same w)
+cancel_fair m w0 (reached.Inline i) w c h = paid_fair m 1 w0 w (cancel_begun (reached.Inline i) w) c h (omega arith) (awaited_comes (awaited_in i w) w)
 cancel_fair m w0 (reached.ForToken d l) w c h =
     let free = forget l d w in
     let arranged : Comes w free = record { keeps = λ R k. k.by_arrange _ w } in
@@ -542,9 +623,31 @@ begun_fair m itself (WhenDoneOf name task) w q = found_fair m (number_of task w.
 begun_fair m itself (PauseTaskOf name) w q = found_fair m (number_of name w.objects.cooperator.task_names) name w _ (λ t. paused_fair m t (slice_get w.objects.cooperator.tasks t) w)
 begun_fair m itself (StopTaskOf name) w q = found_fair m (number_of name w.objects.cooperator.task_names) name w _ (λ t. stopped_task_fair m t (slice_get w.objects.cooperator.tasks t) w q)
 begun_fair m itself (ResumeTaskOf name) w q = found_fair m (number_of name w.objects.cooperator.task_names) name w _ (λ t. resumed_fair m t (slice_get w.objects.cooperator.tasks t) w)
+begun_fair m itself (InlineOf name statements) w q = inline_begun_fair m name statements w q
 
 pub begun_comes : (itself : Option ℕ) (deed : Deed) (w : World) → Comes w (begun itself deed w).2
 begun_comes itself deed w = (begun_fair (1 + deed_size deed) itself deed w (omega arith)).comes
+
+awaited_fair : (m : ℕ) (o : Option ℕ) (name : List ℕ) (i : Inline) (p : Position) (w : World) → waiting_text p < m → Fair w m (awaited_by o name i p w)
+awaited_fair m None name i p w q = record { comes = same w; falls = lighter (omega (arith, answer_text w.classes (fault name_error name) p, q), tt) }
+awaited_fair m (Some e) name i p w q =
+    let told = begin_await i e w in
+    record { comes = join w told _ (by_aside (entry.Await i.of e) _ w refl) (record { keeps = λ R l. l.by_append e (continuing i) told }); falls = lighter (omega (arith, q), (q, tt)) }
+
+wanted_fair : (m : ℕ) (i : Inline) (o : Option Want) (p : Position) (w : World) → want_at p ≡ o → text_of p < m → Fair w m (wanted i o p w)
+wanted_fair m i None p w h q = now_fair m Done w
+wanted_fair m i (Some (Do action)) p w h q =
+    over_fair m w (begun (Some i.of) (deed_of (out-Action action)) w) _ (omega (arith, q, ap (λ o. waiting_by o p) h), tt) (begun_fair m (Some i.of) (deed_of (out-Action action)) w (omega (arith, deed_fits action, action_text p action h, q)))
+wanted_fair m i (Some (Await name)) p w h q = awaited_fair m (deferred_at (Some i.of) name w) name i p w (omega (arith, q, ap (λ o. waiting_by o p) h))
+
+reached_fair : (m : ℕ) (i : Inline) (o : Option Value) (p : Position) (w : World) → text_of p < m → Fair w m (wanting.reached i o p w)
+reached_fair m i (Some result) p w q = next_fair m i.of (fire i.of result w).0 w (fire i.of result w).1 (omega (arith, q)) (by_fire i.of result w)
+reached_fair m i None p w q = wanted_fair m i (want_at p) p w refl q
+
+inline_fair : (x : Inlining) (o : Performed) (w : World) → Fair w (inline_rank x) (inline_turned x o w)
+inline_fair (Goes i p) o w = reached_fair (1 + text_of p) i (come p).result (come p) w (omega (arith, come_text p))
+inline_fair (Acted i p) o w = record { comes = same w; falls = lighter (answer_text w.classes (answer_of o) p, tt) }
+inline_fair (Awaited i e p) o w = await_ended_fair i e p w
 
 gone_fair : (itself : Option ℕ) (actions : List Action) (end : End) (input : Value) (w : World) → Fair w (1 + actions_size actions) (gone_on itself actions end input w)
 gone_fair itself [] end input w = now_fair _ _ w
@@ -637,6 +740,7 @@ turned_fair (frame.Stepped t) o w = stepped_fair t o w
 turned_fair (frame.Tick units) o w = tick_fair 0 units w
 turned_fair frame.Tell o w = done_fair 0 w _ (told_comes (failed_with o) w)
 turned_fair frame.Due o w = due_fair 0 (next_call w.objects.clock) w
+turned_fair (frame.Inline inlining) o w = inline_fair inlining o w
 
 pub happening_comes : (event : Event) (w : World) → Comes w (happening event w).2
 happening_comes (event.Action action) w = begun_comes None (deed_of (out-Action action)) w

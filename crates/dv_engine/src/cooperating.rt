@@ -9,12 +9,12 @@ ghost use Rattle.dv_engine.specs.declared.deed.Deed.TheVariants.{CooperateOf, Wh
 
 use crate::frame::Frame;
 use crate::settling::{settle_next, whole};
-use crate::stack::Stack;
 use dv_clock::task_id::TaskId;
 use dv_journal::deferred_id::DeferredId;
+use dv_script::lent::{BodiesRef, BodyRef, TextRef};
 use dv_value::failure::Failure;
+use dv_value::stack::Stack;
 use dv_value::value::Value;
-use dv_world::lent::{BodiesRef, BodyRef, TextRef};
 use dv_world::pair::Pair;
 use dv_world::performed::Performed;
 use dv_world::task::TaskEnd;

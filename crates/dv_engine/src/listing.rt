@@ -9,16 +9,16 @@ ghost use Rattle.dv_world.specs.World.{World as Seen};
 
 use crate::frame::Frame;
 use crate::settling::settle_next;
-use crate::stack::Stack;
 use dv_journal::deferred_id::DeferredId;
 use dv_prims::gather::{Came, Flags, seconds};
 use dv_prims::list_id::ListId;
+use dv_script::lent::{TextRef, TextsRef};
 use dv_value::items::Items;
+use dv_value::stack::Stack;
 use dv_value::value::Value;
 use dv_world::canceller::Canceller;
 use dv_world::found::{Found, find_all};
 use dv_world::given::Given;
-use dv_world::lent::{TextRef, TextsRef};
 use dv_world::pair::{Child, Pair};
 use dv_world::performed::Performed;
 use dv_world::world::{World, not_gathered, unbound};

@@ -8,13 +8,13 @@ ghost use Rattle.dv_engine.specs.declared.deed.Deed.TheVariants.{LoopOf, StopLoo
 use crate::frame::{Frame, Purpose};
 use crate::maybe::perform_for;
 use crate::settling::settle_next;
-use crate::stack::Stack;
 use dv_clock::loop_id::LoopId;
 use dv_journal::deferred_id::DeferredId;
 use dv_journal::entry::Entry;
+use dv_script::lent::{BodyRef, TextRef};
+use dv_value::stack::Stack;
 use dv_value::text::Text;
 use dv_value::value::Value;
-use dv_world::lent::{BodyRef, TextRef};
 use dv_world::performed::Performed;
 use dv_world::world::looping::not_running;
 use dv_world::world::{World, unbound};

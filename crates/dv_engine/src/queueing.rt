@@ -7,13 +7,13 @@ ghost use Rattle.dv_engine.specs.declared.deed.Deed.TheVariants.{PutInto, GetFro
 
 use crate::frame::Frame;
 use crate::settling::settle_next;
-use crate::stack::Stack;
 use dv_journal::deferred_id::DeferredId;
 use dv_prims::queue_id::QueueId;
+use dv_script::lent::TextRef;
+use dv_value::stack::Stack;
 use dv_value::value::Value;
 use dv_world::canceller::Canceller;
 use dv_world::given::Given;
-use dv_world::lent::TextRef;
 use dv_world::performed::Performed;
 use dv_world::world::{World, overflow, unbound, underflow};
 use std::alloc::{AllocError, Global};

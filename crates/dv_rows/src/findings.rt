@@ -1,6 +1,7 @@
 use crate::row::Row;
-use std::alloc::{AllocError, Global};
+use std::alloc::{AllocError, AllocGlobal};
 use std::fmt::{self, Display, Formatter};
+use std::random::RandomSource;
 
 /// What the runs of a file's rows came to.
 #[derive(Drop)]
@@ -15,50 +16,68 @@ pub struct Findings<'a> {
 
 impl<'a> Findings<'a> {
     /// Runs the rows of a file of this text, each of which begins with a line `== NAME`.
-    pub fn of_rows(alloc: Global, file: &'a str, text: &str) -> Result<Findings<'a>, AllocError> {
+    pub fn of_rows<S: RandomSource + AllocGlobal>(
+        rt: &S,
+        file: &'a str,
+        text: &str,
+    ) -> Result<Findings<'a>, AllocError> {
         let mut findings = Findings {
             file,
             rows: 0,
             runs: 0,
             differing: 0,
-            lines: String::new(alloc),
+            lines: String::new(rt.alloc()),
         };
         for part in text.strip_prefix("== ").unwrap_or(text).split("\n== ") {
-            findings.add_row(alloc, &Row::read(part))?;
+            findings.add_row(rt, &Row::read(part))?;
         }
         Ok(findings)
     }
 
     /// Runs the script of a row, or where it has frames, each of its lines in each frame.
-    fn add_row(&mut self, alloc: Global, row: &Row<'_>) -> Result<(), AllocError> {
+    fn add_row<S: RandomSource + AllocGlobal>(
+        &mut self,
+        rt: &S,
+        row: &Row<'_>,
+    ) -> Result<(), AllocError> {
         self.rows = self.rows.saturating_add(1);
         if !row.is_framed() {
-            let script = row.whole_script(alloc)?;
-            return self.add_run(alloc, row, script.as_str());
+            let script = row.whole_script(rt.alloc())?;
+            return self.add_run(rt, row, script.as_str());
         }
         for line in row.script.lines() {
             if let Some(frame) = line.strip_prefix(":: ") {
-                self.add_frame(alloc, row, frame)?;
+                self.add_frame(rt, row, frame)?;
             }
         }
         Ok(())
     }
 
     /// Runs each line of a row in this frame, in the place of its `%`.
-    fn add_frame(&mut self, alloc: Global, row: &Row<'_>, frame: &str) -> Result<(), AllocError> {
+    fn add_frame<S: RandomSource + AllocGlobal>(
+        &mut self,
+        rt: &S,
+        row: &Row<'_>,
+        frame: &str,
+    ) -> Result<(), AllocError> {
         for line in row.script.lines() {
             if !line.starts_with(":: ") {
-                let script = frame.replace(alloc, "%", line)?;
-                self.add_run(alloc, row, script.as_str())?;
+                let script = frame.replace(rt.alloc(), "%", line)?;
+                self.add_run(rt, row, script.as_str())?;
             }
         }
         Ok(())
     }
 
     /// Runs a script, and keeps where the run differs from the row.
-    fn add_run(&mut self, alloc: Global, row: &Row<'_>, script: &str) -> Result<(), AllocError> {
+    fn add_run<S: RandomSource + AllocGlobal>(
+        &mut self,
+        rt: &S,
+        row: &Row<'_>,
+        script: &str,
+    ) -> Result<(), AllocError> {
         self.runs = self.runs.saturating_add(1);
-        let Some(difference) = row.difference(alloc, script)? else {
+        let Some(difference) = row.difference(rt, script)? else {
             return Ok(());
         };
         self.differing = self.differing.saturating_add(1);

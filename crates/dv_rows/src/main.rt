@@ -11,7 +11,7 @@ use std::{env, fs, io};
 fn main(rt: HostRuntime) -> io::Result<()> {
     for file in env::args(&rt)?.skip(1) {
         let text = fs::read_to_string(&rt, file.as_str())?;
-        let findings = Findings::of_rows(rt.alloc(), file.as_str(), text.as_str())?;
+        let findings = Findings::of_rows(&rt, file.as_str(), text.as_str())?;
         print!(rt; "{findings}")?;
     }
     Ok(())

@@ -3,7 +3,8 @@ use dv_journal::memory_sink::MemorySink;
 use dv_run::exit::exit_of;
 use dv_run::memory_source::MemorySource;
 use dv_run::run::run;
-use std::alloc::{AllocError, Global};
+use std::alloc::{AllocError, AllocGlobal, Global};
+use std::random::RandomSource;
 
 /// How many bytes a run may print.
 const ROOM: usize = 8_388_608;
@@ -45,10 +46,15 @@ impl<'a> Row<'a> {
     }
 
     /// Runs a script, and tells where the run first differs from what the row says.
-    pub fn difference(&self, alloc: Global, script: &str) -> Result<Option<String>, AllocError> {
+    pub fn difference<S: RandomSource + AllocGlobal>(
+        &self,
+        rt: &S,
+        script: &str,
+    ) -> Result<Option<String>, AllocError> {
+        let alloc = rt.alloc();
         let mut source = MemorySource::new(script.as_bytes(), 4096);
         let mut sink = MemorySink::new(alloc, ROOM, 4096)?;
-        let ending = match exit_of(&run(alloc, &mut source, &mut sink)) {
+        let ending = match exit_of(&run(rt, &mut source, &mut sink)) {
             (status, "") => format!(in alloc; "{status}")?,
             (status, text) => format!(in alloc; "{status} {text}")?,
         };

@@ -13,7 +13,8 @@ use dv_reader::MOST_BYTES;
 use dv_reader::error::ScriptFault;
 use dv_reader::read_script::ReadScript;
 use dv_script::script::Script;
-use std::alloc::Global;
+use std::alloc::{AllocGlobal, Global};
+use std::random::RandomSource;
 
 /// Reads a script to the end of the input, performs its events, and writes what happened, a line an entry, and then a
 /// line for each Deferred that they made. Answers the report of which that is the text: the journal, what became of
@@ -24,8 +25,8 @@ use std::alloc::Global;
 /// where the answer is a read fault, the writer where it is a write fault, and neither has in any other case. A script
 /// that uses what isn't performed yet is refused as `BadShape`.
 #[tactic(auto, using(crate::proofs::RunLemmas::run_rules))]
-pub fn run<R: Source, W: Sink>(
-    alloc: Global,
+pub fn run<S: RandomSource + AllocGlobal, R: Source, W: Sink>(
+    rt: &S,
     reader: &mut R,
     writer: &mut W,
 ) -> Result<Report, RunFault>
@@ -34,8 +35,9 @@ pub fn run<R: Source, W: Sink>(
     ensures reader { ReaderFailed result (R.failures reader.old) (R.failures reader.new) }
     ensures writer { WriterFailed result (W.failures writer.old) (W.failures writer.new) }
 {
+    let alloc = rt.alloc();
     let script = script_of(alloc, reader)?;
-    let report = perform(alloc, &script)?;
+    let report = perform(rt, &script)?;
     print_report(alloc, &script.classes, &report, writer)?;
     Ok(report)
 }

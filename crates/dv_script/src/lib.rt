@@ -4,5 +4,6 @@
 pub mod action;
 pub mod body;
 pub mod event;
+pub mod lent;
 pub mod script;
 pub mod work;

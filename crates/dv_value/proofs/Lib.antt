@@ -1,3 +1,4 @@
 pub mod Names
 pub mod Paths
 pub mod Quoted
+pub mod StackLemmas

@@ -2,13 +2,17 @@
 use Rattle.std.specs.Prelude.{ℕ, Bool, true, false, List, Option, None, Some, Result, Ok, Err}
 use Rattle.dv_value.specs.declared.classes.Class.{Class}
 use Rattle.dv_value.specs.declared.failure.Failure.{Failure, out-Failure, roll-Failure}
-use Rattle.dv_value.specs.declared.value.Value.{Value, out-Value}
+use Rattle.dv_value.specs.declared.value.Value.{Value, Fault, out-Value}
 use Rattle.dv_value.specs.declared.value.Value.TheOpen.{Value-F}
 use Rattle.dv_value.specs.Classes.{check}
 
 -- a failure of a class, with none inside
 abbrev pub plain_failure : ℕ → List ℕ → Failure
 plain_failure class message = roll-Failure (record { class = class; message = message; sub = None })
+
+-- such a failure, as a value
+abbrev pub fault : ℕ → List ℕ → Value
+fault class message = Fault (plain_failure class message)
 
 -- the class of a failure
 abbrev pub class_of : Failure → ℕ

@@ -7,7 +7,7 @@ use Rattle.dv_value.specs.Builtin.{task_done, task_stopped, task_failed}
 use Rattle.dv_value.specs.Failure.{plain_failure}
 use Rattle.dv_value.specs.declared.failure.Failure.{Failure}
 use Rattle.dv_value.specs.declared.value.Value.{Value, Text, Fault}
-use Rattle.dv_world.specs.Given.{fault}
+use Rattle.dv_value.specs.Failure.{fault}
 use Rattle.dv_world.specs.Names.{Names, with_name}
 use Rattle.dv_world.specs.declared.task.Task.{Task}
 use Rattle.dv_world.specs.declared.task.TaskEnd.{TaskEnd}

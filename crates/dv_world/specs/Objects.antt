@@ -1,4 +1,4 @@
--- What stands beside the Deferreds: names, locks and semaphores, queues, what DeferredLists have of their children, the clock with its delayed calls, loops, and the Cooperator.
+-- What stands beside the Deferreds: names, locks and semaphores, queues, what DeferredLists have of their children, the clock with its delayed calls, loops, the Cooperator, and what inline bodies wait for.
 use Rattle.std.specs.Prelude.{ℕ, List, [], ◌∷◌, ◌++◌, length, Option, None, Some, slice_set}
 use Rattle.dv_clock.specs.Clock.{Clock, new_clock, with_call, ended}
 use Rattle.dv_clock.specs.declared.call.CallState.{CallState}
@@ -11,10 +11,12 @@ use Rattle.dv_prims.specs.declared.gather.Flags.{Flags}
 use Rattle.dv_script.specs.declared.body.Body.{Body}
 use Rattle.dv_script.specs.declared.script.Cooperator.{Cooperator as Settings}
 use Rattle.dv_world.specs.Cooperator.{Cooperator, new_cooperator}
+use Rattle.dv_world.specs.Inlines.{Inlines}
 use Rattle.dv_world.specs.Names.{Names, with_name}
+use Rattle.dv_world.specs.declared.waiting.Waiting.TheVariants.{Nothing}
 use Rattle.dv_world.specs.declared.looping_call.LoopingCall.{LoopingCall}
 
--- what stands beside the Deferreds: their names, locks and semaphores with theirs, queues with theirs, and the lists; the clock, delayed calls with their names, and their bodies; loops with theirs, and the Cooperator with its tasks
+-- what stands beside the Deferreds: their names, locks and semaphores with theirs, queues with theirs, and the lists; the clock, delayed calls with their names, and their bodies; loops with theirs, the Cooperator with its tasks, and what inline bodies wait for
 pub record Objects : Type 0 where
   pub names : Names ℕ
   pub locks : Names ℕ
@@ -28,10 +30,11 @@ pub record Objects : Type 0 where
   pub loop_names : Names ℕ
   pub loops : List LoopingCall
   pub cooperator : Cooperator
+  pub inlines : Inlines
 
 -- nothing stands there at first but a Cooperator without tasks
 abbrev pub no_objects : Settings → Objects
-no_objects settings = record { names = []; locks = []; semaphores = []; queue_names = []; queues = []; lists = []; clock = new_clock; call_names = []; bodies = []; loop_names = []; loops = []; cooperator = new_cooperator settings.units settings.delay }
+no_objects settings = record { names = []; locks = []; semaphores = []; queue_names = []; queues = []; lists = []; clock = new_clock; call_names = []; bodies = []; loop_names = []; loops = []; cooperator = new_cooperator settings.units settings.delay; inlines = [] }
 
 -- a name of a Deferred is bound
 abbrev pub naming : List ℕ → ℕ → Objects → Objects
@@ -108,3 +111,11 @@ with_tick due objects = record objects { clock = with_call due Tick objects.cloc
 -- the tick that is scheduled is dropped
 abbrev pub without_tick : ℕ → Objects → Objects
 without_tick number objects = record objects { clock = ended number Dropped objects.clock; cooperator = record objects.cooperator { tick = None } }
+
+-- what inline bodies wait for changes
+abbrev pub inlining : (Inlines → Inlines) → Objects → Objects
+inlining change objects = record objects { inlines = change objects.inlines }
+
+-- an inline body is added, which waits for nothing
+abbrev pub with_new_inline : Objects → Objects
+with_new_inline objects = inlining (λ inlines. inlines ++ Nothing ∷ []) objects

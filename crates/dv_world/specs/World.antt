@@ -42,20 +42,24 @@ use Rattle.dv_store.specs.declared.store.Fired.TheVariants.{Set, Swallowed}
 use Rattle.dv_store.specs.declared.store.Step.{Step}
 use Rattle.dv_store.specs.declared.store.Step.TheVariants.{Nothing}
 use Rattle.dv_world.specs.Cooperator.{Cooperator, with_step, with_pause, with_resume, with_end, with_waiting, result_of, wants_tick, idle_tick}
+use Rattle.dv_inline.specs.Position.{Position}
+use Rattle.dv_world.specs.Inlines.{come_to, end_adding, now_waiting, awaited_by}
 use Rattle.dv_world.specs.Looping.{next_due, with_turn, with_stopped, with_ended}
 use Rattle.dv_world.specs.Names.{number_of}
-use Rattle.dv_world.specs.Objects.{Objects, no_objects, naming_where, with_list, with_new_call, with_ended_call, with_time, with_lock, lock_changed, with_queue, queue_changed, cooperating, with_tick, without_tick}
+use Rattle.dv_world.specs.Objects.{Objects, no_objects, naming_where, with_list, with_new_call, with_ended_call, with_time, with_lock, lock_changed, with_queue, queue_changed, cooperating, with_tick, without_tick, inlining, with_new_inline}
 use Rattle.dv_world.specs.Pair.{passes}
 use Rattle.dv_world.specs.declared.canceller.Canceller.{Canceller}
 use Rattle.dv_world.specs.declared.canceller.Canceller.TheVariants as canceller
 use Rattle.dv_world.specs.declared.follow.Follow.{Follow}
 use Rattle.dv_world.specs.declared.follow.Follow.TheVariants as follow
+use Rattle.dv_world.specs.declared.inline_id.Inline.{Inline}
 use Rattle.dv_world.specs.declared.looping_call.LoopingCall.{LoopingCall}
 use Rattle.dv_world.specs.declared.pair.Pair.{Pair}
 use Rattle.dv_world.specs.declared.performed.Performed.{Performed}
 use Rattle.dv_world.specs.declared.performed.Performed.TheVariants.{Done, Raised}
 use Rattle.dv_world.specs.declared.task.Task.{Task}
 use Rattle.dv_world.specs.declared.task.TaskEnd.{TaskEnd}
+use Rattle.dv_world.specs.declared.waiting.Waiting.TheVariants.{Adding}
 use Rattle.dv_world.specs.declared.reached.Reached.{Reached}
 use Rattle.dv_world.specs.declared.reached.Reached.TheVariants as reached
 
@@ -195,13 +199,14 @@ unpause d w =
     if w.stopped then (follow.Nothing, w) else
     let told = pausing.unpause d (state_of w) in unpaused told.0 told.1 w
 
--- an unfired Deferred is to be fired, after its canceller has run, or after it was taken out of where it waits; of a list the children are to be cancelled
+-- an unfired Deferred is to be fired, after its canceller has run, or after it was taken out of where it waits; of a list the children are to be cancelled, and of an inline body what it awaits
 abbrev pub unfired_reached : ℕ → Option Canceller → Reached
 unfired_reached d None = reached.Fire d
 unfired_reached d (Some (canceller.Body body)) = reached.Run d body
 unfired_reached d (Some (canceller.Token l)) = reached.ForToken d l
 unfired_reached d (Some (canceller.Item k)) = reached.ForItem d k
 unfired_reached d (Some (canceller.Children children)) = reached.Children children
+unfired_reached d (Some (canceller.Inline i)) = reached.Inline i
 
 -- nothing happens to one that is fired
 abbrev pub record_reached : ℕ → Option (Record Pair Canceller) → Reached
@@ -438,6 +443,26 @@ end_tick w = arrange (cooperating (λ c. record c { ticking = false })) w
 -- what the resuming of a task raises that isn't paused
 abbrev pub not_paused : Failure
 not_paused = plain_failure paused_not []
+
+-- an inline body is made, which waits for nothing, and isn't told
+abbrev pub add_inline : World → World
+add_inline w = arrange with_new_inline w
+
+-- the inline body of d is to await e
+abbrev pub begin_await : Inline → ℕ → World → World
+begin_await i e w = aside (entry.Await i.of e) (inlining (now_waiting i.id Adding)) w
+
+-- what an inline body awaits has come; the body is answered with it, where it goes on now
+unfoldable pub come_to_inline : ℕ → Value → World → Option (Position × Value) × World
+come_to_inline i v w = if w.stopped then (None, w) else let t = come_to i v w.objects.inlines in (t.0, arrange (inlining (λ inlines. t.1)) w)
+
+-- the pair has been added by which an inline body awaits e; the body is answered with what came meanwhile, or else it awaits from now on
+unfoldable pub end_await : ℕ → ℕ → Position → World → Option (Position × Value) × World
+end_await i e p w = if w.stopped then (None, w) else let t = end_adding i e p w.objects.inlines in (t.0, arrange (inlining (λ inlines. t.1)) w)
+
+-- what an inline body awaits
+abbrev pub awaited_in : ℕ → World → Option ℕ
+awaited_in i w = awaited_by i w.objects.inlines
 
 -- what the gathering of what isn't the result of a list raises
 abbrev pub not_gathered : Failure

@@ -1,6 +1,5 @@
 ghost use Rattle.std.specs.Prelude.{◌≡◌, slice_get, OnOk};
 
-use crate::lent::{BodiesRef, BodyRef, TextRef};
 use crate::names::Names;
 use crate::task::{Task, TaskEnd};
 use dv_clock::call_id::CallId;
@@ -8,6 +7,7 @@ use dv_clock::interval::Interval;
 use dv_clock::task_id::TaskId;
 use dv_clock::turns::Turns;
 use dv_journal::deferred_id::DeferredId;
+use dv_script::lent::{BodiesRef, BodyRef, TextRef};
 use dv_value::items::Items;
 use std::alloc::{AllocError, Global};
 use std::marker::Model;

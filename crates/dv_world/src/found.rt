@@ -1,9 +1,9 @@
 ghost use Rattle.std.specs.Prelude.{◌≡◌, IfOk};
 ghost use Rattle.dv_world.specs.Found.{deferreds_at};
 
-use crate::lent::TextRef;
 use crate::world::World;
 use dv_journal::deferred_id::DeferredId;
+use dv_script::lent::TextRef;
 use dv_value::items::Items;
 use dv_value::text::Text;
 use std::alloc::{AllocError, Global};

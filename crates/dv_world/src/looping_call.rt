@@ -1,7 +1,7 @@
-use crate::lent::{BodyRef, TextRef};
 use dv_clock::call_id::CallId;
 use dv_clock::interval::Interval;
 use dv_journal::deferred_id::DeferredId;
+use dv_script::lent::{BodyRef, TextRef};
 
 /// A loop, which performs a body again and again (Twisted: `LoopingCall`).
 #[derive(Debug, Drop)]

@@ -1,12 +1,12 @@
 ghost use Rattle.std.specs.Prelude.{◌≡◌, [], IfOk};
 ghost use Rattle.dv_world.specs.Cooperator.{result_of, how_ended};
 
-use crate::fault::{failure, fault};
-use crate::lent::{BodiesRef, TextRef};
 use dv_journal::deferred_id::DeferredId;
+use dv_script::lent::{BodiesRef, TextRef};
 use dv_value::boxed::Boxed;
 use dv_value::class_id::ClassId;
 use dv_value::failure::Failure;
+use dv_value::fault::{failure, fault};
 use dv_value::items::Items;
 use dv_value::text::Text;
 use dv_value::value::Value;

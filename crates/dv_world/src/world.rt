@@ -6,9 +6,8 @@ ghost use Rattle.dv_world.specs.declared.follow.Follow.TheVariants.{Raise};
 
 use crate::canceller::Canceller;
 use crate::cooperator::Cooperator;
-use crate::fault::{failure, fault};
 use crate::follow::Follow;
-use crate::lent::{BodyRef, TextRef};
+use crate::inlines::Inlines;
 use crate::looping_call::LoopingCall;
 use crate::names::Names;
 use crate::pair::Pair;
@@ -27,12 +26,14 @@ use dv_prims::lock_id::LockId;
 use dv_prims::queue::Queue;
 use dv_prims::queue_id::QueueId;
 use dv_prims::semaphore::Semaphore;
+use dv_script::lent::{BodyRef, TextRef};
 use dv_script::script::Cooperator as Settings;
 use dv_store::error::{StoreFault, UnpauseFault};
 use dv_store::record::Record;
 use dv_store::store::{Fired, Step, Store};
 use dv_value::class_id::ClassId;
 use dv_value::classes::Classes;
+use dv_value::fault::{failure, fault};
 use dv_value::items::Items;
 use dv_value::text::Text;
 use dv_value::value::Value;
@@ -41,6 +42,7 @@ use std::marker::Model;
 
 mod clock;
 pub mod cooperating;
+pub mod inlining;
 pub mod looping;
 
 /// The world of a run: its Deferreds, their names, the classes of failures and the journal. Once an entry doesn't fit
@@ -48,7 +50,7 @@ pub mod looping;
 ///
 /// Where a call answers AllocError, nothing is promised of what the world holds then: its clauses speak of the other
 /// answers only. An engine that was refused memory asks no more of its world.
-#[derive(Debug, Drop)]
+#[derive(Drop)]
 pub struct World<'s> {
     alloc: Global,
     classes: &'s Classes,
@@ -64,6 +66,7 @@ pub struct World<'s> {
     loop_names: Names<LoopId>,
     loops: Vec<LoopingCall<'s>>,
     cooperator: Cooperator<'s>,
+    inlines: Inlines<'s>,
     store: Store<Pair<'s>, Canceller<'s>>,
     journal: Journal,
     stopped: bool,
@@ -72,6 +75,7 @@ pub struct World<'s> {
 impl<'s> Model for World<'s> {
     ghost use Rattle.dv_world.specs.World.{World as Seen};
     ghost use Rattle.dv_script.specs.contracts.body.Body as body_contract;
+    ghost use Rattle.dv_script.specs.contracts.body.Statement as statement_contract;
     ghost use Rattle.dv_value.specs.contracts.classes.Class as class_contract;
     ghost use Rattle.dv_value.specs.contracts.failure.Failure as failure_contract;
     ghost use Rattle.dv_value.specs.contracts.value.Value as value_contract;
@@ -79,9 +83,9 @@ impl<'s> Model for World<'s> {
 
     ghost Value = { Seen };
 
-    ghost coded = { Prim.hlevel (codes, body_contract.the_row.coded, class_contract.the_row.coded, failure_contract.the_row.coded, value_contract.the_row.coded) };
+    ghost coded = { Prim.hlevel (codes, body_contract.the_row.coded, statement_contract.the_row.coded, class_contract.the_row.coded, failure_contract.the_row.coded, value_contract.the_row.coded) };
 
-    ghost view = { λ w. record { classes = w.classes.now; objects = record { names = w.names; locks = w.locks; semaphores = w.semaphores.items; queue_names = w.queue_names; queues = w.queues.items; lists = w.lists.items; clock = w.clock; call_names = w.call_names; bodies = w.bodies.items; loop_names = w.loop_names; loops = w.loops.items; cooperator = w.cooperator }; records = w.store; journal = w.journal; stopped = w.stopped } };
+    ghost view = { λ w. record { classes = w.classes.now; objects = record { names = w.names; locks = w.locks; semaphores = w.semaphores.items; queue_names = w.queue_names; queues = w.queues.items; lists = w.lists.items; clock = w.clock; call_names = w.call_names; bodies = w.bodies.items; loop_names = w.loop_names; loops = w.loops.items; cooperator = w.cooperator; inlines = w.inlines }; records = w.store; journal = w.journal; stopped = w.stopped } };
 }
 
 impl<'s> World<'s> {
@@ -113,6 +117,7 @@ impl<'s> World<'s> {
             loop_names: Names::new(alloc),
             loops: Vec::new(alloc),
             cooperator: Cooperator::new(alloc, units, delay),
+            inlines: Inlines::new(alloc),
             store: Store::new(alloc),
             journal: Journal::new(alloc, limit),
             stopped: false,
@@ -716,6 +721,7 @@ fn reached_unfired<'s>(
             let children = copy_of(alloc, children.as_slice())?;
             Ok(Reached::Children(children))
         }
+        Some(Canceller::Inline(inline)) => Ok(Reached::Inline(*inline)),
     }
 }
 

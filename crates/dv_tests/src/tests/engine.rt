@@ -2,6 +2,7 @@ ghost use Rattle.std.specs.Prelude.{◌<◌, ◌^◌, ◌-◌, IfOk};
 
 use dv_engine::engine::{Engine, Next};
 use dv_engine::error::EngineFault;
+use dv_inline::poller::Poller;
 use dv_reader::read_script::ReadScript;
 use dv_script::script::Script;
 use std::alloc::Global;
@@ -18,7 +19,7 @@ fn script(alloc: Global, events: &str) -> Result<Script, Fail>
 #[test]
 fn an_engine_goes_event_by_event_and_then_ends(rt: HostRuntime) -> Result<(), Fail> {
     let script = script(rt.alloc(), r#"["note","one"],["callback","z",1]"#)?;
-    let mut engine = Engine::new(rt.alloc(), &script);
+    let mut engine = Engine::new(rt.alloc(), Poller::new(&rt)?, &script);
     assert_eq!(rt; engine.event(), Ok(Next::Went));
     assert_eq!(rt; engine.event(), Ok(Next::Went));
     assert_eq!(rt; engine.event(), Ok(Next::Ended));
@@ -33,9 +34,9 @@ fn an_engine_goes_event_by_event_and_then_ends(rt: HostRuntime) -> Result<(), Fa
 #[test]
 fn an_engine_that_has_not_ended_gives_no_report(rt: HostRuntime) -> Result<(), Fail> {
     let script = script(rt.alloc(), r#"["note","one"]"#)?;
-    let fresh = Engine::new(rt.alloc(), &script);
+    let fresh = Engine::new(rt.alloc(), Poller::new(&rt)?, &script);
     assert!(rt; matches!(fresh.finish(), Err(EngineFault::NotNow)));
-    let mut engine = Engine::new(rt.alloc(), &script);
+    let mut engine = Engine::new(rt.alloc(), Poller::new(&rt)?, &script);
     assert_eq!(rt; engine.event(), Ok(Next::Went));
     assert!(rt; matches!(engine.finish(), Err(EngineFault::NotNow)));
     Ok(())

@@ -22,7 +22,6 @@ fn write_jobs_and_posts(journal: &mut Journal) -> Result<(), Stop> {
     journal.write(Entry::Job(2, id(3)))?;
     journal.write(Entry::LaterJob(2, 5))?;
     journal.write(Entry::Deliver(2))?;
-    journal.write(Entry::Await(id(1), id(0)))?;
     journal.write(Entry::Drain)?;
     journal.write(Entry::Post(1, 0))
 }
@@ -30,7 +29,6 @@ fn write_jobs_and_posts(journal: &mut Journal) -> Result<(), Stop> {
 const JOBS_AND_POSTS: &str = "job 2 #3
 later job 2 5
 deliver 2
-await #1 #0
 drain
 post 1 0
 ";

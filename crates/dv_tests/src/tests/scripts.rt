@@ -64,11 +64,7 @@ fn a_work_is_copied_whole(rt: HostRuntime) -> Result<(), Fail> {
 }
 
 /// Each event that isn't performed yet, and what is read of it.
-static READ: [(&str, &str); 4] = [
-    (
-        r#"["inline","a",[["do",["cancel","@"]],["await","x"],["try",[["end",["pass"]]],["TypeError"],[]]]]"#,
-        r#"Action(Inline(Text { text: "a" }, Items { items: [Do(Cancel(Text { text: "@" })), Await(Text { text: "x" }), Try(Items { items: [End(Pass)] }, Items { items: [ClassId { place: 2 }] }, Items { items: [] })] }))"#,
-    ),
+static READ: [(&str, &str); 3] = [
     (
         r#"["thread","a",1000000000000,["sum",1000000]]"#,
         r#"Action(Thread(Text { text: "a" }, 1000000000000, Sum(1000000)))"#,

@@ -4,14 +4,14 @@ ghost use Rattle.dv_world.specs.World.{was_called, was_cancelled};
 ghost use Rattle.dv_world.specs.declared.performed.Performed.TheVariants.{Raised};
 
 use super::World;
-use crate::fault::failure;
-use crate::lent::{BodyRef, TextRef};
 use crate::performed::Performed;
 use dv_clock::call_id::CallId;
 use dv_clock::due::Due;
 use dv_clock::error::CancelFault;
 use dv_clock::limits::{MOST_DELAY, MOST_TICKS};
+use dv_script::lent::{BodyRef, TextRef};
 use dv_value::class_id::ClassId;
+use dv_value::fault::failure;
 use dv_value::text::Text;
 use std::alloc::{AllocError, Global};
 

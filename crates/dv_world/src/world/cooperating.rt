@@ -3,8 +3,6 @@ ghost use Rattle.dv_world.specs.World.{not_paused};
 ghost use Rattle.dv_world.specs.declared.performed.Performed.TheVariants.{Raised};
 
 use super::World;
-use crate::fault::failure;
-use crate::lent::{BodiesRef, BodyRef, TextRef};
 use crate::performed::Performed;
 use crate::task::{Task, TaskEnd};
 use dv_clock::call_id::CallId;
@@ -12,7 +10,9 @@ use dv_clock::due::Due;
 use dv_clock::task_id::TaskId;
 use dv_journal::deferred_id::DeferredId;
 use dv_journal::entry::Entry;
+use dv_script::lent::{BodiesRef, BodyRef, TextRef};
 use dv_value::class_id::ClassId;
+use dv_value::fault::failure;
 use dv_value::items::Items;
 use dv_value::text::Text;
 use std::alloc::{AllocError, Global};

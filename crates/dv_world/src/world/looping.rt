@@ -4,8 +4,6 @@ ghost use Rattle.dv_world.specs.World.{not_running};
 ghost use Rattle.dv_world.specs.declared.performed.Performed.TheVariants.{Raised};
 
 use super::World;
-use crate::fault::failure;
-use crate::lent::{BodyRef, TextRef};
 use crate::looping_call::LoopingCall;
 use crate::performed::Performed;
 use dv_clock::due::Due;
@@ -13,7 +11,9 @@ use dv_clock::interval::Interval;
 use dv_clock::loop_id::LoopId;
 use dv_journal::deferred_id::DeferredId;
 use dv_journal::entry::Entry;
+use dv_script::lent::{BodyRef, TextRef};
 use dv_value::class_id::ClassId;
+use dv_value::fault::failure;
 use dv_value::text::Text;
 use std::alloc::{AllocError, Global};
 

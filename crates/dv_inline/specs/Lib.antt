@@ -1,0 +1,5 @@
+pub mod Meaning
+pub mod Position
+pub mod Leads
+pub mod Parked
+pub mod Laws

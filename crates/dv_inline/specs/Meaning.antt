@@ -1,0 +1,112 @@
+-- What an inline body comes to by the answers that it gets, in order: a recursion over its statements (Twisted: `inlineCallbacks`).
+use Rattle.std.specs.Prelude.{ℕ, List, [], ◌∷◌, map, Option, None, Some}
+use Rattle.dv_inline.specs.declared.want.Want.{Want}
+use Rattle.dv_inline.specs.declared.want.Want.TheVariants.{Do, Await}
+use Rattle.dv_script.specs.declared.action.Action.{Action}
+use Rattle.dv_script.specs.declared.action.Action.TheOpen.{Statement-F}
+use Rattle.dv_script.specs.declared.action.Action.TheFolds.{para-Statement}
+use Rattle.dv_script.specs.declared.body.Body.{Body}
+use Rattle.dv_script.specs.declared.body.End.{End}
+use Rattle.dv_script.specs.declared.body.End.TheVariants as end
+use Rattle.dv_script.specs.declared.body.Statement.{Statement}
+use Rattle.dv_value.specs.Classes.{check}
+use Rattle.dv_value.specs.Failure.{class_of, failure_in, fault}
+use Rattle.dv_value.specs.Plus.{plus_to}
+use Rattle.dv_value.specs.declared.classes.Class.{Class}
+use Rattle.dv_value.specs.declared.failure.Failure.{Failure}
+use Rattle.dv_value.specs.declared.value.Value.{Value, Null, Fault, out-Value}
+
+-- where an inline body has come to
+pub data Reached : Type 0 where
+  -- it wants this
+  Wants : Want → Reached
+  -- it is over, with what fires its Deferred
+  Over : Value → Reached
+
+-- where statements have come to
+pub data Flow : Type 0 where
+  -- past the last one, with this present value and these answers left
+  past : Value → List Value → Flow
+  -- a failure is thrown, and these answers are left
+  thrown : Failure → List Value → Flow
+  -- the body is left with this
+  left : Value → Flow
+  -- there is no answer to this
+  wants : Want → Flow
+
+-- what statements come to by the present value and the answers
+abbrev pub Meant : Type 0
+Meant = Value → List Value → Flow
+
+-- what comes next goes on past the last statement
+abbrev pub followed : Flow → Meant → Flow
+followed (past v answers) next = next v answers
+followed (thrown failure answers) next = thrown failure answers
+followed (left v) next = left v
+followed (wants want) next = wants want
+
+-- one after the other
+abbrev pub in_order : List Meant → Meant
+in_order [] v answers = past v answers
+in_order (first ∷ rest) v answers = followed (first v answers) (in_order rest)
+
+-- the answer to a `do`: a failure is thrown, and anything else leaves the present value as it was
+abbrev pub done_by : Option Failure → Value → List Value → Flow
+done_by None v answers = past v answers
+done_by (Some failure) v answers = thrown failure answers
+
+abbrev pub do_meant : Action → Meant
+do_meant action v [] = wants (Do action)
+do_meant action v (answer ∷ answers) = done_by (failure_in answer) v answers
+
+-- the answer to an `await`: a failure is thrown, and anything else becomes the present value
+abbrev pub await_meant : List ℕ → Meant
+await_meant name v [] = wants (Await name)
+await_meant name v (answer ∷ answers) = done_by (failure_in answer) answer answers
+
+-- a failure of a class that was found begins the second statements on null; another is thrown on
+abbrev pub caught_by : Option ℕ → Meant → Failure → List Value → Flow
+caught_by (Some class) second failure answers = second Null answers
+caught_by None second failure answers = thrown failure answers
+
+-- what the first statements of a `try` throw is caught by one of its classes, with what is inside them; an end isn't caught
+abbrev pub caught : List Class → List ℕ → Meant → Flow → Flow
+caught table listed second (past v answers) = past v answers
+caught table listed second (thrown failure answers) = caught_by (check table (class_of failure) listed) second failure answers
+caught table listed second (left v) = left v
+caught table listed second (wants want) = wants want
+
+-- what an end gives for the present value
+abbrev pub ended : End → Value → Value
+ended (end.Return value) v = value
+ended end.Pass v = v
+ended (end.Plus n) v = plus_to n (out-Value v)
+ended (end.Raise class message) v = fault class message
+ended (end.Trap listed value) v = v
+ended (end.Wait name) v = v
+
+-- a statement by what those inside it are found to mean
+abbrev pub statement_meant : List Class → Statement-F (Action × Unit {0}) (Statement × Meant) (Body × Unit {0}) → Meant
+statement_meant table (Statement-F.Do action) = do_meant action.0
+statement_meant table (Statement-F.Await name) = await_meant name
+statement_meant table (Statement-F.Try first listed second) = λ v answers. caught table listed (in_order (map (λ s. s.1) second)) (in_order (map (λ s. s.1) first) v answers)
+statement_meant table (Statement-F.End e) = λ v answers. left (ended e v)
+
+-- what a statement comes to
+abbrev pub meant : List Class → Statement → Meant
+meant table = para-Statement (Unit {0}) Meant (Unit {0}) (λ action. tt) (statement_meant table) (λ body. tt)
+
+-- what statements come to
+abbrev pub all_meant : List Class → List Statement → Meant
+all_meant table statements = in_order (map (meant table) statements)
+
+-- after the last statement the result is null; a failure that nothing caught is the result
+abbrev pub result_of : Flow → Reached
+result_of (past v answers) = Over Null
+result_of (thrown failure answers) = Over (Fault failure)
+result_of (left v) = Over v
+result_of (wants want) = Wants want
+
+-- an inline body begins on null: it is over with a result, or it wants what there is no answer to
+abbrev pub inline : List Class → List Statement → List Value → Reached
+inline table statements answers = result_of (all_meant table statements Null answers)

@@ -1,0 +1,293 @@
+ghost use Rattle.std.specs.Prelude.{◌≡◌, [], Some, None, IfOk, OnOk};
+ghost use Rattle.dv_inline.specs.Leads.{reached, LeadsBy, LeadAlike, IsDue};
+ghost use Rattle.dv_inline.specs.Meaning.{inline, ended};
+ghost use Rattle.dv_inline.specs.Position.{started, moved, moved_by, over_with, outward, come, answered, want_at, class_caught, thrown_from, passed, went_on, Moves, MovesTo, second_for};
+ghost use Rattle.dv_script.specs.declared.body.Statement.{out-Statement};
+ghost use Rattle.dv_value.specs.Failure.{failure_in};
+
+use crate::open::{Catch, Open};
+use crate::want::Want;
+use dv_script::body::{End, Statement};
+use dv_script::lent::{ActionRef, ClassesRef, Statements, TextRef};
+use dv_value::boxed::Boxed;
+use dv_value::classes::Classes;
+use dv_value::failure::Failure;
+use dv_value::fault::fault;
+use dv_value::plus::plus;
+use dv_value::stack::Stack;
+use dv_value::value::Value;
+use futures::Future;
+use futures::task::{Context, Poll};
+use std::alloc::{AllocError, Global};
+use std::marker::Model;
+use std::mem;
+
+/// An inline body that is performed: the statements that are left, the tries round them, and the present value (Twisted:
+/// the generator of `inlineCallbacks`).
+#[derive(Drop)]
+pub struct InlineBody<'s> {
+    alloc: Global,
+    statements: Statements<'s>,
+    tries: Stack<Open<'s>>,
+    value: Value,
+    /// What the body has come to, once it is over.
+    result: Option<Value>,
+}
+
+impl<'s> Model for InlineBody<'s> {
+    ghost use Rattle.dv_inline.specs.Position.{Position};
+    ghost use Rattle.dv_script.specs.contracts.body.Statement as statement_contract;
+    ghost use Rattle.dv_value.specs.contracts.value.Value as value_contract;
+    ghost use Rattle.std.specs.Coded.{codes};
+
+    ghost Value = { Position };
+
+    ghost coded = { Prim.hlevel (codes, statement_contract.the_row.coded, value_contract.the_row.coded) };
+
+    ghost view = { λ b. record { statements = b.statements; tries = b.tries; value = b.value; result = b.result } };
+}
+
+impl<'s> InlineBody<'s> {
+    /// A body at its first statement, with the present value null. It takes no memory before it goes into a `try`.
+    pub fn start(alloc: Global, statements: &'s [Statement]) -> InlineBody<'s>
+        ensures stands { result ≡ started statements.now }
+        ensures means { (table : _) → (answers : _) → reached table result answers ≡ inline table statements.now answers }
+    {
+        InlineBody {
+            alloc,
+            statements: Statements::new(statements),
+            tries: Stack::new(alloc),
+            value: Value::Null,
+            result: None,
+        }
+    }
+
+    /// The action or the name of the first statement that is left: None where `poll` has a move to make before, and once the
+    /// body is over.
+    pub fn want(&self) -> Option<Want<'s>>
+        ensures { result ≡ want_at self.now }
+    {
+        if self.result.is_some() {
+            return None;
+        }
+        let (statement, _) = self.statements.split()?;
+        match statement {
+            Statement::Do(action) => Some(Want::Do(ActionRef::new(action))),
+            Statement::Await(name) => Some(Want::Await(TextRef::new(name))),
+            Statement::Try(_, _, _) | Statement::End(_) => None,
+        }
+    }
+
+    /// Goes on with the answer to what stands: a failure is thrown there, and goes to the innermost `try` that catches it;
+    /// any other value is the present one after an `await`, and leaves it as it was after a `do`. Where nothing stands, the
+    /// answer changes nothing. After AllocError the body can only be dropped.
+    #[tactic(auto, using(crate::proofs::LeadsLemmas::taken_leads))]
+    pub fn answer(&mut self, classes: &Classes, answer: Value) -> Result<(), AllocError>
+        ensures answered { OnOk result (self.new ≡ answered classes.now answer self.old) }
+        ensures leads { OnOk result (IsDue self.old → LeadsBy classes.now answer self.old self.new) }
+    {
+        self.take(classes, answer)
+    }
+
+    /// Goes on with the answer to what stands.
+    fn take(&mut self, classes: &Classes, answer: Value) -> Result<(), AllocError>
+        ensures { OnOk result (self.new ≡ answered classes.now answer self.old) }
+    {
+        match self.want() {
+            None => Ok(()),
+            Some(Want::Do(_)) => self.end_do(classes, answer),
+            Some(Want::Await(_)) => self.end_await(classes, answer),
+        }
+    }
+
+    /// Goes past a `do` with the present value as it was, unless the answer is a failure.
+    fn end_do(&mut self, classes: &Classes, answer: Value) -> Result<(), AllocError>
+        ensures { OnOk result (self.new ≡ went_on classes.now (failure_in answer) self.old.value self.old) }
+    {
+        match answer {
+            Value::Fault(failure) => self.throw(classes, failure),
+            Value::Null | Value::Bool(_) | Value::Int(_) | Value::Text(_) | Value::List(_) => {
+                self.pass();
+                Ok(())
+            }
+        }
+    }
+
+    /// Goes past an `await` with the answer as the present value, unless it is a failure.
+    fn end_await(&mut self, classes: &Classes, answer: Value) -> Result<(), AllocError>
+        ensures { OnOk result (self.new ≡ went_on classes.now (failure_in answer) answer self.old) }
+    {
+        match answer {
+            Value::Fault(failure) => self.throw(classes, failure),
+            Value::Null | Value::Bool(_) | Value::Int(_) | Value::Text(_) | Value::List(_) => {
+                self.value = answer;
+                self.pass();
+                Ok(())
+            }
+        }
+    }
+
+    /// Goes past the first statement.
+    fn pass(&mut self)
+        ensures { self.new ≡ passed self.old.value self.old }
+    {
+        if let Some((_, rest)) = self.statements.split() {
+            self.statements = rest;
+        }
+    }
+
+    /// A failure is thrown, and goes outward to the first `try` that catches it.
+    fn throw(&mut self, classes: &Classes, failure: Boxed<Failure>) -> Result<(), AllocError>
+        ensures { OnOk result (self.new ≡ thrown_from classes.now failure self.old.tries self.old) }
+    {
+        while let Some(around) = self.tries.pop() {
+            let Open { catch, rest } = around;
+            if let Some(second) = second_for(classes, failure.get(), catch) {
+                self.tries.push(Open { catch: None, rest })?;
+                self.statements = second;
+                self.value = Value::Null;
+                return Ok(());
+            }
+        }
+        self.end(Value::Fault(failure));
+        Ok(())
+    }
+
+    /// The body is over with this.
+    fn end(&mut self, outcome: Value)
+        ensures { self.new ≡ over_with outcome self.old }
+    {
+        self.value = Value::Null;
+        self.result = Some(outcome);
+    }
+
+    /// Makes the next move that needs no answer, and tells whether there was one.
+    fn step(&mut self) -> Result<bool, AllocError>
+        ensures { IfOk result (λ moves. Moves moves self.old self.new) }
+    {
+        if self.result.is_some() {
+            return Ok(false);
+        }
+        match self.statements.split() {
+            None => {
+                self.go_outward();
+                Ok(true)
+            }
+            Some((statement, rest)) => self.begin(statement, rest),
+        }
+    }
+
+    /// On to what follows the innermost `try`, or to the end of the body.
+    fn go_outward(&mut self)
+        ensures { self.new ≡ outward self.old.tries self.old }
+    {
+        match self.tries.pop() {
+            None => self.end(Value::Null),
+            Some(around) => self.statements = around.rest,
+        }
+    }
+
+    /// Goes into a `try`, or leaves the body, and tells whether it did.
+    fn begin(&mut self, statement: &'s Statement, rest: Statements<'s>) -> Result<bool, AllocError>
+        ensures { IfOk result (λ moves. MovesTo moves (moved_by (out-Statement statement.now) rest.entry self.old) self.old self.new) }
+    {
+        match statement {
+            Statement::Do(_) | Statement::Await(_) => Ok(false),
+            Statement::Try(first, listed, second) => {
+                let catch = Some(Catch {
+                    classes: ClassesRef::new(listed.as_slice()),
+                    second: Statements::new(second.as_slice()),
+                });
+                self.tries.push(Open { catch, rest })?;
+                self.statements = Statements::new(first.as_slice());
+                Ok(true)
+            }
+            Statement::End(end) => {
+                self.leave(end)?;
+                Ok(true)
+            }
+        }
+    }
+
+    /// Leaves the body with an end on the present value.
+    fn leave(&mut self, end: &End) -> Result<(), AllocError>
+        ensures { OnOk result (self.new ≡ over_with (ended end.now self.old.value) self.old) }
+    {
+        let value = mem::replace(&mut self.value, Value::Null);
+        let outcome = ended(self.alloc, end, value)?;
+        self.end(outcome);
+        Ok(())
+    }
+
+    /// Makes all moves that need no answer.
+    #[tactic(auto, using(crate::proofs::Moves::step_smaller, crate::proofs::Moves::step_keeps, crate::proofs::Moves::last_step))]
+    fn come(&mut self) -> Result<(), AllocError>
+        ensures { OnOk result (self.new ≡ come self.old) }
+    {
+        while self.step()? {}
+        Ok(())
+    }
+}
+
+impl<'s> Future for InlineBody<'s> {
+    /// What the body comes to: the value or the failure that fires its Deferred.
+    type Output = Result<Value, AllocError>;
+
+    ghost use Rattle.dv_inline.specs.Leads.{ComesTo, Stands};
+    ghost use Rattle.dv_inline.specs.Position.{Gives};
+    ghost use Rattle.futures.specs.Poll.{IfReady, OnPending};
+    ghost use Rattle.std.specs.Prelude.{⊤};
+    ghost use Rattle.futures.specs.Task.{Covers, Keeps};
+
+    ghost gives = { λ b out. Gives b out };
+
+    /// Goes on until an answer is wanted, and is pending there, or until the body is over. Each poll yields: what a body
+    /// wants is asked for by `want`. After a result, or AllocError, the body can only be dropped.
+    #[tactic(auto, using(crate::proofs::LeadsLemmas::come_ends, crate::proofs::LeadsLemmas::come_wants, crate::proofs::LeadsLemmas::come_leads, crate::proofs::Moves::come_twice))]
+    fn poll(&mut self, cx: &mut Context<'_>) -> Poll<Result<Value, AllocError>>
+        ensures value { IfReady result (Gives self.old) }
+        ensures outcome { IfReady result (λ out. IfOk out (ComesTo self.old)) }
+        ensures comes { OnPending result (self.new ≡ come self.old) }
+        ensures going { OnPending result (self.new.result ≡ None) }
+        ensures stands { OnPending result (Stands self.new) }
+        ensures same { OnPending result (LeadAlike self.old self.new) }
+        ensures again { OnPending result ⊤ }
+        ensures gives { OnPending result ((x : _) → Gives self.new x → Gives self.old x) }
+        ensures registered { OnPending result (Covers cx.new (λ _. ⊥)) }
+        ensures kept { Keeps cx.old cx.new }
+    {
+        if self.come().is_err() {
+            return Poll::Ready(Err(AllocError));
+        }
+        match self.result.take() {
+            Some(outcome) => Poll::Ready(Ok(outcome)),
+            None => cx.yield_now(),
+        }
+    }
+}
+
+/// The second statements of a `try`, where it catches the failure.
+fn second_for<'s>(
+    classes: &Classes,
+    failure: &Failure,
+    catch: Option<Catch<'s>>,
+) -> Option<Statements<'s>>
+    ensures { result ≡ second_for (class_caught classes.now failure.now catch.entry) catch.entry }
+{
+    let catch = catch?;
+    failure.check(classes, catch.classes.get())?;
+    Some(catch.second)
+}
+
+/// What an end gives for the present value. A body has no `Trap` and no `Wait`: they give it as it is.
+fn ended(alloc: Global, end: &End, value: Value) -> Result<Value, AllocError>
+    ensures { IfOk result (λ v. v ≡ ended end.now value) }
+{
+    match end {
+        End::Return(given) => given.copy(alloc),
+        End::Pass => Ok(value),
+        End::Plus(n) => plus(alloc, *n, value),
+        End::Raise(class, message) => fault(alloc, *class, message.as_str()),
+        End::Trap(_, _) | End::Wait(_) => Ok(value),
+    }
+}

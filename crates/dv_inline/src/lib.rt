@@ -1,0 +1,9 @@
+//! Inline bodies: what they come to by the answers that they get, and bodies that are polled by hand.
+#![tactic(auto)]
+
+pub mod body;
+pub mod laws;
+pub mod open;
+pub mod parked;
+pub mod poller;
+pub mod want;
