@@ -36,7 +36,7 @@ use Rattle.dv_engine.specs.Cooperating.{notices, task_over, notified_by, notifie
 use Rattle.dv_engine.specs.Cooperating as tasks
 use Rattle.dv_engine.specs.Deed.{deed_of}
 use Rattle.dv_engine.specs.declared.deed.Deed.{Deed}
-use Rattle.dv_engine.specs.declared.deed.Deed.TheVariants.{Idle, NoteOf, Make, FireWith, AddTo, ChainTo, PauseOf, UnpauseOf, CancelOf, MakeLock, MakeSemaphore, AcquireOf, ReleaseOf, RunOf, MaybeOf, MakeQueue, PutInto, GetFrom, ListOf, GatherOf, LaterOf, CancelCallOf, LoopOf, StopLoopOf, CooperateOf, WhenDoneOf, PauseTaskOf, StopTaskOf, ResumeTaskOf, InlineOf}
+use Rattle.dv_engine.specs.declared.deed.Deed.TheVariants.{NoteOf, Make, FireWith, AddTo, ChainTo, PauseOf, UnpauseOf, CancelOf, MakeLock, MakeSemaphore, AcquireOf, ReleaseOf, RunOf, MaybeOf, MakeQueue, PutInto, GetFrom, ListOf, GatherOf, LaterOf, CancelCallOf, LoopOf, StopLoopOf, CooperateOf, WhenDoneOf, PauseTaskOf, StopTaskOf, ResumeTaskOf, InlineOf, ThreadOf}
 use Rattle.dv_engine.specs.Inlining.{inline_begun, going_where, resumed, await_ended, answer_of}
 use Rattle.dv_engine.specs.Listing.{with_children, added_to_children, has_all_at_once, fired_at_once, with_listed, listed, fired_by_child, come_by, results_given}
 use Rattle.dv_engine.specs.Locking.{granted, asked_of, acquired, released_of}
@@ -46,6 +46,7 @@ use Rattle.dv_engine.specs.Maybe.{name_for, used_for, made_with, taken_for, mayb
 use Rattle.dv_engine.specs.Queueing.{handed_out, put_of, got, asked_for, get_of}
 use Rattle.dv_engine.specs.Performing.{gone_on, rest_turned}
 use Rattle.dv_engine.specs.Settling.{place, side_begun, settled}
+use Rattle.dv_engine.specs.Threading.{threaded, delivered, job_result}
 use Rattle.dv_engine.specs.Timing.{body_called, come_due_with}
 use Rattle.dv_engine.specs.Wanting.{awaited_by, wanted, inline_turned}
 use Rattle.dv_engine.specs.Wanting as wanting
@@ -66,7 +67,9 @@ use Rattle.dv_journal.specs.Change.{change_of, Aside}
 use Rattle.dv_world.specs.Found.{deferreds_at}
 use Rattle.dv_world.specs.Names.{number_of}
 use Rattle.dv_world.specs.Pair.{chain, continuing}
-use Rattle.dv_world.specs.World.{World, state_of, deferred_at, step, append, fire, is_unfired, cancelled, cancel, pause, unpause, make, aside, lock_told, ask, release_found, release, forget, unless_stopped, put_into_found, put_into, get_from_found, get_from, withdraw, value_of, arrange, came_to_found, came_to, come_due_found, waiting_cancelled, state_cancelled, call_cancelled, cancel_call, turn_scheduled, loop_stopped, stop_loop, end_loop, task_told, pause_task, resume_task, hold_task, task_ended, end_task, all_unless_stopped, tick_dropped, keep_tick, end_tick, step_taken, turn_taken, add_inline, begin_await, come_to_inline, end_await, awaited_in}
+use Rattle.dv_world.specs.World.{World, state_of, deferred_at, step, append, fire, is_unfired, cancelled, cancel, pause, unpause, make, aside, lock_told, ask, release_found, release, forget, unless_stopped, put_into_found, put_into, get_from_found, get_from, withdraw, value_of, arrange, came_to_found, came_to, come_due_found, waiting_cancelled, state_cancelled, call_cancelled, cancel_call, turn_scheduled, loop_stopped, stop_loop, end_loop, task_told, pause_task, resume_task, hold_task, task_ended, end_task, all_unless_stopped, tick_dropped, keep_tick, end_tick, step_taken, turn_taken, add_inline, begin_await, come_to_inline, end_await, awaited_in, submit, deliver_later}
+use Rattle.dv_world.specs.Works.{is_full}
+use Rattle.dv_script.specs.declared.work.Work.{Work}
 use Rattle.dv_world.specs.Cooperator.{Cooperator, with_new_task, with_step, with_end, result_of, wants_tick, idle_tick}
 use Rattle.dv_world.specs.Objects.{Objects, with_queue, with_new_list, with_list, with_ended_call, cooperating, inlining}
 use Rattle.dv_world.specs.declared.canceller.Canceller.TheVariants.{Body, Token, Item, Children}
@@ -593,8 +596,19 @@ canceller_fair : (m d : ℕ) (failure : Option Failure) (w : World) → 0 < m �
 canceller_fair m d (Some failure) w q = now_fair m _ w
 canceller_fair m d None w q = if_fair m (is_unfired d w) w _ _ (next_fair m d (fire d cancelled w).0 w (fire d cancelled w).1 q (by_fire d cancelled w)) (now_fair m Done w)
 
+job_comes : (d delay : ℕ) (work : Work) (w : World) → Comes w (deliver_later (length w.works) d delay (submit d work w))
+job_comes d delay work w = join w (submit d work w) _ (record { keeps = λ R l. l.by_submit d work w }) (by_aside (entry.LaterJob (length w.works) _) _ (submit d work w) refl)
+
+threaded_fair : (m : ℕ) (name : List ℕ) (delay : ℕ) (work : Work) (w : World) → Fair w m (threaded name delay work w)
+threaded_fair m name delay work w =
+    let made = make (Some name) None w in
+    if_fair m (is_full w.works) w _ _ (now_fair m _ w) (done_fair m w _ (join w made _ (record { keeps = λ R l. l.by_make (Some name) None w }) (job_comes (length w.records) delay work made)))
+
+delivered_comes : (d : ℕ) (o : Option Value) (w : World) → Comes w (delivered d o w).2
+delivered_comes d None w = same w
+delivered_comes d (Some value) w = (next_fair 1 d (fire d value w).0 w (fire d value w).1 (omega arith) (by_fire d value w)).comes
+
 begun_fair : (m : ℕ) (itself : Option ℕ) (deed : Deed) (w : World) → deed_size deed < m → Fair w m (begun itself deed w)
-begun_fair m itself Idle w q = now_fair m Done w
 begun_fair m itself (NoteOf text) w q = done_fair m w _ (record { keeps = λ R l. l.by_aside (entry.Note text) _ w refl })
 begun_fair m itself (Make name canceller) w q = done_fair m w _ (record { keeps = λ R l. l.by_make (Some name) (option_map Body canceller) w })
 begun_fair m itself (FireWith name value) w q = with_fair m itself name w _ (λ d. next_fair m d (fire d value w).0 w (fire d value w).1 q (by_fire d value w))
@@ -624,6 +638,7 @@ begun_fair m itself (PauseTaskOf name) w q = found_fair m (number_of name w.obje
 begun_fair m itself (StopTaskOf name) w q = found_fair m (number_of name w.objects.cooperator.task_names) name w _ (λ t. stopped_task_fair m t (slice_get w.objects.cooperator.tasks t) w q)
 begun_fair m itself (ResumeTaskOf name) w q = found_fair m (number_of name w.objects.cooperator.task_names) name w _ (λ t. resumed_fair m t (slice_get w.objects.cooperator.tasks t) w)
 begun_fair m itself (InlineOf name statements) w q = inline_begun_fair m name statements w q
+begun_fair m itself (ThreadOf name delay work) w q = threaded_fair m name delay work w
 
 pub begun_comes : (itself : Option ℕ) (deed : Deed) (w : World) → Comes w (begun itself deed w).2
 begun_comes itself deed w = (begun_fair (1 + deed_size deed) itself deed w (omega arith)).comes
@@ -679,7 +694,7 @@ due_comes None w = same w
 due_comes (Some (what.Call name key)) w = body_comes (slice_get w.objects.bodies key) w
 due_comes (Some (what.Turn name key)) w = same w
 due_comes (Some what.Tick) w = record { keeps = λ R l. l.by_arrange _ w }
-due_comes (Some (what.Delivery job key)) w = same w
+due_comes (Some (what.Delivery job d)) w = delivered_comes d (job_result job w.works) w
 
 -- what comes due is told, and tells of no Deferred
 due_aside : (due : Due) → change_of (coming_due due) ≡ Aside

@@ -5,7 +5,8 @@ use Rattle.dv_clock.specs.declared.due.Due.TheVariants as what
 use Rattle.dv_script.specs.declared.body.Body.{Body}
 use Rattle.dv_value.specs.declared.value.Value.{Null}
 use Rattle.dv_engine.specs.Looping.{turn_taken}
-use Rattle.dv_engine.specs.Turn.{Turned, done, rest_of}
+use Rattle.dv_engine.specs.Threading.{delivered, job_result}
+use Rattle.dv_engine.specs.Turn.{Turned, ◌over◌, done, rest_of}
 use Rattle.dv_engine.specs.declared.frame.Frame.TheVariants as frame
 use Rattle.dv_world.specs.World.{World, cancel_call, begin_tick}
 use Rattle.dv_world.specs.declared.performed.Performed.TheVariants.{Done}
@@ -19,10 +20,10 @@ abbrev pub body_called : Option Body → World → Turned
 body_called None w = (frame.Due ∷ [], Done, w)
 body_called (Some body) w = (frame.Rest (rest_of None body Null) ∷ frame.Tell ∷ frame.Due ∷ [], Done, w)
 
--- what is due is run, and then what is due next; deliveries aren't yet
+-- what is due is run, and then what is due next; a refusal by the Deferred of a job is told
 abbrev pub come_due_with : Option Due → World → Turned
 come_due_with None w = done w
 come_due_with (Some (what.Call name key)) w = body_called (slice_get w.objects.bodies key) w
 come_due_with (Some (what.Turn name key)) w = (turn_taken key (slice_get w.objects.loops key) ++ frame.Due ∷ [], Done, w)
 come_due_with (Some what.Tick) w = (frame.Tick w.objects.cooperator.units ∷ frame.Due ∷ [], Done, begin_tick w)
-come_due_with (Some (what.Delivery job key)) w = (frame.Due ∷ [], Done, w)
+come_due_with (Some (what.Delivery job d)) w = delivered d (job_result job w.works) w over (frame.Tell ∷ frame.Due ∷ [])

@@ -8,14 +8,20 @@ ghost use Rattle.dv_world.specs.World.{World as Seen, come_due};
 use crate::frame::Frame;
 use crate::looping::take_turn;
 use crate::settling::whole;
+use crate::submissions::Submissions;
+use crate::threading::deliver;
 use dv_clock::due::Due;
 use dv_clock::loop_id::LoopId;
+use dv_journal::deferred_id::DeferredId;
 use dv_script::lent::BodyRef;
+use dv_threads::source::JobSource;
 use dv_value::stack::Stack;
 use dv_value::value::Value;
 use dv_world::performed::Performed;
 use dv_world::world::{World, unbound};
-use std::alloc::{AllocError, Global};
+use std::alloc::{AllocError, AllocGlobal, Global};
+use std::random::RandomSource;
+use std::sync::Wait;
 
 /// Cancels a delayed call by its name (Twisted: `DelayedCall.cancel`).
 pub fn cancel_call<'s>(
@@ -31,14 +37,44 @@ pub fn cancel_call<'s>(
     }
 }
 
-/// What is due next is run, where something is, and then what is due after it (Twisted: `Clock.advance`).
-pub fn run_due<'s>(
+/// What is due next is run, where something is, and then what is due after it (Twisted: `Clock.advance`). It may wait for a
+/// job.
+#[tactic(auto, using(crate::proofs::JobLemmas::come_due_works))]
+pub fn run_due<'s, R, J>(
+    rt: &R,
+    alloc: Global,
+    jobs: &mut Submissions<J>,
     world: &mut World<'s>,
     stack: &mut Stack<Frame<'s>>,
 ) -> Result<Performed<'s>, AllocError>
-    ensures { IfOk result (λ performed. (stack.new, performed, world.new) ≡ come_due_with (come_due world.old).0 (come_due world.old).1 over stack.old) }
+where
+    R: Wait + RandomSource + AllocGlobal,
+    J: JobSource,
+    requires { jobs.old ≡ world.old.works }
+    ensures performed { IfOk result (λ performed. (stack.new, performed, world.new) ≡ come_due_with (come_due world.old).0 (come_due world.old).1 over stack.old) }
+    ensures jobs { jobs.new ≡ jobs.old }
 {
-    match world.come_due()? {
+    let what = world.come_due()?;
+    Ok(run_what(rt, alloc, jobs, world, stack, what)?)
+}
+
+/// This is run, and then what is due after it.
+fn run_what<'s, R, J>(
+    rt: &R,
+    alloc: Global,
+    jobs: &mut Submissions<J>,
+    world: &mut World<'s>,
+    stack: &mut Stack<Frame<'s>>,
+    what: Option<Due>,
+) -> Result<Performed<'s>, AllocError>
+where
+    R: Wait + RandomSource + AllocGlobal,
+    J: JobSource,
+    requires { jobs.old ≡ world.old.works }
+    ensures performed { IfOk result (λ performed. (stack.new, performed, world.new) ≡ come_due_with what world.old over stack.old) }
+    ensures jobs { jobs.new ≡ jobs.old }
+{
+    match what {
         None => Ok(Performed::Done),
         Some(Due::Call(_, key)) => Ok(call_body(stack, world.body(key))?),
         Some(Due::Turn(_, key)) => {
@@ -51,9 +87,9 @@ pub fn run_due<'s>(
             stack.push(Frame::Tick(world.begin_tick()))?;
             Ok(Performed::Done)
         }
-        Some(Due::Delivery(_, _)) => {
+        Some(Due::Delivery(job, key)) => {
             stack.push(Frame::Due)?;
-            Ok(Performed::Done)
+            Ok(deliver(rt, alloc, jobs, world, stack, job, DeferredId::new(key))?)
         }
     }
 }

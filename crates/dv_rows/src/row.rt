@@ -5,6 +5,8 @@ use dv_run::memory_source::MemorySource;
 use dv_run::run::run;
 use std::alloc::{AllocError, AllocGlobal, Global};
 use std::random::RandomSource;
+use std::sync::Wait;
+use std::thread::Threads;
 
 /// How many bytes a run may print.
 const ROOM: usize = 8_388_608;
@@ -46,7 +48,7 @@ impl<'a> Row<'a> {
     }
 
     /// Runs a script, and tells where the run first differs from what the row says.
-    pub fn difference<S: RandomSource + AllocGlobal>(
+    pub fn difference<S: Threads + Wait + RandomSource + AllocGlobal>(
         &self,
         rt: &S,
         script: &str,

@@ -15,6 +15,8 @@ use dv_reader::read_script::ReadScript;
 use dv_script::script::Script;
 use std::alloc::{AllocGlobal, Global};
 use std::random::RandomSource;
+use std::sync::Wait;
+use std::thread::Threads;
 
 /// Reads a script to the end of the input, performs its events, and writes what happened, a line an entry, and then a
 /// line for each Deferred that they made. Answers the report of which that is the text: the journal, what became of
@@ -25,7 +27,7 @@ use std::random::RandomSource;
 /// where the answer is a read fault, the writer where it is a write fault, and neither has in any other case. A script
 /// that uses what isn't performed yet is refused as `BadShape`.
 #[tactic(auto, using(crate::proofs::RunLemmas::run_rules))]
-pub fn run<S: RandomSource + AllocGlobal, R: Source, W: Sink>(
+pub fn run<S: Threads + Wait + RandomSource + AllocGlobal, R: Source, W: Sink>(
     rt: &S,
     reader: &mut R,
     writer: &mut W,

@@ -5,6 +5,9 @@ use dv_value::text::Text;
 use dv_value::value::Value;
 use std::alloc::{AllocError, Global};
 
+/// As many jobs as a run has at most.
+pub const MOST_JOBS: usize = 4_096;
+
 /// What a thread is given to do (Twisted: the function of `deferToThread`).
 #[derive(Debug, Drop)]
 pub enum Work {

@@ -25,6 +25,9 @@ assertion_error = 4
 abbrev pub overflow_error : ℕ
 overflow_error = 5
 
+abbrev pub runtime_error : ℕ
+runtime_error = 6
+
 abbrev pub already_called_error : ℕ
 already_called_error = 7
 

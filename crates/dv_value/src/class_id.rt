@@ -31,6 +31,8 @@ impl ClassId {
     pub const ASSERTION_ERROR: ClassId = ClassId { place: 4 };
     /// For a sum that no `i64` holds.
     pub const OVERFLOW_ERROR: ClassId = ClassId { place: 5 };
+    /// For a job more than a run has.
+    pub const RUNTIME_ERROR: ClassId = ClassId { place: 6 };
     /// For a second firing of a Deferred (Twisted: `defer.AlreadyCalledError`).
     pub const ALREADY_CALLED_ERROR: ClassId = ClassId { place: 7 };
     /// What a Deferred is fired with that is cancelled (Twisted: `defer.CancelledError`).

@@ -3,7 +3,7 @@ use Rattle.std.specs.Prelude.{ℕ, List, [], ◌∷◌, ◌++◌, length, Option
 use Rattle.dv_clock.specs.Clock.{Clock, new_clock, with_call, ended}
 use Rattle.dv_clock.specs.declared.call.CallState.{CallState}
 use Rattle.dv_clock.specs.declared.call.CallState.TheVariants.{Dropped}
-use Rattle.dv_clock.specs.declared.due.Due.TheVariants.{Call, Tick}
+use Rattle.dv_clock.specs.declared.due.Due.TheVariants.{Call, Tick, Delivery}
 use Rattle.dv_prims.specs.DeferredList.{Gather, new_gather}
 use Rattle.dv_prims.specs.Queue.{Queue, new_queue}
 use Rattle.dv_prims.specs.Tokens.{Semaphore, new_semaphore}
@@ -91,6 +91,10 @@ with_list l g objects = record objects { lists = slice_set objects.lists l g }
 abbrev pub with_new_call : List ℕ → ℕ → Body → Objects → Objects
 with_new_call name due body objects =
     record objects { clock = with_call due (Call name (length objects.bodies)) objects.clock; call_names = with_name name (length objects.clock.calls) objects.call_names; bodies = objects.bodies ++ body ∷ [] }
+
+-- the delivery of a job's result to d is added, which is due at this time
+abbrev pub with_delivery : ℕ → ℕ → ℕ → Objects → Objects
+with_delivery job d due objects = record objects { clock = with_call due (Delivery job d) objects.clock }
 
 -- a call waits no longer
 abbrev pub with_ended_call : ℕ → CallState → Objects → Objects

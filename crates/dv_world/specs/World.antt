@@ -1,7 +1,7 @@
 -- The world of a run: its Deferreds, their names, the classes of failures and the journal, and one step of each kind.
-use Rattle.std.specs.Prelude.{ℕ, ◌+◌, min, Bool, true, false, not, is_some, if◌then◌else◌, List, [], Option, None, Some, Result, Ok, Err, slice_get, bytes_eq, codes}
+use Rattle.std.specs.Prelude.{ℕ, ◌+◌, min, Bool, true, false, not, is_some, if◌then◌else◌, List, [], ◌∷◌, ◌++◌, length, Option, None, Some, Result, Ok, Err, slice_get, bytes_eq, codes}
 use Rattle.std.specs.Option.{option_map_or}
-use Rattle.dv_value.specs.Builtin.{name_error, assertion_error, already_called_error, cancelled_error, type_error, already_called, already_cancelled, queue_overflow, queue_underflow, not_paused as paused_not}
+use Rattle.dv_value.specs.Builtin.{name_error, assertion_error, runtime_error, already_called_error, cancelled_error, type_error, already_called, already_cancelled, queue_overflow, queue_underflow, not_paused as paused_not}
 use Rattle.dv_value.specs.Failure.{plain_failure}
 use Rattle.dv_value.specs.declared.classes.Class.{Class}
 use Rattle.dv_value.specs.declared.failure.Failure.{Failure}
@@ -21,6 +21,7 @@ use Rattle.dv_clock.specs.declared.due.Due.TheVariants as what
 use Rattle.dv_clock.specs.declared.limits.TheConstants.{MOST_TICKS, MOST_DELAY}
 use Rattle.dv_script.specs.declared.body.Body.{Body}
 use Rattle.dv_script.specs.declared.script.Cooperator.{Cooperator as Settings}
+use Rattle.dv_script.specs.declared.work.Work.{Work}
 use Rattle.dv_prims.specs.DeferredList.{Gather, came}
 use Rattle.dv_prims.specs.Queue.{Queue, may_put, receiver, put_to, got_from, withdrawn}
 use Rattle.dv_prims.specs.Tokens.{Semaphore, is_unheld, asked, released, forgotten}
@@ -46,8 +47,9 @@ use Rattle.dv_inline.specs.Position.{Position}
 use Rattle.dv_world.specs.Inlines.{come_to, end_adding, now_waiting, awaited_by}
 use Rattle.dv_world.specs.Looping.{next_due, with_turn, with_stopped, with_ended}
 use Rattle.dv_world.specs.Names.{number_of}
-use Rattle.dv_world.specs.Objects.{Objects, no_objects, naming_where, with_list, with_new_call, with_ended_call, with_time, with_lock, lock_changed, with_queue, queue_changed, cooperating, with_tick, without_tick, inlining, with_new_inline}
+use Rattle.dv_world.specs.Objects.{Objects, no_objects, naming_where, with_list, with_new_call, with_delivery, with_ended_call, with_time, with_lock, lock_changed, with_queue, queue_changed, cooperating, with_tick, without_tick, inlining, with_new_inline}
 use Rattle.dv_world.specs.Pair.{passes}
+use Rattle.dv_world.specs.Works.{is_full}
 use Rattle.dv_world.specs.declared.canceller.Canceller.{Canceller}
 use Rattle.dv_world.specs.declared.canceller.Canceller.TheVariants as canceller
 use Rattle.dv_world.specs.declared.follow.Follow.{Follow}
@@ -71,13 +73,14 @@ Records = List (Record Pair Canceller)
 pub record World : Type 0 where
   pub classes : List Class
   pub objects : Objects
+  pub works : List Work
   pub records : Records
   pub journal : Written
   pub stopped : Bool
 
 -- nothing is made and nothing is told at first
 abbrev pub first_world : List Class → ℕ → Settings → World
-first_world classes limit settings = record { classes = classes; objects = no_objects settings; records = []; journal = empty limit; stopped = false }
+first_world classes limit settings = record { classes = classes; objects = no_objects settings; works = []; records = []; journal = empty limit; stopped = false }
 
 -- the Deferreds and the journal
 abbrev pub state_of : World → State Pair Canceller
@@ -301,6 +304,22 @@ came_to_found l i v (Some g) w = ((came i v g).0, arrange (with_list l (came i v
 -- a child comes to a list with its value, which isn't told; to a stopped run nothing comes
 unfoldable pub came_to : ℕ → ℕ → Value → World → Came × World
 came_to l i v w = if w.stopped then (record { fire = None; pass = v }, w) else came_to_found l i v (slice_get w.objects.lists l) w
+
+-- a job is submitted, whose result is for d, and told; one more than a run has isn't, and one that can't be told stops the run
+unfoldable pub submit : ℕ → Work → World → World
+submit d work w =
+    if w.stopped then w else
+    if is_full w.works then w else
+    let told = entry.Job (length w.works) d in
+    if fits w.journal told then record w { works = w.works ++ work ∷ []; journal = with_entry w.journal told } else with_stop w
+
+-- what the submitting of a job raises that is one more than a run has
+abbrev pub too_many_jobs : Failure
+too_many_jobs = plain_failure runtime_error (codes "too many jobs")
+
+-- the delivery of a job's result to d is scheduled, which is due so much later than now, and no later than calls are delayed by
+abbrev pub deliver_later : ℕ → ℕ → ℕ → World → World
+deliver_later job d delay w = let due = w.objects.clock.time + min delay MOST_DELAY in aside (entry.LaterJob job due) (with_delivery job d due) w
 
 -- a delayed call of this body is scheduled, which is due so much later than now, and no later than calls are delayed by, and its name is bound to it
 abbrev pub call_later : List ℕ → ℕ → Body → World → World

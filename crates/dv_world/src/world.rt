@@ -13,6 +13,7 @@ use crate::names::Names;
 use crate::pair::Pair;
 use crate::performed::Performed;
 use crate::reached::Reached;
+use crate::works::Works;
 use dv_clock::call_id::CallId;
 use dv_clock::clock::Clock;
 use dv_clock::loop_id::LoopId;
@@ -43,6 +44,7 @@ use std::marker::Model;
 mod clock;
 pub mod cooperating;
 pub mod inlining;
+pub mod jobs;
 pub mod looping;
 
 /// The world of a run: its Deferreds, their names, the classes of failures and the journal. Once an entry doesn't fit
@@ -67,6 +69,7 @@ pub struct World<'s> {
     loops: Vec<LoopingCall<'s>>,
     cooperator: Cooperator<'s>,
     inlines: Inlines<'s>,
+    works: Works<'s>,
     store: Store<Pair<'s>, Canceller<'s>>,
     journal: Journal,
     stopped: bool,
@@ -76,6 +79,7 @@ impl<'s> Model for World<'s> {
     ghost use Rattle.dv_world.specs.World.{World as Seen};
     ghost use Rattle.dv_script.specs.contracts.body.Body as body_contract;
     ghost use Rattle.dv_script.specs.contracts.body.Statement as statement_contract;
+    ghost use Rattle.dv_script.specs.contracts.work.Work as work_contract;
     ghost use Rattle.dv_value.specs.contracts.classes.Class as class_contract;
     ghost use Rattle.dv_value.specs.contracts.failure.Failure as failure_contract;
     ghost use Rattle.dv_value.specs.contracts.value.Value as value_contract;
@@ -83,9 +87,9 @@ impl<'s> Model for World<'s> {
 
     ghost Value = { Seen };
 
-    ghost coded = { Prim.hlevel (codes, body_contract.the_row.coded, statement_contract.the_row.coded, class_contract.the_row.coded, failure_contract.the_row.coded, value_contract.the_row.coded) };
+    ghost coded = { Prim.hlevel (codes, body_contract.the_row.coded, statement_contract.the_row.coded, work_contract.the_row.coded, class_contract.the_row.coded, failure_contract.the_row.coded, value_contract.the_row.coded) };
 
-    ghost view = { λ w. record { classes = w.classes.now; objects = record { names = w.names; locks = w.locks; semaphores = w.semaphores.items; queue_names = w.queue_names; queues = w.queues.items; lists = w.lists.items; clock = w.clock; call_names = w.call_names; bodies = w.bodies.items; loop_names = w.loop_names; loops = w.loops.items; cooperator = w.cooperator; inlines = w.inlines }; records = w.store; journal = w.journal; stopped = w.stopped } };
+    ghost view = { λ w. record { classes = w.classes.now; objects = record { names = w.names; locks = w.locks; semaphores = w.semaphores.items; queue_names = w.queue_names; queues = w.queues.items; lists = w.lists.items; clock = w.clock; call_names = w.call_names; bodies = w.bodies.items; loop_names = w.loop_names; loops = w.loops.items; cooperator = w.cooperator; inlines = w.inlines }; works = w.works; records = w.store; journal = w.journal; stopped = w.stopped } };
 }
 
 impl<'s> World<'s> {
@@ -118,6 +122,7 @@ impl<'s> World<'s> {
             loops: Vec::new(alloc),
             cooperator: Cooperator::new(alloc, units, delay),
             inlines: Inlines::new(alloc),
+            works: Works::new(alloc),
             store: Store::new(alloc),
             journal: Journal::new(alloc, limit),
             stopped: false,

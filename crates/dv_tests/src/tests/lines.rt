@@ -18,18 +18,12 @@ fn write_no_name(journal: &mut Journal) -> Result<(), Stop> {
 const NO_NAME: &str = "name #3 -
 ";
 
-fn write_jobs_and_posts(journal: &mut Journal) -> Result<(), Stop> {
-    journal.write(Entry::Job(2, id(3)))?;
-    journal.write(Entry::LaterJob(2, 5))?;
-    journal.write(Entry::Deliver(2))?;
+fn write_posts(journal: &mut Journal) -> Result<(), Stop> {
     journal.write(Entry::Drain)?;
     journal.write(Entry::Post(1, 0))
 }
 
-const JOBS_AND_POSTS: &str = "job 2 #3
-later job 2 5
-deliver 2
-drain
+const POSTS: &str = "drain
 post 1 0
 ";
 
@@ -39,9 +33,9 @@ fn each_entry_that_no_script_leads_to_yet_has_its_line(rt: HostRuntime) -> Resul
     let classes = Classes::builtin(alloc)?;
     let mut journal = Journal::new(alloc, 2000);
     write_no_name(&mut journal)?;
-    write_jobs_and_posts(&mut journal)?;
+    write_posts(&mut journal)?;
     let mut text = String::new(alloc);
-    for part in [NO_NAME, JOBS_AND_POSTS] {
+    for part in [NO_NAME, POSTS] {
         text.push_str(part)?;
     }
     let mut bytes = Vec::new(alloc);

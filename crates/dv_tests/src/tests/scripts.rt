@@ -64,11 +64,7 @@ fn a_work_is_copied_whole(rt: HostRuntime) -> Result<(), Fail> {
 }
 
 /// Each event that isn't performed yet, and what is read of it.
-static READ: [(&str, &str); 3] = [
-    (
-        r#"["thread","a",1000000000000,["sum",1000000]]"#,
-        r#"Action(Thread(Text { text: "a" }, 1000000000000, Sum(1000000)))"#,
-    ),
+static READ: [(&str, &str); 2] = [
     (r#"["drain",0]"#, r#"Drain(0)"#),
     (r#"["drain",2048]"#, r#"Drain(2048)"#),
 ];

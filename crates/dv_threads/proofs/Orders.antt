@@ -1,0 +1,134 @@
+-- Each step of the owner keeps what it knows.
+use Rattle.std.proofs.Common.{◌≡◌, ℕ, zero, suc, ◌+◌, ◌-◌, ◌<◌, ◌≤◌, List, [], ◌∷◌, ◌++◌, length, map, refl, ap, sym, ◌∙◌, arith, append-nil, replicate}
+use Rattle.std.proofs.Math.ListN.{length-replicate}
+use Rattle.std.specs.Arc.{arc_value}
+use Rattle.crossbeam_deque.specs.Handles.{worker_deque, worker_flavor, worker_capacity, worker_index, worker_view, stealer_deque, SameWorker}
+use Rattle.crossbeam_queue.specs.Passes.{view, IsPassOf}
+use Rattle.dv_threads.specs.declared.job.Job.{Job}
+use Rattle.dv_threads.specs.declared.pool.parts.Parts.{Parts}
+use Rattle.dv_threads.specs.declared.pool.rule.Hand.{Hand}
+use Rattle.dv_threads.specs.declared.pool.worker.End.{End}
+use Rattle.dv_threads.specs.Jobs.{job_of, Answer}
+use Rattle.dv_threads.specs.Sources.{most_jobs}
+use Rattle.dv_threads.specs.Rules.{all_parts, hand, weigh}
+use Rattle.dv_threads.specs.Worker.{job_hand, answer_hand, HasServed}
+use Rattle.dv_threads.specs.Parts.{empty_place, TakesIn, IsOrderly, ArePlaced, seen_by}
+use Rattle.dv_threads.proofs.RuleLemmas.{weigh-append}
+use Rattle.dv_threads.proofs.Places as places
+
+-- the owner's end of the deque, and its token of the queue, are still of this pool
+pub record IsStill (p q : Parts) : Type 0 where
+  pub shared : arc_value q.shared ≡ arc_value p.shared
+  pub deque : SameWorker p.jobs q.jobs
+  pub queue : IsPassOf (arc_value p.shared).answers q.answers
+
+still_deque : (p q : Parts) → IsOrderly p → IsStill p q → worker_deque q.jobs ≡ stealer_deque (arc_value q.shared).thief
+still_deque p q o s = s.deque.0 ∙ o.deque ∙ ap (λ x. stealer_deque x.thief) (sym s.shared)
+
+still_queue : (p q : Parts) → IsStill p q → IsPassOf (arc_value q.shared).answers q.answers
+still_queue p q s = rw s.shared s.queue
+
+-- an answer was taken from the queue
+pub collected : (p q : Parts) (a : Answer) → IsOrderly p → IsStill p q → worker_view q.jobs ≡ worker_view p.jobs
+    → view q.answers ≡ hand (view p.answers).parts (view p.answers).put ((view p.answers).taken ++ a ∷ [])
+    → TakesIn p.places.items a q.places.items → length q.places.items ≡ length p.places.items → IsOrderly q
+collected p q a o s jobs answers in_ len = record {
+  deque = still_deque p q o s;
+  fifo = s.deque.1 ∙ o.fifo;
+  roomy = (let c = s.deque.3 in let r = o.roomy in omega arith);
+  queue = still_queue p q s;
+  some_part = rw jobs o.some_part;
+  same_part = rw (answers, jobs) o.same_part;
+  helped = o.helped;
+  tied = rw (answers, jobs) o.tied;
+  room = len ∙ o.room;
+  placed = (places.collected _ _ a (view p.answers).taken _ o.helped in_ (ap (λ (v : Hand Answer). v.taken) answers) o.placed);
+}
+
+-- the owner answered a job itself
+pub helped : (p q : Parts) (a : Answer) (j : Job) → IsOrderly p → IsStill p q → view q.answers ≡ view p.answers → job_of a ≡ j
+    → worker_view q.jobs ≡ hand (worker_view p.jobs).parts (worker_view p.jobs).put ((worker_view p.jobs).taken ++ j ∷ [])
+    → TakesIn p.places.items a q.places.items → length q.places.items ≡ length p.places.items → IsOrderly q
+helped p q a j o s answers same jobs in_ len = record {
+  deque = still_deque p q o s;
+  fifo = s.deque.1 ∙ o.fifo;
+  roomy = (let c = s.deque.3 in let r = o.roomy in omega arith);
+  queue = still_queue p q s;
+  some_part = rw jobs o.some_part;
+  same_part = rw (answers, jobs) o.same_part;
+  helped = job_of a ∷ o.helped;
+  tied = λ h. rw (answers, jobs, same) (omega (arith, weigh-append h (worker_view p.jobs).taken (j ∷ []), o.tied h));
+  room = len ∙ o.room;
+  placed = rw answers (places.answered _ _ a (view p.answers).taken o.helped in_ o.placed);
+}
+
+-- nothing was taken from the queue, and no job was answered
+pub unseen : (p q : Parts) → IsOrderly p → IsStill p q → (view q.answers).put ≡ (view p.answers).put → (view q.answers).taken ≡ (view p.answers).taken
+    → (worker_view q.jobs).taken ≡ (worker_view p.jobs).taken → 0 < (worker_view q.jobs).parts → (view q.answers).parts ≡ (worker_view q.jobs).parts
+    → q.places.items ≡ p.places.items → IsOrderly q
+unseen p q o s put taken jobs some_part same_part same = record {
+  deque = still_deque p q o s;
+  fifo = s.deque.1 ∙ o.fifo;
+  roomy = (let c = s.deque.3 in let r = o.roomy in omega arith);
+  queue = still_queue p q s;
+  some_part = some_part;
+  same_part = same_part;
+  helped = o.helped;
+  tied = rw (put, jobs) o.tied;
+  room = ap length same ∙ o.room;
+  placed = rw (taken, same) o.placed;
+}
+
+weigh-map_append : (h : Job → ℕ) (xs ys : List Answer) → weigh h (map job_of (xs ++ ys)) ≡ weigh h (map job_of xs) + weigh h (map job_of ys)
+weigh-map_append h [] ys = omega arith
+weigh-map_append h (x ∷ xs) ys = omega (arith, weigh-map_append h xs ys)
+
+-- what was put stays, where nothing is added
+pub same_put : {A : Type 0} → (xs ys : List A) → ys ≡ [] → xs ++ ys ≡ xs
+same_put xs ys none = ap (λ l. xs ++ l) none ∙ append-nil xs
+
+-- the tokens of a worker came back
+pub absorbed : (p q : Parts) (e : End) → IsOrderly p → IsStill p q → HasServed e → q.places.items ≡ p.places.items
+    → worker_view q.jobs ≡ hand ((worker_view p.jobs).parts + (job_hand e).parts) ((worker_view p.jobs).put ++ (job_hand e).put) ((worker_view p.jobs).taken ++ (job_hand e).taken)
+    → view q.answers ≡ hand ((view p.answers).parts + (answer_hand e).parts) ((view p.answers).put ++ (answer_hand e).put) ((view p.answers).taken ++ (answer_hand e).taken)
+    → IsOrderly q
+absorbed p q e o s served same jobs answers =
+    let taken : (view q.answers).taken ≡ (view p.answers).taken = ap (λ (v : Hand Answer). v.taken) answers ∙ same_put (view p.answers).taken _ served.took_no_answer in
+    record {
+      deque = still_deque p q o s;
+      fifo = s.deque.1 ∙ o.fifo;
+      roomy = (let c = s.deque.3 in let r = o.roomy in omega arith);
+      queue = still_queue p q s;
+      some_part = rw jobs (let s = o.some_part in omega arith);
+      same_part = rw (answers, jobs) (let s = o.same_part in let a = served.one_job_part in let b = served.one_answer_part in omega arith);
+      helped = o.helped;
+      tied =
+          λ h. rw (answers, jobs)
+          (let a = weigh-append h (worker_view p.jobs).taken (job_hand e).taken in
+          let b = weigh-map_append h (view p.answers).put (answer_hand e).put in
+          let t = o.tied h in
+          let s = ap (weigh h) served.answered in
+          omega arith);
+      room = ap length same ∙ o.room;
+      placed = rw (taken, same) o.placed;
+    }
+
+all_empty : (n k : ℕ) → ArePlaced (seen_by [] []) n (replicate k empty_place)
+all_empty n zero = tt
+all_empty n (suc k) = ((λ test. refl), all_empty (n + 1) k)
+
+-- a new pool
+pub opened : (p : Parts) → worker_deque p.jobs ≡ stealer_deque (arc_value p.shared).thief → worker_flavor p.jobs ≡ 0 → most_jobs ≤ worker_capacity p.jobs → IsPassOf (arc_value p.shared).answers p.answers
+    → p.places.items ≡ replicate most_jobs empty_place → worker_view p.jobs ≡ hand {T = Job} all_parts [] [] → view p.answers ≡ hand {T = Answer} all_parts [] [] → IsOrderly p
+opened p deque fifo roomy queue empty jobs answers = record {
+  deque = deque;
+  fifo = fifo;
+  roomy = roomy;
+  queue = queue;
+  some_part = rw jobs (omega arith);
+  same_part = rw (answers, jobs) refl;
+  helped = [];
+  tied = λ h. rw (answers, jobs) refl;
+  room = ap length empty ∙ length-replicate most_jobs empty_place;
+  placed = rw (answers, empty) (all_empty 0 most_jobs);
+}
