@@ -64,7 +64,9 @@ impl JobSource for OneThread {
     fn submit(&mut self, alloc: Global, work: Work) -> Result<u32, JobFault> {
         let number = self.answers.len() as u32;
         let job = Job { number, work };
-        self.answers.push(job.done(alloc)).map_err(AllocError::from)?;
+        self.answers
+            .push(job.done(alloc))
+            .map_err(AllocError::from)?;
         Ok(number)
     }
 

@@ -32,51 +32,32 @@ fn is_same(first: &Value, second: &Value) -> bool
     match first {
         Value::Null => match second {
             Value::Null => true,
-            Value::Bool(_)
-            | Value::Int(_)
-            | Value::Text(_)
-            | Value::List(_)
-            | Value::Fault(_) => false,
+            Value::Bool(_) | Value::Int(_) | Value::Text(_) | Value::List(_) | Value::Fault(_) =>
+                false,
         },
         Value::Bool(b) => match second {
             Value::Bool(c) => *b == *c,
-            Value::Null
-            | Value::Int(_)
-            | Value::Text(_)
-            | Value::List(_)
-            | Value::Fault(_) => false,
+            Value::Null | Value::Int(_) | Value::Text(_) | Value::List(_) | Value::Fault(_) =>
+                false,
         },
         Value::Int(n) => match second {
             Value::Int(m) => *n == *m,
-            Value::Null
-            | Value::Bool(_)
-            | Value::Text(_)
-            | Value::List(_)
-            | Value::Fault(_) => false,
+            Value::Null | Value::Bool(_) | Value::Text(_) | Value::List(_) | Value::Fault(_) =>
+                false,
         },
         Value::Text(text) => match second {
             Value::Text(other) => text.as_str() == other.as_str(),
-            Value::Null
-            | Value::Bool(_)
-            | Value::Int(_)
-            | Value::List(_)
-            | Value::Fault(_) => false,
+            Value::Null | Value::Bool(_) | Value::Int(_) | Value::List(_) | Value::Fault(_) =>
+                false,
         },
         Value::List(values) => match second {
             Value::List(others) => are_same(values.as_slice(), others.as_slice()),
-            Value::Null
-            | Value::Bool(_)
-            | Value::Int(_)
-            | Value::Text(_)
-            | Value::Fault(_) => false,
+            Value::Null | Value::Bool(_) | Value::Int(_) | Value::Text(_) | Value::Fault(_) =>
+                false,
         },
         Value::Fault(failure) => match second {
             Value::Fault(other) => is_same_failure(failure.get(), other.get()),
-            Value::Null
-            | Value::Bool(_)
-            | Value::Int(_)
-            | Value::Text(_)
-            | Value::List(_) => false,
+            Value::Null | Value::Bool(_) | Value::Int(_) | Value::Text(_) | Value::List(_) => false,
         },
     }
 }

@@ -174,7 +174,12 @@ impl Parts {
     }
 
     /// The value of a job, where it was answered. AllocError where its gate, or this call, was refused memory.
-    pub fn value(&self, alloc: Global, works: &[Work], number: u32) -> Option<Result<Value, AllocError>>
+    pub fn value(
+        &self,
+        alloc: Global,
+        works: &[Work],
+        number: u32,
+    ) -> Option<Result<Value, AllocError>>
         requires orderly { IsOrderly self.now }
         requires number { (number < length works.now) × (length works.now ≤ most_jobs) }
         ensures { IfSome result (λ given. IfOk given (IsValueAt works.now number)) }

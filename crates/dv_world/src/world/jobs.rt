@@ -42,12 +42,7 @@ impl<'s> World<'s> {
     /// Schedules the delivery of a job's result to a Deferred, which is due so many ticks later than now, and no later than
     /// calls are delayed by, as none is that a script which is read schedules.
     #[tactic(auto, unfolding(crate::specs::World::aside))]
-    pub fn deliver_later(
-        &mut self,
-        job: u32,
-        id: DeferredId,
-        delay: u64,
-    ) -> Result<(), AllocError>
+    pub fn deliver_later(&mut self, job: u32, id: DeferredId, delay: u64) -> Result<(), AllocError>
         ensures { OnOk result (self.new ≡ deliver_later job id delay self.old) }
     {
         if self.stopped {
