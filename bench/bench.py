@@ -232,6 +232,18 @@ def nested_tries(n):
     return script([event for _ in range(n) for event in (["deferred", "e"], ["inline", "d", statements], fails)])
 
 
+def jobs_in_another_order(n):
+    return script([["thread", "j", (i * 7) % n, ["value", i]] for i in range(n)] + [["advance", n]])
+
+
+def drains_over_nothing(n):
+    return script([["drain", 8] for _ in range(n)])
+
+
+def posts_of_eight_callers(n):
+    return script([], callers=[[{"do": [["note", "n%d" % i]]} for i in range(n // 8)] for _ in range(8)])
+
+
 def swallowed_firings(n):
     return script([event for _ in range(n) for event in (["deferred", "d"], ["cancel", "d"], ["callback", "d", 1])])
 
@@ -272,6 +284,9 @@ BENCHES = [
     ("awaits one by one", inline_awaits, 800),
     ("bodies on one Deferred", bodies_on_one, 1100),
     ("failures in nested tries", nested_tries, 20),
+    ("jobs in another order", jobs_in_another_order, 500),
+    ("drains over nothing", drains_over_nothing, 2000),
+    ("posts of eight callers", posts_of_eight_callers, 256),
     ("pairs that pass", pairs_that_pass, 2000),
     ("refused firings", refused_firings, 2000),
     ("many notes", many_notes, 2600),

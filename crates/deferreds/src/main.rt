@@ -1,26 +1,31 @@
 //! Runs the script on standard input, and prints its journal and the outcome of each Deferred.
 #![tactic(auto)]
 
+ghost use Rattle.std.specs.Prelude.{◌≤◌, IfOk, IfSome};
+
 use dv_journal::io_sink::IoSink;
 use dv_run::error::RunFault;
 use dv_run::exit::exit_of;
 use dv_run::io_source::IoSource;
 use dv_run::run::run;
+use dv_run::workers::workers_of;
+use dv_threads::gate::PlainGate;
+use std::alloc::AllocGlobal;
 use std::process::ExitCode;
 use std::rt::Env;
 use std::{env, io};
 
 fn main(rt: HostRuntime) -> ExitCode {
-    let (status, text) = match words(&rt) {
-        Ok(0) => {
+    let (status, text) = match workers(&rt) {
+        Ok(Some(workers)) => {
             let mut reader = IoSource::new(rt.stdin());
             let mut writer = IoSink::new(rt.stdout());
-            exit_of(&run(&rt, &mut reader, &mut writer))
+            exit_of(&run(&rt, &mut reader, &mut writer, workers, &PlainGate))
         }
         Err(error) if error.kind() == io::ErrorKind::OutOfMemory => {
             exit_of(&Err(RunFault::OutOfMemory))
         }
-        Ok(_) | Err(_) => (64, "usage: deferreds [WORKERS]"),
+        Ok(None) | Err(_) => (64, "usage: deferreds [WORKERS]"),
     };
     if !text.is_empty() {
         let _ = eprintln!(rt; "{text}");
@@ -28,7 +33,13 @@ fn main(rt: HostRuntime) -> ExitCode {
     ExitCode::from(status)
 }
 
-/// How many words come after the program's name. A word that isn't text is an error.
-fn words(rt: &(impl Env + Alloc)) -> io::Result<usize> {
-    Ok(env::args(rt)?.skip(1).count())
+/// How many workers the words after the program's name ask for; None where these are wrong. A word that isn't text is an error.
+fn workers(rt: &(impl Env + AllocGlobal)) -> io::Result<Option<u32>>
+    ensures { IfOk result (λ asked. IfSome asked (λ workers. workers ≤ 16)) }
+{
+    let mut words = Vec::new(rt.alloc());
+    for word in env::args(rt)?.skip(1) {
+        words.push(word)?;
+    }
+    Ok(workers_of(words.as_slice()))
 }

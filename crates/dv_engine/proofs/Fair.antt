@@ -24,7 +24,6 @@ use Rattle.dv_clock.specs.declared.due.Due.TheVariants as what
 use Rattle.dv_script.specs.declared.body.Body as body_of
 use Rattle.dv_script.specs.declared.body.End.{End}
 use Rattle.dv_script.specs.declared.body.Statement.{Statement}
-use Rattle.dv_script.specs.declared.event.Event.{Event}
 use Rattle.dv_script.specs.declared.event.Event.TheVariants as event
 use Rattle.dv_store.specs.Laws.{used}
 use Rattle.dv_store.specs.declared.store.Step.{Step}
@@ -42,6 +41,8 @@ use Rattle.dv_engine.specs.Listing.{with_children, added_to_children, has_all_at
 use Rattle.dv_engine.specs.Locking.{granted, asked_of, acquired, released_of}
 use Rattle.dv_engine.specs.Looping.{turn_begun, loop_begun, looped, loop_over, turn_ended, loop_failed, over_where, stopped_of}
 use Rattle.dv_engine.specs.Meaning.{told_of, turned, happening}
+use Rattle.dv_engine.specs.Occurrences.{Occurrence, Occurs}
+use Rattle.dv_engine.specs.Occurrences as occurrence
 use Rattle.dv_engine.specs.Maybe.{name_for, used_for, made_with, taken_for, maybe_ended, given_after}
 use Rattle.dv_engine.specs.Queueing.{handed_out, put_of, got, asked_for, get_of}
 use Rattle.dv_engine.specs.Performing.{gone_on, rest_turned}
@@ -757,7 +758,8 @@ turned_fair frame.Tell o w = done_fair 0 w _ (told_comes (failed_with o) w)
 turned_fair frame.Due o w = due_fair 0 (next_call w.objects.clock) w
 turned_fair (frame.Inline inlining) o w = inline_fair inlining o w
 
-pub happening_comes : (event : Event) (w : World) → Comes w (happening event w).2
-happening_comes (event.Action action) w = begun_comes None (deed_of (out-Action action)) w
-happening_comes (event.Advance ticks) w = by_aside (entry.Advance _) _ w refl
-happening_comes (event.Drain most) w = same w
+pub happening_comes : (o : Occurrence) (w : World) → Comes w (happening o w).2
+happening_comes (Occurs (event.Action action)) w = begun_comes None (deed_of (out-Action action)) w
+happening_comes (Occurs (event.Advance ticks)) w = by_aside (entry.Advance _) _ w refl
+happening_comes (Occurs (event.Drain most)) w = by_aside entry.Drain _ w refl
+happening_comes (occurrence.Comes posted body) w = by_aside (entry.Post posted.caller posted.index) _ w refl

@@ -8,7 +8,6 @@ use Rattle.dv_journal.specs.Journal.{fits}
 use Rattle.dv_journal.specs.declared.entry.Entry.{Entry}
 use Rattle.dv_journal.specs.declared.entry.Entry.TheVariants as entry
 use Rattle.dv_journal.specs.declared.error.Stop.{Stop}
-use Rattle.dv_script.specs.declared.event.Event.{Event}
 use Rattle.dv_script.specs.declared.work.Work.{Work}
 use Rattle.dv_store.specs.Telling.{State}
 use Rattle.dv_store.specs.declared.error.StoreFault.{StoreFault}
@@ -21,6 +20,7 @@ use Rattle.dv_store.specs.declared.store.Step.{Step}
 use Rattle.dv_engine.proofs.Fair.{happening_comes, turned_fair}
 use Rattle.dv_engine.proofs.Lasting.{Lasting}
 use Rattle.dv_engine.specs.Meaning.{turned, happening}
+use Rattle.dv_engine.specs.Occurrences.{Occurrence}
 use Rattle.dv_engine.specs.Threading.{GoesOn, job_result}
 use Rattle.dv_threads.specs.Sources.{IsValueAt}
 use Rattle.dv_threads.specs.Works.{value_of}
@@ -30,7 +30,7 @@ use Rattle.dv_engine.specs.Turn.{Turned, ◌over◌}
 use Rattle.dv_engine.specs.declared.frame.Frame.{Frame}
 use Rattle.dv_world.specs.Objects.{Objects, with_ended_call}
 use Rattle.dv_world.specs.Works.{is_full}
-use Rattle.dv_world.specs.World.{World, come_due, come_due_found, after, moved, named, fired, unpaused, guarded, step, put, put_deferred, append, make, fire, fire_guarded, cancel, pause, unpause, aside, arrange, submit}
+use Rattle.dv_world.specs.World.{World, come_due, come_due_found, after, moved, named, fired, unpaused, guarded, step, put, put_deferred, append, make, fire, fire_guarded, cancel, pause, unpause, aside, arrange, submit, tell}
 use Rattle.dv_world.specs.declared.canceller.Canceller.{Canceller}
 use Rattle.dv_world.specs.declared.pair.Pair.{Pair}
 use Rattle.dv_world.specs.declared.performed.Performed.{Performed}
@@ -107,6 +107,9 @@ pub aside_same : (e : Entry) (change : Objects → Objects) (w : World) → (asi
 unfolding aside
 aside_same e change w = one_same w.stopped w _ w refl (one_same (fits w.journal e) _ _ w refl refl)
 
+pub told_works : (e : Entry) (w u : World) → u ≡ tell e w → u.works ≡ w.works
+told_works e w u same = ap (λ x. x.works) same ∙ aside_same e (λ objects. objects) w
+
 grow : Lasting Grows
 unfolding step put put_deferred append make fire fire_guarded cancel pause unpause arrange submit
 grow = record {
@@ -131,8 +134,8 @@ grow = record {
 pub turned_goes_on : (below : List Frame) (f : Frame) (o : Performed) (w : World) (t : Turned) → t ≡ (turned f o w over below) → GoesOn w.works t.2.works
 turned_goes_on below f o w t e = subst (λ (x : Turned). GoesOn w.works x.2.works) (sym e) (((turned_fair f o w).comes.keeps Grows grow).goes_on)
 
-pub happening_goes_on : (event : Event) (below : List Frame) (w : World) (t : Turned) → t ≡ (happening event w over below) → GoesOn w.works t.2.works
-happening_goes_on event below w t e = subst (λ (x : Turned). GoesOn w.works x.2.works) (sym e) (((happening_comes event w).keeps Grows grow).goes_on)
+pub happening_goes_on : (occurrence : Occurrence) (below : List Frame) (w : World) (t : Turned) → t ≡ (happening occurrence w over below) → GoesOn w.works t.2.works
+happening_goes_on occurrence below w t e = subst (λ (x : Turned). GoesOn w.works x.2.works) (sym e) (((happening_comes occurrence w).keeps Grows grow).goes_on)
 
 -- what comes due submits nothing
 found_works : (o : Option Upcoming) (w : World) → (come_due_found o w).1.works ≡ w.works

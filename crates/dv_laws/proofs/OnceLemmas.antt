@@ -16,6 +16,7 @@ use Rattle.dv_store.specs.Pausing.{with_pauses}
 use Rattle.dv_store.specs.Record.{with_item, new_record, changed, changing}
 use Rattle.dv_store.specs.declared.record.Item.TheVariants as item
 use Rattle.dv_laws.specs.Once.{firing, firings, swallowing, swallowings, ComesFired, Stands, SwallowsTheCancelled, FiredOnce, EachDeferredIsFiredOnce}
+use Rattle.dv_engine.specs.Batches.{Batch}
 use Rattle.dv_engine.specs.Meaning.{Means}
 use Rattle.dv_engine.proofs.Kept.{Both, Kind, Kept, telling_of, every_step}
 use Rattle.dv_laws.proofs.ReadBackLemmas.{get_set}
@@ -295,9 +296,9 @@ counts n = record {
 }
 
 -- so a run fires each Deferred once at most
-world_fired_once : (script : Script) (w : World) → Means script w → (n : ℕ) → FiredOnce n w.journal.entries
-world_fired_once script w m n =
-    let kept = means_keeps (λ w u. Counts n (state_of w) (state_of u)) (every_step (Counts n) (counts n)) script w m in
+world_fired_once : (script : Script) (batches : List Batch) (w : World) → Means script batches w → (n : ℕ) → FiredOnce n w.journal.entries
+world_fired_once script batches w m n =
+    let kept = means_keeps (λ w u. Counts n (state_of w) (state_of u)) (every_step (Counts n) (counts n)) script batches w m in
     let all = kept.goes_on (record {
       counted = refl;
       held = omega arith;
@@ -311,4 +312,4 @@ world_fired_once script w m n =
 
 -- and so its report tells
 pub fired_once : EachDeferredIsFiredOnce
-fired_once script report r n = subst (λ (j : Written). FiredOnce n j.entries) (sym r.tells.journal) (world_fired_once script r.world r.means n)
+fired_once script report r n = subst (λ (j : Written). FiredOnce n j.entries) (sym r.tells.journal) (world_fired_once script report.batches r.world r.means n)

@@ -14,6 +14,7 @@ use Rattle.dv_store.specs.Fire.{with_guard}
 use Rattle.dv_store.specs.Record.{with_item, new_record, changed, changing}
 use Rattle.dv_store.specs.declared.record.Item.TheVariants as item
 use Rattle.dv_laws.specs.ReadBack.{Shown, with_firing, with_value, with_wait, with_handed, with_pause, without_pause, told_at, told, told_by, outcome_shown, read_back, OutcomesAreToldByTheJournal}
+use Rattle.dv_engine.specs.Batches.{Batch}
 use Rattle.dv_engine.specs.Meaning.{Means}
 use Rattle.dv_engine.specs.Report.{outcome_of}
 use Rattle.dv_engine.specs.declared.report.Outcome.{Outcome}
@@ -131,15 +132,15 @@ shown_outcome None = refl
 shown_outcome (Some r) = refl
 
 -- so the journal of a run tells what its world holds
-world_told : (script : Script) (w : World) → Means script w → (n : ℕ) → read_back n w.journal.entries ≡ option_map outcome_of (slice_get w.records n)
-world_told script w m n =
-    let kept = means_keeps (λ w u. Reads (state_of w) (state_of u)) (every_step Reads reads) script w m in
+world_told : (script : Script) (batches : List Batch) (w : World) → Means script batches w → (n : ℕ) → read_back n w.journal.entries ≡ option_map outcome_of (slice_get w.records n)
+world_told script batches w m n =
+    let kept = means_keeps (λ w u. Reads (state_of w) (state_of u)) (every_step Reads reads) script batches w m in
     ap (option_map outcome_shown) (kept.goes_on (λ n. refl) n) ∙ shown_outcome (slice_get w.records n)
 
 -- and that of a report its outcomes
 pub journal_tells : OutcomesAreToldByTheJournal
 journal_tells script report r n =
     ap (λ (j : Written). read_back n j.entries) r.tells.journal
-    ∙ world_told script r.world r.means n
+    ∙ world_told script report.batches r.world r.means n
     ∙ sym (slice_get-map outcome_of r.world.records n)
     ∙ ap (λ (os : List Outcome). slice_get os n) (sym r.tells.outcomes)

@@ -18,7 +18,7 @@ pub struct Findings<'a> {
 
 impl<'a> Findings<'a> {
     /// Runs the rows of a file of this text, each of which begins with a line `== NAME`.
-    pub fn of_rows<S: Threads + Wait + RandomSource + AllocGlobal>(
+    pub fn of_rows<S: Threads + Wait + RandomSource + AllocGlobal + Sync>(
         rt: &S,
         file: &'a str,
         text: &str,
@@ -37,7 +37,7 @@ impl<'a> Findings<'a> {
     }
 
     /// Runs the script of a row, or where it has frames, each of its lines in each frame.
-    fn add_row<S: Threads + Wait + RandomSource + AllocGlobal>(
+    fn add_row<S: Threads + Wait + RandomSource + AllocGlobal + Sync>(
         &mut self,
         rt: &S,
         row: &Row<'_>,
@@ -56,7 +56,7 @@ impl<'a> Findings<'a> {
     }
 
     /// Runs each line of a row in this frame, in the place of its `%`.
-    fn add_frame<S: Threads + Wait + RandomSource + AllocGlobal>(
+    fn add_frame<S: Threads + Wait + RandomSource + AllocGlobal + Sync>(
         &mut self,
         rt: &S,
         row: &Row<'_>,
@@ -72,7 +72,7 @@ impl<'a> Findings<'a> {
     }
 
     /// Runs a script, and keeps where the run differs from the row.
-    fn add_run<S: Threads + Wait + RandomSource + AllocGlobal>(
+    fn add_run<S: Threads + Wait + RandomSource + AllocGlobal + Sync>(
         &mut self,
         rt: &S,
         row: &Row<'_>,

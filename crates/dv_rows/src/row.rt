@@ -3,6 +3,7 @@ use dv_journal::memory_sink::MemorySink;
 use dv_run::exit::exit_of;
 use dv_run::memory_source::MemorySource;
 use dv_run::run::run;
+use dv_threads::gate::PlainGate;
 use std::alloc::{AllocError, AllocGlobal, Global};
 use std::random::RandomSource;
 use std::sync::Wait;
@@ -48,7 +49,7 @@ impl<'a> Row<'a> {
     }
 
     /// Runs a script, and tells where the run first differs from what the row says.
-    pub fn difference<S: Threads + Wait + RandomSource + AllocGlobal>(
+    pub fn difference<S: Threads + Wait + RandomSource + AllocGlobal + Sync>(
         &self,
         rt: &S,
         script: &str,
@@ -56,7 +57,7 @@ impl<'a> Row<'a> {
         let alloc = rt.alloc();
         let mut source = MemorySource::new(script.as_bytes(), 4096);
         let mut sink = MemorySink::new(alloc, ROOM, 4096)?;
-        let ending = match exit_of(&run(rt, &mut source, &mut sink)) {
+        let ending = match exit_of(&run(rt, &mut source, &mut sink, 0, &PlainGate)) {
             (status, "") => format!(in alloc; "{status}")?,
             (status, text) => format!(in alloc; "{status} {text}")?,
         };

@@ -1,3 +1,4 @@
 pub mod Front
 pub mod OutputLemmas
 pub mod RunLemmas
+pub mod CallerLemmas

@@ -1,20 +1,24 @@
 -- How a run ends, by how its parts do.
-use Rattle.std.proofs.Common.{◌≡◌, ◌≢◌, ℕ, true, false, List, Ok, Err, inl, inr, refl}
+use Rattle.std.proofs.Common.{arith, ◌≡◌, ◌≢◌, ◌≤◌, ℕ, zero, suc, nat_le, Bool, true, false, ◌&&◌, List, [], ◌∷◌, length, Ok, Err, inl, inr, refl, subst}
+use Rattle.std.proofs.lemmas.Bool.Decides.{nat_tests}
+use Rattle.std.specs.List.{list_all}
 use Rattle.std.proofs.KnownBytes.{Keeps-refl}
 use Rattle.std.specs.Io.KnownBytes.{Appends}
-use Rattle.dv_engine.specs.Performs.{performs}
-use Rattle.dv_engine.specs.Report.{Reports}
+use Rattle.dv_engine.specs.Batches.{Callers, bodies_of}
 use Rattle.dv_engine.specs.declared.report.Report.{Report}
 use Rattle.dv_journal.specs.Sink.{AppendsPrefix, HasFailed}
 use Rattle.dv_journal.specs.declared.error.PrintFault.{PrintFault}
 use Rattle.dv_journal.specs.declared.error.PrintFault.TheVariants as printing
+use Rattle.dv_reader.specs.Limits.{are_few}
 use Rattle.dv_reader.specs.Refusal.{Says, Refuses}
 use Rattle.dv_reader.specs.declared.error.ScriptFault.{ScriptFault}
 use Rattle.dv_reader.specs.declared.error.ScriptFault.TheVariants as script
 use Rattle.dv_script.specs.declared.script.Script.{Script}
+use Rattle.dv_run.specs.Callers.{AreFew}
 use Rattle.dv_run.specs.Faults.{of_read, of_script, of_print}
+use Rattle.dv_run.specs.Headline.{IsRun}
 use Rattle.dv_run.specs.Output.{report_text}
-use Rattle.dv_run.specs.Run.{Told, most_read, SaysPerformed, SaysReport, Prints, RefusesInput, GivesUp, ReaderFailed, WriterFailed, GivesNoScript}
+use Rattle.dv_run.specs.Run.{Told, most_read, SaysScript, SaysReport, Prints, RefusesInput, GivesUp, ReaderFailed, WriterFailed, GivesNoScript}
 use Rattle.dv_run.specs.Source.{IsFrontOf}
 use Rattle.dv_run.specs.declared.error.RunFault.TheVariants.{ScriptRefused, OutOfMemory}
 use Rattle.dv_run.specs.declared.source.ReadError.{ReadError}
@@ -27,12 +31,7 @@ after_read input old reading.OutOfMemory = inl (Keeps-refl old)
 
 -- bytes that are refused, for a reason other than want of memory: nothing was written
 refused_as : (input old : Told) (bytes : List ℕ) (fault : ScriptFault) → IsFrontOf input most_read bytes → Refuses fault bytes → fault ≢ script.OutOfMemory → RefusesInput input old old fault
-refused_as input old bytes fault front refused reason = record { bytes = bytes; read = front; refused = inl refused; reason = reason; written = Keeps-refl old }
-
--- a script that uses what isn't performed yet: nothing was written
-after_more : (input old : Told) (bytes : List ℕ) (read : Script) → IsFrontOf input most_read bytes → Says bytes read → performs read ≡ false → GivesUp (ScriptRefused script.BadShape) input old old
-after_more input old bytes read front says more =
-    record { bytes = bytes; read = front; refused = inr (refl, record { script = read; says = says; more = more }); reason = λ e. cc; written = Keeps-refl old }
+refused_as input old bytes fault front refused reason = record { bytes = bytes; read = front; refused = refused; reason = reason; written = Keeps-refl old }
 
 -- a script that is refused: nothing was written
 after_script : (input old : Told) (bytes : List ℕ) (fault : ScriptFault) → IsFrontOf input most_read bytes → Refuses fault bytes → GivesUp (of_script fault) input old old
@@ -50,23 +49,22 @@ pub after_perform : (input old : Told) → GivesUp OutOfMemory input old old
 after_perform input old = inl (Keeps-refl old)
 
 -- the report of the script that the input says
-says_report : (input : Told) (read : Script) (report : Report) → SaysPerformed input read → Reports read report → SaysReport input read report
-says_report input read report says reports =
-    record { bytes = says.bytes; read = says.read; says = says.says; performed = says.performed; reports = reports }
+says_report : (input : Told) (read : Script) (report : Report) → SaysScript input read → IsRun read report → SaysReport input read report
+says_report input read report says runs = record { bytes = says.bytes; read = says.read; says = says.says; runs = runs }
 
 -- a print that gave up: a prefix was written
-pub after_print : (input old new : Told) (read : Script) (report : Report) (fault : PrintFault) → SaysPerformed input read → Reports read report
+pub after_print : (input old new : Told) (read : Script) (report : Report) (fault : PrintFault) → SaysScript input read → IsRun read report
     → AppendsPrefix old new (report_text read.classes report) → GivesUp (of_print fault) input old new
-after_print input old new read report printing.WriteFault says reports written =
-    record { script = read; report = report; says = says_report input read report says reports; written = written }
-after_print input old new read report printing.OutOfMemory says reports written =
-    inr (record { script = read; report = report; says = says_report input read report says reports; written = written })
+after_print input old new read report printing.WriteFault says runs written =
+    record { script = read; report = report; says = says_report input read report says runs; written = written }
+after_print input old new read report printing.OutOfMemory says runs written =
+    inr (record { script = read; report = report; says = says_report input read report says runs; written = written })
 
 -- all was written
-pub after_all : (input old new : Told) (read : Script) (report : Report) → SaysPerformed input read → Reports read report
+pub after_all : (input old new : Told) (read : Script) (report : Report) → SaysScript input read → IsRun read report
     → Appends old new (report_text read.classes report) → Prints input old new report
-after_all input old new read report says reports written =
-    record { script = read; says = says_report input read report says reports; written = written }
+after_all input old new read report says runs written =
+    record { script = read; says = says_report input read report says runs; written = written }
 
 -- what the reader's count says after a read that gave up
 reader_after_read : (error : ReadError) (old new : ℕ) → ((error ≡ reading.ReadFault) → HasFailed old new) → ((error ≡ reading.OutOfMemory) → new ≡ old) → ReaderFailed (Err (of_read error)) old new
@@ -116,15 +114,6 @@ unfolding WriterFailed
 writer_after_print printing.WriteFault old new failed kept = failed refl
 writer_after_print printing.OutOfMemory old new failed kept = kept refl
 
--- a script that uses what isn't performed yet is refused, and neither has failed
-reader_after_more : (fault : ScriptFault) (old new : ℕ) → new ≡ old → ReaderFailed (Err (ScriptRefused fault)) old new
-unfolding ReaderFailed
-reader_after_more fault old new kept = kept
-
-writer_after_more : (fault : ScriptFault) (old : ℕ) → WriterFailed (Err (ScriptRefused fault)) old old
-unfolding WriterFailed
-writer_after_more fault old = refl
-
 -- a read that gave up leads to no script
 pub read_gives_none : (input : Told) (error : ReadError) (old new : ℕ) → ((error ≡ reading.ReadFault) → HasFailed old new) → ((error ≡ reading.OutOfMemory) → new ≡ old) → GivesNoScript (of_read error) input old new
 read_gives_none input error old new failed kept =
@@ -135,14 +124,32 @@ pub bytes_give_none : (input : Told) (bytes : List ℕ) (fault : ScriptFault) (o
 bytes_give_none input bytes fault old new front refused kept =
     record { untouched = λ told. after_script input told bytes fault front refused; reader = reader_after_script fault old new kept; writer = λ count. writer_after_script fault count }
 
--- nor does a script that uses what isn't performed yet
-pub more_gives_none : (input : Told) (bytes : List ℕ) (read : Script) (old new : ℕ) → IsFrontOf input most_read bytes → Says bytes read → performs read ≡ false → new ≡ old → GivesNoScript (ScriptRefused script.BadShape) input old new
-more_gives_none input bytes read old new front says more kept =
-    record { untouched = λ told. after_more input told bytes read front says more; reader = reader_after_more script.BadShape old new kept; writer = λ count. writer_after_more script.BadShape count }
+-- any others say a script
+pub bytes_say : (input : Told) (bytes : List ℕ) (read : Script) → IsFrontOf input most_read bytes → Says bytes read → SaysScript input read
+bytes_say input bytes read front says = record { bytes = bytes; read = front; says = says }
 
--- any other is one
-pub all_is_performed : (input : Told) (bytes : List ℕ) (read : Script) → IsFrontOf input most_read bytes → Says bytes read → performs read ≡ true → SaysPerformed input read
-all_is_performed input bytes read front says performed = record { bytes = bytes; read = front; says = says; performed = performed }
+-- of few callers, each of few posts
+and_first : (a b : Bool) → (a && b) ≡ true → a ≡ true
+and_first true b e = refl
+and_first false b e = e
+
+and_second : (a b : Bool) → (a && b) ≡ true → b ≡ true
+and_second true b e = e
+and_second false b e = absurd cc
+
+below_most : (n most : ℕ) → nat_le n most ≡ true → n ≤ most
+below_most n most e = grind (arith, nat_tests)
+
+few_at : (callers : Callers) (c : ℕ) → list_all are_few callers ≡ true → length (bodies_of callers c) ≤ 256
+few_at [] c e = omega arith
+few_at (bodies ∷ callers) zero e = below_most (length bodies) 256 (and_first _ _ e)
+few_at (bodies ∷ callers) (suc c) e = few_at callers c (and_second _ _ e)
+
+pub says_few : (bytes : List ℕ) (read : Script) → Says bytes read → AreFew read.callers
+says_few bytes read says = subst (λ (s : Script). AreFew s.callers) says.same (record {
+  callers_few = below_most (length says.draft.script.callers) 8 (and_second _ _ (and_first _ _ (and_first _ _ says.small)));
+  posts_few = λ c. few_at says.draft.script.callers c (and_second _ _ (and_first _ _ says.small));
+})
 
 -- nor has either where a script isn't performed for want of memory
 pub reader_after_perform : (old new : ℕ) → new ≡ old → ReaderFailed (Err OutOfMemory) old new
@@ -162,6 +169,6 @@ pub writer_after_all : (report : Report) (old new : ℕ) → new ≡ old → Wri
 unfolding WriterFailed
 writer_after_all report old new kept = kept
 
-pub ruleset script_rules = (read_gives_none, bytes_give_none, more_gives_none, all_is_performed)
+pub ruleset script_rules = (read_gives_none, bytes_give_none, bytes_say, says_few)
 
 pub ruleset run_rules = (after_perform, after_print, after_all, reader_after_perform, writer_after_perform, reader_after_print, writer_after_print, reader_after_all, writer_after_all)

@@ -1,14 +1,13 @@
 -- What a run reads and writes.
-use Rattle.std.specs.Prelude.{◌≡◌, ◌≢◌, ◌⊎◌, ℕ, true, false, List, Option, Result, Ok, Err}
+use Rattle.std.specs.Prelude.{◌≡◌, ◌≢◌, ◌⊎◌, ℕ, List, Option, Result, Ok, Err}
 use Rattle.std.specs.Io.KnownBytes.{Appends, Keeps}
-use Rattle.dv_engine.specs.Performs.{performs}
-use Rattle.dv_engine.specs.Report.{Reports}
 use Rattle.dv_engine.specs.declared.report.Report.{Report}
 use Rattle.dv_journal.specs.Sink.{AppendsPrefix, HasFailed}
 use Rattle.dv_reader.specs.Refusal.{Says, Refuses}
 use Rattle.dv_reader.specs.declared.error.ScriptFault.{ScriptFault}
 use Rattle.dv_reader.specs.declared.error.ScriptFault.TheVariants as script
 use Rattle.dv_script.specs.declared.script.Script.{Script}
+use Rattle.dv_run.specs.Headline.{IsRun}
 use Rattle.dv_run.specs.Output.{report_text}
 use Rattle.dv_run.specs.Source.{IsFrontOf}
 use Rattle.dv_run.specs.declared.error.RunFault.{RunFault}
@@ -22,20 +21,18 @@ Told = Option (List ℕ)
 abbrev pub most_read : ℕ
 most_read = 1048577
 
--- the input says a script that is performed
-pub record SaysPerformed (input : Told) (script : Script) : Type 0 where
+-- the input says a script
+pub record SaysScript (input : Told) (script : Script) : Type 0 where
   pub bytes : List ℕ
   pub read : IsFrontOf input most_read bytes
   pub says : Says bytes script
-  pub performed : performs script ≡ true
 
--- the input says a script that is performed, and this is the report of it
+-- the input says a script, and this is the report of a run of it
 pub record SaysReport (input : Told) (script : Script) (report : Report) : Type 0 where
   pub bytes : List ℕ
   pub read : IsFrontOf input most_read bytes
   pub says : Says bytes script
-  pub performed : performs script ≡ true
-  pub reports : Reports script report
+  pub runs : IsRun script report
 
 -- the input says a script, and the text of its report was written
 pub record Prints (input old new : Told) (report : Report) : Type 0 where
@@ -50,21 +47,11 @@ pub record PrintsPrefix (input old new : Told) : Type 0 where
   pub says : SaysReport input script report
   pub written : AppendsPrefix old new (report_text script.classes report)
 
--- the bytes say a script that uses what isn't performed yet
-pub record SaysMore (bytes : List ℕ) : Type 0 where
-  pub script : Script
-  pub says : Says bytes script
-  pub more : performs script ≡ false
-
--- why the bytes are refused: they say no script, for the least reason that holds, or one that uses what isn't performed yet
-abbrev pub RefusesBytes : ScriptFault → List ℕ → Type 0
-RefusesBytes fault bytes = Refuses fault bytes ⊎ ((fault ≡ script.BadShape) × SaysMore bytes)
-
--- the input is refused, and nothing was written
+-- the input says no script, for the least reason that holds, and nothing was written
 pub record RefusesInput (input old new : Told) (fault : ScriptFault) : Type 0 where
   pub bytes : List ℕ
   pub read : IsFrontOf input most_read bytes
-  pub refused : RefusesBytes fault bytes
+  pub refused : Refuses fault bytes
   pub reason : fault ≢ script.OutOfMemory
   pub written : Keeps old new
 

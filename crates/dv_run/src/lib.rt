@@ -1,10 +1,14 @@
 //! Runs a script: reads it, performs it, and prints its journal and its outcomes.
 #![tactic(auto)]
 
+mod callers;
+mod driving;
 pub mod error;
 pub mod exit;
 pub mod io_source;
 pub mod memory_source;
 pub mod output;
+mod performing;
 pub mod run;
 pub mod source;
+pub mod workers;

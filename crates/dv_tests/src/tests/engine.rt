@@ -1,59 +1,164 @@
 ghost use Rattle.std.specs.Prelude.{◌<◌, ◌^◌, ◌-◌, IfOk};
 
-use dv_engine::engine::{Engine, Next};
+use dv_engine::engine::Engine;
 use dv_engine::error::EngineFault;
+use dv_engine::report::Report;
 use dv_inline::poller::Poller;
 use dv_reader::read_script::ReadScript;
 use dv_script::script::Script;
 use dv_threads::one_thread::OneThread;
-use std::alloc::Global;
+use dv_threads::posted::Posted;
+use dv_threads::source::JobSource;
+use dv_value::items::Items;
+use std::alloc::{AllocError, AllocGlobal, Global};
+use std::random::RandomSource;
+use std::sync::Wait;
 use std::test::Fail;
+use std::thread::Threads;
 
-/// A script of these events.
+/// A script of these events, with two callers of two posts each.
 fn script(alloc: Global, events: &str) -> Result<Script, Fail>
     ensures limited { IfOk result (λ script. script.limit < 2 ^ 32 - 1) }
 {
-    let text = format!(in alloc; "{{\"version\":1,\"events\":[{events}]}}")?;
+    let text = format!(in alloc;
+        r#"{{"version":1,"callers":[[{{}},{{}}],[{{}},{{}}]],"events":[{events}]}}"#
+    )?;
     Ok(Script::read(alloc, text.as_bytes())?)
 }
 
+/// A batch of these posts, each by its caller and its number.
+fn batch(alloc: Global, posts: &[(u32, u32)]) -> Result<Items<Posted>, AllocError> {
+    let mut batch = Items::new(alloc);
+    for (caller, index) in posts {
+        batch.push(Posted {
+            caller: *caller,
+            index: *index,
+        })?;
+    }
+    Ok(batch)
+}
+
+/// A call of an engine.
+#[derive(Drop)]
+enum Call {
+    Event,
+    Drain(&'static [(u32, u32)]),
+}
+
+/// Makes a call, and adds its answer as a line.
+fn add_answer<R, J>(
+    rt: &R,
+    engine: &mut Engine<'_, J>,
+    call: &Call,
+    lines: &mut String,
+) -> Result<(), AllocError>
+where
+    R: Wait + RandomSource + AllocGlobal,
+    J: JobSource,
+{
+    match call {
+        Call::Event => write!(lines, "{:?}\n", engine.event(rt)),
+        Call::Drain(posts) => {
+            let batch = batch(rt.alloc(), posts)?;
+            write!(lines, "{:?}\n", engine.drain(rt, batch))
+        }
+    }
+}
+
+/// Makes calls one after the other: their answers, a line each.
+fn answers<R, J>(rt: &R, engine: &mut Engine<'_, J>, calls: &[Call]) -> Result<String, AllocError>
+where
+    R: Wait + RandomSource + AllocGlobal,
+    J: JobSource,
+{
+    let mut lines = String::new(rt.alloc());
+    for call in calls {
+        add_answer(rt, engine, call, &mut lines)?;
+    }
+    Ok(lines)
+}
+
+/// The answers to calls, and then the report.
+fn calls<R>(
+    rt: &R,
+    events: &str,
+    calls: &[Call],
+) -> Result<(String, Result<Report, EngineFault>), Fail>
+where
+    R: Threads + Wait + RandomSource + AllocGlobal,
+{
+    let alloc = rt.alloc();
+    let script = script(alloc, events)?;
+    let poller = Poller::new(rt)?;
+    let mut engine = Engine::new(alloc, poller, OneThread::new(alloc), &script)?;
+    let lines = answers(rt, &mut engine, calls)?;
+    Ok((lines, engine.finish(rt)))
+}
+
 #[test]
-fn an_engine_goes_event_by_event_and_then_ends(rt: HostRuntime) -> Result<(), Fail> {
-    let script = script(rt.alloc(), r#"["note","one"],["callback","z",1]"#)?;
-    let mut engine = Engine::new(
-        rt.alloc(),
-        Poller::new(&rt)?,
-        OneThread::new(rt.alloc()),
-        &script,
+fn an_engine_waits_for_the_batch_of_each_drain_and_for_the_last(
+    rt: HostRuntime,
+) -> Result<(), Fail> {
+    let (lines, report) = calls(
+        &rt,
+        r#"["note","one"],["drain",2],["callback","z",1]"#,
+        &[
+            Call::Drain(&[]),
+            Call::Event,
+            Call::Event,
+            Call::Event,
+            Call::Drain(&[(1, 0), (0, 0)]),
+            Call::Drain(&[]),
+            Call::Event,
+            Call::Event,
+            Call::Event,
+            Call::Drain(&[(0, 1), (1, 1)]),
+            Call::Event,
+            Call::Drain(&[]),
+        ],
+    )?;
+    assert_eq!(rt;
+        lines.as_str(),
+        "Err(NotNow)\nOk(Went)\nOk(Drain(2))\nErr(NotNow)\nOk(())\nErr(NotNow)\nOk(Went)\nOk(Ended)\nErr(NotNow)\nOk(())\nErr(NotNow)\nErr(NotNow)\n"
     );
-    assert_eq!(rt; engine.event(&rt), Ok(Next::Went));
-    assert_eq!(rt; engine.event(&rt), Ok(Next::Went));
-    assert_eq!(rt; engine.event(&rt), Ok(Next::Ended));
-    assert_eq!(rt; engine.event(&rt), Err(EngineFault::NotNow));
-    assert_eq!(rt; engine.event(&rt), Err(EngineFault::NotNow));
-    let report = engine.finish(&rt)?;
-    assert_eq!(rt; report.journal.entries().len(), 2);
-    assert!(rt; !report.stopped);
+    let entries = report?.journal.entries().len();
+    assert_eq!(rt; entries, 7);
+    Ok(())
+}
+
+#[test]
+fn an_engine_takes_no_post_of_a_stranger(rt: HostRuntime) -> Result<(), Fail> {
+    let (lines, report) = calls(
+        &rt,
+        r#"["drain",2]"#,
+        &[
+            Call::Event,
+            Call::Drain(&[(0, 1)]),
+            Call::Drain(&[(0, 0), (0, 0)]),
+            Call::Drain(&[(2, 0)]),
+            Call::Drain(&[(0, 0), (1, 0), (0, 1)]),
+            Call::Drain(&[(0, 0)]),
+            Call::Event,
+            Call::Drain(&[(0, 0)]),
+            Call::Drain(&[(0, 1), (0, 2)]),
+            Call::Drain(&[]),
+        ],
+    )?;
+    assert_eq!(rt;
+        lines.as_str(),
+        "Ok(Drain(2))\nErr(Stranger)\nErr(Stranger)\nErr(Stranger)\nErr(Stranger)\nOk(())\nOk(Ended)\nErr(Stranger)\nErr(Stranger)\nOk(())\n"
+    );
+    let batches = report?.batches.as_slice().len();
+    assert_eq!(rt; batches, 2);
     Ok(())
 }
 
 #[test]
 fn an_engine_that_has_not_ended_gives_no_report(rt: HostRuntime) -> Result<(), Fail> {
-    let script = script(rt.alloc(), r#"["note","one"]"#)?;
-    let fresh = Engine::new(
-        rt.alloc(),
-        Poller::new(&rt)?,
-        OneThread::new(rt.alloc()),
-        &script,
-    );
-    assert!(rt; matches!(fresh.finish(&rt), Err(EngineFault::NotNow)));
-    let mut engine = Engine::new(
-        rt.alloc(),
-        Poller::new(&rt)?,
-        OneThread::new(rt.alloc()),
-        &script,
-    );
-    assert_eq!(rt; engine.event(&rt), Ok(Next::Went));
-    assert!(rt; matches!(engine.finish(&rt), Err(EngineFault::NotNow)));
+    let (_, fresh) = calls(&rt, r#"["drain",0]"#, &[])?;
+    assert!(rt; matches!(fresh, Err(EngineFault::NotNow)));
+    let drained = [Call::Event, Call::Drain(&[]), Call::Event];
+    let (_, ended) = calls(&rt, r#"["drain",0]"#, &drained)?;
+    assert!(rt; matches!(ended, Err(EngineFault::NotNow)));
     Ok(())
 }

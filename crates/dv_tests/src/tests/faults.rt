@@ -6,6 +6,7 @@ use dv_run::io_source::IoSource;
 use dv_run::memory_source::MemorySource;
 use dv_run::run::run;
 use dv_run::source::read_up_to;
+use dv_threads::gate::PlainGate;
 use std::io::{self, Read};
 use std::test::Fail;
 
@@ -22,7 +23,7 @@ fn a_reader_that_fails_at_any_call_is_a_read_fault(rt: HostRuntime) -> Result<()
         let mut source = MemorySource::new(SCRIPT, 10).with_failure(calls_before);
         let mut sink = MemorySink::new(rt.alloc(), 100, 100)?;
         assert_eq!(rt;
-            stops(run(&rt, &mut source, &mut sink)),
+            stops(run(&rt, &mut source, &mut sink, 0, &PlainGate)),
             Err(RunFault::ReadFault),
             "after {calls_before}"
         );
@@ -36,7 +37,7 @@ fn a_byte_a_call_gives_the_same_text(rt: HostRuntime) -> Result<(), Fail> {
     for (read, written) in [(1usize, 1usize), (1, 100), (4096, 1), (7, 3)] {
         let mut source = MemorySource::new(SCRIPT, read);
         let mut sink = MemorySink::new(rt.alloc(), 100, written)?;
-        let answer = run(&rt, &mut source, &mut sink);
+        let answer = run(&rt, &mut source, &mut sink, 0, &PlainGate);
         assert_eq!(rt; stops(answer), Ok(false), "{read} and {written}");
         assert_eq!(rt; sink.bytes(), TEXT, "{read} and {written}");
     }
@@ -53,7 +54,7 @@ fn a_writer_that_fails_at_any_call_has_a_prefix(rt: HostRuntime) -> Result<(), F
                 trouble,
             );
             assert_eq!(rt;
-                stops(run(&rt, &mut source, &mut sink)),
+                stops(run(&rt, &mut source, &mut sink, 0, &PlainGate)),
                 Err(RunFault::WriteFault),
                 "{trouble:?} after {calls_before}"
             );
@@ -80,7 +81,7 @@ fn the_journal_and_the_outcomes_are_written_in_one_call_each(rt: HostRuntime) ->
             Trouble::Fails,
         );
         assert_eq!(rt;
-            stops(run(&rt, &mut source, &mut sink)),
+            stops(run(&rt, &mut source, &mut sink, 0, &PlainGate)),
             answer,
             "after {calls_before}"
         );
@@ -95,7 +96,7 @@ fn a_full_sink_is_a_write_fault_with_a_prefix(rt: HostRuntime) -> Result<(), Fai
         let mut source = MemorySource::new(SCRIPT, 100);
         let mut sink = MemorySink::new(rt.alloc(), room, 100)?;
         assert_eq!(rt;
-            stops(run(&rt, &mut source, &mut sink)),
+            stops(run(&rt, &mut source, &mut sink, 0, &PlainGate)),
             Err(RunFault::WriteFault),
             "room for {room}"
         );
@@ -116,11 +117,17 @@ impl io::Read for Broken {
 #[test]
 fn a_reader_and_a_writer_of_std_serve_a_run(rt: HostRuntime) -> Result<(), Fail> {
     let mut text = Vec::new(rt.alloc());
-    let answer = run(&rt, &mut IoSource::new(SCRIPT), &mut IoSink::new(&mut text));
+    let answer = run(
+        &rt,
+        &mut IoSource::new(SCRIPT),
+        &mut IoSink::new(&mut text),
+        0,
+        &PlainGate,
+    );
     assert_eq!(rt; stops(answer), Ok(false));
     assert_eq!(rt; text.as_slice(), TEXT);
     let mut broken = IoSource::new(SCRIPT.chain(Broken));
-    let answer = run(&rt, &mut broken, &mut IoSink::new(&mut text));
+    let answer = run(&rt, &mut broken, &mut IoSink::new(&mut text), 0, &PlainGate);
     assert_eq!(rt; stops(answer), Err(RunFault::ReadFault));
     assert_eq!(rt; text.as_slice(), TEXT);
     Ok(())
@@ -130,7 +137,7 @@ fn a_reader_and_a_writer_of_std_serve_a_run(rt: HostRuntime) -> Result<(), Fail>
 fn a_full_writer_of_std_is_a_write_fault(rt: HostRuntime) {
     let mut room = [0u8; 4];
     let mut writer = IoSink::new(room.as_mut_slice());
-    let answer = run(&rt, &mut IoSource::new(SCRIPT), &mut writer);
+    let answer = run(&rt, &mut IoSource::new(SCRIPT), &mut writer, 0, &PlainGate);
     assert_eq!(rt; stops(answer), Err(RunFault::WriteFault));
     assert_eq!(rt; room.as_slice(), &TEXT[..4]);
 }

@@ -5,7 +5,6 @@ use dv_script::work::Work;
 use dv_value::class_id::ClassId;
 use dv_value::text::Text;
 use dv_value::value::Value;
-use std::alloc::{AllocError, Global};
 use std::test::Fail;
 
 #[test]
@@ -59,35 +58,6 @@ fn a_work_is_copied_whole(rt: HostRuntime) -> Result<(), Fail> {
         let mut after = String::new(alloc);
         write!(&mut after, "{:?}", work.copy(alloc)?)?;
         assert_eq!(rt; before, after);
-    }
-    Ok(())
-}
-
-/// Each event that isn't performed yet, and what is read of it.
-static READ: [(&str, &str); 2] = [
-    (r#"["drain",0]"#, r#"Drain(0)"#),
-    (r#"["drain",2048]"#, r#"Drain(2048)"#),
-];
-
-/// What is read of a script of one event.
-fn shown(alloc: Global, event: &str) -> Result<String, AllocError> {
-    let mut out = String::new(alloc);
-    let script = format!(in alloc; r#"{{"version":1,"events":[{event}]}}"#)?;
-    match Script::read(alloc, script.as_str().as_bytes()) {
-        Ok(script) => {
-            for event in script.events.as_slice() {
-                write!(&mut out, "{event:?}")?;
-            }
-        }
-        Err(fault) => write!(&mut out, "{fault}")?,
-    }
-    Ok(out)
-}
-
-#[test]
-fn events_are_read_as_they_are_written(rt: HostRuntime) -> Result<(), Fail> {
-    for (event, expected) in &READ {
-        assert_eq!(rt; shown(rt.alloc(), event)?.as_str(), *expected);
     }
     Ok(())
 }

@@ -1,7 +1,7 @@
 use Rattle.std.proofs.Common.{rules, ap, Err}
 use Rattle.dv_run.specs.Faults.{of_read}
 use Rattle.dv_run.specs.Run.{GivesNoScript}
-use Rattle.dv_run.proofs.RunLemmas.{read_gives_none, more_gives_none, all_is_performed}
+use Rattle.dv_run.proofs.RunLemmas.{read_gives_none}
 use Rattle.dv_run.proofs.run.script_of.Goals as goal
 
 pub returns-in_err-bytes-clause-err : goal.returns-in_err-bytes-clause-err
@@ -9,11 +9,3 @@ returns-in_err-bytes-clause-err g c =
     let given : GivesNoScript (of_read c.in_err-bytes.field-0.0) (g.R.Source.left c.args.reader.now) (g.R.Source.failures c.args.reader.now) (g.R.Source.failures c.read_up_to.new.source) =
     read_gives_none _ _ _ _ (λ is. c.in_err-bytes.ensures.cause (ap Err is)) (λ is. c.in_err-bytes.ensures.memory (ap Err is)) in
     search rules
-
-pub returns-then-not-performs-clause-err : goal.returns-then-not-performs-clause-err
-returns-then-not-performs-clause-err g c =
-    more_gives_none _ c.in_ok-bytes.bytes.items c.in_ok-script.script _ _ c.in_ok-bytes.ensures.front (rw c.as_slice.ensures.value at c.in_ok-script.ensures.ok) (search rules) c.in_ok-bytes.ensures.kept
-
-pub returns-clause-ok : goal.returns-clause-ok
-returns-clause-ok g c =
-    all_is_performed _ c.in_ok-bytes.bytes.items c.in_ok-script.script c.in_ok-bytes.ensures.front (rw c.as_slice.ensures.value at c.in_ok-script.ensures.ok) (search rules)

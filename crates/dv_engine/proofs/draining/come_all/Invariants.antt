@@ -1,0 +1,14 @@
+use Rattle.std.proofs.Common.{◌≡◌, drop}
+use Rattle.dv_engine.specs.Bounds.{Bounded}
+use Rattle.dv_engine.specs.Meaning.{Runs}
+use Rattle.dv_engine.specs.Occurrences.{comings}
+use Rattle.dv_engine.proofs.draining.come_all.Given as goal
+use Rattle.dv_world.specs.World.{World}
+
+-- what the posts that are left lead to from here, all of them led to at first; and the works of all jobs so far are submitted
+abbrev pub invariant-loop-posted : goal.invariant-loop-posted
+invariant-loop-posted g l = record {
+  leads : (v : World) → Runs (comings l.callers (drop l.posted-index l.batch)) l.world v → Runs (comings l.callers l.batch) l.fn.world v;
+  bounded : Bounded l.world;
+  jobs : l.jobs ≡ l.world.works;
+}

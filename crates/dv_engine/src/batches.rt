@@ -1,0 +1,143 @@
+ghost use Rattle.std.specs.Prelude.{List, ◌≡◌, ◌+◌, ◌∷◌, ◌++◌, [], length, replicate, slice_set, IfNone, IfOk, IfSome, IsFalse, IsTrue, OnOk};
+ghost use Rattle.dv_engine.specs.Batches.{AreNext, joined};
+ghost use Rattle.dv_engine.specs.Taking.{Counted, CountsWith, IsNext, untaken, with_batch};
+ghost use Rattle.dv_threads.specs.declared.posted.Posted.{Posted as SpecPosted};
+
+use dv_script::body::Body;
+use dv_threads::posted::Posted;
+use dv_value::items::Items;
+use std::alloc::{AllocError, Global};
+use std::marker::Model;
+
+/// The batches that were taken of the callers' posts. Contracts see them, and the bodies of the callers.
+#[derive(Drop)]
+pub struct Batches<'s> {
+    callers: &'s [Items<Body>],
+    /// How many posts of each caller are in the batches.
+    counts: Vec<usize>,
+    batches: Items<Items<Posted>>,
+}
+
+impl<'s> Model for Batches<'s> {
+    ghost use Rattle.std.specs.Coded.{codes};
+    ghost use Rattle.dv_script.specs.contracts.body.Body as body_contract;
+    ghost use Rattle.dv_engine.specs.Taking.{CountsAll, Taken as Seen};
+
+    ghost Value = { Seen };
+
+    ghost coded = { Prim.hlevel (codes, body_contract.the_row.coded) };
+
+    ghost view = { λ b. record { callers = b.callers.now; batches = b.batches } };
+
+    ghost invariant = { λ b. CountsAll (record { callers = b.callers.now; batches = b.batches }) b.counts.items };
+}
+
+impl<'s> Batches<'s> {
+    /// No batch was taken yet of these callers.
+    #[tactic(auto, using(crate::proofs::CountLemmas::none_counted))]
+    pub fn new(alloc: Global, callers: &'s [Items<Body>]) -> Result<Batches<'s>, AllocError>
+        ensures { IfOk result (λ batches. batches ≡ untaken callers.now) }
+    {
+        Ok(Batches {
+            callers,
+            counts: zeros(alloc, callers.len())?,
+            batches: Items::new(alloc),
+        })
+    }
+
+    /// The bodies of the callers.
+    pub fn callers(&self) -> &'s [Items<Body>]
+        ensures { result.now ≡ self.now.callers }
+    {
+        self.callers
+    }
+
+    /// How many posts of each caller there are with a batch more; None where one of its posts isn't the next one of its caller.
+    pub fn count(&self, alloc: Global, batch: &[Posted]) -> Result<Option<Vec<usize>>, AllocError>
+        ensures counted { IfOk result (λ counted. IfSome counted (λ counts. CountsWith self.now batch.now counts.items)) }
+        ensures strange { IfOk result (λ counted. IfNone counted (AreNext self.now.callers (joined self.now.batches ++ batch.now) → ⊥)) }
+    {
+        let mut counts = copy(alloc, self.counts.as_slice())?;
+        if !count_all(self.callers, &mut counts, batch) {
+            return Ok(None);
+        }
+        Ok(Some(counts))
+    }
+
+    /// Takes a batch, with which there are so many posts of each caller.
+    #[tactic(auto, using(crate::proofs::CountLemmas::counted_with))]
+    pub fn put(&mut self, counts: Vec<usize>, batch: Items<Posted>) -> Result<(), AllocError>
+        requires { CountsWith self.old batch counts.items }
+        ensures ok { OnOk result (self.new ≡ with_batch batch self.old) }
+        ensures callers { self.new.callers ≡ self.old.callers }
+    {
+        self.batches.push(batch)?;
+        self.counts = counts;
+        Ok(())
+    }
+
+    /// The batches, in the order in which they were taken.
+    #[tactic(auto, using(crate::proofs::CountLemmas::counted_next))]
+    pub fn into_items(self) -> Items<Items<Posted>>
+        ensures same { result ≡ self.entry.batches }
+        ensures next { AreNext self.entry.callers (joined self.entry.batches) }
+    {
+        self.batches
+    }
+}
+
+/// So many zeros.
+fn zeros(alloc: Global, len: usize) -> Result<Vec<usize>, AllocError>
+    ensures { IfOk result (λ zeros. zeros.items ≡ replicate len 0) }
+{
+    let mut zeros = Vec::with_capacity(alloc, len)?;
+    for _ in 0..len {
+        zeros.push_reserved(0_usize);
+    }
+    Ok(zeros)
+}
+
+/// The same counts, in memory of their own.
+fn copy(alloc: Global, counts: &[usize]) -> Result<Vec<usize>, AllocError>
+    ensures { IfOk result (λ copy. copy.items ≡ counts.now) }
+{
+    let mut copy = Vec::with_capacity(alloc, counts.len())?;
+    for count in counts {
+        copy.push_reserved(*count);
+    }
+    Ok(copy)
+}
+
+/// Counts posts, as far as each is the next one of its caller, and answers whether all are.
+fn count_all(callers: &[Items<Body>], counts: &mut Vec<usize>, batch: &[Posted]) -> bool
+    requires { length counts.old.items ≡ length callers.now }
+    ensures yes { IsTrue result → (before : List SpecPosted) → Counted callers.now counts.old.items before → Counted callers.now counts.new.items (before ++ batch.now) }
+    ensures no { IsFalse result → (before : List SpecPosted) → Counted callers.now counts.old.items before → AreNext callers.now (before ++ batch.now) → ⊥ }
+{
+    for posted in batch {
+        if !count_one(callers, counts, posted) {
+            return false;
+        }
+    }
+    true
+}
+
+/// Counts a post, where it is the next one of its caller, and answers whether it is.
+fn count_one(callers: &[Items<Body>], counts: &mut Vec<usize>, posted: &Posted) -> bool
+    requires { length counts.old.items ≡ length callers.now }
+    ensures next { IsTrue result → IsNext callers.now counts.old.items posted.now }
+    ensures counted { IsTrue result → counts.new.items ≡ slice_set counts.old.items posted.now.caller (posted.now.index + 1) }
+    ensures strange { IsFalse result → IsNext callers.now counts.old.items posted.now → ⊥ }
+    ensures kept { IsFalse result → counts.new ≡ counts.old }
+{
+    let caller = posted.caller as usize;
+    if caller >= callers.len() {
+        return false;
+    }
+    let index = posted.index as usize;
+    if index >= callers[caller].as_slice().len() || index != counts[caller] {
+        return false;
+    }
+    counts[caller] = index + 1;
+    true
+}

@@ -1,0 +1,129 @@
+ghost use Rattle.std.specs.Prelude.{◌≡◌, ◌++◌, None, Some, IfOk, MatchOption, OnOk};
+ghost use Rattle.dv_engine.specs.Batches.{body_of};
+ghost use Rattle.dv_engine.specs.Bounds.{Bounded};
+ghost use Rattle.dv_engine.specs.Engine.{begun_for, taken_for};
+ghost use Rattle.dv_engine.specs.Meaning.{Runs};
+ghost use Rattle.dv_engine.specs.Occurrences.{coming, comings};
+ghost use Rattle.dv_engine.specs.Taking.{CountsWith, with_batch};
+
+use crate::batches::Batches;
+use crate::engine::Phase;
+use crate::runner::come;
+use crate::submissions::Submissions;
+use dv_inline::poller::Poller;
+use dv_journal::entry::Entry;
+use dv_script::body::Body;
+use dv_threads::posted::Posted;
+use dv_threads::source::JobSource;
+use dv_value::items::Items;
+use dv_world::world::World;
+use std::alloc::{AllocError, AllocGlobal, Global};
+use std::random::RandomSource;
+use std::sync::Wait;
+
+/// Performs a batch with which there are so many posts of each caller, and takes it: that of a drain, which is told before, or
+/// the one after the last event. The error is want of memory alone.
+pub fn drain<'s, R, J>(
+    rt: &R,
+    alloc: Global,
+    poller: &Poller,
+    jobs: &mut Submissions<J>,
+    world: &mut World<'s>,
+    batches: &mut Batches<'s>,
+    phase: Phase,
+    counts: Vec<usize>,
+    batch: Items<Posted>,
+) -> Result<(), AllocError>
+where
+    R: Wait + RandomSource + AllocGlobal,
+    J: JobSource,
+    requires bounded { Bounded world.old }
+    requires jobs { jobs.old ≡ world.old.works }
+    requires counted { CountsWith batches.old batch counts.items }
+    ensures runs { OnOk result (Runs (taken_for phase batches.old.callers batch) world.old world.new) }
+    ensures jobs { OnOk result (jobs.new ≡ world.new.works) }
+    ensures batches { OnOk result (batches.new ≡ with_batch batch batches.old) }
+    ensures callers { batches.new.callers ≡ batches.old.callers }
+{
+    begin(world, phase)?;
+    come_all(
+        rt,
+        alloc,
+        poller,
+        jobs,
+        world,
+        batches.callers(),
+        batch.as_slice(),
+    )?;
+    batches.put(counts, batch)
+}
+
+/// A drain is told.
+fn begin<'s>(world: &mut World<'s>, phase: Phase) -> Result<(), AllocError>
+    ensures runs { OnOk result (Runs (begun_for phase) world.old world.new) }
+    ensures works { OnOk result (world.new.works ≡ world.old.works) }
+{
+    match phase {
+        Phase::Draining(_) => {
+            world.tell(Entry::Drain)?;
+            Ok(())
+        }
+        Phase::Going | Phase::Ended | Phase::Over | Phase::Failed => Ok(()),
+    }
+}
+
+/// Posts come, one after the other.
+fn come_all<'s, R, J>(
+    rt: &R,
+    alloc: Global,
+    poller: &Poller,
+    jobs: &mut Submissions<J>,
+    world: &mut World<'s>,
+    callers: &'s [Items<Body>],
+    batch: &[Posted],
+) -> Result<(), AllocError>
+where
+    R: Wait + RandomSource + AllocGlobal,
+    J: JobSource,
+    requires bounded { Bounded world.old }
+    requires jobs { jobs.old ≡ world.old.works }
+    ensures runs { OnOk result (Runs (comings callers.now batch.now) world.old world.new) }
+    ensures jobs { OnOk result (jobs.new ≡ world.new.works) }
+{
+    for posted in batch {
+        come_if_there(rt, alloc, poller, jobs, world, callers, posted)?;
+    }
+    Ok(())
+}
+
+/// A post comes, where there is such a post.
+fn come_if_there<'s, R, J>(
+    rt: &R,
+    alloc: Global,
+    poller: &Poller,
+    jobs: &mut Submissions<J>,
+    world: &mut World<'s>,
+    callers: &'s [Items<Body>],
+    posted: &Posted,
+) -> Result<(), AllocError>
+where
+    R: Wait + RandomSource + AllocGlobal,
+    J: JobSource,
+    requires bounded { Bounded world.old }
+    requires jobs { jobs.old ≡ world.old.works }
+    ensures runs { OnOk result (Runs (coming callers.now posted.now) world.old world.new) }
+    ensures jobs { OnOk result (jobs.new ≡ world.new.works) }
+{
+    match body_of(callers, posted) {
+        None => Ok(()),
+        Some(body) => come(rt, alloc, poller, jobs, world, posted, body),
+    }
+}
+
+/// The body of a post, where there is such a post.
+fn body_of<'s>(callers: &'s [Items<Body>], posted: &Posted) -> Option<&'s Body>
+    ensures { MatchOption result (body_of callers.now posted.now ≡ None) (λ body. body_of callers.now posted.now ≡ Some body.now) }
+{
+    let bodies = callers.get(posted.caller as usize)?;
+    bodies.as_slice().get(posted.index as usize)
+}

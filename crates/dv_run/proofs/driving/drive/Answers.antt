@@ -1,0 +1,8 @@
+use Rattle.std.proofs.Common.{subst}
+use Rattle.dv_engine.specs.Batches.{AreNext, Callers}
+use Rattle.dv_run.proofs.driving.drive.Goals as goal
+
+pub unreachable-requires : goal.unreachable-requires
+unreachable-requires g c =
+    let stranger = c.in_ok-is_lawful.ensures.no c.if-not-is_lawful.true in
+    stranger.strange (subst (λ (callers : Callers). AreNext callers stranger.posts) c.requires.bodies (c.in_ok-rest.ensures.next stranger.posts stranger.took))

@@ -1,0 +1,30 @@
+-- A run: what an engine and an inbox have of each other.
+use Rattle.std.specs.Prelude.{◌≡◌, List}
+use Rattle.dv_engine.specs.Batches.{AreNext, Batch, Callers, joined}
+use Rattle.dv_engine.specs.Engine.{Engine}
+use Rattle.dv_engine.specs.declared.engine.Phase.TheVariants.{Going, Ended}
+use Rattle.dv_threads.specs.Posts.{Inbox}
+use Rattle.dv_run.specs.Callers.{TookBatches}
+
+-- what was taken of the inbox is in the engine's batches
+abbrev pub Agree : Engine → Inbox → Type 0
+Agree e box = TookBatches box (joined e.batches)
+
+-- posts were taken of the inbox of which one isn't the next one of its caller
+pub record HasStranger (callers : Callers) (box : Inbox) : Type 0 where
+  pub posts : Batch
+  pub took : TookBatches box posts
+  pub strange : AreNext callers posts → ⊥
+
+-- the batch of a drain was taken, and events go on
+pub record HasDrained (before after : Engine) (box : Inbox) : Type 0 where
+  pub script : after.script ≡ before.script
+  pub left : after.left ≡ before.left
+  pub going : after.phase ≡ Going
+  pub agree : Agree after box
+
+-- all events were performed
+pub record HasPerformed (before after : Engine) (box : Inbox) : Type 0 where
+  pub script : after.script ≡ before.script
+  pub ended : after.phase ≡ Ended
+  pub agree : Agree after box

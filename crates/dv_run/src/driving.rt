@@ -1,0 +1,154 @@
+ghost use Rattle.std.specs.Prelude.{ℕ, ◌≡◌, ◌++◌, [], IfOk, IsFalse, IsTrue, OnOk};
+ghost use Rattle.dv_engine.specs.Batches.{joined, posts_of};
+ghost use Rattle.dv_engine.specs.Engine.{Takes, first_engine};
+ghost use Rattle.dv_engine.specs.declared.engine.Phase.TheVariants.{Draining, Ended, Going};
+ghost use Rattle.dv_run.specs.Callers.{AllServe, TookBatches};
+ghost use Rattle.dv_run.specs.Driving.{Agree, HasDrained, HasPerformed, HasStranger};
+ghost use Rattle.dv_run.specs.Headline.{IsRun};
+ghost use Rattle.dv_threads.specs.Posts.{SameInbox, of};
+
+use crate::callers::{Caller, end, take_up_to};
+use dv_engine::engine::{Engine, Next};
+use dv_engine::error::EngineFault;
+use dv_engine::report::Report;
+use dv_script::body::Body;
+use dv_threads::inbox::Inbox;
+use dv_threads::posted::Posted;
+use dv_threads::source::JobSource;
+use dv_value::items::Items;
+use std::alloc::{AllocError, AllocGlobal, Global};
+use std::random::RandomSource;
+use std::sync::Wait;
+use std::thread::Threads;
+
+/// Has an engine perform its script, while the callers post: at each drain it takes what is there, up to as many as that takes,
+/// and after the last event, when the callers have ended, what is left.
+pub fn drive<'s, R, J>(
+    rt: &R,
+    alloc: Global,
+    engine: Engine<'s, J>,
+    bodies: &[Items<Body>],
+    inbox: Inbox,
+    callers: Vec<Caller>,
+) -> Result<Report, AllocError>
+where
+    R: Threads + Wait + RandomSource + AllocGlobal,
+    J: JobSource,
+    requires first { engine ≡ first_engine engine.script }
+    requires bodies { bodies.now ≡ engine.script.callers }
+    requires serve { AllServe bodies.now inbox callers.items }
+    requires untaken { TookBatches inbox [] }
+    ensures { IfOk result (IsRun engine.entry.script) }
+{
+    let mut engine = engine;
+    let mut inbox = inbox;
+    let is_lawful = perform_events(rt, alloc, &mut engine, &mut inbox)?;
+    let rest = end(rt, alloc, bodies, inbox, callers)?;
+    if !is_lawful {
+        // Now that the callers have ended, it is known that no post was a stranger.
+        unreachable!()
+    }
+    finish(rt, engine, rest)
+}
+
+/// Performs all events, with what is there at each drain. Answers whether all posts that were taken are next posts of their
+/// callers; where not, it ends there.
+fn perform_events<'s, R, J>(
+    rt: &R,
+    alloc: Global,
+    engine: &mut Engine<'s, J>,
+    inbox: &mut Inbox,
+) -> Result<bool, AllocError>
+where
+    R: Wait + RandomSource + AllocGlobal,
+    J: JobSource,
+    requires going { engine.old.phase ≡ Going }
+    requires agree { Agree engine.old inbox.old }
+    ensures same { SameInbox inbox.old inbox.new }
+    ensures yes { IfOk result (λ lawful. IsTrue lawful → HasPerformed engine.old engine.new inbox.new) }
+    ensures no { IfOk result (λ lawful. IsFalse lawful → HasStranger engine.old.script.callers inbox.new) }
+{
+    loop {
+        match engine.event(rt) {
+            Ok(Next::Went) => {}
+            Ok(Next::Drain(most)) => {
+                if !drain(rt, alloc, engine, inbox, most)? {
+                    return Ok(false);
+                }
+            }
+            Ok(Next::Ended) => return Ok(true),
+            Err(EngineFault::OutOfMemory) => return Err(AllocError),
+            Err(EngineFault::NotNow | EngineFault::Stranger) => unreachable!(),
+        }
+    }
+}
+
+/// Has an engine take what is there at a drain. Answers whether each post is the next one of its caller; where not, the engine
+/// takes none.
+fn drain<'s, R, J>(
+    rt: &R,
+    alloc: Global,
+    engine: &mut Engine<'s, J>,
+    inbox: &mut Inbox,
+    most: u32,
+) -> Result<bool, AllocError>
+where
+    R: Wait + RandomSource + AllocGlobal,
+    J: JobSource,
+    requires draining { engine.old.phase ≡ Draining most }
+    requires agree { Agree engine.old inbox.old }
+    ensures same { SameInbox inbox.old inbox.new }
+    ensures yes { IfOk result (λ lawful. IsTrue lawful → HasDrained engine.old engine.new inbox.new) }
+    ensures no { IfOk result (λ lawful. IsFalse lawful → HasStranger engine.old.script.callers inbox.new) }
+{
+    let batch = take_up_to(alloc, inbox, most)?;
+    match engine.drain(rt, batch) {
+        Ok(()) => Ok(true),
+        Err(EngineFault::Stranger) => Ok(false),
+        Err(EngineFault::OutOfMemory) => Err(AllocError),
+        Err(EngineFault::NotNow) => unreachable!(),
+    }
+}
+
+/// Has an engine take the last batch, with which it has taken all posts.
+fn take_rest<'s, R, J>(
+    rt: &R,
+    engine: &mut Engine<'s, J>,
+    rest: Items<Posted>,
+) -> Result<(), AllocError>
+where
+    R: Wait + RandomSource + AllocGlobal,
+    J: JobSource,
+    requires ended { engine.old.phase ≡ Ended }
+    requires all { (c : ℕ) → of c (joined engine.old.batches ++ rest) ≡ posts_of engine.old.script.callers c }
+    ensures { OnOk result (Takes rest engine.old engine.new) }
+{
+    match engine.drain(rt, rest) {
+        Ok(()) => Ok(()),
+        Err(EngineFault::OutOfMemory) => Err(AllocError),
+        Err(EngineFault::NotNow) => unreachable!(),
+        Err(EngineFault::Stranger) => unreachable!(),
+    }
+}
+
+/// Has an engine take the last batch, and gives its report.
+fn finish<'s, R, J>(
+    rt: &R,
+    engine: Engine<'s, J>,
+    rest: Items<Posted>,
+) -> Result<Report, AllocError>
+where
+    R: Threads + Wait + RandomSource + AllocGlobal,
+    J: JobSource,
+    requires ended { engine.phase ≡ Ended }
+    requires all { (c : ℕ) → of c (joined engine.batches ++ rest) ≡ posts_of engine.script.callers c }
+    ensures { IfOk result (IsRun engine.entry.script) }
+{
+    let mut engine = engine;
+    take_rest(rt, &mut engine, rest)?;
+    match engine.finish(rt) {
+        Ok(report) => Ok(report),
+        Err(EngineFault::OutOfMemory) => Err(AllocError),
+        Err(EngineFault::NotNow | EngineFault::Stranger) => unreachable!(),
+    }
+}

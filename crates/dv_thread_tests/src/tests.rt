@@ -1,0 +1,4 @@
+mod gates;
+mod jobs;
+mod posts;
+mod runs;

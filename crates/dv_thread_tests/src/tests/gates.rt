@@ -1,0 +1,90 @@
+use dv_threads::gate::Gate;
+use dv_threads::job::{Answer, Job};
+use std::alloc::Global;
+use std::sync::atomic::{AtomicU32, Ordering};
+use std::thread;
+
+/// How often a worker looks for another one, and lets others run in between. This is some seconds.
+const MOST_LOOKS: u32 = 2_000_000;
+
+/// Holds each job until two have come.
+#[derive(Drop)]
+pub struct Holding {
+    came: AtomicU32,
+    /// How many jobs were held in vain.
+    pub alone: AtomicU32,
+}
+
+impl Holding {
+    pub fn new() -> Holding {
+        Holding {
+            came: AtomicU32::new(0),
+            alone: AtomicU32::new(0),
+        }
+    }
+}
+
+impl Gate for Holding {
+    fn answer(&self, alloc: Global, _worker: u32, job: Job) -> Answer {
+        self.came.fetch_add(1, Ordering::SeqCst);
+        for _ in 0..MOST_LOOKS {
+            if self.came.load(Ordering::SeqCst) >= 2 {
+                return job.done(alloc);
+            }
+            thread::yield_now();
+        }
+        self.alone.fetch_add(1, Ordering::SeqCst);
+        job.done(alloc)
+    }
+}
+
+/// Counts how often the job 7 was answered, and all answers.
+#[derive(Drop)]
+pub struct Counting {
+    pub seventh: AtomicU32,
+    pub all: AtomicU32,
+}
+
+impl Counting {
+    pub fn new() -> Counting {
+        Counting {
+            seventh: AtomicU32::new(0),
+            all: AtomicU32::new(0),
+        }
+    }
+}
+
+impl Gate for Counting {
+    fn answer(&self, alloc: Global, _worker: u32, job: Job) -> Answer {
+        if job.number == 7 {
+            self.seventh.fetch_add(1, Ordering::SeqCst);
+        }
+        self.all.fetch_add(1, Ordering::SeqCst);
+        job.done(alloc)
+    }
+}
+
+/// Gives the job 1 back.
+#[derive(Drop)]
+pub struct Refusing;
+
+impl Gate for Refusing {
+    fn answer(&self, alloc: Global, _worker: u32, job: Job) -> Answer {
+        if job.number == 1 {
+            Err(job)
+        } else {
+            job.done(alloc)
+        }
+    }
+}
+
+/// Lets others run before each answer.
+#[derive(Drop)]
+pub struct Yielding;
+
+impl Gate for Yielding {
+    fn answer(&self, alloc: Global, _worker: u32, job: Job) -> Answer {
+        thread::yield_now();
+        job.done(alloc)
+    }
+}

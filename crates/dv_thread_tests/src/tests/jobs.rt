@@ -1,0 +1,128 @@
+ghost use Rattle.std.specs.Prelude.{◌≡◌, ◌≤◌, []};
+
+use super::gates::{Counting, Holding, Refusing};
+use dv_script::work::Work;
+use dv_threads::error::JobFault;
+use dv_threads::gate::Gate;
+use dv_threads::pool::Pool;
+use dv_threads::source::JobSource;
+use dv_value::value::Value;
+use std::alloc::{AllocError, AllocGlobal, Global};
+use std::random::RandomSource;
+use std::sync::Wait;
+use std::sync::atomic::Ordering;
+use std::test::Fail;
+use std::thread;
+use std::thread::Threads;
+
+/// Two sums, through a source: their values, and how many were done.
+fn two_sums<R, J>(rt: &R, alloc: Global, source: J) -> Result<(Value, Value, usize), Fail>
+where
+    R: Threads + Wait + RandomSource + AllocGlobal,
+    J: JobSource,
+    requires { J.works source ≡ [] }
+{
+    let mut source = source;
+    let first = source.submit(alloc, Work::Sum(4))?;
+    let second = source.submit(alloc, Work::Sum(9))?;
+    let one = source.outcome(rt, alloc, first)?;
+    let two = source.outcome(rt, alloc, second)?;
+    let ran = source.close(rt, alloc)?;
+    Ok((one, two, ran.dones().len()))
+}
+
+#[test]
+fn two_workers_answer_side_by_side(rt: HostRuntime) -> Result<(), Fail> {
+    let gate = Holding::new();
+    let (one, two, done) = thread::scope(
+        thread::scope_env(),
+        &rt,
+        |scope| -> Result<(Value, Value, usize), Fail> {
+            let pool = Pool::open(&rt, rt.alloc(), scope, 2, &gate)?;
+            two_sums(&rt, rt.alloc(), pool)
+        },
+    )?;
+    assert!(rt; matches!(one, Value::Int(10)));
+    assert!(rt; matches!(two, Value::Int(45)));
+    assert_eq!(rt; done, 2);
+    assert_eq!(rt; gate.alone.load(Ordering::SeqCst), 0);
+    Ok(())
+}
+
+/// Submits as many works as may be: whether the source is full then, and not before.
+fn fill<J: JobSource>(alloc: Global, source: &mut J) -> bool {
+    for n in 0..4096u32 {
+        if source.may_submit().is_err() || source.submit(alloc, Work::Sum(n)).is_err() {
+            return false;
+        }
+    }
+    source.may_submit() == Err(JobFault::Full)
+}
+
+#[test]
+fn each_of_4096_jobs_comes_to_the_gate_once(rt: HostRuntime) -> Result<(), Fail> {
+    let gate = Counting::new();
+    let (is_full, done) = thread::scope(
+        thread::scope_env(),
+        &rt,
+        |scope| -> Result<(bool, usize), AllocError> {
+            let mut pool = Pool::open(&rt, rt.alloc(), scope, 4, &gate)?;
+            let is_full = fill(rt.alloc(), &mut pool);
+            let ran = pool.close(&rt, rt.alloc())?;
+            Ok((is_full, ran.dones().len()))
+        },
+    )?;
+    assert!(rt; is_full);
+    assert_eq!(rt; done, 4096);
+    assert_eq!(rt; gate.all.load(Ordering::SeqCst), 4096);
+    assert_eq!(rt; gate.seventh.load(Ordering::SeqCst), 1);
+    Ok(())
+}
+
+/// Two works, of which the second is given back: whether each has an outcome, and whether the source can be closed.
+fn one_given_back<R, J>(rt: &R, alloc: Global, source: J) -> Result<(bool, bool, bool), Fail>
+where
+    R: Threads + Wait + RandomSource + AllocGlobal,
+    J: JobSource,
+    requires { J.works source ≡ [] }
+{
+    let mut source = source;
+    let first = source.submit(alloc, Work::Sum(4))?;
+    let second = source.submit(alloc, Work::Sum(9))?;
+    let one = source.outcome(rt, alloc, first).is_ok();
+    let two = source.outcome(rt, alloc, second).is_ok();
+    let closed = source.close(rt, alloc).is_ok();
+    Ok((one, two, closed))
+}
+
+#[test]
+fn a_job_that_is_given_back_is_want_of_memory(rt: HostRuntime) -> Result<(), Fail> {
+    let (one, two, closed) = thread::scope(
+        thread::scope_env(),
+        &rt,
+        |scope| -> Result<(bool, bool, bool), Fail> {
+            let pool = Pool::open(&rt, rt.alloc(), scope, 2, &Refusing)?;
+            one_given_back(&rt, rt.alloc(), pool)
+        },
+    )?;
+    assert!(rt; one);
+    assert!(rt; !two);
+    assert!(rt; !closed);
+    Ok(())
+}
+
+#[test]
+fn the_workers_of_a_dropped_pool_leave(rt: HostRuntime) -> Result<(), Fail> {
+    let gate = Counting::new();
+    let is_full = thread::scope(
+        thread::scope_env(),
+        &rt,
+        |scope| -> Result<bool, AllocError> {
+            let mut pool = Pool::open(&rt, rt.alloc(), scope, 16, &gate)?;
+            Ok(fill(rt.alloc(), &mut pool))
+        },
+    )?;
+    assert!(rt; is_full);
+    assert!(rt; gate.all.load(Ordering::SeqCst) <= 4096);
+    Ok(())
+}
