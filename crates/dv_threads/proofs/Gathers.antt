@@ -1,5 +1,5 @@
 -- Where all was taken, each job has its own place.
-use Rattle.std.proofs.Common.{◌≡◌, ℕ, zero, suc, ◌+◌, ◌-◌, ◌<◌, ◌≤◌, ◌==◌, ◌&&◌, Bool, true, false, take, drop, true≢false, get_or, Option, Some, None, List, [], ◌∷◌, ◌++◌, length, map, refl, ap, sym, ◌∙◌, arith}
+use Rattle.std.proofs.Common.{◌≡◌, ℕ, ◌+◌, ◌<◌, ◌≤◌, ◌==◌, ◌&&◌, Bool, true, false, take, drop, true≢false, get_or, Option, Some, None, List, [], ◌∷◌, ◌++◌, length, map, refl, ap, sym, ◌∙◌, arith}
 use base.Stored.{Gv, gnil, gnum, gcons}
 use Rattle.std.specs.Option.{is_some, unwrap_or}
 use Rattle.crossbeam_deque.specs.Handles.{worker_view}

@@ -4,10 +4,9 @@ use Rattle.std.specs.declared.alloc.AllocError.{AllocError}
 use Rattle.dv_script.specs.declared.work.Work.{Work}
 use Rattle.dv_value.specs.declared.value.Value.{Value}
 use Rattle.dv_threads.specs.declared.job.Job.{Job}
-use Rattle.dv_threads.specs.declared.job.Done.{Done}
 use Rattle.dv_threads.specs.Works.{value_of}
 use Rattle.dv_threads.specs.Jobs.{numbered, jobs_from, works_of, Answer, job_of}
-use Rattle.dv_threads.specs.Sources.{most_jobs, IsValueAt, jobs_of}
+use Rattle.dv_threads.specs.Sources.{most_jobs, IsValueAt}
 
 pub jobs_from-snoc : (n : ℕ) (ws : List Work) (w : Work) → jobs_from n (ws ++ w ∷ []) ≡ jobs_from n ws ++ numbered (n + length ws) w ∷ []
 jobs_from-snoc n [] w = let e : n + 0 ≡ n = omega arith in rw e refl

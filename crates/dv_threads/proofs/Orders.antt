@@ -1,8 +1,8 @@
 -- Each step of the owner keeps what it knows.
-use Rattle.std.proofs.Common.{◌≡◌, ℕ, zero, suc, ◌+◌, ◌-◌, ◌<◌, ◌≤◌, List, [], ◌∷◌, ◌++◌, length, map, refl, ap, sym, ◌∙◌, arith, append-nil, replicate}
+use Rattle.std.proofs.Common.{◌≡◌, ℕ, zero, suc, ◌+◌, ◌<◌, ◌≤◌, List, [], ◌∷◌, ◌++◌, length, map, refl, ap, sym, ◌∙◌, arith, append-nil, replicate}
 use Rattle.std.proofs.Math.ListN.{length-replicate}
 use Rattle.std.specs.Arc.{arc_value}
-use Rattle.crossbeam_deque.specs.Handles.{worker_deque, worker_flavor, worker_capacity, worker_index, worker_view, stealer_deque, SameWorker}
+use Rattle.crossbeam_deque.specs.Handles.{worker_deque, worker_flavor, worker_capacity, worker_view, stealer_deque, SameWorker}
 use Rattle.crossbeam_queue.specs.Passes.{view, IsPassOf}
 use Rattle.dv_threads.specs.declared.job.Job.{Job}
 use Rattle.dv_threads.specs.declared.pool.parts.Parts.{Parts}

@@ -1,5 +1,5 @@
 -- How an answer comes to its place.
-use Rattle.std.proofs.Common.{◌≡◌, ◌≢◌, ℕ, zero, suc, ◌+◌, ◌<◌, ◌≤◌, ◌==◌, ◌&&◌, List, [], ◌∷◌, ◌++◌, length, map, cond, Option, Some, None, set, get_or, sym, refl, subst, ap, ◌∙◌, arith, rules, true, false, true≢false, Bool}
+use Rattle.std.proofs.Common.{◌≡◌, ◌≢◌, ℕ, zero, suc, ◌+◌, ◌<◌, ◌≤◌, List, [], ◌∷◌, ◌++◌, length, map, Option, Some, None, set, get_or, sym, refl, subst, ap, ◌∙◌, arith, true, false, true≢false, Bool}
 use Rattle.std.specs.Option.{is_some}
 use Rattle.std.proofs.lemmas.List.{get_or_default}
 use Rattle.dv_script.specs.declared.work.Work.{Work}

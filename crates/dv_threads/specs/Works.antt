@@ -1,5 +1,5 @@
 -- What a work gives.
-use Rattle.std.specs.Prelude.{ℕ, ◌+◌, ◌*◌, ◌/◌, pos}
+use Rattle.std.specs.Prelude.{◌+◌, ◌*◌, ◌/◌, pos}
 use Rattle.dv_script.specs.declared.work.Work.{Work}
 use Rattle.dv_script.specs.declared.work.Work.TheVariants.{Raise, Sum}
 use Rattle.dv_value.specs.declared.value.Value.{Value, Int}

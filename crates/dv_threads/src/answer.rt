@@ -18,7 +18,7 @@ pub fn job_in(answer: &Answer) -> &Job
     }
 }
 
-/// The value of the work, in memory of its own. AllocError where the job was given back.
+/// The value of the work, in memory of its own. AllocError where the job was given back, or memory is refused.
 pub fn value_in(alloc: Global, answer: &Answer) -> Result<Value, AllocError>
     ensures { IfOk result (λ value. value ≡ value_of (job_of answer.now).work) }
 {
@@ -28,7 +28,8 @@ pub fn value_in(alloc: Global, answer: &Answer) -> Result<Value, AllocError>
     }
 }
 
-/// The value of a work that an answer may be of, in memory of its own. AllocError where the job was given back.
+/// The value of a work that an answer may be of, in memory of its own. AllocError where the job was given back, where memory is
+/// refused, and where the answer is of another work, which none is.
 pub fn value_if_of(alloc: Global, answer: &Answer, work: &Work) -> Result<Value, AllocError>
     ensures { IfOk result (λ value. value ≡ value_of work.now) }
 {

@@ -10,7 +10,8 @@ use rtrb::RingBuffer;
 use std::alloc::{AllocError, Global};
 use std::marker::Model;
 
-/// Where the posts of up to 8 callers are taken, each posting over a ring of its own.
+/// Where the posts of up to 8 callers are taken, each posting over a ring of its own (Twisted: the reactor's queue of what
+/// `callFromThread` is given).
 #[derive(Drop)]
 pub struct Inbox {
     receivers: Vec<Receiver>,
@@ -35,7 +36,7 @@ impl Inbox {
     ghost use Rattle.dv_threads.specs.Posts.{AllTaken, AreOf, IsFresh, IsNew, IsOf, IsRest, Learns, SameInbox, Takes, counts_of};
 
     /// Opens an inbox for so many callers, and a poster for each of them, in order, with room for `capacity` posts of each
-    /// that weren't yet taken.
+    /// that weren't yet taken. AllocError where memory is refused.
     pub fn open(
         alloc: Global,
         callers: u32,

@@ -33,7 +33,8 @@ mod threads;
 mod worker;
 
 /// Workers on threads of a scope, which answer jobs at a gate (Twisted: `ThreadPool`). The owner helps where it waits.
-/// Dropped, it tells its workers to leave. Contracts see it as the works submitted.
+/// Dropped, it tells its workers to leave. Where the executor of an `outcome` fails it tells them so, too, and wants memory at
+/// each later call; no clause says this. Contracts see it as the works submitted.
 #[derive(Drop)]
 pub struct Pool<'g, G> {
     works: Vec<Work>,
@@ -61,8 +62,8 @@ impl<'g, G> Model for Pool<'g, G> {
 }
 
 impl<'g, G: Gate + Sync> Pool<'g, G> {
-    /// A pool of so many workers, in a scope that outlives it. A worker whose thread can't be started is left out; with none
-    /// at all the owner answers each job.
+    /// A pool of so many workers, 0 to 16, in a scope that outlives it. A worker whose thread can't be started is left out; with none
+    /// at all the owner answers each job. AllocError where memory is refused.
     pub fn open<E, R: Wait + Sync>(
         rt: &'g R,
         alloc: Global,

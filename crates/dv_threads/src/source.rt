@@ -30,7 +30,7 @@ pub trait JobSource: Drop {
         ensures kept { OnErr result (works self.new ≡ works self.old) };
 
     /// The value of the work of this number. It may wait for the worker that has it. AllocError where memory is refused, or
-    /// was refused to the job.
+    /// was refused to the job, or where the executor failed by which it is waited for.
     fn outcome<R: Wait + RandomSource + AllocGlobal>(
         &mut self,
         rt: &R,

@@ -8,6 +8,8 @@ use std::alloc::Global;
 use std::sync::Wait;
 use std::sync::atomic::{AtomicU32, Ordering};
 use std::thread;
+use std::thread::Parker;
+use std::time::Duration;
 
 /// What the threads of a pool share.
 #[derive(Drop)]
@@ -31,6 +33,22 @@ pub struct End {
     pub answers: AnswerToken,
 }
 
+/// How often a worker looks for a job in vain, one look after the other, before it rests.
+const MOST_LOOKS: u32 = 128;
+
+/// How long it rests then before it looks again, in microseconds.
+const REST: u64 = 100;
+
+/// Lets others run where no job was found, so many times one after the other: by a yield at first, and then by a rest, so that
+/// workers that have nothing to do take little of the processors.
+fn idle<R: Wait>(rt: &R, parker: &Parker, looks: u32) {
+    if looks < MOST_LOOKS {
+        thread::yield_now();
+    } else {
+        parker.park_timeout(rt, Duration::from_micros(REST));
+    }
+}
+
 /// Answers jobs until the worker of this number is told to leave.
 pub fn serve<R: Wait, G: Gate>(
     rt: &R,
@@ -46,6 +64,8 @@ pub fn serve<R: Wait, G: Gate>(
     ensures served { HasServed result }
 {
     let mut end = end;
+    let parker = Parker::new();
+    let mut looks = 0u32;
     for _ in rt.forever() {
         let leaving = shared.leaving.load(Ordering::SeqCst);
         if leaving == number || leaving == EVERYBODY {
@@ -53,10 +73,14 @@ pub fn serve<R: Wait, G: Gate>(
         }
         match steal(&shared.thief, &mut end.jobs) {
             Some(job) => {
+                looks = 0;
                 let answer = gate.answer(alloc, number, job);
                 put(rt, &shared.answers, &mut end.answers, answer);
             }
-            None => thread::yield_now(),
+            None => {
+                looks = looks.saturating_add(1);
+                idle(rt, &parker, looks);
+            }
         }
     }
     end

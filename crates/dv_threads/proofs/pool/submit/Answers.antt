@@ -1,4 +1,4 @@
-use Rattle.std.proofs.Common.{◌≡◌, ◌≤◌, ◌++◌, ◌∷◌, [], length, ap, length-append, arith, rules}
+use Rattle.std.proofs.Common.{◌≡◌, ◌++◌, ◌∷◌, [], length, ap, length-append, arith, rules}
 use Rattle.dv_threads.proofs.JobLemmas.{one_more_put}
 use Rattle.dv_threads.proofs.pool.submit.Goals as goal
 

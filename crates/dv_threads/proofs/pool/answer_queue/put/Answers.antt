@@ -1,4 +1,3 @@
-use Rattle.std.proofs.Common.{rules}
 use Rattle.dv_threads.proofs.RuleLemmas.{queue_puts}
 use Rattle.dv_threads.proofs.pool.answer_queue.put.Goals as goal
 

@@ -1,6 +1,5 @@
 use Rattle.std.proofs.Common.{rules, ◌≡◌, ◌++◌, ◌∷◌, [], length, take, map, Some, Ok, ap, ◌∙◌, sym, append-nil}
 use Rattle.std.specs.Vec.Iter.{into_iter_items}
-use Rattle.dv_threads.specs.declared.job.Done.{Done}
 use Rattle.dv_threads.specs.Jobs.{job_of}
 use Rattle.dv_threads.specs.Sources.{jobs_of}
 use Rattle.dv_threads.proofs.Gathers.{all_gathered, next_full, none_next, some_none, some_some, one_more_done}

@@ -1,4 +1,4 @@
-use Rattle.std.proofs.Common.{◌≡◌, ◌+◌, ◌≤◌, replicate, None}
+use Rattle.std.proofs.Common.{◌≡◌, ◌≤◌, replicate, None}
 use Rattle.std.specs.Prelude.{vec_len, vec_capacity}
 use Rattle.dv_threads.specs.Sources.{most_jobs}
 use Rattle.dv_threads.proofs.pool.parts.empty_places.Given as goal

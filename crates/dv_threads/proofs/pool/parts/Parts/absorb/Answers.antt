@@ -1,5 +1,5 @@
 use Rattle.std.proofs.Common.{rules, refl}
-use Rattle.dv_threads.proofs.Orders.{IsStill, absorbed}
+use Rattle.dv_threads.proofs.Orders.{absorbed}
 use Rattle.dv_threads.proofs.pool.parts.Parts.absorb.Goals as goal
 
 pub returns-clause-orderly : goal.returns-clause-orderly

@@ -1,5 +1,5 @@
 use Rattle.std.proofs.Common.{rules, refl}
-use Rattle.dv_threads.proofs.Orders.{IsStill, collected}
+use Rattle.dv_threads.proofs.Orders.{collected}
 use Rattle.dv_threads.proofs.pool.parts.Parts.collect_last.Goals as goal
 
 pub returns-in-Some-clause-orderly : goal.returns-in-Some-clause-orderly

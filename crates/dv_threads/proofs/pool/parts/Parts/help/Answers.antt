@@ -1,5 +1,5 @@
 use Rattle.std.proofs.Common.{rules, refl}
-use Rattle.dv_threads.proofs.Orders.{IsStill, helped}
+use Rattle.dv_threads.proofs.Orders.{helped}
 use Rattle.dv_threads.proofs.pool.parts.Parts.help.Goals as goal
 
 pub returns-in-Some-clause-orderly : goal.returns-in-Some-clause-orderly
