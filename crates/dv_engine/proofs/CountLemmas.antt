@@ -1,10 +1,9 @@
 -- Counting the posts of each caller.
-use Rattle.std.proofs.Common.{arith, ◌≡◌, ◌≢◌, ℕ, zero, suc, ◌+◌, ◌<◌, ◌≤◌, ◌==◌, Bool, true, false, List, [], ◌∷◌, ◌++◌, ◌∙◌, length, map, take, drop, replicate, slice_index_or, slice_set, refl, sym, ap, subst, append-nil, append_assoc, length-append, add-one}
+use Rattle.std.proofs.Common.{arith, ◌≡◌, ◌≢◌, ℕ, zero, suc, ◌+◌, ◌<◌, ◌==◌, Bool, true, false, List, [], ◌∷◌, ◌++◌, ◌∙◌, length, map, take, drop, replicate, slice_index_or, slice_set, refl, sym, ap, subst, append-nil, append_assoc, length-append, add-one}
 use Rattle.std.proofs.lemmas.Bool.Decides.{nat_tests}
-use Rattle.std.proofs.lemmas.List.{length-map, length-set, get_or_past, get_or-map, get_or-set_same, get_or-set_other, get_or_append_left, take-append-drop}
+use Rattle.std.proofs.lemmas.List.{length-map, length-set, get_or-map, get_or-set_same, get_or-set_other, get_or_append_left, take-append-drop}
 use Rattle.std.proofs.lemmas.List.Elements.{filter-append}
 use Rattle.std.proofs.Math.Seq.{drop-cons, get_or-append_seam, take-suc}
-use Rattle.dv_script.specs.declared.body.Body.{Body}
 use Rattle.dv_threads.specs.Posts.{post, of}
 use Rattle.dv_threads.specs.declared.posted.Posted.{Posted}
 use Rattle.dv_engine.specs.Batches.{AreNext, Batch, Callers, below, bodies_of, first_posts, joined}

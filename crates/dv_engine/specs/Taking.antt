@@ -1,5 +1,5 @@
 -- The batches that an engine has taken so far.
-use Rattle.std.specs.Prelude.{ℕ, ◌+◌, ◌≡◌, ◌<◌, ◌≤◌, List, [], ◌∷◌, ◌++◌, length, slice_index_or}
+use Rattle.std.specs.Prelude.{ℕ, ◌≡◌, ◌<◌, ◌≤◌, List, [], ◌∷◌, ◌++◌, length, slice_index_or}
 use Rattle.dv_threads.specs.Posts.{of}
 use Rattle.dv_threads.specs.declared.posted.Posted.{Posted}
 use Rattle.dv_engine.specs.Batches.{Batch, Callers, bodies_of, first_posts, joined}
@@ -33,7 +33,3 @@ pub record Counted (callers : Callers) (counts : List ℕ) (posts : Batch) : Typ
 -- so many first posts of each caller are in the batches
 abbrev pub CountsAll : Taken → List ℕ → Type 0
 CountsAll t counts = Counted t.callers counts (joined t.batches)
-
--- so many are in the batches and this one
-abbrev pub CountsWith : Taken → Batch → List ℕ → Type 0
-CountsWith t batch counts = Counted t.callers counts (joined t.batches ++ batch)

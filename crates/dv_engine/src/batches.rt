@@ -1,6 +1,6 @@
-ghost use Rattle.std.specs.Prelude.{List, ◌≡◌, ◌+◌, ◌∷◌, ◌++◌, [], length, replicate, slice_set, IfNone, IfOk, IfSome, IsFalse, IsTrue, OnOk};
+ghost use Rattle.std.specs.Prelude.{List, ◌≡◌, ◌+◌, ◌∷◌, ◌++◌, [], length, replicate, slice_set, IfOk, IsFalse, IsTrue, OnOk};
 ghost use Rattle.dv_engine.specs.Batches.{AreNext, joined};
-ghost use Rattle.dv_engine.specs.Taking.{Counted, CountsWith, IsNext, untaken, with_batch};
+ghost use Rattle.dv_engine.specs.Taking.{Counted, IsNext, untaken, with_batch};
 ghost use Rattle.dv_threads.specs.declared.posted.Posted.{Posted as SpecPosted};
 
 use dv_script::body::Body;
@@ -15,11 +15,14 @@ pub struct Batches<'s> {
     callers: &'s [Items<Body>],
     /// How many posts of each caller are in the batches.
     counts: Vec<usize>,
+    /// Where those of one batch more are counted, so that to look at a batch takes no memory.
+    more: Vec<usize>,
     batches: Items<Items<Posted>>,
 }
 
 impl<'s> Model for Batches<'s> {
     ghost use Rattle.std.specs.Coded.{codes};
+    ghost use Rattle.std.specs.Prelude.{◌≡◌, length};
     ghost use Rattle.dv_script.specs.contracts.body.Body as body_contract;
     ghost use Rattle.dv_engine.specs.Taking.{CountsAll, Taken as Seen};
 
@@ -29,7 +32,7 @@ impl<'s> Model for Batches<'s> {
 
     ghost view = { λ b. record { callers = b.callers.now; batches = b.batches } };
 
-    ghost invariant = { λ b. CountsAll (record { callers = b.callers.now; batches = b.batches }) b.counts.items };
+    ghost invariant = { λ b. CountsAll (record { callers = b.callers.now; batches = b.batches }) b.counts.items × (length b.more.items ≡ length b.callers.now) };
 }
 
 impl<'s> Batches<'s> {
@@ -41,6 +44,7 @@ impl<'s> Batches<'s> {
         Ok(Batches {
             callers,
             counts: zeros(alloc, callers.len())?,
+            more: zeros(alloc, callers.len())?,
             batches: Items::new(alloc),
         })
     }
@@ -52,27 +56,31 @@ impl<'s> Batches<'s> {
         self.callers
     }
 
-    /// How many posts of each caller there are with a batch more; None where one of its posts isn't the next one of its caller.
-    pub fn count(&self, alloc: Global, batch: &[Posted]) -> Result<Option<Vec<usize>>, AllocError>
-        ensures counted { IfOk result (λ counted. IfSome counted (λ counts. CountsWith self.now batch.now counts.items)) }
-        ensures strange { IfOk result (λ counted. IfNone counted (AreNext self.now.callers (joined self.now.batches ++ batch.now) → ⊥)) }
+    /// Whether each post of a batch is the next one of its caller.
+    pub fn are_next(&mut self, batch: &[Posted]) -> bool
+        ensures yes { IsTrue result → AreNext self.old.callers (joined self.old.batches ++ batch.now) }
+        ensures no { IsFalse result → AreNext self.old.callers (joined self.old.batches ++ batch.now) → ⊥ }
+        ensures same { self.new ≡ self.old }
     {
-        let mut counts = copy(alloc, self.counts.as_slice())?;
-        if !count_all(self.callers, &mut counts, batch) {
-            return Ok(None);
-        }
-        Ok(Some(counts))
+        count_with(self.callers, self.counts.as_slice(), &mut self.more, batch)
     }
 
-    /// Takes a batch, with which there are so many posts of each caller.
-    #[tactic(auto, using(crate::proofs::CountLemmas::counted_with))]
-    pub fn put(&mut self, counts: Vec<usize>, batch: Items<Posted>) -> Result<(), AllocError>
-        requires { CountsWith self.old batch counts.items }
+    /// Takes a batch, each post of which is the next one of its caller.
+    pub fn put(&mut self, batch: Items<Posted>) -> Result<(), AllocError>
+        requires { AreNext self.old.callers (joined self.old.batches ++ batch) }
         ensures ok { OnOk result (self.new ≡ with_batch batch self.old) }
         ensures callers { self.new.callers ≡ self.old.callers }
     {
+        if !count_with(
+            self.callers,
+            self.counts.as_slice(),
+            &mut self.more,
+            batch.as_slice(),
+        ) {
+            unreachable!()
+        }
         self.batches.push(batch)?;
-        self.counts = counts;
+        self.counts.copy_from_slice(self.more.as_slice());
         Ok(())
     }
 
@@ -97,20 +105,27 @@ fn zeros(alloc: Global, len: usize) -> Result<Vec<usize>, AllocError>
     Ok(zeros)
 }
 
-/// The same counts, in memory of their own.
-fn copy(alloc: Global, counts: &[usize]) -> Result<Vec<usize>, AllocError>
-    ensures { IfOk result (λ copy. copy.items ≡ counts.now) }
+/// Counts the posts of a batch more, as far as each is the next one of its caller, and answers whether all are.
+fn count_with(
+    callers: &[Items<Body>],
+    counts: &[usize],
+    more: &mut Vec<usize>,
+    batch: &[Posted],
+) -> bool
+    requires counts { length counts.now ≡ length callers.now }
+    requires more { length more.old.items ≡ length callers.now }
+    ensures len { length more.new.items ≡ length callers.now }
+    ensures yes { IsTrue result → (before : List SpecPosted) → Counted callers.now counts.now before → Counted callers.now more.new.items (before ++ batch.now) }
+    ensures no { IsFalse result → (before : List SpecPosted) → Counted callers.now counts.now before → AreNext callers.now (before ++ batch.now) → ⊥ }
 {
-    let mut copy = Vec::with_capacity(alloc, counts.len())?;
-    for count in counts {
-        copy.push_reserved(*count);
-    }
-    Ok(copy)
+    more.copy_from_slice(counts);
+    count_all(callers, more, batch)
 }
 
 /// Counts posts, as far as each is the next one of its caller, and answers whether all are.
 fn count_all(callers: &[Items<Body>], counts: &mut Vec<usize>, batch: &[Posted]) -> bool
     requires { length counts.old.items ≡ length callers.now }
+    ensures len { length counts.new.items ≡ length callers.now }
     ensures yes { IsTrue result → (before : List SpecPosted) → Counted callers.now counts.old.items before → Counted callers.now counts.new.items (before ++ batch.now) }
     ensures no { IsFalse result → (before : List SpecPosted) → Counted callers.now counts.old.items before → AreNext callers.now (before ++ batch.now) → ⊥ }
 {

@@ -1,10 +1,10 @@
 ghost use Rattle.std.specs.Prelude.{◌≡◌, ◌++◌, None, Some, IfOk, MatchOption, OnOk};
-ghost use Rattle.dv_engine.specs.Batches.{body_of};
+ghost use Rattle.dv_engine.specs.Batches.{AreNext, body_of, joined};
 ghost use Rattle.dv_engine.specs.Bounds.{Bounded};
 ghost use Rattle.dv_engine.specs.Engine.{begun_for, taken_for};
 ghost use Rattle.dv_engine.specs.Meaning.{Runs};
 ghost use Rattle.dv_engine.specs.Occurrences.{coming, comings};
-ghost use Rattle.dv_engine.specs.Taking.{CountsWith, with_batch};
+ghost use Rattle.dv_engine.specs.Taking.{with_batch};
 
 use crate::batches::Batches;
 use crate::engine::Phase;
@@ -21,7 +21,7 @@ use std::alloc::{AllocError, AllocGlobal, Global};
 use std::random::RandomSource;
 use std::sync::Wait;
 
-/// Performs a batch with which there are so many posts of each caller, and takes it: that of a drain, which is told before, or
+/// Performs a batch, each post of which is the next one of its caller, and takes it: that of a drain, which is told before, or
 /// the one after the last event. The error is want of memory alone.
 pub fn drain<'s, R, J>(
     rt: &R,
@@ -31,7 +31,6 @@ pub fn drain<'s, R, J>(
     world: &mut World<'s>,
     batches: &mut Batches<'s>,
     phase: Phase,
-    counts: Vec<usize>,
     batch: Items<Posted>,
 ) -> Result<(), AllocError>
 where
@@ -39,7 +38,7 @@ where
     J: JobSource,
     requires bounded { Bounded world.old }
     requires jobs { jobs.old ≡ world.old.works }
-    requires counted { CountsWith batches.old batch counts.items }
+    requires next { AreNext batches.old.callers (joined batches.old.batches ++ batch) }
     ensures runs { OnOk result (Runs (taken_for phase batches.old.callers batch) world.old world.new) }
     ensures jobs { OnOk result (jobs.new ≡ world.new.works) }
     ensures batches { OnOk result (batches.new ≡ with_batch batch batches.old) }
@@ -55,7 +54,7 @@ where
         batches.callers(),
         batch.as_slice(),
     )?;
-    batches.put(counts, batch)
+    batches.put(batch)
 }
 
 /// A drain is told.

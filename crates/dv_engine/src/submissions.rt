@@ -46,7 +46,7 @@ impl<J: JobSource> Submissions<J> {
         Submissions { source, count: 0 }
     }
 
-    /// Submits what isn't yet of these works, of which the first were submitted, in order.
+    /// Submits what isn't yet of these works, of which the first were submitted, in order. AllocError where memory is refused.
     #[tactic(auto, using(crate::proofs::JobLemmas::all_goes_on))]
     pub fn submit_all<'s>(&mut self, alloc: Global, works: &Works<'s>) -> Result<(), AllocError>
         requires { GoesOn self.old works.now }
@@ -58,7 +58,7 @@ impl<J: JobSource> Submissions<J> {
         Ok(())
     }
 
-    /// Submits a work, unless as many were as a run has.
+    /// Submits a work, for which there has to be room. AllocError where memory is refused.
     fn submit<'s>(&mut self, alloc: Global, work: WorkRef<'s>) -> Result<(), AllocError>
         requires room { length self.old < MOST_JOBS }
         ensures { OnOk result (self.new ≡ self.old ++ work.entry ∷ []) }
@@ -73,7 +73,7 @@ impl<J: JobSource> Submissions<J> {
         }
     }
 
-    /// What a job has come to; it may wait. None for a number of no job.
+    /// What a job has come to; it may wait. None for a number of no job. AllocError where memory is refused, or was to the job.
     #[tactic(auto, using(crate::proofs::JobLemmas::result_at, crate::proofs::JobLemmas::no_result))]
     pub fn outcome<R: Wait + RandomSource + AllocGlobal>(
         &mut self,
@@ -90,7 +90,7 @@ impl<J: JobSource> Submissions<J> {
         Ok(Some(self.source.outcome(rt, alloc, job)?))
     }
 
-    /// Each job, once, in order; it may wait.
+    /// Each job, once, in order; it may wait. AllocError where memory is refused, or was to a job.
     pub fn close<R: Threads + Wait>(self, rt: &R, alloc: Global) -> Result<Ran, AllocError>
         ensures { IfOk result (λ ran. jobs_of ran.dones ≡ jobs_from 0 self) }
     {

@@ -76,8 +76,12 @@ where
 {
     match what {
         None => Ok(Performed::Done),
-        Some(Due::Call(_, key)) => Ok(call_body(stack, world.body(key))?),
-        Some(Due::Turn(_, key)) => {
+        Some(Due::Call(name, key)) => {
+            drop(name);
+            Ok(call_body(stack, world.body(key))?)
+        }
+        Some(Due::Turn(name, key)) => {
+            drop(name);
             stack.push(Frame::Due)?;
             take_turn(world, stack, LoopId::new(key))?;
             Ok(Performed::Done)

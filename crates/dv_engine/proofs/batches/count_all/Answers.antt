@@ -1,4 +1,4 @@
-use Rattle.std.proofs.Common.{◌≡◌, ◌++◌, ◌∙◌, refl, slice_index_or, subst}
+use Rattle.std.proofs.Common.{◌++◌, ◌∙◌, refl, slice_index_or, subst}
 use Rattle.std.proofs.lemmas.List.{get_or_default, take_all}
 use Rattle.dv_engine.proofs.CountLemmas.{counted_at, length-after, strange_at}
 use Rattle.dv_engine.specs.Taking.{Counted}

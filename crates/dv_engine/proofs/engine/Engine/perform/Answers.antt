@@ -1,10 +1,8 @@
 use Rattle.std.proofs.Common.{◌≡◌, ◌++◌, ◌∷◌, ◌∙◌, [], List, ap, subst, sym}
-use Rattle.dv_engine.proofs.CountLemmas.{counted_next}
 use Rattle.dv_engine.proofs.EngineLemmas.{submitted_after, taken_stands}
 use Rattle.dv_engine.specs.Batches.{AreNext, Batch, Callers, joined}
-use Rattle.dv_engine.specs.Engine.{Engine, HasSubmitted, IsWithin, Stands, Takes, phase_after, taken_for}
+use Rattle.dv_engine.specs.Engine.{Engine, HasSubmitted, MayTake, Stands, Takes, taken_for}
 use Rattle.dv_engine.specs.Meaning.{Runs}
-use Rattle.dv_engine.specs.Taking.{Counted}
 use Rattle.dv_engine.specs.declared.engine.Phase.{Phase}
 use Rattle.dv_engine.proofs.engine.Engine.perform.Goals as goal
 
@@ -13,13 +11,13 @@ invariant_of-self-in-Ok g c =
     let e = c.self.inside in
     let w = c.drain.new.world in
     let before : Engine = record { script = e.script.now; left = e.left; batches = e.batches.batches; world = e.world; phase = e.phase } in
-    let within : IsWithin e.phase c.args.batch = subst (λ (x : Engine). IsWithin x.phase c.args.batch) (sym c.self.view_is) c.requires.within in
+    let may : MayTake before c.args.batch = subst (λ (x : Engine). MayTake x c.args.batch) (sym c.self.view_is) c.requires in
     let runs : Runs (taken_for e.phase e.script.now.callers c.args.batch) e.world w = subst (λ (k : Callers). Runs (taken_for e.phase k c.args.batch) e.world w) c.self.invariant.2 c.in-Ok.ensures.runs in
     let is : c.drain.new.batches.batches ≡ e.batches.batches ++ c.args.batch ∷ [] = ap (λ t. t.batches) c.in-Ok.ensures.batches in
     let q = c.phase_after-self-inside.result in (
       subst (λ (all : List Batch). Stands q (record { script = e.script.now; left = e.left; batches = all; world = w; phase = q })) (sym is)
           (subst (λ (p : Phase). Stands p (record { script = e.script.now; left = e.left; batches = e.batches.batches ++ c.args.batch ∷ []; world = w; phase = p })) (sym c.phase_after-self-inside.ensures)
-          (taken_stands e.phase c.args.batch before w within c.self.invariant.0 runs)),
+          (taken_stands e.phase c.args.batch before w may.0 c.self.invariant.0 runs)),
       subst (λ (p : Phase). HasSubmitted p c.drain.new.jobs w) (sym c.phase_after-self-inside.ensures) (submitted_after e.phase c.drain.new.jobs w c.in-Ok.ensures.jobs),
       c.in-Ok.ensures.callers ∙ c.self.invariant.2,
     )
@@ -31,14 +29,19 @@ returns-in-Ok g c =
     let q = c.phase_after-self-inside.result in
     let before : Engine = record { script = e.script.now; left = e.left; batches = e.batches.batches; world = e.world; phase = e.phase } in
     let after : Engine = record { script = e.script.now; left = e.left; batches = c.drain.new.batches.batches; world = w; phase = q } in
-    let within : IsWithin e.phase c.args.batch = subst (λ (x : Engine). IsWithin x.phase c.args.batch) (sym c.self.view_is) c.requires.within in
+    let may : MayTake before c.args.batch = subst (λ (x : Engine). MayTake x c.args.batch) (sym c.self.view_is) c.requires in
     let runs : Runs (taken_for e.phase e.script.now.callers c.args.batch) e.world w = subst (λ (k : Callers). Runs (taken_for e.phase k c.args.batch) e.world w) c.self.invariant.2 c.in-Ok.ensures.runs in
     let is : c.drain.new.batches.batches ≡ e.batches.batches ++ c.args.batch ∷ [] = ap (λ t. t.batches) c.in-Ok.ensures.batches in
-    let counted : Counted e.script.now.callers c.args.counts.items (joined e.batches.batches ++ c.args.batch) =
-    subst (λ (x : Engine). Counted x.script.callers c.args.counts.items (joined x.batches ++ c.args.batch)) (sym c.self.view_is) c.requires.counted in
     subst (λ (b : Engine). Takes c.args.batch b after) c.self.view_is (record {
-      may = (within, counted_next e.script.now.callers c.args.counts.items (joined e.batches.batches ++ c.args.batch) counted);
+      may = may;
       runs = runs;
       same = ap (λ (all : List Batch). record { script = e.script.now; left = e.left; batches = all; world = w; phase = q }) is
           ∙ ap (λ (p : Phase). record { script = e.script.now; left = e.left; batches = e.batches.batches ++ c.args.batch ∷ []; world = w; phase = p }) c.phase_after-self-inside.ensures;
     })
+
+pub drain-requires-clause-next : goal.drain-requires-clause-next
+drain-requires-clause-next g c =
+    let e = c.self.inside in
+    let before : Engine = record { script = e.script.now; left = e.left; batches = e.batches.batches; world = e.world; phase = e.phase } in
+    let may : MayTake before c.args.batch = subst (λ (x : Engine). MayTake x c.args.batch) (sym c.self.view_is) c.requires in
+    subst (λ (k : Callers). AreNext k (joined e.batches.batches ++ c.args.batch)) (sym c.self.invariant.2) may.1

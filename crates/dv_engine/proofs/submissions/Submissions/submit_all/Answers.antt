@@ -1,4 +1,4 @@
-use Rattle.std.proofs.Common.{◌≡◌, ℕ, ◌+◌, ◌∷◌, ◌++◌, [], length, List, slice_get, Some, sym, subst, length-append, arith}
+use Rattle.std.proofs.Common.{◌≡◌, ◌+◌, ◌∷◌, [], length, List, slice_get, Some, sym, subst, length-append, arith}
 use Rattle.dv_engine.proofs.JobLemmas.{next_goes_on}
 use Rattle.dv_engine.specs.Threading.{GoesOn}
 use Rattle.dv_script.specs.declared.work.Work.{Work}
