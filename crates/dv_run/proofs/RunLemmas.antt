@@ -16,9 +16,9 @@ use Rattle.dv_reader.specs.declared.error.ScriptFault.TheVariants as script
 use Rattle.dv_script.specs.declared.script.Script.{Script}
 use Rattle.dv_run.specs.Callers.{AreFew}
 use Rattle.dv_run.specs.Faults.{of_read, of_script, of_print}
-use Rattle.dv_run.specs.Headline.{IsRun}
+use Rattle.dv_run.specs.Headline.{IsRun, Prints, SaysReport, Told, most_read}
 use Rattle.dv_run.specs.Output.{report_text}
-use Rattle.dv_run.specs.Run.{Told, most_read, SaysScript, SaysReport, Prints, RefusesInput, GivesUp, ReaderFailed, WriterFailed, GivesNoScript}
+use Rattle.dv_run.specs.Run.{SaysScript, RefusesInput, GivesUp, ReaderFailed, WriterFailed, GivesNoScript}
 use Rattle.dv_run.specs.Source.{IsFrontOf}
 use Rattle.dv_run.specs.declared.error.RunFault.TheVariants.{ScriptRefused, OutOfMemory}
 use Rattle.dv_run.specs.declared.source.ReadError.{ReadError}

@@ -1,10 +1,10 @@
 pub mod Source
 pub mod MemorySource
-pub mod Callers
-pub mod Driving
-pub mod Headline
 pub mod Output
+pub mod Headline
 pub mod Faults
 pub mod Run
+pub mod Callers
+pub mod Driving
 pub mod Exit
 pub mod Workers

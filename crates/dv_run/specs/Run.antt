@@ -1,44 +1,23 @@
 -- What a run reads and writes.
-use Rattle.std.specs.Prelude.{◌≡◌, ◌≢◌, ◌⊎◌, ℕ, List, Option, Result, Ok, Err}
-use Rattle.std.specs.Io.KnownBytes.{Appends, Keeps}
+use Rattle.std.specs.Prelude.{◌≡◌, ◌≢◌, ◌⊎◌, ℕ, List, Result, Ok, Err}
+use Rattle.std.specs.Io.KnownBytes.{Keeps}
 use Rattle.dv_engine.specs.declared.report.Report.{Report}
 use Rattle.dv_journal.specs.Sink.{AppendsPrefix, HasFailed}
 use Rattle.dv_reader.specs.Refusal.{Says, Refuses}
 use Rattle.dv_reader.specs.declared.error.ScriptFault.{ScriptFault}
 use Rattle.dv_reader.specs.declared.error.ScriptFault.TheVariants as script
 use Rattle.dv_script.specs.declared.script.Script.{Script}
-use Rattle.dv_run.specs.Headline.{IsRun}
+use Rattle.dv_run.specs.Headline.{SaysReport, Told, most_read}
 use Rattle.dv_run.specs.Output.{report_text}
 use Rattle.dv_run.specs.Source.{IsFrontOf}
 use Rattle.dv_run.specs.declared.error.RunFault.{RunFault}
 use Rattle.dv_run.specs.declared.error.RunFault.TheVariants.{ScriptRefused, OutOfMemory, ReadFault, WriteFault}
-
--- the bytes that a reader has left, or a writer has taken, where they are told
-abbrev pub Told : Type 0
-Told = Option (List ℕ)
-
--- how many bytes are read at most: one more than a script may have
-abbrev pub most_read : ℕ
-most_read = 1048577
 
 -- the input says a script
 pub record SaysScript (input : Told) (script : Script) : Type 0 where
   pub bytes : List ℕ
   pub read : IsFrontOf input most_read bytes
   pub says : Says bytes script
-
--- the input says a script, and this is the report of a run of it
-pub record SaysReport (input : Told) (script : Script) (report : Report) : Type 0 where
-  pub bytes : List ℕ
-  pub read : IsFrontOf input most_read bytes
-  pub says : Says bytes script
-  pub runs : IsRun script report
-
--- the input says a script, and the text of its report was written
-pub record Prints (input old new : Told) (report : Report) : Type 0 where
-  pub script : Script
-  pub says : SaysReport input script report
-  pub written : Appends old new (report_text script.classes report)
 
 -- the input says a script, and a prefix of the text of its report was written
 pub record PrintsPrefix (input old new : Told) : Type 0 where

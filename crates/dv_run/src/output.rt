@@ -74,7 +74,8 @@ fn print_outcomes<W: Sink>(
     Ok(())
 }
 
-/// Writes the journal, and then a line for each outcome. Where it gives up, what was written is a prefix of the text.
+/// Writes the journal, and then a line for each outcome. WriteFault where the sink fails or takes no byte, OutOfMemory where
+/// memory is refused; what was written then is a prefix of the text.
 #[tactic(auto, using(crate::proofs::OutputLemmas::both_parts))]
 pub fn print_report<W: Sink>(
     alloc: Global,

@@ -1,7 +1,8 @@
 ghost use Rattle.std.specs.Prelude.{◌≡◌, ◌≤◌, OnOk, IfOk, IfErr};
 ghost use Rattle.dv_reader.specs.Limits.{most_limit};
 ghost use Rattle.dv_run.specs.Callers.{AreFew};
-ghost use Rattle.dv_run.specs.Run.{SaysScript, GivesNoScript, Prints, GivesUp, ReaderFailed, WriterFailed};
+ghost use Rattle.dv_run.specs.Headline.{Prints};
+ghost use Rattle.dv_run.specs.Run.{SaysScript, GivesNoScript, GivesUp, ReaderFailed, WriterFailed};
 
 use crate::error::RunFault;
 use crate::output::print_report;
@@ -23,8 +24,12 @@ use std::thread::Threads;
 /// became of each Deferred, the batches in which posts were taken, the jobs, and whether the run stopped at the journal's limit.
 ///
 /// The jobs are done at the gate, by so many workers, each on a thread of its own, and by this thread where it waits; with no
-/// workers each is done here, where it is submitted. Each caller posts on a thread of its own, in order. A worker whose thread
-/// can't be started is left out, and the posts of a caller whose thread can't be are posted before the first event.
+/// workers each is done here, where it is submitted, and the gate isn't asked. Each caller posts on a thread of its own, in
+/// order. A worker whose thread can't be started is left out, and the posts of a caller whose thread can't be are posted before
+/// the first event. It may wait for its threads.
+///
+/// ScriptRefused where the input says no script, and ReadFault where the reader fails: nothing was written. OutOfMemory where
+/// memory is refused, and WriteFault where the writer fails or takes no byte: a prefix of the text was written.
 ///
 /// The input is read to its end, or to one byte more than a script may have, and nothing is written before all of it
 /// is read and performed. The run ends at the reader's or the writer's first failure: the reader has counted a failure

@@ -21,7 +21,7 @@ pub trait Source {
     ghost failures: { Self → ℕ };
 
     /// Puts bytes at the front of the buffer, and answers how many. No byte into a buffer with room
-    /// is the end of the input, and no failure.
+    /// is the end of the input, and no failure. SourceFault where it fails.
     fn read(&mut self, buffer: &mut [u8]) -> Result<usize, SourceFault>
         ensures bound { ReadsAtMost result buffer.new }
         ensures bytes { ReadConsumes (left self.old) (left self.new) result buffer.new }
