@@ -1,6 +1,6 @@
 use dv_threads::gate::Gate;
 use dv_threads::job::{Answer, Job};
-use std::alloc::Global;
+use std::alloc::{AllocError, Global};
 use std::sync::atomic::{AtomicU32, Ordering};
 use std::thread;
 
@@ -38,28 +38,42 @@ impl Gate for Holding {
     }
 }
 
-/// Counts how often the job 7 was answered, and all answers.
+/// Counts how often the job of each number was answered.
 #[derive(Drop)]
 pub struct Counting {
-    pub seventh: AtomicU32,
-    pub all: AtomicU32,
+    answers: Vec<AtomicU32>,
 }
 
 impl Counting {
-    pub fn new() -> Counting {
-        Counting {
-            seventh: AtomicU32::new(0),
-            all: AtomicU32::new(0),
+    /// For so many jobs.
+    pub fn new(alloc: Global, jobs: u32) -> Result<Counting, AllocError> {
+        let mut answers = Vec::new(alloc);
+        for _ in 0..jobs {
+            answers.push(AtomicU32::new(0))?;
         }
+        Ok(Counting { answers })
+    }
+
+    /// Whether each job was answered so often.
+    pub fn are_all(&self, count: u32) -> bool {
+        self.answers
+            .iter()
+            .all(|answers| answers.load(Ordering::SeqCst) == count)
+    }
+
+    /// Whether a job was answered more than once.
+    pub fn is_any_answered_again(&self) -> bool {
+        self.answers
+            .iter()
+            .any(|answers| answers.load(Ordering::SeqCst) > 1)
     }
 }
 
 impl Gate for Counting {
     fn answer(&self, alloc: Global, _worker: u32, job: Job) -> Answer {
-        if job.number == 7 {
-            self.seventh.fetch_add(1, Ordering::SeqCst);
+        if let Some(answers) = self.answers.get(job.number as usize) {
+            answers.fetch_add(1, Ordering::SeqCst);
         }
-        self.all.fetch_add(1, Ordering::SeqCst);
         job.done(alloc)
     }
 }

@@ -61,7 +61,7 @@ fn fill<J: JobSource>(alloc: Global, source: &mut J) -> bool {
 
 #[test]
 fn each_of_4096_jobs_comes_to_the_gate_once(rt: HostRuntime) -> Result<(), Fail> {
-    let gate = Counting::new();
+    let gate = Counting::new(rt.alloc(), 4096)?;
     let (is_full, done) = thread::scope(
         thread::scope_env(),
         &rt,
@@ -74,8 +74,7 @@ fn each_of_4096_jobs_comes_to_the_gate_once(rt: HostRuntime) -> Result<(), Fail>
     )?;
     assert!(rt; is_full);
     assert_eq!(rt; done, 4096);
-    assert_eq!(rt; gate.all.load(Ordering::SeqCst), 4096);
-    assert_eq!(rt; gate.seventh.load(Ordering::SeqCst), 1);
+    assert!(rt; gate.are_all(1));
     Ok(())
 }
 
@@ -113,7 +112,7 @@ fn a_job_that_is_given_back_is_want_of_memory(rt: HostRuntime) -> Result<(), Fai
 
 #[test]
 fn the_workers_of_a_dropped_pool_leave(rt: HostRuntime) -> Result<(), Fail> {
-    let gate = Counting::new();
+    let gate = Counting::new(rt.alloc(), 4096)?;
     let is_full = thread::scope(
         thread::scope_env(),
         &rt,
@@ -123,6 +122,6 @@ fn the_workers_of_a_dropped_pool_leave(rt: HostRuntime) -> Result<(), Fail> {
         },
     )?;
     assert!(rt; is_full);
-    assert!(rt; gate.all.load(Ordering::SeqCst) <= 4096);
+    assert!(rt; !gate.is_any_answered_again());
     Ok(())
 }

@@ -4,6 +4,7 @@ use super::gates::Yielding;
 use dv_engine::engine::{Engine, Next};
 use dv_engine::report::Report;
 use dv_inline::poller::Poller;
+use dv_journal::entry::Entry;
 use dv_journal::memory_sink::MemorySink;
 use dv_reader::read_script::ReadScript;
 use dv_run::memory_source::MemorySource;
@@ -74,6 +75,20 @@ where
     }
 }
 
+/// Gives an engine these batches, each once it waits for one.
+fn give_all<S, J>(rt: &S, engine: &mut Engine<'_, J>, batches: &[Items<Posted>]) -> Result<(), Fail>
+where
+    S: Wait + RandomSource + AllocGlobal,
+    J: JobSource,
+{
+    for batch in batches {
+        go_on(rt, engine);
+        let batch = copied(rt.alloc(), batch.as_slice())?;
+        engine.drain(rt, batch)?;
+    }
+    Ok(())
+}
+
 /// What an engine comes to that takes these batches, all on this thread.
 fn replayed<S>(rt: &S, script: &Script, batches: &[Items<Posted>]) -> Result<Report, Fail>
 where
@@ -81,11 +96,9 @@ where
     requires { script.now.limit < 2 ^ 32 - 1 }
 {
     let alloc = rt.alloc();
-    let mut engine = Engine::new(alloc, Poller::new(rt)?, OneThread::new(alloc), script)?;
-    for batch in batches {
-        go_on(rt, &mut engine);
-        engine.drain(rt, copied(alloc, batch.as_slice())?)?;
-    }
+    let poller = Poller::new(rt)?;
+    let mut engine = Engine::new(alloc, poller, OneThread::new(alloc), script)?;
+    give_all(rt, &mut engine, batches)?;
     Ok(engine.finish(rt)?)
 }
 
@@ -214,4 +227,26 @@ fn a_post_is_taken_while_events_are_performed(rt: HostRuntime) -> Result<(), Fai
         }
     }
     Err("at the first drain or after the last event in all runs".into())
+}
+
+/// One job more than a run has.
+fn too_many_jobs(alloc: Global) -> Result<String, AllocError> {
+    let mut text = String::from_str(alloc, r#"{"version":1,"limit":200000,"events":["#)?;
+    for _ in 0..4_096u32 {
+        text.push_str(r#"["thread","d",0,["value",0]],"#)?;
+    }
+    text.push_str(r#"["thread","d",0,["value",0]]]}"#)?;
+    Ok(text)
+}
+
+#[test]
+fn one_job_more_than_a_run_has_raises(rt: HostRuntime) -> Result<(), Fail> {
+    let text = too_many_jobs(rt.alloc())?;
+    let (_, report) = run_text(&rt, text.as_str(), 2, &PlainGate)?;
+    let Some(Entry::Unhandled(failure)) = report.journal.entries().last() else {
+        return Err("nothing was told".into());
+    };
+    assert_eq!(rt; failure.message.as_str(), "too many jobs");
+    assert_eq!(rt; report.ran.dones().len(), 4096);
+    Ok(())
 }
