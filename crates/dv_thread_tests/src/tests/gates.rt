@@ -4,8 +4,8 @@ use std::alloc::{AllocError, Global};
 use std::sync::atomic::{AtomicU32, Ordering};
 use std::thread;
 
-/// How often a worker looks for another one, and lets others run in between. This is some seconds.
-const MOST_LOOKS: u32 = 2_000_000;
+/// How often one thread looks for what another one does, and lets others run in between. This is some seconds.
+pub const MOST_LOOKS: u32 = 2_000_000;
 
 /// Holds each job until two have come.
 #[derive(Drop)]

@@ -1,5 +1,6 @@
 ghost use Rattle.dv_threads.specs.Posts.{SamePoster};
 
+use super::gates::MOST_LOOKS;
 use dv_threads::inbox::Inbox;
 use dv_threads::posted::Posted;
 use dv_threads::poster::Poster;
@@ -7,9 +8,6 @@ use std::sync::Wait;
 use std::test::Fail;
 use std::thread;
 use std::thread::Threads;
-
-/// How often an inbox is looked at, while others run in between. This is some seconds.
-const MOST_LOOKS: u32 = 2_000_000;
 
 /// Posts the post of this index.
 fn post(poster: &mut Poster, index: u32) -> Result<(), Posted>

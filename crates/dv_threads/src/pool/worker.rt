@@ -34,7 +34,7 @@ pub struct End {
 }
 
 /// How often a worker looks for a job in vain, one look after the other, before it rests.
-const MOST_LOOKS: u32 = 128;
+const LOOKS_BEFORE_REST: u32 = 128;
 
 /// How long it rests then before it looks again, in microseconds.
 const REST: u64 = 100;
@@ -42,7 +42,7 @@ const REST: u64 = 100;
 /// Lets others run where no job was found, so many times one after the other: by a yield at first, and then by a rest, so that
 /// workers that have nothing to do take little of the processors.
 fn idle<R: Wait>(rt: &R, parker: &Parker, looks: u32) {
-    if looks < MOST_LOOKS {
+    if looks < LOOKS_BEFORE_REST {
         thread::yield_now();
     } else {
         parker.park_timeout(rt, Duration::from_micros(REST));
