@@ -62,13 +62,36 @@ pub fn go_on<'s>(
     ensures { IfOk result (λ next. (stack.new, next, world.new) ≡ inline_turned inlining.entry performed.entry world.old over stack.old) }
 {
     match inlining {
-        Inlining::Goes(inline, body) => Ok(poll(alloc, poller, world, stack, inline, body)?),
+        Inlining::Goes(inline, body) => {
+            drop(performed);
+            Ok(poll(alloc, poller, world, stack, inline, body)?)
+        }
         Inlining::Acted(inline, body) => {
-            let answer = answer_of(alloc, performed)?;
-            Ok(go_on_with(world, stack, inline, body, answer)?)
+            Ok(end_action(alloc, world, stack, inline, body, performed)?)
         }
         Inlining::Awaited(inline, awaited, body) => {
+            drop(performed);
             Ok(end_await(world, stack, inline, awaited, body)?)
+        }
+    }
+}
+
+/// A body goes on with what an action of it came to.
+fn end_action<'s>(
+    alloc: Global,
+    world: &World<'s>,
+    stack: &mut Stack<Frame<'s>>,
+    inline: Inline,
+    body: InlineBody<'s>,
+    performed: Performed<'s>,
+) -> Result<Performed<'s>, AllocError>
+    ensures { IfOk result (λ next. (stack.new, next, world.now) ≡ going_with inline (answer_of performed.entry) body.entry world.now over stack.old) }
+{
+    match answer_of(alloc, performed) {
+        Ok(answer) => go_on_with(world, stack, inline, body, answer),
+        Err(AllocError) => {
+            drop(body);
+            Err(AllocError)
         }
     }
 }
@@ -175,7 +198,7 @@ fn go_on_with<'s>(
     ensures { IfOk result (λ next. (stack.new, next, world.now) ≡ going_with inline answer body.entry world.now over stack.old) }
 {
     let mut body = body;
-    body.answer(world.classes(), answer)?;
+    body.answer(world.classes(), answer);
     stack.push(Frame::Inline(Inlining::Goes(inline, body)))?;
     Ok(Performed::Done)
 }

@@ -1,6 +1,5 @@
 -- Moves and answers lead where the recursion over the statements leads.
-use Rattle.std.proofs.Common.{◌≡◌, ℕ, List, [], ◌∷◌, map, Option, None, Some, Result, Ok, Err, OnOk, refl, ap, ◌∙◌, sym, subst}
-use Rattle.std.specs.declared.alloc.AllocError.{AllocError}
+use Rattle.std.proofs.Common.{◌≡◌, ℕ, List, [], ◌∷◌, map, Option, None, Some, refl, ap, ◌∙◌, sym, subst}
 use Rattle.dv_inline.specs.Leads.{caught_there, through, reached_unless, reached, LeadsBy, LeadAlike, IsDue, Stands, ComesTo}
 use Rattle.dv_inline.specs.Meaning.{Wants, Over, past, thrown, left, wants, followed, caught, caught_by, do_meant, await_meant, done_by, in_order, statement_meant, meant, all_meant, ended, result_of, Meant}
 use Rattle.dv_inline.specs.Position.{Position, moved, moved_by, moved_in, moved_unless, outward, come, want_by, want_in, want_unless, answered, answered_to, went_on, thrown_from, thrown_to, second_for, class_caught}
@@ -136,9 +135,8 @@ module _ (table : List Class) where
 pub answer_leads : (table : List Class) (answer : Value) (p : Position) → IsDue p → LeadsBy table answer p (answered table answer p)
 answer_leads table answer p due = leads_result table p.result answer p refl due
 
-pub taken_leads : (table : List Class) (answer : Value) (p q : Position) (r : Result (Unit {0}) AllocError) → OnOk r (q ≡ answered table answer p) → OnOk r (IsDue p → LeadsBy table answer p q)
-taken_leads table answer p q (Ok u) h = λ due more. rw h (answer_leads table answer p due more)
-taken_leads table answer p q (Err e) h = tt
+pub taken_leads : (table : List Class) (answer : Value) (p q : Position) → q ≡ answered table answer p → IsDue p → LeadsBy table answer p q
+taken_leads table answer p q h due more = rw h (answer_leads table answer p due more)
 
 pub come_leads : (p : Position) → LeadAlike p (come p)
 come_leads p table answers = come_alike table p answers

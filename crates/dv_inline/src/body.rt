@@ -1,4 +1,4 @@
-ghost use Rattle.std.specs.Prelude.{◌≡◌, [], Some, None, IfOk, OnOk};
+ghost use Rattle.std.specs.Prelude.{◌≡◌, [], Some, None, IfOk, OnOk, MatchOption};
 ghost use Rattle.dv_inline.specs.Leads.{reached, LeadsBy, LeadAlike, IsDue};
 ghost use Rattle.dv_inline.specs.Meaning.{inline, ended};
 ghost use Rattle.dv_inline.specs.Position.{started, moved, moved_by, over_with, outward, come, answered, want_at, class_caught, thrown_from, passed, went_on, Moves, MovesTo, second_for};
@@ -80,49 +80,47 @@ impl<'s> InlineBody<'s> {
 
     /// Goes on with the answer to what stands: a failure is thrown there, and goes to the innermost `try` that catches it;
     /// any other value is the present one after an `await`, and leaves it as it was after a `do`. Where nothing stands, the
-    /// answer changes nothing. After AllocError the body can only be dropped.
+    /// answer changes nothing. It takes no memory.
     #[tactic(auto, using(crate::proofs::LeadsLemmas::taken_leads))]
-    pub fn answer(&mut self, classes: &Classes, answer: Value) -> Result<(), AllocError>
-        ensures answered { OnOk result (self.new ≡ answered classes.now answer self.old) }
-        ensures leads { OnOk result (IsDue self.old → LeadsBy classes.now answer self.old self.new) }
+    pub fn answer(&mut self, classes: &Classes, answer: Value)
+        ensures answered { self.new ≡ answered classes.now answer self.old }
+        ensures leads { IsDue self.old → LeadsBy classes.now answer self.old self.new }
     {
-        self.take(classes, answer)
+        self.take(classes, answer);
     }
 
     /// Goes on with the answer to what stands.
-    fn take(&mut self, classes: &Classes, answer: Value) -> Result<(), AllocError>
-        ensures { OnOk result (self.new ≡ answered classes.now answer self.old) }
+    fn take(&mut self, classes: &Classes, answer: Value)
+        ensures { self.new ≡ answered classes.now answer self.old }
     {
         match self.want() {
-            None => Ok(()),
+            None => drop(answer),
             Some(Want::Do(_)) => self.end_do(classes, answer),
             Some(Want::Await(_)) => self.end_await(classes, answer),
         }
     }
 
     /// Goes past a `do` with the present value as it was, unless the answer is a failure.
-    fn end_do(&mut self, classes: &Classes, answer: Value) -> Result<(), AllocError>
-        ensures { OnOk result (self.new ≡ went_on classes.now (failure_in answer) self.old.value self.old) }
+    fn end_do(&mut self, classes: &Classes, answer: Value)
+        ensures { self.new ≡ went_on classes.now (failure_in answer) self.old.value self.old }
     {
         match answer {
             Value::Fault(failure) => self.throw(classes, failure),
             Value::Null | Value::Bool(_) | Value::Int(_) | Value::Text(_) | Value::List(_) => {
                 self.pass();
-                Ok(())
             }
         }
     }
 
     /// Goes past an `await` with the answer as the present value, unless it is a failure.
-    fn end_await(&mut self, classes: &Classes, answer: Value) -> Result<(), AllocError>
-        ensures { OnOk result (self.new ≡ went_on classes.now (failure_in answer) answer self.old) }
+    fn end_await(&mut self, classes: &Classes, answer: Value)
+        ensures { self.new ≡ went_on classes.now (failure_in answer) answer self.old }
     {
         match answer {
             Value::Fault(failure) => self.throw(classes, failure),
             Value::Null | Value::Bool(_) | Value::Int(_) | Value::Text(_) | Value::List(_) => {
                 self.value = answer;
                 self.pass();
-                Ok(())
             }
         }
     }
@@ -137,20 +135,19 @@ impl<'s> InlineBody<'s> {
     }
 
     /// A failure is thrown, and goes outward to the first `try` that catches it.
-    fn throw(&mut self, classes: &Classes, failure: Boxed<Failure>) -> Result<(), AllocError>
-        ensures { OnOk result (self.new ≡ thrown_from classes.now failure self.old.tries self.old) }
+    fn throw(&mut self, classes: &Classes, failure: Boxed<Failure>)
+        ensures { self.new ≡ thrown_from classes.now failure self.old.tries self.old }
     {
-        while let Some(around) = self.tries.pop() {
-            let Open { catch, rest } = around;
-            if let Some(second) = second_for(classes, failure.get(), catch) {
-                self.tries.push(Open { catch: None, rest })?;
+        while let Some(around) = self.tries.first() {
+            if let Some((second, rest)) = caught_by(classes, failure.get(), around) {
+                self.tries.replace(Open { catch: None, rest });
                 self.statements = second;
                 self.value = Value::Null;
-                return Ok(());
+                return;
             }
+            let _ = self.tries.pop();
         }
         self.end(Value::Fault(failure));
-        Ok(())
     }
 
     /// The body is over with this.
@@ -266,17 +263,23 @@ impl<'s> Future for InlineBody<'s> {
     }
 }
 
-/// The second statements of a `try`, where it catches the failure.
-fn second_for<'s>(
+/// The second statements of a `try`, and what follows it, where it catches the failure.
+fn caught_by<'s>(
     classes: &Classes,
     failure: &Failure,
-    catch: Option<Catch<'s>>,
-) -> Option<Statements<'s>>
-    ensures { result ≡ second_for (class_caught classes.now failure.now catch.entry) catch.entry }
+    around: &Open<'s>,
+) -> Option<(Statements<'s>, Statements<'s>)>
+    ensures { MatchOption result
+        (second_for (class_caught classes.now failure.now around.now.catch) around.now.catch ≡ None)
+        (λ p. (second_for (class_caught classes.now failure.now around.now.catch) around.now.catch ≡ Some p.0) × (p.1 ≡ around.now.rest)) }
 {
-    let catch = catch?;
+    let Some(catch) = &around.catch else {
+        return None;
+    };
     failure.check(classes, catch.classes.get())?;
-    Some(catch.second)
+    let second = Statements::new(catch.second.get());
+    let rest = Statements::new(around.rest.get());
+    Some((second, rest))
 }
 
 /// What an end gives for the present value. A body has no `Trap` and no `Wait`: they give it as it is.

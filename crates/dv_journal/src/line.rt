@@ -1,11 +1,13 @@
 ghost use Rattle.std.specs.Fmt.{decimal};
 ghost use Rattle.std.specs.Prelude.{◌≡◌, ◌++◌, OnOk, codes, string_bytes};
-ghost use Rattle.dv_value.specs.ValueText.{outcome};
+ghost use Rattle.dv_value.specs.ValueText.{failure_text, json, outcome};
+ghost use Rattle.json.specs.Print.{quoted};
 ghost use Rattle.dv_journal.specs.Line.{hash, name_text, bound_text, words_of, line_of};
 
 use crate::deferred_id::DeferredId;
 use crate::entry::Entry;
 use dv_value::classes::Classes;
+use dv_value::failure::Failure;
 use dv_value::text::Text;
 use dv_value::value::Value;
 use dv_value::value_text::{write_failure, write_json, write_outcome, write_string};
@@ -151,6 +153,62 @@ fn write_queue(
     write_bound(out, most_waiting)
 }
 
+/// Adds the text of a note.
+fn write_note(alloc: Global, out: &mut String, text: &Text) -> Result<(), AllocError>
+    ensures { OnOk result (string_bytes out.new ≡ string_bytes out.old ++ (codes "note " ++ quoted text.now)) }
+{
+    write!(out, "note ")?;
+    write_string(alloc, out, text.as_str())
+}
+
+/// Adds a failure that left an event, a call, a delivery or a post.
+fn write_unhandled(
+    alloc: Global,
+    classes: &Classes,
+    out: &mut String,
+    failure: &Failure,
+) -> Result<(), AllocError>
+    ensures { OnOk result (string_bytes out.new ≡ string_bytes out.old ++ (codes "unhandled " ++ failure_text classes.now failure.now)) }
+{
+    write!(out, "unhandled ")?;
+    write_failure(alloc, classes, out, failure)
+}
+
+/// Adds the value that is put into a queue.
+fn write_put(
+    alloc: Global,
+    classes: &Classes,
+    out: &mut String,
+    name: &Text,
+    value: &Value,
+) -> Result<(), AllocError>
+    ensures { OnOk result (string_bytes out.new ≡ string_bytes out.old ++ (codes "put " ++ name.now ++ codes " " ++ json classes.now value.now)) }
+{
+    write!(out, "put {} ", name.as_str())?;
+    write_json(alloc, classes, out, value)
+}
+
+/// Adds what a task has ended with.
+fn write_end(
+    alloc: Global,
+    classes: &Classes,
+    out: &mut String,
+    name: &Text,
+    value: &Value,
+) -> Result<(), AllocError>
+    ensures { OnOk result (string_bytes out.new ≡ string_bytes out.old ++ (codes "end " ++ name.now ++ codes " " ++ outcome classes.now value.now)) }
+{
+    write!(out, "end {} ", name.as_str())?;
+    write_outcome(alloc, classes, out, value)
+}
+
+/// Adds a job and the Deferred that gets its result.
+fn write_job(out: &mut String, job: u32, id: DeferredId) -> Result<(), AllocError>
+    ensures { OnOk result (string_bytes out.new ≡ string_bytes out.old ++ (codes "job " ++ decimal job ++ codes " " ++ hash id)) }
+{
+    write!(out, "job {job} #{}", id.number())
+}
+
 fn write_words(
     alloc: Global,
     classes: &Classes,
@@ -178,14 +236,8 @@ fn write_words(
         Entry::Pause(id) => write_id(out, "pause ", *id),
         Entry::Unpause(id) => write_id(out, "unpause ", *id),
         Entry::Cancel(id) => write_id(out, "cancel ", *id),
-        Entry::Note(text) => {
-            write!(out, "note ")?;
-            write_string(alloc, out, text.as_str())
-        }
-        Entry::Unhandled(failure) => {
-            write!(out, "unhandled ")?;
-            write_failure(alloc, classes, out, failure)
-        }
+        Entry::Note(text) => write_note(alloc, out, text),
+        Entry::Unhandled(failure) => write_unhandled(alloc, classes, out, failure),
         Entry::Lock(name) => write_named(out, "lock ", name),
         Entry::Semaphore(name, tokens) => {
             write_named_and_number(out, "semaphore ", name, u64::from(*tokens))
@@ -195,10 +247,7 @@ fn write_words(
         Entry::Queue(name, most_stored, most_waiting) => {
             write_queue(out, name, *most_stored, *most_waiting)
         }
-        Entry::Put(name, value) => {
-            write!(out, "put {} ", name.as_str())?;
-            write_json(alloc, classes, out, value)
-        }
+        Entry::Put(name, value) => write_put(alloc, classes, out, name, value),
         Entry::Get(name, id) => write_named_and_id(out, "get ", name, *id),
         Entry::LaterCall(name, due) => write_named_and_number(out, "later call ", name, *due),
         Entry::LaterLoop(name, due) => write_named_and_number(out, "later loop ", name, *due),
@@ -214,18 +263,12 @@ fn write_words(
         Entry::Task(name) => write_named(out, "task ", name),
         Entry::Step(name) => write_named(out, "step ", name),
         Entry::Hold(name, id) => write_named_and_id(out, "hold ", name, *id),
-        Entry::End(name, value) => {
-            write!(out, "end {} ", name.as_str())?;
-            write_outcome(alloc, classes, out, value)
-        }
+        Entry::End(name, value) => write_end(alloc, classes, out, name, value),
         Entry::PauseTask(name) => write_named(out, "pausetask ", name),
         Entry::ResumeTask(name) => write_named(out, "resumetask ", name),
         Entry::WhenDone(name, id) => write_named_and_id(out, "whendone ", name, *id),
         Entry::Await(id, on) => write_ids(out, "await ", *id, *on),
-        Entry::Job(job, id) => {
-            write_number(out, "job ", u64::from(*job))?;
-            write_id(out, " ", *id)
-        }
+        Entry::Job(job, id) => write_job(out, *job, *id),
         Entry::Advance(time) => write_number(out, "advance ", *time),
         Entry::Drain => write!(out, "drain"),
         Entry::Post(caller, index) => {

@@ -95,12 +95,14 @@ impl<'s> Inlines<'s> {
         ensures err { OnErr result (self.new ≡ self.old) }
     {
         let Some(waiting) = self.kept.get_mut(place) else {
+            drop(body);
             return Ok(None);
         };
         if let Some(input) = waiting.take() {
             return Ok(Some((body, input)));
         }
         if !waiting.is_adding() {
+            drop(body);
             return Ok(None);
         }
         let Ok(key) = self.parked.park(body) else {
