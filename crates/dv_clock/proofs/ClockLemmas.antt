@@ -7,7 +7,7 @@ use Rattle.dv_journal.specs.declared.entry.Entry.{Entry}
 use Rattle.dv_journal.specs.declared.entry.Entry.TheVariants as entry
 use Rattle.dv_journal.specs.declared.error.Stop.TheVariants.{Limit}
 use Rattle.dv_clock.specs.Clock.{Clock, Upcoming, is_waiting, next_call, first_from, due_at, due, due_found, cancel_found, cancel_in, cancel_waiting, ended, with_end, with_call, Cancelling}
-use Rattle.dv_clock.specs.Telling.{State, Told, telling}
+use Rattle.dv_journal.specs.Telling.{State, Told, telling}
 use Rattle.dv_clock.specs.Laws.{RunsBeforeOthers, TheFirstRunsNext, WhatIsDueRuns, Becomes, Same, Schedules, Advances, Runs, Cancels, Drops, TimeNeverGoesBack, EndedCallsNeverRun, CallsRunOnceAtMost}
 use Rattle.dv_clock.specs.declared.call.Call.{Call}
 use Rattle.dv_clock.specs.declared.call.CallState.{CallState}

@@ -1,4 +1,3 @@
-pub mod Telling
 pub mod Due
 pub mod Clock
 pub mod LoopingCall

@@ -44,7 +44,7 @@ impl Model for Clock {
 
 impl Clock {
     ghost use Rattle.dv_clock.specs.Clock.{new_clock, later, next_turn, scheduled_at, advance_to, due, cancel, CancelsUnlessMemory, ended, due_of, what_of, waits, is_waiting, next_call, numbered, with_number};
-    ghost use Rattle.dv_clock.specs.Telling.{UnlessMemory};
+    ghost use Rattle.dv_journal.specs.Telling.{UnlessMemory};
 
     /// Time begins at 0, and nothing is scheduled.
     pub fn new(alloc: Global) -> Clock
@@ -305,6 +305,7 @@ fn join(
     ensures err { OnErr result (journal.new ≡ journal.old) }
 {
     let Ok(_) = waiting.insert(place) else {
+        drop(entry);
         return Err(AllocError);
     };
     match journal.write(entry) {

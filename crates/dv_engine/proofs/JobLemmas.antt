@@ -9,7 +9,7 @@ use Rattle.dv_journal.specs.declared.entry.Entry.{Entry}
 use Rattle.dv_journal.specs.declared.entry.Entry.TheVariants as entry
 use Rattle.dv_journal.specs.declared.error.Stop.{Stop}
 use Rattle.dv_script.specs.declared.work.Work.{Work}
-use Rattle.dv_store.specs.Telling.{State}
+use Rattle.dv_store.specs.State.{State}
 use Rattle.dv_store.specs.declared.error.StoreFault.{StoreFault}
 use Rattle.dv_store.specs.declared.error.StoreFault.TheVariants as firing_fault
 use Rattle.dv_store.specs.declared.error.UnpauseFault.{UnpauseFault}

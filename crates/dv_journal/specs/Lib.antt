@@ -1,6 +1,7 @@
 pub mod Entry
 pub mod Change
 pub mod Journal
+pub mod Telling
 pub mod Line
 pub mod Sink
 pub mod MemorySink

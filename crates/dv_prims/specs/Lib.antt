@@ -1,4 +1,3 @@
-pub mod Telling
 pub mod Tokens
 pub mod Queue
 pub mod DeferredList

@@ -7,7 +7,7 @@ use Rattle.dv_journal.specs.Journal.{Written, fits, with_entry}
 use Rattle.dv_journal.specs.declared.entry.Entry.TheVariants as entry
 use Rattle.dv_journal.specs.declared.error.Stop.{Stop}
 use Rattle.dv_journal.specs.declared.error.Stop.TheVariants as stop
-use Rattle.dv_prims.specs.Telling.{State, Told, telling, making}
+use Rattle.dv_journal.specs.Telling.{State, Told, telling, making}
 use Rattle.dv_prims.specs.Tokens.{without}
 use Rattle.dv_prims.specs.declared.error.PutFault.{PutFault}
 use Rattle.dv_prims.specs.declared.error.PutFault.TheVariants.{Overflow, Limit, OutOfMemory}

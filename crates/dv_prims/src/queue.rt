@@ -43,7 +43,7 @@ impl Model for Queue {
 impl Queue {
     ghost use Rattle.dv_prims.specs.Laws.{StoresOrIsWaitedFor};
     ghost use Rattle.dv_prims.specs.Queue.{make_queue, may_put, may_get, put, PutsUnlessMemory, get, withdrawn};
-    ghost use Rattle.dv_prims.specs.Telling.{UnlessMemory};
+    ghost use Rattle.dv_journal.specs.Telling.{UnlessMemory};
     ghost use Rattle.dv_prims.specs.Tokens.{is_waiting};
 
     /// Makes a queue in which nothing is stored, and tells of it. It stores at most as many values as its size, and at
@@ -197,7 +197,10 @@ fn store(
     ensures kept { OnErr result (stored.new ≡ stored.old) }
     ensures err { OnErr result (journal.new ≡ journal.old) }
 {
-    stored.push_back(value)?;
+    if stored.push_back(value).is_err() {
+        drop(entry);
+        return Err(AllocError);
+    }
     match journal.write(entry) {
         Ok(()) => Ok(()),
         Err(Stop::Limit) => unreachable!(),

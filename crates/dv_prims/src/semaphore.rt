@@ -47,7 +47,7 @@ impl Model for Semaphore {
 
 impl Semaphore {
     ghost use Rattle.dv_prims.specs.Laws.{GivesAllBeforeAnyWaits};
-    ghost use Rattle.dv_prims.specs.Telling.{UnlessMemory};
+    ghost use Rattle.dv_journal.specs.Telling.{UnlessMemory};
     ghost use Rattle.dv_prims.specs.Tokens.{make_lock, make_semaphore, has_free, is_unheld, first_waiting, acquire, release, ReleasesUnlessMemory, is_waiting, forgotten};
 
     /// Makes a lock, whose one token is free, and tells of it (Twisted: `DeferredLock`).

@@ -9,7 +9,8 @@ use Rattle.dv_journal.specs.declared.entry.Entry.{Entry}
 use Rattle.dv_journal.specs.declared.entry.Entry.TheVariants as entry
 use Rattle.dv_journal.specs.declared.error.Stop.TheVariants.{Limit}
 use Rattle.dv_store.specs.Record.{changed, changing}
-use Rattle.dv_store.specs.Telling.{State, telling, untold}
+use Rattle.dv_journal.specs.Telling.{telling, untold}
+use Rattle.dv_store.specs.State.{State}
 use Rattle.dv_store.specs.Callbacks.{Stepped, is_ready, with_handed, use_pair, use_item, use_first, step_found, step}
 use Rattle.dv_store.specs.Laws.{StepUsesOneItemAtMost, unused_items, used, items_used}
 use Rattle.dv_store.specs.declared.record.Item.{Item}

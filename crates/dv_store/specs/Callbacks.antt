@@ -5,7 +5,8 @@ use Rattle.dv_value.specs.declared.value.Value.{Value}
 use Rattle.dv_value.specs.declared.value.Value.TheVariants.{Null}
 use Rattle.dv_journal.specs.declared.entry.Entry.TheVariants as entry
 use Rattle.dv_store.specs.Record.{changing}
-use Rattle.dv_store.specs.Telling.{State, Told, untold, telling}
+use Rattle.dv_journal.specs.Telling.{untold, telling}
+use Rattle.dv_store.specs.State.{State, Told}
 use Rattle.dv_store.specs.declared.record.Item.{Item}
 use Rattle.dv_store.specs.declared.record.Item.TheVariants as item
 use Rattle.dv_store.specs.declared.record.Record.{Record}

@@ -6,7 +6,8 @@ use Rattle.dv_value.specs.declared.value.Value.TheVariants.{Null}
 use Rattle.dv_journal.specs.declared.entry.Entry.TheVariants as entry
 use Rattle.dv_store.specs.Callbacks.{with_result}
 use Rattle.dv_store.specs.Record.{with_item, changing}
-use Rattle.dv_store.specs.Telling.{State, Told, untold, telling}
+use Rattle.dv_journal.specs.Telling.{untold, telling}
+use Rattle.dv_store.specs.State.{State, Told}
 use Rattle.dv_store.specs.declared.record.Item.TheVariants.{HandOver}
 use Rattle.dv_store.specs.declared.record.Record.{Record}
 use Rattle.dv_store.specs.declared.store.Placed.{Placed}

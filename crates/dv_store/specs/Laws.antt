@@ -8,7 +8,7 @@ use Rattle.dv_journal.specs.declared.error.Stop.{Stop}
 use Rattle.dv_store.specs.Fire.{with_guard, fire}
 use Rattle.dv_store.specs.Callbacks.{step}
 use Rattle.dv_store.specs.Record.{changing}
-use Rattle.dv_store.specs.Telling.{State}
+use Rattle.dv_store.specs.State.{State}
 use Rattle.dv_store.specs.declared.record.Record.{Record}
 use Rattle.dv_store.specs.declared.error.StoreFault.{StoreFault}
 use Rattle.dv_store.specs.declared.error.StoreFault.TheVariants.{AlreadyCalled, Limit}

@@ -1,4 +1,4 @@
-pub mod Telling
+pub mod State
 pub mod Record
 pub mod Fire
 pub mod Callbacks

@@ -5,7 +5,8 @@ use Rattle.dv_journal.specs.Journal.{fits, with_entry}
 use Rattle.dv_journal.specs.declared.entry.Entry.TheVariants as entry
 use Rattle.dv_journal.specs.declared.error.Stop.{Stop}
 use Rattle.dv_journal.specs.declared.error.Stop.TheVariants as stop
-use Rattle.dv_store.specs.Telling.{State, Told, untold, telling}
+use Rattle.dv_journal.specs.Telling.{untold, telling}
+use Rattle.dv_store.specs.State.{State, Told}
 use Rattle.dv_store.specs.declared.record.Record.{Record}
 use Rattle.dv_store.specs.declared.error.UnpauseFault.{UnpauseFault}
 use Rattle.dv_store.specs.declared.error.UnpauseFault.TheVariants.{NotPaused, Limit, OutOfMemory}

@@ -2,7 +2,8 @@
 use Rattle.std.specs.Prelude.{ℕ, false, List, [], ◌∷◌, ◌++◌, ◌-◌, length, take, Option, Some, None, slice_get, slice_set}
 use Rattle.dv_value.specs.declared.value.Value.TheVariants.{Null}
 use Rattle.dv_journal.specs.declared.entry.Entry.TheVariants.{New, Name, Add}
-use Rattle.dv_store.specs.Telling.{State, Told, untold, telling}
+use Rattle.dv_journal.specs.Telling.{untold, telling}
+use Rattle.dv_store.specs.State.{State, Told}
 use Rattle.dv_store.specs.declared.record.Item.{Item}
 use Rattle.dv_store.specs.declared.record.Item.TheVariants.{Pair}
 use Rattle.dv_store.specs.declared.record.Record.{Record}

@@ -82,7 +82,7 @@ impl<P: Sides + Drop, K: Drop> Store<P, K> {
     ghost use Rattle.dv_store.specs.Cancelling.{guard, link, end_of_chain};
     ghost use Rattle.dv_store.specs.Chaining.{put_deferred, with_wait, waiting, taking, value_at};
     ghost use Rattle.dv_store.specs.Pausing.{pauses_of, with_pauses, pause, unpause, UnpausesUnlessMemory};
-    ghost use Rattle.dv_store.specs.Telling.{UnlessMemory, telling};
+    ghost use Rattle.dv_journal.specs.Telling.{UnlessMemory, telling};
     ghost use Rattle.dv_store.specs.declared.store.Placed.TheVariants.{Taken, Waits};
     ghost use Rattle.dv_journal.specs.declared.entry.Entry.TheVariants.{Wait, Take};
 

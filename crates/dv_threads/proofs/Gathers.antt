@@ -10,7 +10,8 @@ use Rattle.dv_threads.specs.declared.job.Done.{Done}
 use Rattle.dv_threads.specs.declared.job.Job.{Job}
 use Rattle.dv_threads.specs.declared.pool.parts.Parts.{Parts}
 use Rattle.dv_threads.specs.Jobs.{numbered, jobs_from, job_of, Answer}
-use Rattle.dv_threads.specs.Sources.{most_jobs, jobs_of}
+use Rattle.dv_script.specs.declared.work.TheConstants.{MOST_JOBS}
+use Rattle.dv_threads.specs.Sources.{jobs_of}
 use Rattle.dv_threads.specs.Rules.{weigh, IsEmptied}
 use Rattle.dv_threads.specs.Parts.{empty_place, passes, any, ArePlaced, IsOrderly, HasSubmitted, seen_by}
 use Rattle.dv_threads.proofs.Places.{passes-other, passes-low, passes-any, passes-sound}
@@ -108,7 +109,7 @@ weigh_map h [] = refl
 weigh_map h (x ∷ xs) = omega (arith, weigh_map h xs)
 
 -- the first places are full, where all was taken out of both queues
-pub all_gathered : (ws : List Work) (p : Parts) → IsOrderly p → HasSubmitted ws p → length ws ≤ most_jobs → IsEmptied (worker_view p.jobs) → IsEmptied (view p.answers)
+pub all_gathered : (ws : List Work) (p : Parts) → IsOrderly p → HasSubmitted ws p → length ws ≤ MOST_JOBS → IsEmptied (worker_view p.jobs) → IsEmptied (view p.answers)
     → (xs : List Answer) × (take (length ws) p.places.items ≡ map Some xs) × (map job_of xs ≡ jobs_from 0 ws)
 all_gathered ws p o submitted few jobs answers =
     all_full (seen_by (view p.answers).taken o.helped) (λ h. 0) 0 ws p.places.items (let r = o.room in omega arith)

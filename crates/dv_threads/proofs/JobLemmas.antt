@@ -6,7 +6,8 @@ use Rattle.dv_value.specs.declared.value.Value.{Value}
 use Rattle.dv_threads.specs.declared.job.Job.{Job}
 use Rattle.dv_threads.specs.Works.{value_of}
 use Rattle.dv_threads.specs.Jobs.{numbered, jobs_from, works_of, Answer, job_of}
-use Rattle.dv_threads.specs.Sources.{most_jobs, IsValueAt}
+use Rattle.dv_script.specs.declared.work.TheConstants.{MOST_JOBS}
+use Rattle.dv_threads.specs.Sources.{IsValueAt}
 
 pub jobs_from-snoc : (n : ℕ) (ws : List Work) (w : Work) → jobs_from n (ws ++ w ∷ []) ≡ jobs_from n ws ++ numbered (n + length ws) w ∷ []
 jobs_from-snoc n [] w = let e : n + 0 ≡ n = omega arith in rw e refl
@@ -42,7 +43,7 @@ length-works [] = refl
 length-works (x ∷ xs) = ap suc (length-works xs)
 
 -- one more answer still is one of those that may be
-pub room_for_one : (ws : List Work) (old new : List Answer) (a : Answer) → ws ≡ works_of (map job_of old) → length ws < most_jobs → new ≡ old ++ a ∷ [] → length new ≤ most_jobs
+pub room_for_one : (ws : List Work) (old new : List Answer) (a : Answer) → ws ≡ works_of (map job_of old) → length ws < MOST_JOBS → new ≡ old ++ a ∷ [] → length new ≤ MOST_JOBS
 room_for_one ws old new a are low grown = omega (arith, ap length are, length-works old, ap length grown, length-append old (a ∷ []), low)
 
 -- answers that are numbered in order stay so with the answer of the next job

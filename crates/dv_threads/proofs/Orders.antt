@@ -9,7 +9,7 @@ use Rattle.dv_threads.specs.declared.pool.parts.Parts.{Parts}
 use Rattle.dv_threads.specs.declared.pool.rule.Hand.{Hand}
 use Rattle.dv_threads.specs.declared.pool.worker.End.{End}
 use Rattle.dv_threads.specs.Jobs.{job_of, Answer}
-use Rattle.dv_threads.specs.Sources.{most_jobs}
+use Rattle.dv_script.specs.declared.work.TheConstants.{MOST_JOBS}
 use Rattle.dv_threads.specs.Rules.{all_parts, hand, weigh}
 use Rattle.dv_threads.specs.Worker.{job_hand, answer_hand, HasServed}
 use Rattle.dv_threads.specs.Parts.{empty_place, TakesIn, IsOrderly, ArePlaced, seen_by}
@@ -118,8 +118,8 @@ all_empty n zero = tt
 all_empty n (suc k) = ((λ test. refl), all_empty (n + 1) k)
 
 -- a new pool
-pub opened : (p : Parts) → worker_deque p.jobs ≡ stealer_deque (arc_value p.shared).thief → worker_flavor p.jobs ≡ 0 → most_jobs ≤ worker_capacity p.jobs → IsPassOf (arc_value p.shared).answers p.answers
-    → p.places.items ≡ replicate most_jobs empty_place → worker_view p.jobs ≡ hand {T = Job} all_parts [] [] → view p.answers ≡ hand {T = Answer} all_parts [] [] → IsOrderly p
+pub opened : (p : Parts) → worker_deque p.jobs ≡ stealer_deque (arc_value p.shared).thief → worker_flavor p.jobs ≡ 0 → MOST_JOBS ≤ worker_capacity p.jobs → IsPassOf (arc_value p.shared).answers p.answers
+    → p.places.items ≡ replicate MOST_JOBS empty_place → worker_view p.jobs ≡ hand {T = Job} all_parts [] [] → view p.answers ≡ hand {T = Answer} all_parts [] [] → IsOrderly p
 opened p deque fifo roomy queue empty jobs answers = record {
   deque = deque;
   fifo = fifo;
@@ -129,6 +129,6 @@ opened p deque fifo roomy queue empty jobs answers = record {
   same_part = rw (answers, jobs) refl;
   helped = [];
   tied = λ h. rw (answers, jobs) refl;
-  room = ap length empty ∙ length-replicate most_jobs empty_place;
-  placed = rw (answers, empty) (all_empty 0 most_jobs);
+  room = ap length empty ∙ length-replicate MOST_JOBS empty_place;
+  placed = rw (answers, empty) (all_empty 0 MOST_JOBS);
 }

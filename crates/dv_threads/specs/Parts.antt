@@ -7,7 +7,7 @@ use Rattle.dv_script.specs.declared.work.Work.{Work}
 use Rattle.dv_threads.specs.declared.job.Job.{Job}
 use Rattle.dv_threads.specs.declared.pool.parts.Parts.{Parts}
 use Rattle.dv_threads.specs.Jobs.{jobs_from, job_of, Answer}
-use Rattle.dv_threads.specs.Sources.{most_jobs}
+use Rattle.dv_script.specs.declared.work.TheConstants.{MOST_JOBS}
 use Rattle.dv_threads.specs.Rules.{weigh}
 
 abbrev pub empty_place : Option Answer
@@ -43,14 +43,14 @@ seen_by taken helped h = weigh h (map job_of taken) + weigh h helped
 pub record IsOrderly (p : Parts) : Type 0 where
   pub deque : worker_deque p.jobs ≡ stealer_deque (arc_value p.shared).thief
   pub fifo : worker_flavor p.jobs ≡ 0
-  pub roomy : most_jobs ≤ worker_capacity p.jobs
+  pub roomy : MOST_JOBS ≤ worker_capacity p.jobs
   pub queue : IsPassOf (arc_value p.shared).answers p.answers
   pub some_part : 0 < (worker_view p.jobs).parts
   pub same_part : (view p.answers).parts ≡ (worker_view p.jobs).parts
   -- what the owner answered itself
   pub helped : List Job
   pub tied : (h : Job → ℕ) → weigh h (worker_view p.jobs).taken ≡ weigh h helped + weigh h (map job_of (view p.answers).put)
-  pub room : length p.places.items ≡ most_jobs
+  pub room : length p.places.items ≡ MOST_JOBS
   pub placed : ArePlaced (seen_by (view p.answers).taken helped) 0 p.places.items
 
 -- just the jobs of these works were put

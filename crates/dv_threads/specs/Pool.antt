@@ -9,7 +9,7 @@ use Rattle.dv_threads.specs.declared.pool.worker.End.{End}
 use Rattle.dv_threads.specs.declared.pool.threads.EndOf.{EndOf}
 use Rattle.dv_threads.specs.declared.pool.parts.Parts.{Parts}
 use Rattle.dv_threads.specs.declared.pool.crew.Crew.{Crew}
-use Rattle.dv_threads.specs.Sources.{most_jobs}
+use Rattle.dv_script.specs.declared.work.TheConstants.{MOST_JOBS}
 use Rattle.dv_threads.specs.Rules.{all_parts}
 use Rattle.dv_threads.specs.Parts.{IsOrderly, HasSubmitted}
 
@@ -31,4 +31,4 @@ IsWholeIfThere works crew (Some p) = IsWhole works crew p
 
 -- no more works than may be, and workers and parts of one pool
 abbrev pub IsSound : List Work → Crew → Option Parts → Type 0
-IsSound works crew parts = (length works ≤ most_jobs) × AreOf (arc_value crew.shared) crew.handles.items × IsWholeIfThere works crew parts
+IsSound works crew parts = (length works ≤ MOST_JOBS) × AreOf (arc_value crew.shared) crew.handles.items × IsWholeIfThere works crew parts

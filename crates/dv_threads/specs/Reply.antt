@@ -4,13 +4,14 @@ use Rattle.std.specs.declared.alloc.AllocError.{AllocError}
 use Rattle.dv_script.specs.declared.work.Work.{Work}
 use Rattle.dv_value.specs.declared.value.Value.{Value}
 use Rattle.dv_threads.specs.declared.pool.parts.Parts.{Parts}
-use Rattle.dv_threads.specs.Sources.{most_jobs, IsValueAt}
+use Rattle.dv_script.specs.declared.work.TheConstants.{MOST_JOBS}
+use Rattle.dv_threads.specs.Sources.{IsValueAt}
 use Rattle.dv_threads.specs.Parts.{IsOrderly, Keeps}
 
 -- it has its parts, and its number is that of a work
 abbrev pub MayPoll : Option Parts → List Work → ℕ → Type 0
 MayPoll None works number = ⊥
-MayPoll (Some p) works number = IsOrderly p × (number < length works) × (length works ≤ most_jobs)
+MayPoll (Some p) works number = IsOrderly p × (number < length works) × (length works ≤ MOST_JOBS)
 
 -- the parts, from which nothing was lost, with the value of the work
 abbrev pub MayGive : Option Parts → List Work → ℕ → Parts × Result Value AllocError → Type 0

@@ -1,5 +1,6 @@
 -- What a source of jobs answers.
 use Rattle.std.specs.Prelude.{◌≡◌, ℕ, nat_lt, if◌then◌else◌, List, length, map, slice_get, Some, Result, Ok, Err}
+use Rattle.dv_script.specs.declared.work.TheConstants.{MOST_JOBS}
 use Rattle.dv_script.specs.declared.work.Work.{Work}
 use Rattle.dv_value.specs.declared.value.Value.{Value}
 use Rattle.dv_threads.specs.declared.error.JobFault.{JobFault}
@@ -8,13 +9,9 @@ use Rattle.dv_threads.specs.declared.job.Job.{Job}
 use Rattle.dv_threads.specs.declared.job.Done.{Done}
 use Rattle.dv_threads.specs.Works.{value_of}
 
--- how many works a source takes
-abbrev pub most_jobs : ℕ
-most_jobs = 4096
-
--- another work may be submitted until there are that many
+-- another work may be submitted until there are as many as a run has
 abbrev pub room_after : List Work → Result (Unit {0}) JobFault
-room_after works = if nat_lt (length works) most_jobs then Ok tt else Err Full
+room_after works = if nat_lt (length works) MOST_JOBS then Ok tt else Err Full
 
 -- the value of the work at this place
 abbrev pub IsValueAt : List Work → ℕ → Value → Type 0

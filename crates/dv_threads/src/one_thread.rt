@@ -32,11 +32,11 @@ impl Model for OneThread {
     ghost coded = { coded_list work_contract.the_row.coded };
 
     ghost use Rattle.dv_threads.specs.Jobs.{job_of, jobs_from, works_of};
-    ghost use Rattle.dv_threads.specs.Sources.{most_jobs};
+    ghost use Rattle.dv_script.specs.declared.work.TheConstants.{MOST_JOBS};
 
     ghost view = { λ s. works_of (map job_of s.answers.items) };
 
-    ghost invariant = { λ s. (map job_of s.answers.items ≡ jobs_from 0 (works_of (map job_of s.answers.items))) × (length s.answers.items ≤ most_jobs) };
+    ghost invariant = { λ s. (map job_of s.answers.items ≡ jobs_from 0 (works_of (map job_of s.answers.items))) × (length s.answers.items ≤ MOST_JOBS) };
 }
 
 impl OneThread {

@@ -2,7 +2,7 @@ ghost use Rattle.std.specs.Prelude.{◌≡◌, ◌<◌, ◌≤◌, ◌++◌, ◌
 ghost use Rattle.std.specs.Arc.{arc_value};
 ghost use Rattle.crossbeam_deque.specs.Handles.{worker_view};
 ghost use Rattle.dv_script.specs.declared.work.Work.{Work as SpecWork};
-ghost use Rattle.dv_threads.specs.Sources.{most_jobs};
+ghost use Rattle.dv_script.specs.declared.work.TheConstants.{MOST_JOBS};
 ghost use Rattle.dv_threads.specs.Parts.{IsOrderly, HasSubmitted};
 
 use crate::error::JobFault;
@@ -94,7 +94,7 @@ fn submit(
 ) -> Result<u32, AllocError>
     requires orderly { IsOrderly parts.old }
     requires submitted { HasSubmitted works.old.items parts.old }
-    requires room { length works.old.items < most_jobs }
+    requires room { length works.old.items < MOST_JOBS }
     requires copy { copy ≡ work }
     ensures orderly { IsOrderly parts.new }
     ensures submitted { HasSubmitted works.new.items parts.new }

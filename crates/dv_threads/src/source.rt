@@ -1,7 +1,8 @@
 ghost use Rattle.std.specs.Prelude.{◌≡◌, ◌<◌, ◌++◌, ◌∷◌, [], List, length, IfOk, OnOk, OnErr, IfErr};
 ghost use Rattle.dv_script.specs.declared.work.Work.{Work as SpecWork};
 ghost use Rattle.dv_threads.specs.Jobs.{jobs_from};
-ghost use Rattle.dv_threads.specs.Sources.{most_jobs, room_after, IsValueAt, jobs_of};
+ghost use Rattle.dv_script.specs.declared.work.TheConstants.{MOST_JOBS};
+ghost use Rattle.dv_threads.specs.Sources.{room_after, IsValueAt, jobs_of};
 
 use crate::error::JobFault;
 use crate::ran::Ran;
@@ -23,7 +24,7 @@ pub trait JobSource: Drop {
 
     /// Submits a work, and gives its number. It never waits. OutOfMemory, and nothing else, where memory is refused.
     fn submit(&mut self, alloc: Global, work: Work) -> Result<u32, JobFault>
-        requires { length (works self.old) < most_jobs }
+        requires { length (works self.old) < MOST_JOBS }
         ensures number { IfOk result (λ number. number ≡ length (works self.old)) }
         ensures ok { OnOk result (works self.new ≡ works self.old ++ work ∷ []) }
         ensures err { IfErr result (λ fault. fault ≡ JobFault.OutOfMemory) }

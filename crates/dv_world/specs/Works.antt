@@ -1,5 +1,5 @@
 -- The works that were submitted as jobs (Twisted: `deferToThread`).
-use Rattle.std.specs.Prelude.{ℕ, Bool, nat_le, List, length}
+use Rattle.std.specs.Prelude.{Bool, nat_le, List, length}
 use Rattle.dv_script.specs.declared.work.TheConstants.{MOST_JOBS}
 use Rattle.dv_script.specs.declared.work.Work.{Work}
 

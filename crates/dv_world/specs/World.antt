@@ -32,7 +32,7 @@ use Rattle.dv_store.specs.Chaining as chaining
 use Rattle.dv_store.specs.Fire as firing
 use Rattle.dv_store.specs.Pausing as pausing
 use Rattle.dv_store.specs.Record as records
-use Rattle.dv_store.specs.Telling.{State}
+use Rattle.dv_store.specs.State.{State}
 use Rattle.dv_store.specs.declared.error.StoreFault.{StoreFault}
 use Rattle.dv_store.specs.declared.error.StoreFault.TheVariants as firing_fault
 use Rattle.dv_store.specs.declared.error.UnpauseFault.{UnpauseFault}

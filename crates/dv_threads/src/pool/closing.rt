@@ -2,7 +2,8 @@ ghost use Rattle.std.specs.Prelude.{◌≡◌, ◌≤◌, length, IfOk};
 ghost use Rattle.crossbeam_deque.specs.Handles.{worker_view};
 ghost use Rattle.crossbeam_queue.specs.Passes.{view};
 ghost use Rattle.dv_threads.specs.Jobs.{jobs_from};
-ghost use Rattle.dv_threads.specs.Sources.{most_jobs, jobs_of};
+ghost use Rattle.dv_script.specs.declared.work.TheConstants.{MOST_JOBS};
+ghost use Rattle.dv_threads.specs.Sources.{jobs_of};
 ghost use Rattle.dv_threads.specs.Rules.{all_parts, IsEmptied, FindsEmptied};
 ghost use Rattle.dv_threads.specs.Parts.{IsOrderly, HasSubmitted, Keeps};
 
@@ -49,7 +50,7 @@ pub fn collect_all<R: Wait>(rt: &R, parts: &mut Parts)
 pub fn gather(alloc: Global, parts: Parts, works: &[Work]) -> Result<Ran, AllocError>
     requires orderly { IsOrderly parts }
     requires submitted { HasSubmitted works.now parts }
-    requires few { length works.now ≤ most_jobs }
+    requires few { length works.now ≤ MOST_JOBS }
     requires jobs { IsEmptied (worker_view parts.jobs) }
     requires answers { IsEmptied (view parts.answers) }
     ensures { IfOk result (λ ran. jobs_of ran.dones ≡ jobs_from 0 works.now) }

@@ -1,7 +1,7 @@
 ghost use Rattle.std.specs.Prelude.{◌≡◌, ◌<◌, ◌≤◌, ◌+◌, ◌-◌, ◌++◌, ◌∷◌, [], IfOk, IfSome, IfNone};
 ghost use Rattle.crossbeam_deque.specs.Handles.{view, IsPassOf, SamePass, SameWorker, stealer_deque, worker_deque, worker_view, worker_index, worker_capacity, worker_flavor};
 ghost use Rattle.dv_threads.specs.Rules.{all_parts, hand, FindsEmptied};
-ghost use Rattle.dv_threads.specs.Sources.{most_jobs};
+ghost use Rattle.dv_script.specs.declared.work.TheConstants.{MOST_JOBS};
 
 use crate::job::Job;
 use crate::pool::rule::{Cut, Hand};
@@ -68,7 +68,7 @@ pub type JobToken = Pass<Job, Hand<Job>>;
 /// An empty deque with room for all jobs, and every part in the owner's hand.
 pub fn open(alloc: Global) -> Result<Owner, AllocError>
     ensures fifo { IfOk result (λ owner. worker_flavor owner ≡ 0) }
-    ensures room { IfOk result (λ owner. (most_jobs ≤ worker_capacity owner) × (worker_index owner ≡ 0)) }
+    ensures room { IfOk result (λ owner. (MOST_JOBS ≤ worker_capacity owner) × (worker_index owner ≡ 0)) }
     ensures empty { IfOk result (λ owner. worker_view owner ≡ hand all_parts [] []) }
 {
     Owner::fifo_as(alloc, MOST_JOBS)
@@ -76,7 +76,7 @@ pub fn open(alloc: Global) -> Result<Owner, AllocError>
 
 /// Puts a job at the back. It is never refused, since it is one of the first that there is room for.
 pub fn put(owner: &mut Owner, job: Job)
-    requires room { (worker_index owner.old < most_jobs) × (most_jobs ≤ worker_capacity owner.old) }
+    requires room { (worker_index owner.old < MOST_JOBS) × (MOST_JOBS ≤ worker_capacity owner.old) }
     requires part { 0 < (worker_view owner.old).parts }
     ensures same { SameWorker owner.old owner.new }
     ensures index { worker_index owner.new ≡ worker_index owner.old + 1 }

@@ -3,7 +3,8 @@ ghost use Rattle.std.specs.Arc.{arc_value};
 ghost use Rattle.crossbeam_deque.specs.Handles.{worker_index, worker_view};
 ghost use Rattle.crossbeam_queue.specs.Passes.{view};
 ghost use Rattle.dv_threads.specs.Rules.{all_parts, FindsEmptied, IsEmptied};
-ghost use Rattle.dv_threads.specs.Sources.{most_jobs, IsValueAt};
+ghost use Rattle.dv_script.specs.declared.work.TheConstants.{MOST_JOBS};
+ghost use Rattle.dv_threads.specs.Sources.{IsValueAt};
 ghost use Rattle.dv_threads.specs.Worker.{IsEndOf, IsFresh, HasServed};
 ghost use Rattle.dv_threads.specs.Parts.{empty_place, TakesIn, IsOrderly, HasSubmitted, IsSamePool, Keeps};
 
@@ -38,16 +39,19 @@ fn place(places: &mut Vec<Option<Answer>>, answer: Answer)
     let job = job_in(&answer);
     let number = job.number as usize;
     if number >= places.len() {
+        drop(answer);
         return;
     }
     if places[number].is_none() {
         places[number] = Some(answer);
+    } else {
+        drop(answer);
     }
 }
 
 /// A place for each number.
 fn empty_places(alloc: Global) -> Result<Vec<Option<Answer>>, AllocError>
-    ensures { IfOk result (λ places. places.items ≡ replicate most_jobs empty_place) }
+    ensures { IfOk result (λ places. places.items ≡ replicate MOST_JOBS empty_place) }
 {
     let mut places = Vec::with_capacity(alloc, MOST_JOBS)?;
     for _ in 0..MOST_JOBS {
@@ -113,7 +117,7 @@ impl Parts {
     /// Puts a job.
     pub fn put(&mut self, job: Job)
         requires orderly { IsOrderly self.old }
-        requires room { worker_index self.old.jobs < most_jobs }
+        requires room { worker_index self.old.jobs < MOST_JOBS }
         ensures orderly { IsOrderly self.new }
         ensures shared { arc_value self.new.shared ≡ arc_value self.old.shared }
         ensures parts { (worker_view self.new.jobs).parts ≡ (worker_view self.old.jobs).parts }
@@ -181,7 +185,7 @@ impl Parts {
         number: u32,
     ) -> Option<Result<Value, AllocError>>
         requires orderly { IsOrderly self.now }
-        requires number { (number < length works.now) × (length works.now ≤ most_jobs) }
+        requires number { (number < length works.now) × (length works.now ≤ MOST_JOBS) }
         ensures { IfSome result (λ given. IfOk given (IsValueAt works.now number)) }
     {
         match &self.places[number as usize] {

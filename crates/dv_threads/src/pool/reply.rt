@@ -1,5 +1,6 @@
 ghost use Rattle.std.specs.Prelude.{◌<◌, ◌≤◌, length, IfOk, IfErr, IfSome};
-ghost use Rattle.dv_threads.specs.Sources.{most_jobs, IsValueAt};
+ghost use Rattle.dv_script.specs.declared.work.TheConstants.{MOST_JOBS};
+ghost use Rattle.dv_threads.specs.Sources.{IsValueAt};
 ghost use Rattle.dv_threads.specs.Parts.{IsOrderly, Keeps};
 ghost use Rattle.dv_threads.specs.Reply.{MayPoll, MayGive};
 
@@ -60,7 +61,7 @@ where
     R: Wait + RandomSource + AllocGlobal,
     G: Gate,
     requires orderly { IsOrderly parts }
-    requires number { (number < length works.now) × (length works.now ≤ most_jobs) }
+    requires number { (number < length works.now) × (length works.now ≤ MOST_JOBS) }
     ensures parts { IfSome result.0 (λ left. IsOrderly left × Keeps parts left) }
     ensures value { IfOk result.1 (IsValueAt works.now number) }
 {

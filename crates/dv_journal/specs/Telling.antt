@@ -5,7 +5,7 @@ use Rattle.dv_journal.specs.declared.error.Stop.{Stop}
 use Rattle.dv_journal.specs.declared.error.Stop.TheVariants.{Limit, OutOfMemory}
 use Rattle.dv_journal.specs.Journal.{Written, fits, with_entry}
 
--- an object, and the journal
+-- what is changed, and the journal
 abbrev pub State : Type 0 → Type 0
 State S = S × Written
 
@@ -20,6 +20,10 @@ untold answer s = (Ok answer, s)
 -- the entry is written and then the change is made, or the entry doesn't fit and nothing changes
 abbrev pub telling : {A S : Type 0} → Entry → A → S → State S → Told A S
 telling entry answer changed s = if fits s.1 entry then (Ok answer, (changed, with_entry s.1 entry)) else (Err Limit, s)
+
+-- the entry is written and then the object is made, or the entry doesn't fit and none is made
+abbrev pub making : {S : Type 0} → Entry → S → Written → Result S Stop × Written
+making entry object j = if fits j entry then (Ok object, with_entry j entry) else (Err Limit, j)
 
 -- a call did what its rule says, or memory was refused where the rule's entry fits, and nothing changed
 abbrev pub UnlessMemory : {A W : Type 0} → Result A Stop → W → W → Result A Stop × W → Type 0
