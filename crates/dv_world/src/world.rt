@@ -40,6 +40,7 @@ use dv_value::text::Text;
 use dv_value::value::Value;
 use std::alloc::{AllocError, Global};
 use std::marker::Model;
+use std::mem;
 
 mod clock;
 pub mod cooperating;
@@ -693,7 +694,13 @@ impl<'s> World<'s> {
         ensures stopped { result.1 ≡ self.entry.stopped }
         ensures records { result.2.items ≡ self.entry.records }
     {
-        (self.journal, self.stopped, self.store.into_records())
+        let mut world = self;
+        let alloc = world.alloc;
+        let journal = mem::replace(&mut world.journal, Journal::new(alloc, 0));
+        let store = mem::replace(&mut world.store, Store::new(alloc));
+        let stopped = world.stopped;
+        drop(world);
+        (journal, stopped, store.into_records())
     }
 }
 
