@@ -48,7 +48,7 @@ pub fn when_done<'s>(
 {
     match world.find_task(task) {
         None => Ok(unbound(alloc, task)?),
-        Some(found) => Ok(ask_when(alloc, world, stack, name, found)?),
+        Some(found) => ask_when(alloc, world, stack, name, found),
     }
 }
 
@@ -67,7 +67,7 @@ fn ask_when<'s>(
     let id = world.next_id();
     world.make(Some(name), None)?;
     world.await_task(task, id)?;
-    Ok(notify(alloc, world, stack, id, task)?)
+    notify(alloc, world, stack, id, task)
 }
 
 /// Fires a Deferred with what a task has come to, if it has ended.
@@ -88,7 +88,7 @@ pub fn notify<'s>(
     };
     let result = end.result(alloc, found.name.as_str())?;
     let fired = world.fire(id, result)?;
-    Ok(settle_next(stack, id, fired)?)
+    settle_next(stack, id, fired)
 }
 
 /// Pauses a task by its name (Twisted: `CooperativeTask.pause`).
@@ -101,7 +101,7 @@ pub fn pause_task<'s>(
 {
     match world.find_task(name) {
         None => Ok(unbound(alloc, name)?),
-        Some(task) => Ok(pause(alloc, world, task)?),
+        Some(task) => pause(alloc, world, task),
     }
 }
 
@@ -134,7 +134,7 @@ pub fn resume_task<'s>(
 {
     match world.find_task(name) {
         None => Ok(unbound(alloc, name)?),
-        Some(task) => Ok(resume(alloc, world, task)?),
+        Some(task) => resume(alloc, world, task),
     }
 }
 
@@ -150,7 +150,7 @@ fn resume<'s>(
         return Ok(Performed::Done);
     };
     if found.pauses == 0 {
-        return Ok(not_paused(alloc)?);
+        return not_paused(alloc);
     }
     world.resume_task(task)?;
     world.keep_tick()?;
@@ -168,7 +168,7 @@ pub fn stop_task<'s>(
 {
     match world.find_task(name) {
         None => Ok(unbound(alloc, name)?),
-        Some(task) => Ok(stop(alloc, world, stack, task)?),
+        Some(task) => stop(alloc, world, stack, task),
     }
 }
 
@@ -187,7 +187,7 @@ fn stop<'s>(
     if let Some(end) = &found.end {
         return Ok(Performed::Raised(end.raised(alloc)?));
     }
-    Ok(end(world, stack, task, TaskEnd::Stopped)?)
+    end(world, stack, task, TaskEnd::Stopped)
 }
 
 /// Ends a task, unless it has ended, and fires each that waits for that, in order.
@@ -231,7 +231,7 @@ pub fn end_hold<'s>(
     if has_ended(world, task) {
         return Ok(Performed::Done);
     }
-    Ok(resume(alloc, world, task)?)
+    resume(alloc, world, task)
 }
 
 /// A task ends with a failure, where there is one, unless it has ended.
@@ -245,7 +245,7 @@ pub fn fail_where<'s>(
 {
     match failure {
         None => Ok(Performed::Done),
-        Some(failure) => Ok(end(world, stack, task, TaskEnd::Failed(failure))?),
+        Some(failure) => end(world, stack, task, TaskEnd::Failed(failure)),
     }
 }
 
@@ -262,7 +262,7 @@ pub fn end_step<'s>(
     if has_ended(world, task) {
         return Ok(Performed::Done);
     }
-    Ok(use_step(alloc, world, stack, task, performed)?)
+    use_step(alloc, world, stack, task, performed)
 }
 
 /// A body of a task that hasn't ended has ended.
@@ -277,9 +277,9 @@ fn use_step<'s>(
 {
     match performed {
         Performed::Done => Ok(Performed::Done),
-        Performed::Gave(given) => Ok(fail_where(world, stack, task, given.into_failure(alloc)?)?),
-        Performed::Raised(failure) => Ok(end(world, stack, task, TaskEnd::Failed(failure))?),
-        Performed::Awaits(id) => Ok(hold(world, stack, task, id)?),
+        Performed::Gave(given) => fail_where(world, stack, task, given.into_failure(alloc)?),
+        Performed::Raised(failure) => end(world, stack, task, TaskEnd::Failed(failure)),
+        Performed::Awaits(id) => hold(world, stack, task, id),
     }
 }
 
@@ -317,8 +317,8 @@ pub fn go_on_ticking<'s>(
     ensures { IfOk result (λ performed. (stack.new, performed, world.new) ≡ tick_gone_on units world.old over stack.old) }
 {
     match units.checked_sub(1) {
-        None => Ok(end_tick(world)?),
-        Some(left) => Ok(take_step(world, stack, left)?),
+        None => end_tick(world),
+        Some(left) => take_step(world, stack, left),
     }
 }
 
@@ -331,10 +331,10 @@ fn take_step<'s>(
     ensures { IfOk result (λ performed. (stack.new, performed, world.new) ≡ tick_stepped left (taken world.old).0 (taken world.old).1 over stack.old) }
 {
     match world.take_step()? {
-        None => Ok(end_tick(world)?),
+        None => end_tick(world),
         Some((task, body)) => {
             stack.push(Frame::Tick(left))?;
-            Ok(begin_step(world, stack, task, body)?)
+            begin_step(world, stack, task, body)
         }
     }
 }
@@ -349,7 +349,7 @@ fn begin_step<'s>(
     ensures { IfOk result (λ performed. (stack.new, performed, world.new) ≡ step_begun task body.entry world.old over stack.old) }
 {
     match body {
-        None => Ok(end(world, stack, task, TaskEnd::Finished)?),
+        None => end(world, stack, task, TaskEnd::Finished),
         Some(body) => {
             stack.push(Frame::Stepped(task))?;
             stack.push(Frame::Rest(whole(None, body, Value::Null)))?;

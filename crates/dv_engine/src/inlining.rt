@@ -64,14 +64,12 @@ pub fn go_on<'s>(
     match inlining {
         Inlining::Goes(inline, body) => {
             drop(performed);
-            Ok(poll(alloc, poller, world, stack, inline, body)?)
+            poll(alloc, poller, world, stack, inline, body)
         }
-        Inlining::Acted(inline, body) => {
-            Ok(end_action(alloc, world, stack, inline, body, performed)?)
-        }
+        Inlining::Acted(inline, body) => end_action(alloc, world, stack, inline, body, performed),
         Inlining::Awaited(inline, awaited, body) => {
             drop(performed);
-            Ok(end_await(world, stack, inline, awaited, body)?)
+            end_await(world, stack, inline, awaited, body)
         }
     }
 }
@@ -110,8 +108,8 @@ fn poll<'s>(
 {
     let mut body = body;
     match poller.poll(&mut body) {
-        Poll::Ready(outcome) => Ok(end(world, stack, inline, outcome?)?),
-        Poll::Pending => Ok(want(alloc, world, stack, inline, body)?),
+        Poll::Ready(outcome) => end(world, stack, inline, outcome?),
+        Poll::Pending => want(alloc, world, stack, inline, body),
     }
 }
 
@@ -125,7 +123,7 @@ fn end<'s>(
     ensures { IfOk result (λ next. (stack.new, next, world.new) ≡ settle_next inline.of (fire inline.of outcome world.old).0 (fire inline.of outcome world.old).1 over stack.old) }
 {
     let fired = world.fire(inline.of, outcome)?;
-    Ok(settle_next(stack, inline.of, fired)?)
+    settle_next(stack, inline.of, fired)
 }
 
 /// Does what a body wants.
@@ -143,7 +141,7 @@ fn want<'s>(
         None => Ok(Performed::Done),
         Some(Want::Do(action)) => {
             stack.push(Frame::Inline(Inlining::Acted(inline, body)))?;
-            Ok(begin(alloc, world, stack, Some(inline.of), action.get())?)
+            begin(alloc, world, stack, Some(inline.of), action.get())
         }
         Some(Want::Await(name)) => Ok(begin_await(alloc, world, stack, inline, name, body)?),
     }
@@ -163,9 +161,9 @@ fn begin_await<'s>(
     match world.find(Some(inline.of), name.as_str()) {
         None => {
             let thrown = fault(alloc, ClassId::NAME_ERROR, name.as_str())?;
-            Ok(go_on_with(world, stack, inline, body, thrown)?)
+            go_on_with(world, stack, inline, body, thrown)
         }
-        Some(awaited) => Ok(add(world, stack, inline, awaited, body)?),
+        Some(awaited) => add(world, stack, inline, awaited, body),
     }
 }
 
@@ -215,7 +213,7 @@ fn end_await<'s>(
     ensures { IfOk result (λ next. (stack.new, next, world.new) ≡ await_ended inline awaited body.entry world.old over stack.old) }
 {
     let came = world.end_await(inline.id, awaited, body)?;
-    Ok(go_on_where(world, stack, inline, came)?)
+    go_on_where(world, stack, inline, came)
 }
 
 /// What a body awaits has come: it goes on with that, inside the side that brings it.
@@ -228,7 +226,7 @@ pub fn resume<'s>(
     ensures { IfOk result (λ next. (stack.new, next, world.new) ≡ resumed inline input world.old over stack.old) }
 {
     let came = world.come_to_inline(inline.id, input);
-    Ok(go_on_where(world, stack, inline, came)?)
+    go_on_where(world, stack, inline, came)
 }
 
 /// A body goes on with what has come to it, where there is one.
@@ -242,7 +240,7 @@ fn go_on_where<'s>(
 {
     match came {
         None => Ok(Performed::Done),
-        Some((body, answer)) => Ok(go_on_with(world, stack, inline, body, answer)?),
+        Some((body, answer)) => go_on_with(world, stack, inline, body, answer),
     }
 }
 

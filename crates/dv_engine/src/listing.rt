@@ -39,7 +39,7 @@ pub fn list<'s>(
 {
     match find_all(alloc, world, &itself, children.get())? {
         Found::Unbound(name) => Ok(unbound(alloc, name.as_str())?),
-        Found::All(children) => Ok(make(alloc, world, stack, name, children, flags)?),
+        Found::All(children) => make(alloc, world, stack, name, children, flags),
     }
 }
 
@@ -62,7 +62,7 @@ pub fn gather<'s>(
         Found::Unbound(name) => Ok(unbound(alloc, name.as_str())?),
         Found::All(children) => {
             stack.push(Frame::Add(world.next_id(), Pair::results()))?;
-            Ok(make(alloc, world, stack, name, children, flags)?)
+            make(alloc, world, stack, name, children, flags)
         }
     }
 }
@@ -83,7 +83,7 @@ fn make<'s>(
     let id = world.next_id();
     let at_once = has_all_at_once(children.as_slice(), flags);
     begin(world, stack, id, name, children, flags)?;
-    Ok(fire_at_once(alloc, world, stack, id, at_once)?)
+    fire_at_once(alloc, world, stack, id, at_once)
 }
 
 /// Whether nobody comes to a DeferredList that waits for all.
@@ -150,7 +150,7 @@ fn fire_at_once<'s>(
         return Ok(Performed::Done);
     }
     let fired = world.fire(id, Value::List(Items::new(alloc)))?;
-    Ok(settle_next(stack, id, fired)?)
+    settle_next(stack, id, fired)
 }
 
 /// A child comes to its DeferredList with its value, which may fire the list; then it goes on with what the list leaves it.
@@ -164,7 +164,7 @@ pub fn come<'s>(
 {
     let Came { fire, pass } = world.come(child.list, child.place, value)?;
     stack.push(Frame::Give(Performed::Gave(Given::own(pass))))?;
-    Ok(fire_by_child(world, stack, child.of, fire)?)
+    fire_by_child(world, stack, child.of, fire)
 }
 
 /// Fires a DeferredList with what is due, unless somebody has fired it.
@@ -183,7 +183,7 @@ fn fire_by_child<'s>(
         return Ok(Performed::Done);
     }
     let fired = world.fire(id, value)?;
-    Ok(settle_next(stack, id, fired)?)
+    settle_next(stack, id, fired)
 }
 
 /// What the children of a DeferredList gave, from its result. TypeError where the value is no such result.
@@ -191,7 +191,7 @@ pub fn results<'s>(alloc: Global, value: Value) -> Result<Performed<'s>, AllocEr
     ensures { IfOk result (λ performed. (w : Seen) → ([], performed, w) ≡ results_given (seconds_of value) w) }
 {
     match seconds(alloc, &value)? {
-        None => Ok(not_gathered(alloc)?),
+        None => not_gathered(alloc),
         Some(seconds) => Ok(Performed::Gave(Given::own(seconds))),
     }
 }

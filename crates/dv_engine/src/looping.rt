@@ -37,7 +37,7 @@ pub fn start_loop<'s>(
 {
     let id = world.next_id();
     world.make(Some(of), None)?;
-    Ok(begin_loop(alloc, world, stack, name, id, interval, at_once, body)?)
+    begin_loop(alloc, world, stack, name, id, interval, at_once, body)
 }
 
 /// Makes a loop whose Deferred this is, and takes its first turn at once or schedules it.
@@ -57,7 +57,7 @@ fn begin_loop<'s>(
     let body = body.get();
     let looping = world.make_loop(name, of, interval, BodyRef::new(body))?;
     if at_once {
-        Ok(begin_at_once(alloc, world, stack, looping, shown, BodyRef::new(body))?)
+        begin_at_once(alloc, world, stack, looping, shown, BodyRef::new(body))
     } else {
         world.schedule_turn(looping)?;
         Ok(Performed::Done)
@@ -116,7 +116,7 @@ pub fn end_turn<'s>(
     }
     let of = found.of;
     let name = Text::of(alloc, found.name.as_str())?;
-    Ok(end(world, stack, of, Value::Text(name))?)
+    end(world, stack, of, Value::Text(name))
 }
 
 /// A turn of a loop has failed, and its Deferred is fired with the failure.
@@ -132,7 +132,7 @@ pub fn fail_turn<'s>(
         return Ok(Performed::Done);
     };
     let of = found.of;
-    Ok(end(world, stack, of, failure)?)
+    end(world, stack, of, failure)
 }
 
 /// Fires the Deferred of a loop that is over.
@@ -145,7 +145,7 @@ fn end<'s>(
     ensures { IfOk result (λ performed. (stack.new, performed, world.new) ≡ loop_over of value world.old over stack.old) }
 {
     let fired = world.fire(of, value)?;
-    Ok(settle_next(stack, of, fired)?)
+    settle_next(stack, of, fired)
 }
 
 /// Stops a loop by its name; where no turn of it is under way, its Deferred is fired with its name (Twisted:
@@ -160,7 +160,7 @@ pub fn stop_loop<'s>(
 {
     match world.find_loop(name) {
         None => Ok(unbound(alloc, name)?),
-        Some(looping) => Ok(stop(alloc, world, stack, looping)?),
+        Some(looping) => stop(alloc, world, stack, looping),
     }
 }
 
@@ -177,13 +177,13 @@ fn stop<'s>(
         return Ok(Performed::Done);
     };
     if !found.running {
-        return Ok(not_running(alloc)?);
+        return not_running(alloc);
     }
     let of = found.of;
     let name = Text::of(alloc, found.name.as_str())?;
     let scheduled = world.is_scheduled(found);
     world.stop_loop(looping)?;
-    Ok(end_where(world, stack, scheduled, of, name)?)
+    end_where(world, stack, scheduled, of, name)
 }
 
 /// Fires the Deferred of a loop with its name, where the loop is over.
@@ -197,7 +197,7 @@ fn end_where<'s>(
     ensures { IfOk result (λ performed. (stack.new, performed, world.new) ≡ over_where ended of name world.old over stack.old) }
 {
     if ended {
-        Ok(end(world, stack, of, Value::Text(name))?)
+        end(world, stack, of, Value::Text(name))
     } else {
         Ok(Performed::Done)
     }

@@ -30,7 +30,7 @@ pub fn put<'s>(
 {
     match world.find_queue(queue) {
         None => Ok(unbound(alloc, queue)?),
-        Some(found) => Ok(put_where_it_may_be(alloc, world, stack, found, given)?),
+        Some(found) => put_where_it_may_be(alloc, world, stack, found, given),
     }
 }
 
@@ -48,11 +48,11 @@ fn put_where_it_may_be<'s>(
         return Ok(Performed::Done);
     };
     if !found.may_put() {
-        return Ok(overflow(alloc)?);
+        return overflow(alloc);
     }
     let value = given.make(alloc)?;
     let received = world.put_into(queue, value)?;
-    Ok(hand_out(world, stack, received)?)
+    hand_out(world, stack, received)
 }
 
 /// Fires whoever gets a value with it.
@@ -67,7 +67,7 @@ fn hand_out<'s>(
         None => Ok(Performed::Done),
         Some((id, value)) => {
             let fired = world.fire(id, value)?;
-            Ok(settle_next(stack, id, fired)?)
+            settle_next(stack, id, fired)
         }
     }
 }
@@ -85,7 +85,7 @@ pub fn get<'s>(
 {
     match world.find_queue(queue) {
         None => Ok(unbound(alloc, queue)?),
-        Some(found) => Ok(get_where_it_may(alloc, world, stack, name, found)?),
+        Some(found) => get_where_it_may(alloc, world, stack, name, found),
     }
 }
 
@@ -105,11 +105,11 @@ fn get_where_it_may<'s>(
         return Ok(Performed::Done);
     };
     if !found.may_get() {
-        return Ok(underflow(alloc)?);
+        return underflow(alloc);
     }
     let id = world.next_id();
     world.make(Some(name), Some(Canceller::Item(queue)))?;
-    Ok(ask(world, stack, queue, id)?)
+    ask(world, stack, queue, id)
 }
 
 /// A Deferred asks a queue for a value, and is fired at once where it gets one.
@@ -122,7 +122,7 @@ fn ask<'s>(
     ensures { IfOk result (λ performed. (stack.new, performed, world.new) ≡ asked_for queue id world.old over stack.old) }
 {
     let value = world.get_from(queue, id)?;
-    Ok(give(world, stack, id, value)?)
+    give(world, stack, id, value)
 }
 
 /// Fires a Deferred with the value that it got, if it did.
@@ -138,7 +138,7 @@ fn give<'s>(
         None => Ok(Performed::Done),
         Some(value) => {
             let fired = world.fire(id, value)?;
-            Ok(settle_next(stack, id, fired)?)
+            settle_next(stack, id, fired)
         }
     }
 }

@@ -37,7 +37,7 @@ pub fn thread<'s>(
     }
     let id = world.next_id();
     world.make(Some(name), None)?;
-    Ok(begin_job(world, id, delay, work)?)
+    begin_job(world, id, delay, work)
 }
 
 /// Submits a job, and schedules the delivery of its result.
@@ -78,7 +78,7 @@ where
         None => Ok(Performed::Done),
         Some(value) => {
             let fired = world.fire(id, value)?;
-            Ok(settle_next(stack, id, fired)?)
+            settle_next(stack, id, fired)
         }
     }
 }

@@ -33,7 +33,7 @@ pub fn cancel_call<'s>(
 {
     match world.find_call(name) {
         None => Ok(unbound(alloc, name)?),
-        Some(call) => Ok(world.cancel_call(call)?),
+        Some(call) => world.cancel_call(call),
     }
 }
 
@@ -55,7 +55,7 @@ where
     ensures jobs { jobs.new ≡ jobs.old }
 {
     let what = world.come_due()?;
-    Ok(run_what(rt, alloc, jobs, world, stack, what)?)
+    run_what(rt, alloc, jobs, world, stack, what)
 }
 
 /// This is run, and then what is due after it.
@@ -78,7 +78,7 @@ where
         None => Ok(Performed::Done),
         Some(Due::Call(name, key)) => {
             drop(name);
-            Ok(call_body(stack, world.body(key))?)
+            call_body(stack, world.body(key))
         }
         Some(Due::Turn(name, key)) => {
             drop(name);
@@ -93,7 +93,7 @@ where
         }
         Some(Due::Delivery(job, key)) => {
             stack.push(Frame::Due)?;
-            Ok(deliver(rt, alloc, jobs, world, stack, job, DeferredId::new(key))?)
+            deliver(rt, alloc, jobs, world, stack, job, DeferredId::new(key))
         }
     }
 }
