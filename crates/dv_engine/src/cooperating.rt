@@ -47,7 +47,7 @@ pub fn when_done<'s>(
     ensures { IfOk result (λ performed. (stack.new, performed, world.new) ≡ begun None (WhenDoneOf name.entry task.now) world.old over stack.old) }
 {
     match world.find_task(task) {
-        None => Ok(unbound(alloc, task)?),
+        None => unbound(alloc, task),
         Some(found) => ask_when(alloc, world, stack, name, found),
     }
 }
@@ -100,7 +100,7 @@ pub fn pause_task<'s>(
     ensures { IfOk result (λ performed. ([], performed, world.new) ≡ begun None (PauseTaskOf name.now) world.old) }
 {
     match world.find_task(name) {
-        None => Ok(unbound(alloc, name)?),
+        None => unbound(alloc, name),
         Some(task) => pause(alloc, world, task),
     }
 }
@@ -133,7 +133,7 @@ pub fn resume_task<'s>(
     ensures { IfOk result (λ performed. ([], performed, world.new) ≡ begun None (ResumeTaskOf name.now) world.old) }
 {
     match world.find_task(name) {
-        None => Ok(unbound(alloc, name)?),
+        None => unbound(alloc, name),
         Some(task) => resume(alloc, world, task),
     }
 }
@@ -167,7 +167,7 @@ pub fn stop_task<'s>(
     ensures { IfOk result (λ performed. (stack.new, performed, world.new) ≡ begun None (StopTaskOf name.now) world.old over stack.old) }
 {
     match world.find_task(name) {
-        None => Ok(unbound(alloc, name)?),
+        None => unbound(alloc, name),
         Some(task) => stop(alloc, world, stack, task),
     }
 }

@@ -38,7 +38,7 @@ pub fn list<'s>(
     ensures { IfOk result (λ performed. (stack.new, performed, world.new) ≡ begun itself (ListOf name.entry children.entry flags) world.old over stack.old) }
 {
     match find_all(alloc, world, &itself, children.get())? {
-        Found::Unbound(name) => Ok(unbound(alloc, name.as_str())?),
+        Found::Unbound(name) => unbound(alloc, name.as_str()),
         Found::All(children) => make(alloc, world, stack, name, children, flags),
     }
 }
@@ -59,7 +59,7 @@ pub fn gather<'s>(
     ensures { IfOk result (λ performed. (stack.new, performed, world.new) ≡ begun itself (GatherOf name.entry children.entry flags) world.old over stack.old) }
 {
     match find_all(alloc, world, &itself, children.get())? {
-        Found::Unbound(name) => Ok(unbound(alloc, name.as_str())?),
+        Found::Unbound(name) => unbound(alloc, name.as_str()),
         Found::All(children) => {
             stack.push(Frame::Add(world.next_id(), Pair::results()))?;
             make(alloc, world, stack, name, children, flags)

@@ -159,7 +159,7 @@ pub fn stop_loop<'s>(
     ensures { IfOk result (λ performed. (stack.new, performed, world.new) ≡ begun None (StopLoopOf name.now) world.old over stack.old) }
 {
     match world.find_loop(name) {
-        None => Ok(unbound(alloc, name)?),
+        None => unbound(alloc, name),
         Some(looping) => stop(alloc, world, stack, looping),
     }
 }

@@ -29,7 +29,7 @@ pub fn put<'s>(
     ensures { IfOk result (λ performed. (stack.new, performed, world.new) ≡ begun None (PutInto queue.now given.entry) world.old over stack.old) }
 {
     match world.find_queue(queue) {
-        None => Ok(unbound(alloc, queue)?),
+        None => unbound(alloc, queue),
         Some(found) => put_where_it_may_be(alloc, world, stack, found, given),
     }
 }
@@ -84,7 +84,7 @@ pub fn get<'s>(
     ensures { IfOk result (λ performed. (stack.new, performed, world.new) ≡ begun None (GetFrom name.entry queue.now) world.old over stack.old) }
 {
     match world.find_queue(queue) {
-        None => Ok(unbound(alloc, queue)?),
+        None => unbound(alloc, queue),
         Some(found) => get_where_it_may(alloc, world, stack, name, found),
     }
 }

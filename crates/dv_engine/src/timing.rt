@@ -32,7 +32,7 @@ pub fn cancel_call<'s>(
     ensures { IfOk result (λ performed. ([], performed, world.new) ≡ begun None (CancelCallOf name.now) world.old) }
 {
     match world.find_call(name) {
-        None => Ok(unbound(alloc, name)?),
+        None => unbound(alloc, name),
         Some(call) => world.cancel_call(call),
     }
 }

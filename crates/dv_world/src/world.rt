@@ -169,7 +169,7 @@ impl<'s> World<'s> {
     {
         match self.store.record(id) {
             None => Ok(Value::Null),
-            Some(record) => Ok(record.value.copy(self.alloc)?),
+            Some(record) => record.value.copy(self.alloc),
         }
     }
 
