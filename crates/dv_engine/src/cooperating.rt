@@ -8,7 +8,7 @@ ghost use Rattle.dv_world.specs.declared.performed.Performed.TheVariants.{Awaits
 ghost use Rattle.dv_engine.specs.declared.deed.Deed.TheVariants.{CooperateOf, WhenDoneOf, PauseTaskOf, StopTaskOf, ResumeTaskOf};
 
 use crate::frame::Frame;
-use crate::settling::{settle_next, whole};
+use crate::settling::{done, fire_and_settle, whole};
 use dv_clock::task_id::TaskId;
 use dv_journal::deferred_id::DeferredId;
 use dv_script::lent::{BodiesRef, BodyRef, TextRef};
@@ -31,8 +31,7 @@ pub fn cooperate<'s>(
     ensures { IfOk result (λ performed. ([], performed, world.new) ≡ begun None (CooperateOf name.entry bodies.entry) world.old) }
 {
     world.make_task(name, bodies)?;
-    world.keep_tick()?;
-    Ok(Performed::Done)
+    done(world.keep_tick())
 }
 
 /// Makes a Deferred that is fired when a task ends, which is given by its name (Twisted: `CooperativeTask.whenDone`).
@@ -87,8 +86,7 @@ pub fn notify<'s>(
         return Ok(Performed::Done);
     };
     let result = end.result(alloc, found.name.as_str())?;
-    let fired = world.fire(id, result)?;
-    settle_next(stack, id, fired)
+    fire_and_settle(world, stack, id, result)
 }
 
 /// Pauses a task by its name (Twisted: `CooperativeTask.pause`).
@@ -120,8 +118,7 @@ fn pause<'s>(
         return Ok(Performed::Raised(end.raised(alloc)?));
     }
     world.pause_task(task)?;
-    world.keep_tick()?;
-    Ok(Performed::Done)
+    done(world.keep_tick())
 }
 
 /// Resumes a task by its name (Twisted: `CooperativeTask.resume`).
@@ -153,8 +150,7 @@ fn resume<'s>(
         return not_paused(alloc);
     }
     world.resume_task(task)?;
-    world.keep_tick()?;
-    Ok(Performed::Done)
+    done(world.keep_tick())
 }
 
 /// Stops a task by its name (Twisted: `CooperativeTask.stop`).
@@ -201,8 +197,7 @@ fn end<'s>(
 {
     let waiting = world.end_task(task, end)?;
     notify_all(stack, task, waiting.as_slice())?;
-    world.keep_tick()?;
-    Ok(Performed::Done)
+    done(world.keep_tick())
 }
 
 /// Each Deferred that waits for the end of a task is to be fired, in order.
@@ -294,8 +289,7 @@ fn hold<'s>(
 {
     world.hold_task(task, id)?;
     world.keep_tick()?;
-    stack.push(Frame::Add(id, Pair::resuming(task)))?;
-    Ok(Performed::Done)
+    done(stack.push(Frame::Add(id, Pair::resuming(task))))
 }
 
 /// Whether a task has ended, or there is none of that id.
@@ -352,8 +346,7 @@ fn begin_step<'s>(
         None => end(world, stack, task, TaskEnd::Finished),
         Some(body) => {
             stack.push(Frame::Stepped(task))?;
-            stack.push(Frame::Rest(whole(None, body, Value::Null)))?;
-            Ok(Performed::Done)
+            done(stack.push(Frame::Rest(whole(None, body, Value::Null))))
         }
     }
 }
@@ -363,6 +356,5 @@ fn end_tick<'s>(world: &mut World<'s>) -> Result<Performed<'s>, AllocError>
     ensures { IfOk result (λ performed. ([], performed, world.new) ≡ ticked world.old) }
 {
     world.end_tick();
-    world.keep_tick()?;
-    Ok(Performed::Done)
+    done(world.keep_tick())
 }

@@ -10,7 +10,7 @@ ghost use Rattle.std.specs.Prelude.{Some};
 
 use crate::acting::begin;
 use crate::frame::{Frame, Inlining};
-use crate::settling::settle_next;
+use crate::settling::{add_and_settle, done, fire_and_settle};
 use dv_inline::body::InlineBody;
 use dv_inline::poller::Poller;
 use dv_inline::want::Want;
@@ -45,8 +45,7 @@ pub fn begin_inline<'s>(
     let id = world.add_inline()?;
     world.make(Some(name), Some(Canceller::Inline(id)))?;
     let body = InlineBody::start(alloc, statements.get());
-    stack.push(Frame::Inline(Inlining::Goes(Inline { id, of }, body)))?;
-    Ok(Performed::Done)
+    done(stack.push(Frame::Inline(Inlining::Goes(Inline { id, of }, body))))
 }
 
 /// Goes on with an inline body by how far it is.
@@ -108,22 +107,9 @@ fn poll<'s>(
 {
     let mut body = body;
     match poller.poll(&mut body) {
-        Poll::Ready(outcome) => end(world, stack, inline, outcome?),
+        Poll::Ready(outcome) => fire_and_settle(world, stack, inline.of, outcome?),
         Poll::Pending => want(alloc, world, stack, inline, body),
     }
-}
-
-/// Fires the Deferred of a body that is over.
-fn end<'s>(
-    world: &mut World<'s>,
-    stack: &mut Stack<Frame<'s>>,
-    inline: Inline,
-    outcome: Value,
-) -> Result<Performed<'s>, AllocError>
-    ensures { IfOk result (λ next. (stack.new, next, world.new) ≡ settle_next inline.of (fire inline.of outcome world.old).0 (fire inline.of outcome world.old).1 over stack.old) }
-{
-    let fired = world.fire(inline.of, outcome)?;
-    settle_next(stack, inline.of, fired)
 }
 
 /// Does what a body wants.
@@ -179,10 +165,8 @@ fn add<'s>(
 {
     let Inline { id, of } = inline;
     world.begin_await(Inline { id, of }, awaited)?;
-    world.append(awaited, Pair::continuing(Inline { id, of }))?;
     stack.push(Frame::Inline(Inlining::Awaited(Inline { id, of }, awaited, body)))?;
-    stack.push(Frame::Settle(awaited))?;
-    Ok(Performed::Done)
+    add_and_settle(world, stack, awaited, Pair::continuing(Inline { id, of }))
 }
 
 /// A body goes on with an answer.
@@ -197,8 +181,7 @@ fn go_on_with<'s>(
 {
     let mut body = body;
     body.answer(world.classes(), answer);
-    stack.push(Frame::Inline(Inlining::Goes(inline, body)))?;
-    Ok(Performed::Done)
+    done(stack.push(Frame::Inline(Inlining::Goes(inline, body))))
 }
 
 /// The pair by which a body awaits a Deferred has been added. Where what it awaits came meanwhile, it goes on; else it is

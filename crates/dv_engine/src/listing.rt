@@ -8,7 +8,7 @@ ghost use Rattle.dv_prims.specs.DeferredList.{seconds_of};
 ghost use Rattle.dv_world.specs.World.{World as Seen};
 
 use crate::frame::Frame;
-use crate::settling::settle_next;
+use crate::settling::fire_and_settle;
 use dv_journal::deferred_id::DeferredId;
 use dv_prims::gather::{Came, Flags, seconds};
 use dv_prims::list_id::ListId;
@@ -149,8 +149,7 @@ fn fire_at_once<'s>(
     if !at_once {
         return Ok(Performed::Done);
     }
-    let fired = world.fire(id, Value::List(Items::new(alloc)))?;
-    settle_next(stack, id, fired)
+    fire_and_settle(world, stack, id, Value::List(Items::new(alloc)))
 }
 
 /// A child comes to its DeferredList with its value, which may fire the list; then it goes on with what the list leaves it.
@@ -182,8 +181,7 @@ fn fire_by_child<'s>(
     if !world.is_unfired(id) {
         return Ok(Performed::Done);
     }
-    let fired = world.fire(id, value)?;
-    settle_next(stack, id, fired)
+    fire_and_settle(world, stack, id, value)
 }
 
 /// What the children of a DeferredList gave, from its result. TypeError where the value is no such result.

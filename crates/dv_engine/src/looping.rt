@@ -7,7 +7,7 @@ ghost use Rattle.dv_engine.specs.declared.deed.Deed.TheVariants.{LoopOf, StopLoo
 
 use crate::frame::{Frame, Purpose};
 use crate::maybe::perform_for;
-use crate::settling::settle_next;
+use crate::settling::{done, fire_and_settle};
 use dv_clock::loop_id::LoopId;
 use dv_journal::deferred_id::DeferredId;
 use dv_journal::entry::Entry;
@@ -59,8 +59,7 @@ fn begin_loop<'s>(
     if at_once {
         begin_at_once(alloc, world, stack, looping, shown, BodyRef::new(body))
     } else {
-        world.schedule_turn(looping)?;
-        Ok(Performed::Done)
+        done(world.schedule_turn(looping))
     }
 }
 
@@ -76,8 +75,7 @@ fn begin_at_once<'s>(
     ensures { IfOk result (λ performed. (stack.new, performed, world.new) ≡ turn_begun true name.now looping body.entry world.old over stack.old) }
 {
     world.tell(Entry::Turn(Text::of(alloc, name)?))?;
-    perform_for(stack, Purpose::Turning(looping), body)?;
-    Ok(Performed::Done)
+    done(perform_for(stack, Purpose::Turning(looping), body))
 }
 
 /// The body of a loop is to be performed, as a turn of it.
@@ -116,7 +114,7 @@ pub fn end_turn<'s>(
     }
     let of = found.of;
     let name = Text::of(alloc, found.name.as_str())?;
-    end(world, stack, of, Value::Text(name))
+    fire_and_settle(world, stack, of, Value::Text(name))
 }
 
 /// A turn of a loop has failed, and its Deferred is fired with the failure.
@@ -132,20 +130,7 @@ pub fn fail_turn<'s>(
         return Ok(Performed::Done);
     };
     let of = found.of;
-    end(world, stack, of, failure)
-}
-
-/// Fires the Deferred of a loop that is over.
-fn end<'s>(
-    world: &mut World<'s>,
-    stack: &mut Stack<Frame<'s>>,
-    of: DeferredId,
-    value: Value,
-) -> Result<Performed<'s>, AllocError>
-    ensures { IfOk result (λ performed. (stack.new, performed, world.new) ≡ loop_over of value world.old over stack.old) }
-{
-    let fired = world.fire(of, value)?;
-    settle_next(stack, of, fired)
+    fire_and_settle(world, stack, of, failure)
 }
 
 /// Stops a loop by its name; where no turn of it is under way, its Deferred is fired with its name (Twisted:
@@ -197,7 +182,7 @@ fn end_where<'s>(
     ensures { IfOk result (λ performed. (stack.new, performed, world.new) ≡ over_where ended of name world.old over stack.old) }
 {
     if ended {
-        end(world, stack, of, Value::Text(name))
+        fire_and_settle(world, stack, of, Value::Text(name))
     } else {
         Ok(Performed::Done)
     }

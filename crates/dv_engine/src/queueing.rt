@@ -6,7 +6,7 @@ ghost use Rattle.dv_engine.specs.Turn.{◌over◌};
 ghost use Rattle.dv_engine.specs.declared.deed.Deed.TheVariants.{PutInto, GetFrom};
 
 use crate::frame::Frame;
-use crate::settling::settle_next;
+use crate::settling::fire_and_settle;
 use dv_journal::deferred_id::DeferredId;
 use dv_prims::queue_id::QueueId;
 use dv_script::lent::TextRef;
@@ -65,10 +65,7 @@ fn hand_out<'s>(
 {
     match received {
         None => Ok(Performed::Done),
-        Some((id, value)) => {
-            let fired = world.fire(id, value)?;
-            settle_next(stack, id, fired)
-        }
+        Some((id, value)) => fire_and_settle(world, stack, id, value),
     }
 }
 
@@ -136,9 +133,6 @@ fn give<'s>(
 {
     match value {
         None => Ok(Performed::Done),
-        Some(value) => {
-            let fired = world.fire(id, value)?;
-            settle_next(stack, id, fired)
-        }
+        Some(value) => fire_and_settle(world, stack, id, value),
     }
 }

@@ -7,7 +7,7 @@ ghost use Rattle.dv_engine.specs.declared.deed.Deed.TheVariants.{ThreadOf};
 ghost use Rattle.dv_engine.specs.declared.frame.Frame.TheVariants.{Tell};
 
 use crate::frame::Frame;
-use crate::settling::settle_next;
+use crate::settling::{done, fire_and_settle};
 use crate::submissions::Submissions;
 use dv_journal::deferred_id::DeferredId;
 use dv_script::lent::{TextRef, WorkRef};
@@ -51,8 +51,7 @@ fn begin_job<'s>(
 {
     let job = world.works().len() as u32;
     world.submit(id, work)?;
-    world.deliver_later(job, id, delay)?;
-    Ok(Performed::Done)
+    done(world.deliver_later(job, id, delay))
 }
 
 /// Fires a Deferred with what its job has come to, for which it may wait (Twisted: `Deferred.callback`, or
@@ -76,9 +75,6 @@ where
     stack.push(Frame::Tell)?;
     match jobs.outcome(rt, alloc, job)? {
         None => Ok(Performed::Done),
-        Some(value) => {
-            let fired = world.fire(id, value)?;
-            settle_next(stack, id, fired)
-        }
+        Some(value) => fire_and_settle(world, stack, id, value),
     }
 }

@@ -7,7 +7,7 @@ ghost use Rattle.dv_world.specs.World.{World as Seen, come_due};
 
 use crate::frame::Frame;
 use crate::looping::take_turn;
-use crate::settling::whole;
+use crate::settling::{done, whole};
 use crate::submissions::Submissions;
 use crate::threading::deliver;
 use dv_clock::due::Due;
@@ -83,13 +83,11 @@ where
         Some(Due::Turn(name, key)) => {
             drop(name);
             stack.push(Frame::Due)?;
-            take_turn(world, stack, LoopId::new(key))?;
-            Ok(Performed::Done)
+            done(take_turn(world, stack, LoopId::new(key)))
         }
         Some(Due::Tick) => {
             stack.push(Frame::Due)?;
-            stack.push(Frame::Tick(world.begin_tick()))?;
-            Ok(Performed::Done)
+            done(stack.push(Frame::Tick(world.begin_tick())))
         }
         Some(Due::Delivery(job, key)) => {
             stack.push(Frame::Due)?;
@@ -110,8 +108,7 @@ fn call_body<'s>(
         None => Ok(Performed::Done),
         Some(body) => {
             stack.push(Frame::Tell)?;
-            stack.push(Frame::Rest(whole(None, body, Value::Null)))?;
-            Ok(Performed::Done)
+            done(stack.push(Frame::Rest(whole(None, body, Value::Null))))
         }
     }
 }
