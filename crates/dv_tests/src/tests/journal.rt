@@ -21,10 +21,13 @@ fn of_two_entries(alloc: Global) -> Result<Journal, Stop> {
 #[test]
 fn a_journal_shows_its_weight_and_its_limit_and_what_fits(rt: HostRuntime) -> Result<(), Fail> {
     let journal = of_two_entries(rt.alloc())?;
-    assert_eq!(rt; journal.weight(), 3);
-    assert_eq!(rt; journal.limit(), 4);
-    assert_eq!(rt; journal.entries().len(), 2);
-    assert!(rt; journal.fits(&Entry::Drain));
-    assert!(rt; !journal.fits(&fired(2)));
+    let fit = (journal.fits(&Entry::Drain), journal.fits(&fired(2)));
+    let shown = (
+        journal.weight(),
+        journal.limit(),
+        journal.entries().len(),
+        fit,
+    );
+    assert_eq!(rt; shown, (3, 4, 2, (true, false)));
     Ok(())
 }

@@ -98,8 +98,22 @@ where
     let alloc = rt.alloc();
     let poller = Poller::new(rt)?;
     let mut engine = Engine::new(alloc, poller, OneThread::new(alloc), script)?;
-    give_all(rt, &mut engine, batches)?;
-    Ok(engine.finish(rt)?)
+    let given = give_all(rt, &mut engine, batches);
+    let report = engine.finish(rt);
+    given?;
+    Ok(report?)
+}
+
+/// What an engine on this thread tells that takes these batches.
+fn retold<S>(rt: &S, text: &str, batches: &[Items<Posted>]) -> Result<MemorySink, Fail>
+where
+    S: Threads + Wait + RandomSource + AllocGlobal,
+{
+    let script = read(rt.alloc(), text)?;
+    let report = replayed(rt, &script, batches)?;
+    let mut sink = MemorySink::new(rt.alloc(), ROOM, 4096)?;
+    print_report(rt.alloc(), &script.classes, &report, &mut sink)?;
+    Ok(sink)
 }
 
 /// Whether a run prints what an engine on this thread tells that takes the same batches.
@@ -109,10 +123,7 @@ where
     requires { workers ≤ 16 }
 {
     let (printed, report) = run_text(rt, text, workers, &PlainGate)?;
-    let script = read(rt.alloc(), text)?;
-    let replayed = replayed(rt, &script, report.batches.as_slice())?;
-    let mut expected = MemorySink::new(rt.alloc(), ROOM, 4096)?;
-    print_report(rt.alloc(), &script.classes, &replayed, &mut expected)?;
+    let expected = retold(rt, text, report.batches.as_slice())?;
     Ok(printed.bytes() == expected.bytes())
 }
 
