@@ -1,11 +1,10 @@
 ghost use Rattle.std.specs.Prelude.{◌≡◌, IfOk};
 ghost use Rattle.dv_engine.specs.Bounds.{Bounded};
 ghost use Rattle.dv_engine.specs.Inlining.{inline_begun, going_with, going_where, resumed, await_ended, answer_of};
-ghost use Rattle.dv_engine.specs.Turn.{◌over◌, settle_next};
+ghost use Rattle.dv_engine.specs.Turn.{◌over◌};
 ghost use Rattle.dv_engine.specs.Wanting.{awaiting, awaited_by, wanted, reached, inline_turned};
 ghost use Rattle.dv_inline.specs.Position.{come, want_at};
 ghost use Rattle.dv_inline.specs.declared.want.Want.TheVariants.{Await};
-ghost use Rattle.dv_world.specs.World.{fire};
 ghost use Rattle.std.specs.Prelude.{Some};
 
 use crate::acting::begin;

@@ -1,7 +1,7 @@
 ghost use Rattle.std.specs.Prelude.{◌≡◌, true, None, ◌++◌, slice_get, IfOk, OnOk};
 ghost use Rattle.dv_engine.specs.Acting.{begun};
 ghost use Rattle.dv_engine.specs.Bounds.{Bounded};
-ghost use Rattle.dv_engine.specs.Looping.{loop_begun, turn_begun, turn_taken, turn_ended, turn_failed, loop_over, over_where, stopped_of};
+ghost use Rattle.dv_engine.specs.Looping.{loop_begun, turn_begun, turn_taken, turn_ended, turn_failed, over_where, stopped_of};
 ghost use Rattle.dv_engine.specs.Turn.{◌over◌};
 ghost use Rattle.dv_engine.specs.declared.deed.Deed.TheVariants.{LoopOf, StopLoopOf};
 
