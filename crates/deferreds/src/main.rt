@@ -20,10 +20,10 @@ fn main(rt: HostRuntime) -> ExitCode {
         Ok(Some(workers)) => {
             let mut reader = IoSource::new(rt.stdin());
             let mut writer = IoSink::new(rt.stdout());
-            exit_of(run(&rt, &mut reader, &mut writer, workers, &PlainGate))
+            exit_of(&run(&rt, &mut reader, &mut writer, workers, &PlainGate))
         }
         Err(error) if error.kind() == io::ErrorKind::OutOfMemory => {
-            exit_of(Err(RunFault::OutOfMemory))
+            exit_of(&Err(RunFault::OutOfMemory))
         }
         Ok(None) | Err(_) => (64, "usage: deferreds [WORKERS]"),
     };

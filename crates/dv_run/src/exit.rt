@@ -9,13 +9,13 @@ use dv_reader::error::ScriptFault;
 ///
 /// The status is 0 where all events were performed, 1 where the run stopped at the limit of its journal, 2 where the
 /// script is refused, 3 for want of memory, and 4 where the reader or the writer failed.
-pub fn exit_of(ended: Result<Report, RunFault>) -> (u8, &'static str)
-    ensures status { result.0 ≡ status ended }
-    ensures text { result.1.now ≡ error_text ended }
+pub fn exit_of(ended: &Result<Report, RunFault>) -> (u8, &'static str)
+    ensures status { result.0 ≡ status ended.now }
+    ensures text { result.1.now ≡ error_text ended.now }
 {
     match ended {
         Ok(report) => (status_of(report.stopped), ""),
-        Err(fault) => (fault_status(fault), fault_text(fault)),
+        Err(fault) => (fault_status(*fault), fault_text(*fault)),
     }
 }
 

@@ -8,6 +8,6 @@ fn what_no_script_leads_to_has_its_status_and_its_text(rt: HostRuntime) {
         (RunFault::ReadFault, 4, "read failed"),
         (RunFault::WriteFault, 4, "write failed"),
     ] {
-        assert_eq!(rt; exit_of(Err(fault)), (status, text), "{fault:?}");
+        assert_eq!(rt; exit_of(&Err(fault)), (status, text), "{fault:?}");
     }
 }
