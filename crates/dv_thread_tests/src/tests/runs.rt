@@ -1,6 +1,6 @@
 ghost use Rattle.std.specs.Prelude.{◌<◌, ◌≤◌, ◌^◌, ◌-◌, IfOk};
 
-use super::gates::Yielding;
+use super::gates::{Counting, Yielding};
 use dv_engine::engine::{Engine, Next};
 use dv_engine::report::Report;
 use dv_inline::poller::Poller;
@@ -251,13 +251,19 @@ fn too_many_jobs(alloc: Global) -> Result<String, AllocError> {
 }
 
 #[test]
-fn one_job_more_than_a_run_has_raises(rt: HostRuntime) -> Result<(), Fail> {
+fn each_job_of_a_run_comes_to_its_gate_once_and_one_more_raises(
+    rt: HostRuntime,
+) -> Result<(), Fail> {
     let text = too_many_jobs(rt.alloc())?;
-    let (_, report) = run_text(&rt, text.as_str(), 2, &PlainGate)?;
+    let gate = Counting::new(rt.alloc(), 4_096)?;
+    let (_, report) = run_text(&rt, text.as_str(), 2, &gate)?;
     let Some(Entry::Unhandled(failure)) = report.journal.entries().last() else {
         return Err("nothing was told".into());
     };
-    assert_eq!(rt; failure.message.as_str(), "too many jobs");
-    assert_eq!(rt; report.ran.dones().len(), 4096);
+    let done = report.ran.dones().len();
+    assert_eq!(rt;
+        (failure.message.as_str(), done, gate.are_all(1)),
+        ("too many jobs", 4_096, true)
+    );
     Ok(())
 }
