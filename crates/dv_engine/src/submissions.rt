@@ -5,6 +5,7 @@ ghost use Rattle.dv_threads.specs.Jobs.{jobs_from};
 ghost use Rattle.dv_threads.specs.Sources.{jobs_of};
 
 use dv_script::lent::WorkRef;
+use dv_threads::error::JobFault;
 use dv_threads::ran::Ran;
 use dv_threads::source::JobSource;
 use dv_value::value::Value;
@@ -69,7 +70,8 @@ impl<J: JobSource> Submissions<J> {
                 self.count += 1;
                 Ok(())
             }
-            Err(_) => Err(AllocError),
+            Err(JobFault::OutOfMemory) => Err(AllocError),
+            Err(JobFault::Full) => unreachable!(),
         }
     }
 

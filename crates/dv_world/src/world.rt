@@ -21,6 +21,7 @@ use dv_journal::deferred_id::DeferredId;
 use dv_journal::entry::Entry;
 use dv_journal::error::Stop;
 use dv_journal::journal::Journal;
+use dv_prims::error::{PutFault, ReleaseFault};
 use dv_prims::gather::{Came, Flags, Gather};
 use dv_prims::list_id::ListId;
 use dv_prims::lock_id::LockId;
@@ -48,8 +49,9 @@ pub mod inlining;
 pub mod jobs;
 pub mod looping;
 
-/// The world of a run: its Deferreds, their names, the classes of failures and the journal. Once an entry doesn't fit
-/// into the journal the run has stopped: from then on nothing changes.
+/// The world of a run: its Deferreds, locks, queues, lists, delayed calls, loops and tasks with their names, what inline
+/// bodies wait for, the works of its jobs, the classes of failures and the journal. Once an entry doesn't fit into the
+/// journal the run has stopped: from then on nothing changes.
 ///
 /// Where a call answers AllocError, nothing is promised of what the world holds then: its clauses speak of the other
 /// answers only. An engine that was refused memory asks no more of its world.
@@ -300,8 +302,7 @@ impl<'s> World<'s> {
                 self.store.guard(id);
                 Ok(())
             }
-            Ok(Fired::Swallowed) => Ok(()),
-            Err(StoreFault::AlreadyCalled) => Ok(()),
+            Ok(Fired::Swallowed) | Err(StoreFault::AlreadyCalled) => Ok(()),
             Err(StoreFault::Limit) => {
                 self.stopped = true;
                 Ok(())
@@ -429,13 +430,9 @@ impl<'s> World<'s> {
         if self.stopped {
             return Ok(());
         }
-        if !self.journal.fits_plain() {
-            self.stopped = true;
-            return Ok(());
-        }
         match Semaphore::lock(self.alloc, &mut self.journal, name) {
             Ok(lock) => self.add_lock(name, lock),
-            Err(_) => Err(AllocError),
+            Err(stop) => self.stopped_by(stop, ()),
         }
     }
 
@@ -448,13 +445,9 @@ impl<'s> World<'s> {
         if self.stopped {
             return Ok(());
         }
-        if !self.journal.fits_plain() {
-            self.stopped = true;
-            return Ok(());
-        }
         match Semaphore::new(self.alloc, &mut self.journal, name, tokens) {
             Ok(semaphore) => self.add_lock(name, semaphore),
-            Err(_) => Err(AllocError),
+            Err(stop) => self.stopped_by(stop, ()),
         }
     }
 
@@ -499,7 +492,8 @@ impl<'s> World<'s> {
         }
         match self.semaphores[place].acquire(&mut self.journal, id) {
             Ok(_) => Ok(()),
-            Err(_) => Err(AllocError),
+            // (the entry fits, so it is memory that was refused)
+            Err(Stop::Limit | Stop::OutOfMemory) => Err(AllocError),
         }
     }
 
@@ -521,7 +515,10 @@ impl<'s> World<'s> {
         }
         match self.semaphores[place].release(&mut self.journal) {
             Ok(_) => Ok(()),
-            Err(_) => Err(AllocError),
+            // (a token is given and the entry fits, so it is memory that was refused)
+            Err(ReleaseFault::NotHeld | ReleaseFault::Limit | ReleaseFault::OutOfMemory) => {
+                Err(AllocError)
+            }
         }
     }
 
@@ -551,13 +548,9 @@ impl<'s> World<'s> {
         if self.stopped {
             return Ok(());
         }
-        if !self.journal.fits_plain() {
-            self.stopped = true;
-            return Ok(());
-        }
         match Queue::new(self.alloc, &mut self.journal, name, size, backlog) {
             Ok(queue) => self.add_queue(name, queue),
-            Err(_) => Err(AllocError),
+            Err(stop) => self.stopped_by(stop, ()),
         }
     }
 
@@ -604,7 +597,8 @@ impl<'s> World<'s> {
         }
         match self.queues[place].put(&mut self.journal, value) {
             Ok(given) => Ok(given),
-            Err(_) => Err(AllocError),
+            // (a value may be put and the entry fits, so it is memory that was refused)
+            Err(PutFault::Overflow | PutFault::Limit | PutFault::OutOfMemory) => Err(AllocError),
         }
     }
 
@@ -623,7 +617,8 @@ impl<'s> World<'s> {
         }
         match self.queues[place].get(&mut self.journal, id) {
             Ok(value) => Ok(value),
-            Err(_) => Err(AllocError),
+            // (the entry fits, so it is memory that was refused)
+            Err(Stop::Limit | Stop::OutOfMemory) => Err(AllocError),
         }
     }
 

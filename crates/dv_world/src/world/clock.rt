@@ -44,7 +44,7 @@ impl<'s> World<'s> {
             .later(&mut self.journal, what, delay.min(MOST_DELAY))
         {
             Ok(call) => self.add_call(name.as_str(), call, body),
-            Err(_) => Err(AllocError),
+            Err(stop) => self.stopped_by(stop, ()),
         }
     }
 

@@ -123,7 +123,7 @@ impl<'s> World<'s> {
                 self.loops[place].turn = Some(turn);
                 Ok(())
             }
-            Err(_) => Err(AllocError),
+            Err(stop) => self.stopped_by(stop, ()),
         }
     }
 
