@@ -17,12 +17,14 @@ impl Model for CallId {
 }
 
 impl CallId {
+    /// The delayed call of this number.
     pub fn new(number: usize) -> CallId
         ensures { result ≡ number }
     {
         CallId(number)
     }
 
+    /// Its number.
     pub fn number(self) -> usize
         ensures { result ≡ self }
     {

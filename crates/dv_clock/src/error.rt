@@ -14,6 +14,7 @@ pub enum CancelFault {
     /// What the journal would tell of it would pass the journal's limit.
     #[error("journal limit reached")]
     Limit,
+    /// Memory was refused.
     #[error("out of memory")]
     OutOfMemory,
 }

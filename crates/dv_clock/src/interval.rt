@@ -29,6 +29,7 @@ impl Interval {
         Interval(ticks.min(MOST_DELAY).max(1))
     }
 
+    /// How many ticks it is.
     pub fn ticks(self) -> u64
         ensures ticks { result ≡ self }
         ensures some { 0 < result }

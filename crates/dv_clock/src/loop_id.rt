@@ -17,12 +17,14 @@ impl Model for LoopId {
 }
 
 impl LoopId {
+    /// The loop of this number.
     pub fn new(number: u32) -> LoopId
         ensures { result ≡ number }
     {
         LoopId(number)
     }
 
+    /// Its number.
     pub fn number(self) -> u32
         ensures { result ≡ self }
     {

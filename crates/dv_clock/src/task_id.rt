@@ -17,12 +17,14 @@ impl Model for TaskId {
 }
 
 impl TaskId {
+    /// The task of this number.
     pub fn new(number: u32) -> TaskId
         ensures { result ≡ number }
     {
         TaskId(number)
     }
 
+    /// Its number.
     pub fn number(self) -> u32
         ensures { result ≡ self }
     {

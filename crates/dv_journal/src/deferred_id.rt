@@ -17,12 +17,14 @@ impl Model for DeferredId {
 }
 
 impl DeferredId {
+    /// The Deferred of this number.
     pub fn new(number: u32) -> DeferredId
         ensures { result ≡ number }
     {
         DeferredId(number)
     }
 
+    /// Its number.
     pub fn number(self) -> u32
         ensures { result ≡ self }
     {

@@ -74,7 +74,7 @@ impl MemorySink {
         &self.bytes
     }
 
-    // the trouble of this call, if it has one; later calls are one nearer to theirs
+    /// The trouble of this call, if it has one; later calls are one nearer to theirs.
     fn next_trouble(&mut self) -> Option<Trouble>
         ensures value { result ≡ trouble_here self.old.trouble }
         ensures ahead { self.new ≡ record self.old { trouble = trouble_ahead self.old.trouble } }
@@ -88,7 +88,7 @@ impl MemorySink {
         None
     }
 
-    // takes as many bytes as there is room for, and as a call takes
+    /// Takes as many bytes as there is room for, and as a call takes.
     fn fill(&mut self, piece: &[u8]) -> Result<usize, SinkFault>
         ensures answer { result ≡ filling_answer self.old piece.now }
         ensures taken { self.new ≡ with_taken self.old piece.now result }

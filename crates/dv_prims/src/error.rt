@@ -11,6 +11,7 @@ pub enum ReleaseFault {
     /// What the journal would tell of it would pass the journal's limit.
     #[error("journal limit reached")]
     Limit,
+    /// Memory was refused.
     #[error("out of memory")]
     OutOfMemory,
 }
@@ -49,6 +50,7 @@ pub enum PutFault {
     /// What the journal would tell of it would pass the journal's limit.
     #[error("journal limit reached")]
     Limit,
+    /// Memory was refused.
     #[error("out of memory")]
     OutOfMemory,
 }

@@ -17,12 +17,14 @@ impl Model for ListId {
 }
 
 impl ListId {
+    /// The list of this number.
     pub fn new(number: usize) -> ListId
         ensures { result ≡ number }
     {
         ListId(number)
     }
 
+    /// Its number.
     pub fn number(self) -> usize
         ensures { result ≡ self }
     {

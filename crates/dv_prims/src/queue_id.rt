@@ -17,12 +17,14 @@ impl Model for QueueId {
 }
 
 impl QueueId {
+    /// The queue of this number.
     pub fn new(number: usize) -> QueueId
         ensures { result ≡ number }
     {
         QueueId(number)
     }
 
+    /// Its number.
     pub fn number(self) -> usize
         ensures { result ≡ self }
     {

@@ -460,7 +460,7 @@ impl<P: Sides + Drop, K: Drop> Store<P, K> {
         }
     }
 
-    /// A side of a Deferred has ended with another, whose value it gets.
+    /// A side of a Deferred has ended, and this is its value now.
     fn set_result(&mut self, id: DeferredId, value: Value)
         ensures { self.new ≡ changing id (with_result value) self.old }
     {

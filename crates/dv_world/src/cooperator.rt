@@ -46,7 +46,8 @@ impl<'s> Cooperator<'s> {
     ghost use Rattle.dv_world.specs.Cooperator.{new_cooperator, with_new_task, with_step, with_pause, with_resume, with_end, with_waiting, changing, next_body, waiting_for, wants_tick, idle_tick};
     ghost use Rattle.dv_world.specs.Names.{number_of};
 
-    /// A Cooperator without tasks, in whose ticks so many steps are taken, and from tick to tick of which it is so long.
+    /// A Cooperator without tasks, which takes so many steps in a tick, and from tick to tick of which it is so many ticks of
+    /// the clock, or the nearest number that an interval may have.
     pub fn new(alloc: Global, units: u32, delay: u64) -> Cooperator<'s>
         ensures { result ≡ new_cooperator units delay }
     {
@@ -188,7 +189,7 @@ impl<'s> Cooperator<'s> {
         }
     }
 
-    /// How long it is from a tick to the next.
+    /// How many ticks of the clock it is from one of its ticks to the next.
     pub fn delay(&self) -> Interval
         ensures { result ≡ self.now.delay }
     {

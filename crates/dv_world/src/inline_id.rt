@@ -18,12 +18,14 @@ impl Model for InlineId {
 }
 
 impl InlineId {
+    /// The inline body of this number.
     pub fn new(number: usize) -> InlineId
         ensures { result ≡ number }
     {
         InlineId(number)
     }
 
+    /// Its number.
     pub fn number(self) -> usize
         ensures { result ≡ self }
     {

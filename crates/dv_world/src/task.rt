@@ -30,7 +30,7 @@ pub struct Task<'s> {
     pub name: TextRef<'s>,
     /// The bodies that are left to be performed, one a step.
     pub bodies: BodiesRef<'s>,
-    /// How often it is paused.
+    /// How often it was paused and hasn't been resumed since.
     pub pauses: u64,
     /// How it has ended, if it has.
     pub end: Option<TaskEnd>,

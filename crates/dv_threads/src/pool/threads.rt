@@ -18,6 +18,7 @@ impl Promise<End> for EndOf {
     ghost kept_by = { λ promise end. IsEndOf (arc_value promise.0.value) end × HasServed end };
 }
 
+/// A worker's thread, which is joined for what it hands back.
 pub type Handle = PromisedHandle<End, EndOf>;
 
 /// Starts a worker. Its tokens come back where no thread can be made.
