@@ -1,7 +1,7 @@
 use crate::due::Due;
 
 /// What became of a call.
-#[derive(Debug, Drop)]
+#[derive(Drop)]
 pub enum CallState {
     /// It waits for its time.
     Waiting(Due),
@@ -14,7 +14,7 @@ pub enum CallState {
 }
 
 /// A call that was scheduled.
-#[derive(Debug, Drop)]
+#[derive(Drop)]
 pub struct Call {
     /// The time that it is due at, in ticks.
     pub due: u64,

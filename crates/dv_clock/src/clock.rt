@@ -19,7 +19,7 @@ use std::mem;
 /// A clock that is moved by hand, with what waits for its time (Twisted: `Clock`). Times are in ticks.
 ///
 /// A number that isn't of this clock means nothing to it: `cancel` answers Ok and `drop_call` answers that it didn't wait.
-#[derive(Debug, Drop)]
+#[derive(Drop)]
 pub struct Clock {
     alloc: Global,
     time: u64,

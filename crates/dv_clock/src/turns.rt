@@ -10,7 +10,7 @@ use std::marker::Model;
 ///
 /// Each task is kept under a number that grows with each that joins; `next` is the number from which on the next is
 /// looked for.
-#[derive(Debug, Drop)]
+#[derive(Drop)]
 pub struct Turns {
     order: BTreeMap<u64, u32>,
     numbers: BTreeMap<u32, u64>,

@@ -1,7 +1,7 @@
 use dv_script::lent::{ClassesRef, Statements};
 
 /// What a `try` does with a failure that is thrown inside it.
-#[derive(Debug, Drop)]
+#[derive(Drop)]
 pub struct Catch<'s> {
     /// It catches one of these classes,
     pub classes: ClassesRef<'s>,
@@ -10,7 +10,7 @@ pub struct Catch<'s> {
 }
 
 /// A `try` that a body is inside of.
-#[derive(Debug, Drop)]
+#[derive(Drop)]
 pub struct Open<'s> {
     /// None where its second statements are what is performed: nothing is caught there.
     pub catch: Option<Catch<'s>>,

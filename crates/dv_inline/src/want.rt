@@ -1,7 +1,7 @@
 use dv_script::lent::{ActionRef, TextRef};
 
 /// What an inline body wants before it goes on.
-#[derive(Debug, Drop)]
+#[derive(Drop)]
 pub enum Want<'s> {
     /// That the action is performed.
     Do(ActionRef<'s>),

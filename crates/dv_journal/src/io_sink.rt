@@ -6,7 +6,7 @@ use std::marker::Model;
 
 /// A sink over a writer of std, which contracts see as that writer and a count of failures.
 /// Each error of the writer is a failure, one that tells of an interruption too.
-#[derive(Debug, Drop)]
+#[derive(Drop)]
 pub struct IoSink<W> {
     writer: W,
     failures: u64,

@@ -19,7 +19,7 @@ pub enum Trouble {
 }
 
 /// A sink over memory that it takes when it is made; its writes take none. Full, it fails.
-#[derive(Debug, Drop)]
+#[derive(Drop)]
 pub struct MemorySink {
     bytes: Vec<u8>,
     room: usize,

@@ -31,7 +31,7 @@ pub struct Came {
 }
 
 /// What a DeferredList has of its children (Twisted: `DeferredList`).
-#[derive(Debug, Drop)]
+#[derive(Drop)]
 pub struct Gather {
     alloc: Global,
     flags: Flags,

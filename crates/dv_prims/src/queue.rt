@@ -15,7 +15,7 @@ use std::marker::Model;
 
 /// A queue of values (Twisted: `DeferredQueue`). Those that wait for a value are kept by their numbers: each of them is
 /// made to ask, so that is the order in which they came.
-#[derive(Debug, Drop)]
+#[derive(Drop)]
 pub struct Queue {
     alloc: Global,
     name: Text,

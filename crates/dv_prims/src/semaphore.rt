@@ -22,7 +22,7 @@ pub enum Grant {
 
 /// A semaphore, or a lock, which is one of one token (Twisted: `DeferredSemaphore`, `DeferredLock`). Those that wait for a
 /// token are kept by their numbers: each of them is made to ask, so that is the order in which they came.
-#[derive(Debug, Drop)]
+#[derive(Drop)]
 pub struct Semaphore {
     alloc: Global,
     name: Text,

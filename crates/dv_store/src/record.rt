@@ -4,7 +4,7 @@ use dv_value::text::Text;
 use dv_value::value::Value;
 
 /// What a Deferred uses up, one after the other (Twisted: the entries of `Deferred.callbacks`).
-#[derive(Debug, Drop)]
+#[derive(Drop)]
 pub enum Item<P> {
     /// A pair of a callback and an errback.
     Pair(P),
@@ -13,7 +13,7 @@ pub enum Item<P> {
 }
 
 /// What is kept of one Deferred.
-#[derive(Debug, Drop)]
+#[derive(Drop)]
 pub struct Record<P, K> {
     /// The name that it was made with, where it has one.
     pub name: Option<Text>,

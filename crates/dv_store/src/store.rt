@@ -56,7 +56,7 @@ pub enum Placed {
 /// An id that isn't of this store means nothing to it: no call changes anything for it, `record` answers None, `step`
 /// answers Nothing, `fire` answers Set, `put_deferred` answers Waits, `end_of_chain` answers the id, and the others
 /// answer Ok.
-#[derive(Debug, Drop)]
+#[derive(Drop)]
 pub struct Store<P, K> {
     alloc: Global,
     records: Vec<Record<P, K>>,

@@ -13,7 +13,7 @@ pub trait Gate {
 }
 
 /// The gate that answers each job at once.
-#[derive(Clone, Copy, Debug)]
+#[derive(Clone, Copy)]
 pub struct PlainGate;
 
 impl Gate for PlainGate {

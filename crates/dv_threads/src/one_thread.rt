@@ -16,7 +16,7 @@ use std::thread::Threads;
 
 /// A source without threads: each job is answered at its submission. A job that was given back for want of memory counts as
 /// answered, and then its `outcome`, and `close`, want memory too. Contracts see it as the works submitted.
-#[derive(Debug, Drop)]
+#[derive(Drop)]
 pub struct OneThread {
     answers: Vec<Answer>,
 }

@@ -6,7 +6,7 @@ use std::collections::VecDeque;
 use std::marker::Model;
 
 /// A `VecDeque` that contracts see as the list of its elements, from the front, without an address and without a capacity.
-#[derive(Debug, Drop)]
+#[derive(Drop)]
 pub struct Deque<T> {
     items: VecDeque<T>,
 }

@@ -15,7 +15,7 @@ use std::mem;
 
 /// The Cooperator: its tasks, whose turn it is, and its ticks, in each of which so many steps are taken (Twisted:
 /// `Cooperator`). Its changes aren't told; the world tells of them.
-#[derive(Debug, Drop)]
+#[derive(Drop)]
 pub struct Cooperator<'s> {
     alloc: Global,
     names: Names<TaskId>,

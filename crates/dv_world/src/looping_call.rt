@@ -4,7 +4,7 @@ use dv_journal::deferred_id::DeferredId;
 use dv_script::lent::{BodyRef, TextRef};
 
 /// A loop, which performs a body again and again (Twisted: `LoopingCall`).
-#[derive(Debug, Drop)]
+#[derive(Drop)]
 pub struct LoopingCall<'s> {
     /// Its name at its making.
     pub name: TextRef<'s>,

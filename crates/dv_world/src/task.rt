@@ -13,7 +13,7 @@ use dv_value::value::Value;
 use std::alloc::{AllocError, Global};
 
 /// How a task has ended.
-#[derive(Debug, Drop)]
+#[derive(Drop)]
 pub enum TaskEnd {
     /// All its bodies were performed.
     Finished,
@@ -24,7 +24,7 @@ pub enum TaskEnd {
 }
 
 /// A task of the Cooperator (Twisted: `CooperativeTask`).
-#[derive(Debug, Drop)]
+#[derive(Drop)]
 pub struct Task<'s> {
     /// Its name at its making.
     pub name: TextRef<'s>,

@@ -7,7 +7,7 @@ use std::mem;
 
 /// What an inline body waits for. `B` is the body where contracts see it, and the key under which it is parked where it is
 /// kept.
-#[derive(Debug, Drop)]
+#[derive(Drop)]
 pub enum Waiting<B> {
     /// It doesn't wait: it hasn't begun to, or what it waited for has reached it.
     Nothing,
