@@ -6,7 +6,7 @@ use Rattle.std.proofs.lemmas.List.Elements.{filter-append}
 use Rattle.std.proofs.Math.Seq.{drop-cons, get_or-append_seam, take-suc}
 use Rattle.dv_threads.specs.Posts.{post, of}
 use Rattle.dv_threads.specs.declared.posted.Posted.{Posted}
-use Rattle.dv_engine.specs.Batches.{AreNext, Batch, Callers, below, bodies_of, first_posts, joined}
+use Rattle.dv_runner.specs.Batches.{AreNext, Batch, Callers, below, bodies_of, first_posts, joined}
 use Rattle.dv_engine.specs.Taking.{AreCounted, Counted, IsNext}
 
 same_at : (c n : ℕ) → (n == c) ≡ true → n ≡ c

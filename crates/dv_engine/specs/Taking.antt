@@ -2,7 +2,7 @@
 use Rattle.std.specs.Prelude.{ℕ, ◌≡◌, ◌<◌, ◌≤◌, List, [], ◌∷◌, ◌++◌, length, slice_index_or}
 use Rattle.dv_threads.specs.Posts.{of}
 use Rattle.dv_threads.specs.declared.posted.Posted.{Posted}
-use Rattle.dv_engine.specs.Batches.{Batch, Callers, bodies_of, first_posts, joined}
+use Rattle.dv_runner.specs.Batches.{Batch, Callers, bodies_of, first_posts, joined}
 
 -- the bodies of the callers, and the batches that were taken of their posts
 pub record Taken : Type 0 where

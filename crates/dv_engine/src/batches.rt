@@ -1,5 +1,5 @@
 ghost use Rattle.std.specs.Prelude.{List, ◌≡◌, ◌+◌, ◌∷◌, ◌++◌, [], length, replicate, slice_set, IfOk, IsFalse, IsTrue, OnOk};
-ghost use Rattle.dv_engine.specs.Batches.{AreNext, joined};
+ghost use Rattle.dv_runner.specs.Batches.{AreNext, joined};
 ghost use Rattle.dv_engine.specs.Taking.{Counted, IsNext, untaken, with_batch};
 ghost use Rattle.dv_threads.specs.declared.posted.Posted.{Posted as SpecPosted};
 

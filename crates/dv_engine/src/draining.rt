@@ -1,17 +1,17 @@
 ghost use Rattle.std.specs.Prelude.{◌≡◌, ◌++◌, None, Some, IfOk, MatchOption, OnOk};
-ghost use Rattle.dv_engine.specs.Batches.{AreNext, body_of, joined};
-ghost use Rattle.dv_engine.specs.Bounds.{Bounded};
+ghost use Rattle.dv_runner.specs.Batches.{AreNext, body_of, joined};
+ghost use Rattle.dv_rules.specs.Bounds.{Bounded};
 ghost use Rattle.dv_engine.specs.Engine.{begun_for, taken_for};
-ghost use Rattle.dv_engine.specs.Meaning.{Runs};
-ghost use Rattle.dv_engine.specs.Occurrences.{coming, comings};
+ghost use Rattle.dv_runner.specs.Meaning.{Runs};
+ghost use Rattle.dv_runner.specs.Occurrences.{coming, comings};
 ghost use Rattle.dv_engine.specs.Taking.{with_batch};
 
 use crate::batches::Batches;
 use crate::engine::Phase;
-use crate::runner::come;
-use crate::submissions::Submissions;
 use dv_inline::poller::Poller;
 use dv_journal::entry::Entry;
+use dv_rules::submissions::Submissions;
+use dv_runner::runner::come;
 use dv_script::body::Body;
 use dv_threads::posted::Posted;
 use dv_threads::source::JobSource;

@@ -7,7 +7,7 @@ use Rattle.std.proofs.lemmas.List.Elements.{filter-append}
 use Rattle.std.proofs.lemmas.Option.{slice_get_within}
 use Rattle.std.proofs.Math.Seq.{take-append_seam}
 use Rattle.dv_script.specs.declared.body.Body.{Body}
-use Rattle.dv_engine.specs.Batches.{AreFirst, AreNext, Batch, Callers, below, bodies_of, first_posts, joined, posts_of}
+use Rattle.dv_runner.specs.Batches.{AreFirst, AreNext, Batch, Callers, below, bodies_of, first_posts, joined, posts_of}
 use Rattle.dv_threads.specs.Posts.{post, of}
 use Rattle.dv_threads.specs.Posts as inbox
 use Rattle.dv_threads.specs.Ring.{Ring}

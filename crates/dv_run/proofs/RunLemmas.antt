@@ -4,7 +4,7 @@ use Rattle.std.proofs.lemmas.Bool.Decides.{nat_tests}
 use Rattle.std.specs.List.{list_all}
 use Rattle.std.proofs.KnownBytes.{Keeps-refl}
 use Rattle.std.specs.Io.KnownBytes.{Appends}
-use Rattle.dv_engine.specs.Batches.{Callers, bodies_of}
+use Rattle.dv_runner.specs.Batches.{Callers, bodies_of}
 use Rattle.dv_engine.specs.declared.report.Report.{Report}
 use Rattle.dv_journal.specs.Sink.{AppendsPrefix, HasFailed}
 use Rattle.dv_journal.specs.declared.error.PrintFault.{PrintFault}

@@ -1,6 +1,6 @@
 -- A run: what an engine and an inbox have of each other.
 use Rattle.std.specs.Prelude.{◌≡◌, List}
-use Rattle.dv_engine.specs.Batches.{AreNext, Batch, Callers, joined}
+use Rattle.dv_runner.specs.Batches.{AreNext, Batch, Callers, joined}
 use Rattle.dv_engine.specs.Engine.{Engine}
 use Rattle.dv_engine.specs.declared.engine.Phase.TheVariants.{Going, Ended}
 use Rattle.dv_threads.specs.Posts.{Inbox}

@@ -1,5 +1,5 @@
 ghost use Rattle.std.specs.Prelude.{◌≡◌, ◌<◌, ◌≤◌, ◌++◌, All, ℕ, List, length, IfOk};
-ghost use Rattle.dv_engine.specs.Batches.{AreNext, Batch, bodies_of, posts_of};
+ghost use Rattle.dv_runner.specs.Batches.{AreNext, Batch, bodies_of, posts_of};
 ghost use Rattle.dv_run.specs.Callers.{AllServe, AreFew, HasAll, HasPosted, HavePosted, Serves, TookBatches};
 ghost use Rattle.dv_threads.specs.Posts.{AreOf, IsFresh, SameInbox, callers_of, of};
 ghost use Rattle.dv_threads.specs.Ring.{Ring};

@@ -1,5 +1,5 @@
 ghost use Rattle.std.specs.Prelude.{ℕ, ◌≡◌, ◌++◌, [], IfOk, IsFalse, IsTrue, OnOk};
-ghost use Rattle.dv_engine.specs.Batches.{joined, posts_of};
+ghost use Rattle.dv_runner.specs.Batches.{joined, posts_of};
 ghost use Rattle.dv_engine.specs.Engine.{Takes, first_engine};
 ghost use Rattle.dv_engine.specs.declared.engine.Phase.TheVariants.{Draining, Ended, Going};
 ghost use Rattle.dv_run.specs.Callers.{AllServe, TookBatches};

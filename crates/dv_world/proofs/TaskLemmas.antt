@@ -5,12 +5,12 @@ use Rattle.dv_journal.specs.Journal.{fits, with_entry}
 use Rattle.dv_journal.specs.declared.entry.Entry.{Entry}
 use Rattle.dv_journal.specs.declared.entry.Entry.TheVariants as entry
 use Rattle.dv_clock.specs.Turns.{turn_of}
-use Rattle.dv_world.specs.Cooperator.{Cooperator, new_task, with_new_task, with_step, with_pause, with_resume, with_end, with_waiting, result_of}
-use Rattle.dv_world.specs.Objects.{Objects, cooperating}
+use Rattle.dv_objects.specs.Cooperator.{Cooperator, new_task, with_new_task, with_step, with_pause, with_resume, with_end, with_waiting, result_of}
+use Rattle.dv_objects.specs.Objects.{Objects, cooperating}
 use Rattle.dv_world.specs.World.{World, aside, task_told, step_taken, turn_taken, task_ended, all_unless_stopped}
 use Rattle.dv_world.specs.Laws.{end_in, end_of, Same, Elsewhere, Makes, Steps, Pauses, Resumes, Holds, Awaits, Ends, TasksEndOnce, EndedTasksAreLeftAlone}
-use Rattle.dv_world.specs.declared.task.Task.{Task}
-use Rattle.dv_world.specs.declared.task.TaskEnd.{TaskEnd}
+use Rattle.dv_objects.specs.declared.task.Task.{Task}
+use Rattle.dv_objects.specs.declared.task.TaskEnd.{TaskEnd}
 
 -- what is put in a place is there, and what stands elsewhere stays
 placed_there : (xs : List Task) (i : ℕ) (x y : Task) → slice_get xs i ≡ Some x → slice_get (slice_set xs i y) i ≡ Some y

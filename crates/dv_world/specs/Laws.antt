@@ -3,11 +3,11 @@ use Rattle.std.specs.Prelude.{◌≡◌, ℕ, List, [], Option, Some, None, slic
 use Rattle.std.specs.Option.{option_map_or}
 use Rattle.dv_journal.specs.declared.entry.Entry.TheVariants as entry
 use Rattle.dv_script.specs.declared.body.Body.{Body}
-use Rattle.dv_world.specs.Cooperator.{with_new_task}
-use Rattle.dv_world.specs.Objects.{cooperating}
+use Rattle.dv_objects.specs.Cooperator.{with_new_task}
+use Rattle.dv_objects.specs.Objects.{cooperating}
 use Rattle.dv_world.specs.World.{World, aside, take_step, pause_task, resume_task, hold_task, await_task, end_task}
-use Rattle.dv_world.specs.declared.task.Task.{Task}
-use Rattle.dv_world.specs.declared.task.TaskEnd.{TaskEnd}
+use Rattle.dv_objects.specs.declared.task.Task.{Task}
+use Rattle.dv_objects.specs.declared.task.TaskEnd.{TaskEnd}
 
 -- how task t has ended, if it has
 abbrev pub end_in : ℕ → List Task → Option TaskEnd

@@ -42,28 +42,28 @@ use Rattle.dv_store.specs.declared.store.Fired.{Fired}
 use Rattle.dv_store.specs.declared.store.Fired.TheVariants.{Set, Swallowed}
 use Rattle.dv_store.specs.declared.store.Step.{Step}
 use Rattle.dv_store.specs.declared.store.Step.TheVariants.{Nothing}
-use Rattle.dv_world.specs.Cooperator.{Cooperator, with_step, with_pause, with_resume, with_end, with_waiting, result_of, wants_tick, idle_tick}
+use Rattle.dv_objects.specs.Cooperator.{Cooperator, with_step, with_pause, with_resume, with_end, with_waiting, result_of, wants_tick, idle_tick}
 use Rattle.dv_inline.specs.Position.{Position}
-use Rattle.dv_world.specs.Inlines.{come_to, end_adding, now_waiting, awaited_by}
-use Rattle.dv_world.specs.Looping.{next_due, with_turn, with_stopped, with_ended}
-use Rattle.dv_world.specs.Names.{number_of}
-use Rattle.dv_world.specs.Objects.{Objects, no_objects, naming_where, with_list, with_new_call, with_delivery, with_ended_call, with_time, with_lock, lock_changed, with_queue, queue_changed, cooperating, with_tick, without_tick, inlining, with_new_inline}
-use Rattle.dv_world.specs.Pair.{passes}
-use Rattle.dv_world.specs.Works.{is_full}
-use Rattle.dv_world.specs.declared.canceller.Canceller.{Canceller}
-use Rattle.dv_world.specs.declared.canceller.Canceller.TheVariants as canceller
-use Rattle.dv_world.specs.declared.follow.Follow.{Follow}
-use Rattle.dv_world.specs.declared.follow.Follow.TheVariants as follow
-use Rattle.dv_world.specs.declared.inline_id.Inline.{Inline}
-use Rattle.dv_world.specs.declared.looping_call.LoopingCall.{LoopingCall}
-use Rattle.dv_world.specs.declared.pair.Pair.{Pair}
-use Rattle.dv_world.specs.declared.performed.Performed.{Performed}
-use Rattle.dv_world.specs.declared.performed.Performed.TheVariants.{Done, Raised}
-use Rattle.dv_world.specs.declared.task.Task.{Task}
-use Rattle.dv_world.specs.declared.task.TaskEnd.{TaskEnd}
-use Rattle.dv_world.specs.declared.waiting.Waiting.TheVariants.{Adding}
-use Rattle.dv_world.specs.declared.reached.Reached.{Reached}
-use Rattle.dv_world.specs.declared.reached.Reached.TheVariants as reached
+use Rattle.dv_objects.specs.Inlines.{come_to, end_adding, now_waiting, awaited_by}
+use Rattle.dv_objects.specs.Looping.{next_due, with_turn, with_stopped, with_ended}
+use Rattle.dv_objects.specs.Names.{number_of}
+use Rattle.dv_objects.specs.Objects.{Objects, no_objects, naming_where, with_list, with_new_call, with_delivery, with_ended_call, with_time, with_lock, lock_changed, with_queue, queue_changed, cooperating, with_tick, without_tick, inlining, with_new_inline}
+use Rattle.dv_objects.specs.Pair.{passes}
+use Rattle.dv_objects.specs.Works.{is_full}
+use Rattle.dv_objects.specs.declared.canceller.Canceller.{Canceller}
+use Rattle.dv_objects.specs.declared.canceller.Canceller.TheVariants as canceller
+use Rattle.dv_objects.specs.declared.follow.Follow.{Follow}
+use Rattle.dv_objects.specs.declared.follow.Follow.TheVariants as follow
+use Rattle.dv_objects.specs.declared.inline_id.Inline.{Inline}
+use Rattle.dv_objects.specs.declared.looping_call.LoopingCall.{LoopingCall}
+use Rattle.dv_objects.specs.declared.pair.Pair.{Pair}
+use Rattle.dv_objects.specs.declared.performed.Performed.{Performed}
+use Rattle.dv_objects.specs.declared.performed.Performed.TheVariants.{Done, Raised}
+use Rattle.dv_objects.specs.declared.task.Task.{Task}
+use Rattle.dv_objects.specs.declared.task.TaskEnd.{TaskEnd}
+use Rattle.dv_objects.specs.declared.waiting.Waiting.TheVariants.{Adding}
+use Rattle.dv_objects.specs.declared.reached.Reached.{Reached}
+use Rattle.dv_objects.specs.declared.reached.Reached.TheVariants as reached
 
 -- the records of all Deferreds, in order of making
 abbrev pub Records : Type 0

@@ -1,19 +1,9 @@
 ghost use Rattle.std.specs.Prelude.{◌≡◌, ◌<◌, ◌^◌, ◌-◌, Some, length, slice_get, IfOk, OnOk, OnErr};
 ghost use Rattle.dv_value.specs.Failure.{plain_failure};
-ghost use Rattle.dv_world.specs.World.{cancelled, unbound, not_held, not_gathered, overflow, underflow};
-ghost use Rattle.dv_world.specs.declared.performed.Performed.TheVariants.{Raised};
-ghost use Rattle.dv_world.specs.declared.follow.Follow.TheVariants.{Raise};
+ghost use Rattle.dv_world.specs.World.{cancelled, unbound, not_held, not_gathered, overflow, underflow, unfired_reached};
+ghost use Rattle.dv_objects.specs.declared.performed.Performed.TheVariants.{Raised};
+ghost use Rattle.dv_objects.specs.declared.follow.Follow.TheVariants.{Raise};
 
-use crate::canceller::Canceller;
-use crate::cooperator::Cooperator;
-use crate::follow::Follow;
-use crate::inlines::Inlines;
-use crate::looping_call::LoopingCall;
-use crate::names::Names;
-use crate::pair::Pair;
-use crate::performed::Performed;
-use crate::reached::Reached;
-use crate::works::Works;
 use dv_clock::call_id::CallId;
 use dv_clock::clock::Clock;
 use dv_clock::loop_id::LoopId;
@@ -21,6 +11,16 @@ use dv_journal::deferred_id::DeferredId;
 use dv_journal::entry::Entry;
 use dv_journal::error::Stop;
 use dv_journal::journal::Journal;
+use dv_objects::canceller::Canceller;
+use dv_objects::cooperator::Cooperator;
+use dv_objects::follow::Follow;
+use dv_objects::inlines::Inlines;
+use dv_objects::looping_call::LoopingCall;
+use dv_objects::names::Names;
+use dv_objects::pair::Pair;
+use dv_objects::performed::Performed;
+use dv_objects::reached::Reached;
+use dv_objects::works::Works;
 use dv_prims::error::{PutFault, ReleaseFault};
 use dv_prims::gather::{Came, Flags, Gather};
 use dv_prims::list_id::ListId;
@@ -98,8 +98,8 @@ impl<'s> Model for World<'s> {
 impl<'s> World<'s> {
     ghost use Rattle.dv_store.specs.Pausing.{pauses_of};
     ghost use Rattle.dv_world.specs.World.{first_world, value_of, deferred_at, step, put, put_deferred, append, make, fire, fire_guarded, is_unfired, reached_from, cancel, pause, unpause, aside, arrange, tell, ask, release, forget, put_into, get_from, withdraw, came_to, with_stop};
-    ghost use Rattle.dv_world.specs.Objects.{naming, naming_where, with_new_list, with_new_lock, with_added_lock, with_new_queue, with_added_queue};
-    ghost use Rattle.dv_world.specs.Names.{number_of};
+    ghost use Rattle.dv_objects.specs.Objects.{naming, naming_where, with_new_list, with_new_lock, with_added_lock, with_new_queue, with_added_queue};
+    ghost use Rattle.dv_objects.specs.Names.{number_of};
     ghost use Rattle.std.specs.Option.{option_copied};
     ghost use Rattle.dv_journal.specs.declared.entry.Entry.TheVariants as entry;
 
@@ -699,7 +699,6 @@ impl<'s> World<'s> {
     }
 }
 
-ghost use Rattle.dv_world.specs.World.{unfired_reached};
 
 /// The text of a name, where there is one.
 fn text_of<'s>(alloc: Global, name: &Option<TextRef<'s>>) -> Result<Option<Text>, AllocError>

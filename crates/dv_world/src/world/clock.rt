@@ -1,23 +1,23 @@
 ghost use Rattle.std.specs.Prelude.{◌≡◌, [], ◌∷◌, ◌++◌, slice_get, IfOk, OnOk};
 ghost use Rattle.dv_clock.specs.declared.due.Due.TheVariants.{Call as CallOf};
 ghost use Rattle.dv_world.specs.World.{was_called, was_cancelled};
-ghost use Rattle.dv_world.specs.declared.performed.Performed.TheVariants.{Raised};
+ghost use Rattle.dv_objects.specs.declared.performed.Performed.TheVariants.{Raised};
 
-use super::World;
-use crate::performed::Performed;
 use dv_clock::call_id::CallId;
 use dv_clock::due::Due;
 use dv_clock::error::CancelFault;
 use dv_clock::limits::{MOST_DELAY, MOST_TICKS};
+use dv_objects::performed::Performed;
 use dv_script::lent::{BodyRef, TextRef};
 use dv_value::class_id::ClassId;
 use dv_value::fault::failure;
 use dv_value::text::Text;
 use std::alloc::{AllocError, Global};
+use super::World;
 
 impl<'s> World<'s> {
     ghost use Rattle.dv_world.specs.World.{call_later, advance, come_due, cancel_call};
-    ghost use Rattle.dv_world.specs.Names.{number_of, with_name};
+    ghost use Rattle.dv_objects.specs.Names.{number_of, with_name};
 
     /// Schedules a delayed call of a body, which is due so many ticks later than now, and no later than calls are delayed
     /// by, as none is that a script which is read schedules; binds its name to it, also where that was bound to another

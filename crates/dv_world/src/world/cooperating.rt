@@ -1,28 +1,28 @@
 ghost use Rattle.std.specs.Prelude.{◌≡◌, slice_get, IfOk, OnOk};
 ghost use Rattle.dv_world.specs.World.{not_paused};
-ghost use Rattle.dv_world.specs.declared.performed.Performed.TheVariants.{Raised};
+ghost use Rattle.dv_objects.specs.declared.performed.Performed.TheVariants.{Raised};
 
-use super::World;
-use crate::performed::Performed;
-use crate::task::{Task, TaskEnd};
 use dv_clock::call_id::CallId;
 use dv_clock::due::Due;
 use dv_clock::task_id::TaskId;
 use dv_journal::deferred_id::DeferredId;
 use dv_journal::entry::Entry;
+use dv_objects::performed::Performed;
+use dv_objects::task::{Task, TaskEnd};
 use dv_script::lent::{BodiesRef, BodyRef, TextRef};
 use dv_value::class_id::ClassId;
 use dv_value::fault::failure;
 use dv_value::items::Items;
 use dv_value::text::Text;
 use std::alloc::{AllocError, Global};
+use super::World;
 
 impl<'s> World<'s> {
     ghost use Rattle.std.specs.Option.{option_copied};
     ghost use Rattle.dv_journal.specs.declared.entry.Entry.TheVariants as entry;
-    ghost use Rattle.dv_world.specs.Cooperator.{with_new_task};
-    ghost use Rattle.dv_world.specs.Names.{number_of};
-    ghost use Rattle.dv_world.specs.Objects.{cooperating, without_tick};
+    ghost use Rattle.dv_objects.specs.Cooperator.{with_new_task};
+    ghost use Rattle.dv_objects.specs.Names.{number_of};
+    ghost use Rattle.dv_objects.specs.Objects.{cooperating, without_tick};
     ghost use Rattle.dv_world.specs.World.{aside, arrange, take_step, pause_task, resume_task, hold_task, end_task, await_task, keep_tick, schedule_tick, begin_tick, end_tick};
 
     /// Makes a task of bodies, and binds its name to it, also where that was bound to another; it takes turns, last
@@ -243,7 +243,7 @@ impl<'s> World<'s> {
 }
 
 ghost use Rattle.dv_journal.specs.declared.entry.Entry.TheVariants.{End};
-ghost use Rattle.dv_world.specs.Cooperator.{result_of};
+ghost use Rattle.dv_objects.specs.Cooperator.{result_of};
 
 /// What the journal tells of the end of a task.
 fn ending(alloc: Global, name: &str, end: &TaskEnd) -> Result<Entry, AllocError>

@@ -1,27 +1,27 @@
 ghost use Rattle.std.specs.Prelude.{◌≡◌, ◌<◌, length, slice_get, IfOk, IfSome, OnOk};
-ghost use Rattle.dv_world.specs.Looping.{is_scheduled};
+ghost use Rattle.dv_objects.specs.Looping.{is_scheduled};
 ghost use Rattle.dv_world.specs.World.{not_running};
-ghost use Rattle.dv_world.specs.declared.performed.Performed.TheVariants.{Raised};
+ghost use Rattle.dv_objects.specs.declared.performed.Performed.TheVariants.{Raised};
 
-use super::World;
-use crate::looping_call::LoopingCall;
-use crate::performed::Performed;
 use dv_clock::due::Due;
 use dv_clock::interval::Interval;
 use dv_clock::loop_id::LoopId;
 use dv_journal::deferred_id::DeferredId;
 use dv_journal::entry::Entry;
+use dv_objects::looping_call::LoopingCall;
+use dv_objects::performed::Performed;
 use dv_script::lent::{BodyRef, TextRef};
 use dv_value::class_id::ClassId;
 use dv_value::fault::failure;
 use dv_value::text::Text;
 use std::alloc::{AllocError, Global};
+use super::World;
 
 impl<'s> World<'s> {
     ghost use Rattle.std.specs.Option.{option_copied};
     ghost use Rattle.dv_journal.specs.declared.entry.Entry.TheVariants as entry;
-    ghost use Rattle.dv_world.specs.Names.{number_of};
-    ghost use Rattle.dv_world.specs.Looping.{with_new_loop, with_added_loop, with_stopped};
+    ghost use Rattle.dv_objects.specs.Names.{number_of};
+    ghost use Rattle.dv_objects.specs.Looping.{with_new_loop, with_added_loop, with_stopped};
     ghost use Rattle.dv_world.specs.World.{aside, schedule_turn, stop_loop, end_loop};
 
     /// Makes a loop that is started now, whose Deferred this is, and binds its name to it, also where that was bound to

@@ -2,7 +2,7 @@ use Rattle.std.proofs.Common.{arith, ℕ, ◌≡◌, ◌<◌, ◌++◌, ◌∷�
 use Rattle.std.proofs.lemmas.List.{get_or_default}
 use Rattle.std.specs.Vec.Iter.{into_iter_items}
 use Rattle.dv_script.specs.declared.body.Body.{Body}
-use Rattle.dv_engine.specs.Batches.{Callers, bodies_of}
+use Rattle.dv_runner.specs.Batches.{Callers, bodies_of}
 use Rattle.dv_run.specs.Callers.{Serves}
 use Rattle.dv_run.proofs.CallerLemmas.{Made, Started, made_more}
 use Rattle.dv_run.proofs.callers.start_all.Goals as goal

@@ -1,5 +1,5 @@
 use Rattle.std.proofs.Common.{arith, ◌≡◌, ◌++◌, ◌∷◌, [], ◌∙◌, length, sym, ap, subst, append_assoc, length-append}
-use Rattle.dv_engine.specs.Batches.{Batch}
+use Rattle.dv_runner.specs.Batches.{Batch}
 use Rattle.dv_run.specs.Callers.{TookBatches}
 use Rattle.dv_run.proofs.CallerLemmas.{took_more}
 use Rattle.dv_run.proofs.callers.take_up_to.Goals as goal

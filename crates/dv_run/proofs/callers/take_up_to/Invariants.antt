@@ -1,5 +1,5 @@
 use Rattle.std.proofs.Common.{◌≡◌, ◌++◌, length}
-use Rattle.dv_engine.specs.Batches.{Batch}
+use Rattle.dv_runner.specs.Batches.{Batch}
 use Rattle.dv_threads.specs.Posts.{SameInbox}
 use Rattle.dv_run.specs.Callers.{TookBatches}
 use Rattle.dv_run.proofs.callers.take_up_to.Given as goal

@@ -1,5 +1,5 @@
 use Rattle.std.proofs.Common.{◌++◌, ◌≡◌, ◌∙◌, Err, ap, sym, subst}
-use Rattle.dv_engine.specs.Batches.{joined}
+use Rattle.dv_runner.specs.Batches.{joined}
 use Rattle.dv_engine.specs.Engine.{Drained, IsStrange, IsWithin, phase_after}
 use Rattle.dv_engine.specs.declared.engine.Phase.{Phase}
 use Rattle.dv_engine.specs.declared.error.EngineFault.{EngineFault}

@@ -1,5 +1,5 @@
 use Rattle.std.proofs.Common.{◌++◌, ◌≡◌, ◌∙◌, ap, subst}
-use Rattle.dv_engine.specs.Batches.{joined}
+use Rattle.dv_runner.specs.Batches.{joined}
 use Rattle.dv_engine.specs.Report.{Reports}
 use Rattle.dv_script.specs.declared.script.Script.{Script}
 use Rattle.dv_threads.specs.Posts.{of}

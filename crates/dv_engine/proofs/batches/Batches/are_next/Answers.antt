@@ -1,6 +1,6 @@
 use Rattle.std.proofs.Common.{◌++◌, List, ℕ, subst, sym}
 use Rattle.dv_engine.proofs.CountLemmas.{counted_next}
-use Rattle.dv_engine.specs.Batches.{AreNext, joined}
+use Rattle.dv_runner.specs.Batches.{AreNext, joined}
 use Rattle.dv_engine.specs.Taking.{Counted, Taken}
 use Rattle.dv_engine.proofs.batches.Batches.are_next.Goals as goal
 

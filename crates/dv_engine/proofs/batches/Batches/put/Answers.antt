@@ -1,6 +1,6 @@
 use Rattle.std.proofs.Common.{◌++◌, ◌∙◌, List, ℕ, refl, subst, sym}
 use Rattle.dv_engine.proofs.CountLemmas.{counted_with}
-use Rattle.dv_engine.specs.Batches.{AreNext, Batch, joined}
+use Rattle.dv_runner.specs.Batches.{AreNext, Batch, joined}
 use Rattle.dv_engine.specs.Taking.{Counted, Taken}
 use Rattle.dv_engine.proofs.batches.Batches.put.Goals as goal
 

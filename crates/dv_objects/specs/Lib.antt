@@ -1,0 +1,10 @@
+pub mod Waiting
+pub mod Inlines
+pub mod Names
+pub mod Given
+pub mod Performed
+pub mod Pair
+pub mod Cooperator
+pub mod Works
+pub mod Objects
+pub mod Looping

@@ -1,0 +1,60 @@
+-- The pairs of a Deferred: what runs on its value (Twisted: `Deferred.addCallbacks`, `Deferred.chainDeferred`, `DeferredList`, `gatherResults`, `DeferredLock.run`, `LoopingCall`, `CooperativeTask`).
+use Rattle.std.specs.Prelude.{ℕ, Bool, Option, Some, None, is_none, if◌then◌else◌}
+use Rattle.dv_script.specs.declared.body.Body.{Body}
+use Rattle.dv_objects.specs.declared.inline_id.Inline.{Inline}
+use Rattle.dv_objects.specs.declared.pair.Child.{Child}
+use Rattle.dv_objects.specs.declared.pair.Pair.{Pair}
+use Rattle.dv_objects.specs.declared.pair.Side.{Side}
+use Rattle.dv_objects.specs.declared.pair.Side.TheVariants as side
+
+-- a callback alone
+abbrev pub callback : Body → Pair
+callback body = record { callback = Some (side.Body body); errback = None }
+
+-- an errback alone
+abbrev pub errback : Body → Pair
+errback body = record { callback = None; errback = Some (side.Body body) }
+
+-- a callback and an errback
+abbrev pub both : Body → Body → Pair
+both on_value on_failure = record { callback = Some (side.Body on_value); errback = Some (side.Body on_failure) }
+
+-- both fire another Deferred
+abbrev pub chain : ℕ → Pair
+chain to = record { callback = Some (side.Fire to); errback = Some (side.Fire to) }
+
+-- both come to a DeferredList as its child
+abbrev pub coming : Child → Pair
+coming child = record { callback = Some (side.Come child); errback = Some (side.Come child) }
+
+-- a callback that takes what the children gave out of the result of a list
+abbrev pub results : Pair
+results = record { callback = Some side.Results; errback = None }
+
+-- a callback that performs a body with a token of a lock
+abbrev pub holding : ℕ → Body → Pair
+holding lock body = record { callback = Some (side.Hold lock body); errback = None }
+
+-- both give a token of a lock back
+abbrev pub releasing : ℕ → Pair
+releasing lock = record { callback = Some (side.Release lock); errback = Some (side.Release lock) }
+
+-- a callback that schedules the next turn of a loop, and an errback that ends it
+abbrev pub turning : ℕ → Pair
+turning l = record { callback = Some (side.NextTurn l); errback = Some (side.EndLoop l) }
+
+-- a callback that resumes a task, and an errback that ends it
+abbrev pub resuming : ℕ → Pair
+resuming t = record { callback = Some (side.ResumeTask t); errback = Some (side.FailTask t) }
+
+-- both go on with an inline body
+abbrev pub continuing : Inline → Pair
+continuing inline = record { callback = Some (side.Resume inline); errback = Some (side.Resume inline) }
+
+-- the side for a value: the errback for a failure, else the callback
+abbrev pub side_for : Pair → Bool → Option Side
+side_for pair failed = if failed then pair.errback else pair.callback
+
+-- a missing side passes the value on
+abbrev pub passes : Pair → Bool → Bool
+passes pair failed = is_none (side_for pair failed)

@@ -1,0 +1,56 @@
+ghost use Rattle.std.specs.Prelude.{◌≡◌, [], OnOk, OnErr};
+
+use std::alloc::{AllocError, Global};
+use std::collections::BTreeMap;
+use std::marker::Model;
+
+/// The names of one kind of objects, each bound to one; a name that is made again is bound anew.
+#[derive(Drop)]
+pub struct Names<I> {
+    alloc: Global,
+    bound: BTreeMap<String, I>,
+}
+
+impl<I> Model for Names<I> {
+    ghost use Rattle.std.specs.Prelude.{map, string_bytes, List, ℕ};
+    ghost use Rattle.std.specs.Coded.{codes};
+
+    ghost Value = { List (List ℕ × I) };
+
+    ghost coded = { Prim.hlevel (codes, I.code) };
+
+    ghost view = { λ n. map (λ e. (string_bytes e.0, e.1)) n.bound.entries };
+}
+
+impl<I: Copy + Drop> Names<I> {
+    ghost use Rattle.dv_objects.specs.Names.{number_of, with_name};
+
+    /// No names. It takes no memory before the first is bound.
+    pub fn new(alloc: Global) -> Names<I>
+        ensures { result ≡ [] }
+    {
+        Names {
+            alloc,
+            bound: BTreeMap::new(alloc),
+        }
+    }
+
+    /// The object that a name is bound to.
+    #[tactic(auto, using(crate::proofs::NamesLemmas::number_of_shown))]
+    pub fn find(&self, name: &str) -> Option<I>
+        ensures { result ≡ number_of name.now self.now }
+    {
+        self.bound.get(name).copied()
+    }
+
+    /// Binds a name. Where memory is refused, it stays bound to what it was.
+    #[tactic(auto, using(crate::proofs::NamesLemmas::with_name_shown))]
+    pub fn bind(&mut self, name: &str, id: I) -> Result<(), AllocError>
+        ensures ok { OnOk result (self.new ≡ with_name name.now id self.old) }
+        ensures err { OnErr result (self.new ≡ self.old) }
+    {
+        let name = String::from_str(self.alloc, name)?;
+        self.bound.insert(name, id)?;
+        Ok(())
+    }
+}

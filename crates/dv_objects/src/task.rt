@@ -1,0 +1,63 @@
+ghost use Rattle.std.specs.Prelude.{◌≡◌, [], IfOk};
+ghost use Rattle.dv_objects.specs.Cooperator.{result_of, how_ended};
+
+use dv_journal::deferred_id::DeferredId;
+use dv_script::lent::{BodiesRef, TextRef};
+use dv_value::boxed::Boxed;
+use dv_value::class_id::ClassId;
+use dv_value::failure::Failure;
+use dv_value::fault::{failure, fault};
+use dv_value::items::Items;
+use dv_value::text::Text;
+use dv_value::value::Value;
+use std::alloc::{AllocError, Global};
+
+/// How a task has ended.
+#[derive(Drop)]
+pub enum TaskEnd {
+    /// All its bodies were performed.
+    Finished,
+    /// It was stopped.
+    Stopped,
+    /// A body of it, or a Deferred that it waited for, came to this failure.
+    Failed(Failure),
+}
+
+/// A task of the Cooperator (Twisted: `CooperativeTask`).
+#[derive(Drop)]
+pub struct Task<'s> {
+    /// Its name at its making.
+    pub name: TextRef<'s>,
+    /// The bodies that are left to be performed, one a step.
+    pub bodies: BodiesRef<'s>,
+    /// How often it was paused and hasn't been resumed since.
+    pub pauses: u64,
+    /// How it has ended, if it has.
+    pub end: Option<TaskEnd>,
+    /// The Deferreds that wait for its end, in order of asking.
+    pub waiting: Items<DeferredId>,
+}
+
+impl TaskEnd {
+    /// What whoever waits for the end of a task is fired with (Twisted: `CooperativeTask.whenDone`).
+    pub fn result(&self, alloc: Global, name: &str) -> Result<Value, AllocError>
+        ensures { IfOk result (λ value. value ≡ result_of name.now self.now) }
+    {
+        match self {
+            TaskEnd::Finished => Ok(Value::Text(Text::of(alloc, name)?)),
+            TaskEnd::Stopped => fault(alloc, ClassId::TASK_STOPPED, ""),
+            TaskEnd::Failed(failure) => Ok(Value::Fault(Boxed::new(alloc, failure.copy(alloc)?)?)),
+        }
+    }
+
+    /// What is raised where a task has ended (Twisted: `TaskDone`, `TaskStopped`, `TaskFailed`).
+    pub fn raised(&self, alloc: Global) -> Result<Failure, AllocError>
+        ensures { IfOk result (λ failure. failure ≡ how_ended self.now) }
+    {
+        match self {
+            TaskEnd::Finished => failure(alloc, ClassId::TASK_DONE, ""),
+            TaskEnd::Stopped => failure(alloc, ClassId::TASK_STOPPED, ""),
+            TaskEnd::Failed(_) => failure(alloc, ClassId::TASK_FAILED, ""),
+        }
+    }
+}

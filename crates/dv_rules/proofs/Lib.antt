@@ -1,0 +1,3 @@
+pub mod BoundsLemmas
+pub mod FireLemmas
+pub mod JobLemmas

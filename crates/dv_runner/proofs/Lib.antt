@@ -1,0 +1,16 @@
+pub mod Extends
+pub mod Runs
+pub mod Lasting
+pub mod Kept
+pub mod Sizes
+pub mod InlineSizes
+pub mod Tally
+pub mod Budget
+pub mod BoundsKept
+pub mod Fair
+pub mod RunComes
+pub mod Halts
+pub mod Total
+pub mod Stopped
+pub mod Turns
+pub mod JobsKept

@@ -1,0 +1,4 @@
+pub mod Batches
+pub mod Occurrences
+pub mod Meaning
+pub mod Laws
