@@ -20,7 +20,12 @@ fn main(rt: HostRuntime) -> ExitCode {
         Ok(Some(workers)) => {
             let mut reader = IoSource::new(rt.stdin());
             let mut writer = IoSink::new(rt.stdout());
-            exit_of(&run(&rt, &mut reader, &mut writer, workers, &PlainGate))
+            let ended = run(&rt, &mut reader, &mut writer, workers, &PlainGate);
+            let exit = exit_of(&ended);
+            if let Ok(report) = ended {
+                report.discard();
+            }
+            exit
         }
         Err(error) if error.kind() == io::ErrorKind::OutOfMemory => {
             exit_of(&Err(RunFault::OutOfMemory))

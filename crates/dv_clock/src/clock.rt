@@ -305,7 +305,7 @@ fn join(
     ensures err { OnErr result (journal.new ≡ journal.old) }
 {
     let Ok(_) = waiting.insert(place) else {
-        drop(entry);
+        entry.discard();
         return Err(AllocError);
     };
     match journal.write(entry) {

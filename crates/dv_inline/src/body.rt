@@ -119,7 +119,7 @@ impl<'s> InlineBody<'s> {
         match answer {
             Value::Fault(failure) => self.throw(classes, failure),
             Value::Null | Value::Bool(_) | Value::Int(_) | Value::Text(_) | Value::List(_) => {
-                self.value = answer;
+                drop(mem::replace(&mut self.value, answer));
                 self.pass();
             }
         }
@@ -142,7 +142,7 @@ impl<'s> InlineBody<'s> {
             if let Some((second, rest)) = caught_by(classes, failure.get(), around) {
                 self.tries.replace(Open { catch: None, rest });
                 self.statements = second;
-                self.value = Value::Null;
+                drop(mem::replace(&mut self.value, Value::Null));
                 return;
             }
             let _ = self.tries.pop();
@@ -154,8 +154,8 @@ impl<'s> InlineBody<'s> {
     fn end(&mut self, outcome: Value)
         ensures { self.new ≡ over_with outcome self.old }
     {
-        self.value = Value::Null;
-        self.result = Some(outcome);
+        drop(mem::replace(&mut self.value, Value::Null));
+        drop(mem::replace(&mut self.result, Some(outcome)));
     }
 
     /// Makes the next move that needs no answer, and tells whether there was one.
@@ -287,10 +287,16 @@ fn ended(alloc: Global, end: &End, value: Value) -> Result<Value, AllocError>
     ensures { IfOk result (λ v. v ≡ ended end.now value) }
 {
     match end {
-        End::Return(given) => given.copy(alloc),
+        End::Return(given) => {
+            drop(value);
+            given.copy(alloc)
+        }
         End::Pass => Ok(value),
         End::Plus(n) => plus(alloc, *n, value),
-        End::Raise(class, message) => fault(alloc, *class, message.as_str()),
+        End::Raise(class, message) => {
+            drop(value);
+            fault(alloc, *class, message.as_str())
+        }
         End::Trap(_, _) | End::Wait(_) => Ok(value),
     }
 }

@@ -60,6 +60,6 @@ impl<'s> Parked<'s> {
     pub fn discard(&mut self, key: usize)
         ensures { Changes self.old self.new key None }
     {
-        let _ = self.bodies.try_remove(key);
+        drop(self.bodies.try_remove(key));
     }
 }

@@ -11,7 +11,7 @@ use dv_value::value::Value;
 /// In the lines below `N` and `E` are numbers of Deferreds, `O` is what an outcome shows of a value (`ok` and its JSON,
 /// or `fail` and its failure), `F` is a failure, `J` is the JSON of a value, and `TIME` is in ticks of the virtual clock.
 /// A name is that of the object at its making.
-#[derive(Debug, Drop)]
+#[derive(Drop)]
 pub enum Entry {
     /// `new #N NAME`: a Deferred is made; the name is `-` for one without.
     New(DeferredId, Option<Text>),
@@ -108,6 +108,9 @@ pub enum Entry {
 }
 
 impl Entry {
+    /// Lets an entry go that isn't written. Who does it by this call needs no proof of its own of what an entry holds.
+    pub fn discard(self) {}
+
     /// How much the entry counts against the journal's limit: one, and the size of the value, the failure or the
     /// noted text that its line shows. It stops at `u64::MAX`.
     pub fn weight(&self) -> u64

@@ -16,7 +16,7 @@ use std::alloc::Global;
 use std::marker::Model;
 
 /// What happened in a run, in order, up to a limit.
-#[derive(Debug, Drop)]
+#[derive(Drop)]
 pub struct Journal {
     alloc: Global,
     entries: Items<Entry>,

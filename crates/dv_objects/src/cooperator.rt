@@ -151,9 +151,10 @@ impl<'s> Cooperator<'s> {
         ensures rest { self.new ≡ changing (with_end id end) (slice_get self.old.tasks id) self.old }
     {
         let Some(task) = self.tasks.get_mut(id.number() as usize) else {
+            drop(end);
             return Items::new(self.alloc);
         };
-        task.end = Some(end);
+        drop(mem::replace(&mut task.end, Some(end)));
         let _ = self.turns.remove(id);
         mem::replace(&mut task.waiting, Items::new(self.alloc))
     }

@@ -77,9 +77,15 @@ impl<'s> Inlines<'s> {
     pub fn come(&mut self, place: usize, input: Value) -> Option<(InlineBody<'s>, Value)>
         ensures { (result, self.new) ≡ come_to place input self.old }
     {
-        let waiting = self.kept.get_mut(place)?;
+        let Some(waiting) = self.kept.get_mut(place) else {
+            drop(input);
+            return None;
+        };
         let (key, input) = waiting.come(input)?;
-        let body = self.parked.unpark(key)?;
+        let Some(body) = self.parked.unpark(key) else {
+            drop(input);
+            return None;
+        };
         Some((body, input))
     }
 
@@ -105,10 +111,14 @@ impl<'s> Inlines<'s> {
             drop(body);
             return Ok(None);
         }
-        let Ok(key) = self.parked.park(body) else {
-            return Err(AllocError);
+        let key = match self.parked.park(body) {
+            Ok(key) => key,
+            Err(refused) => {
+                drop(refused);
+                return Err(AllocError);
+            }
         };
-        *waiting = Waiting::Awaiting(awaited, key);
+        waiting.set(Waiting::Awaiting(awaited, key));
         Ok(None)
     }
 

@@ -59,13 +59,17 @@ impl<B: Drop> Waiting<B> {
         ensures { (result, self.new) ≡ come input self.old }
     {
         match mem::replace(self, Waiting::Nothing) {
-            Waiting::Nothing => None,
+            Waiting::Nothing => {
+                drop(input);
+                None
+            }
             Waiting::Adding => {
-                *self = Waiting::Came(input);
+                self.set(Waiting::Came(input));
                 None
             }
             Waiting::Came(earlier) => {
-                *self = Waiting::Came(earlier);
+                drop(input);
+                self.set(Waiting::Came(earlier));
                 None
             }
             Waiting::Awaiting(_, body) => Some((body, input)),
@@ -79,14 +83,21 @@ impl<B: Drop> Waiting<B> {
         match mem::replace(self, Waiting::Nothing) {
             Waiting::Nothing => None,
             Waiting::Adding => {
-                *self = Waiting::Adding;
+                self.set(Waiting::Adding);
                 None
             }
             Waiting::Came(input) => Some(input),
             Waiting::Awaiting(awaited, body) => {
-                *self = Waiting::Awaiting(awaited, body);
+                self.set(Waiting::Awaiting(awaited, body));
                 None
             }
         }
+    }
+
+    /// It waits for this from now on; what it waited for before is dropped.
+    pub fn set(&mut self, waiting: Waiting<B>)
+        ensures { self.new ≡ waiting }
+    {
+        drop(mem::replace(self, waiting));
     }
 }

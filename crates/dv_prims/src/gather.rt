@@ -79,11 +79,18 @@ impl Gather {
         ensures err { OnErr result (self.new ≡ self.old) }
     {
         let consumes = self.flags.consume_errors && value.is_fault();
-        let fire = self.due(index, &value)?;
-        Ok(Came {
-            fire,
-            pass: if consumes { Value::Null } else { value },
-        })
+        let Ok(fire) = self.due(index, &value) else {
+            drop(value);
+            return Err(AllocError);
+        };
+        if consumes {
+            drop(value);
+            return Ok(Came {
+                fire,
+                pass: Value::Null,
+            });
+        }
+        Ok(Came { fire, pass: value })
     }
 
     /// The list was fired, by whomever: it fires nothing more by itself, and keeps nothing.
@@ -152,10 +159,13 @@ fn put_in_place(places: &mut Items<Value>, missing: usize, place: usize, kept: V
     ensures counted { result ≡ count_missing places.new }
 {
     if place >= places.as_slice().len() {
+        drop(kept);
         return missing;
     }
     let before = places.replace(place, kept);
-    missing - missing_of(&before)
+    let left = missing - missing_of(&before);
+    drop(before);
+    left
 }
 
 /// One for a place that no child has come to.
@@ -186,7 +196,10 @@ fn pair(alloc: Global, first: Value, second: Value) -> Result<Value, AllocError>
     ensures { IfOk result (λ pair. pair ≡ List (first ∷ second ∷ [])) }
 {
     let mut items = Items::new(alloc);
-    items.push(first)?;
+    if items.push(first).is_err() {
+        drop(second);
+        return Err(AllocError);
+    }
     items.push(second)?;
     Ok(Value::List(items))
 }

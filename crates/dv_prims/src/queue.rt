@@ -1,4 +1,4 @@
-ghost use Rattle.std.specs.Prelude.{◌≡◌};
+ghost use Rattle.std.specs.Prelude.{◌≡◌, IfOk};
 
 use crate::error::PutFault;
 use crate::waiting::join;
@@ -45,6 +45,7 @@ impl Queue {
     ghost use Rattle.dv_prims.specs.Queue.{make_queue, may_put, may_get, put, PutsUnlessMemory, get, withdrawn};
     ghost use Rattle.dv_journal.specs.Telling.{UnlessMemory};
     ghost use Rattle.dv_prims.specs.Tokens.{is_waiting};
+    ghost use Rattle.dv_journal.specs.declared.entry.Entry.TheVariants as entry;
 
     /// Makes a queue in which nothing is stored, and tells of it. It stores at most as many values as its size, and at
     /// most as many Deferreds wait for one as its backlog; None is no bound (Twisted: `DeferredQueue`).
@@ -103,23 +104,38 @@ impl Queue {
         ensures { PutsUnlessMemory result (self.old, journal.old) (self.new, journal.new) (put value (self.old, journal.old)) }
     {
         if !self.may_put() {
+            drop(value);
             return Err(PutFault::Overflow);
         }
         if !journal.fits_value(&value) {
+            drop(value);
             return Err(PutFault::Limit);
         }
-        let name = self.name.copy(self.alloc)?;
-        let shown = value.copy(self.alloc)?;
-        let entry = Entry::Put(name, shown);
+        let Ok(entry) = self.putting(&value) else {
+            drop(value);
+            return Err(PutFault::OutOfMemory);
+        };
         if self.waiting.first().is_none() {
             store(journal, entry, &mut self.stored, value)?;
             return Ok(None);
         }
-        journal.write(entry)?;
+        if let Err(stop) = journal.write(entry) {
+            drop(value);
+            return Err(stop.into());
+        }
         match self.waiting.pop_first() {
             Some(number) => Ok(Some((DeferredId::new(number), value))),
             None => unreachable!(),
         }
+    }
+
+    /// The entry that tells of a value that is put.
+    fn putting(&self, value: &Value) -> Result<Entry, AllocError>
+        ensures { IfOk result (λ told. told ≡ entry.Put self.now.name value.now) }
+    {
+        let name = self.name.copy(self.alloc)?;
+        let shown = value.copy(self.alloc)?;
+        Ok(Entry::Put(name, shown))
     }
 
     /// A Deferred asks for a value: the first that is stored is taken and answered, for it to be fired with; with none
@@ -198,7 +214,7 @@ fn store(
     ensures err { OnErr result (journal.new ≡ journal.old) }
 {
     if stored.push_back(value).is_err() {
-        drop(entry);
+        entry.discard();
         return Err(AllocError);
     }
     match journal.write(entry) {

@@ -25,7 +25,7 @@ pub fn join(
     ensures err { OnErr result (journal.new ≡ journal.old) }
 {
     let Ok(added) = waiting.insert(id.number()) else {
-        drop(entry);
+        entry.discard();
         return Err(AllocError);
     };
     match journal.write(entry) {

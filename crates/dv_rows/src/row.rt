@@ -57,7 +57,12 @@ impl<'a> Row<'a> {
         let alloc = rt.alloc();
         let mut source = MemorySource::new(script.as_bytes(), 4096);
         let mut sink = MemorySink::new(alloc, ROOM, 4096)?;
-        let ending = match exit_of(&run(rt, &mut source, &mut sink, 0, &PlainGate)) {
+        let ended = run(rt, &mut source, &mut sink, 0, &PlainGate);
+        let exit = exit_of(&ended);
+        if let Ok(report) = ended {
+            report.discard();
+        }
+        let ending = match exit {
             (status, "") => format!(in alloc; "{status}")?,
             (status, text) => format!(in alloc; "{status} {text}")?,
         };

@@ -129,7 +129,10 @@ fn fire<'s>(
     ensures { IfOk result (λ performed. (stack.new, performed, world.new) ≡ begun itself (FireWith name.now given.entry) world.old over stack.old) }
 {
     match world.find(itself, name) {
-        None => unbound(alloc, name),
+        None => {
+            drop(given);
+            unbound(alloc, name)
+        }
         Some(id) => {
             let kept = kept(alloc, world, id, given)?;
             fire_and_settle(world, stack, id, kept)
@@ -151,6 +154,7 @@ fn kept<'s>(
     if world.is_unfired(id) {
         given.make(alloc)
     } else {
+        drop(given);
         Ok(Value::Null)
     }
 }
@@ -167,7 +171,10 @@ fn add<'s>(
     ensures { IfOk result (λ performed. (stack.new, performed, world.new) ≡ begun itself (AddTo name.now pair.entry) world.old over stack.old) }
 {
     match world.find(itself, name) {
-        None => unbound(alloc, name),
+        None => {
+            drop(pair);
+            unbound(alloc, name)
+        }
         Some(id) => add_and_settle(world, stack, id, pair),
     }
 }

@@ -255,6 +255,7 @@ pub fn end_step<'s>(
     ensures { IfOk result (λ next. (stack.new, next, world.new) ≡ stepped task performed.entry world.old over stack.old) }
 {
     if has_ended(world, task) {
+        drop(performed);
         return Ok(Performed::Done);
     }
     use_step(alloc, world, stack, task, performed)

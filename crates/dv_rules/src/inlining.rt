@@ -1,5 +1,7 @@
 ghost use Rattle.std.specs.Prelude.{◌≡◌, IfOk, Some};
 ghost use Rattle.dv_rules.specs.Bounds.{Bounded};
+ghost use Rattle.dv_value.specs.Builtin.{name_error};
+ghost use Rattle.dv_value.specs.Failure.{fault as fault_of};
 ghost use Rattle.dv_rules.specs.Inlining.{inline_begun, going_with, going_where, resumed, await_ended, answer_of};
 ghost use Rattle.dv_rules.specs.Turn.{◌over◌};
 ghost use Rattle.dv_rules.specs.Wanting.{awaiting, awaited_by, wanted, reached, inline_turned};
@@ -122,7 +124,10 @@ fn want<'s>(
     ensures { IfOk result (λ next. (stack.new, next, world.new) ≡ wanted inline (want_at body.entry) body.entry world.old over stack.old) }
 {
     match body.want() {
-        None => Ok(Performed::Done),
+        None => {
+            drop(body);
+            Ok(Performed::Done)
+        }
         Some(Want::Do(action)) => {
             stack.push(Frame::Inline(Inlining::Acted(inline, body)))?;
             begin(alloc, world, stack, Some(inline.of), action.get())
@@ -144,10 +149,29 @@ fn begin_await<'s>(
 {
     match world.find(Some(inline.of), name.as_str()) {
         None => {
-            let thrown = fault(alloc, ClassId::NAME_ERROR, name.as_str())?;
-            go_on_with(world, stack, inline, body, thrown)
+            throw(alloc, world, stack, inline, name, body)
         }
         Some(awaited) => add(world, stack, inline, awaited, body),
+    }
+}
+
+/// A body goes on with NameError.
+fn throw<'s>(
+    alloc: Global,
+    world: &World<'s>,
+    stack: &mut Stack<Frame<'s>>,
+    inline: Inline,
+    name: TextRef<'s>,
+    body: InlineBody<'s>,
+) -> Result<Performed<'s>, AllocError>
+    ensures { IfOk result (λ next. (stack.new, next, world.now) ≡ going_with inline (fault_of name_error name.entry) body.entry world.now over stack.old) }
+{
+    match fault(alloc, ClassId::NAME_ERROR, name.as_str()) {
+        Ok(thrown) => go_on_with(world, stack, inline, body, thrown),
+        Err(AllocError) => {
+            drop(body);
+            Err(AllocError)
+        }
     }
 }
 
@@ -162,7 +186,10 @@ fn add<'s>(
     ensures { IfOk result (λ next. (stack.new, next, world.new) ≡ awaiting inline awaited body.entry world.old over stack.old) }
 {
     let Inline { id, of } = inline;
-    world.begin_await(Inline { id, of }, awaited)?;
+    if world.begin_await(Inline { id, of }, awaited).is_err() {
+        drop(body);
+        return Err(AllocError);
+    }
     stack.push(Frame::Inline(Inlining::Awaited(Inline { id, of }, awaited, body)))?;
     add_and_settle(world, stack, awaited, Pair::continuing(Inline { id, of }))
 }
@@ -230,7 +257,11 @@ fn answer_of<'s>(alloc: Global, performed: Performed<'s>) -> Result<Value, Alloc
     ensures { IfOk result (λ answer. answer ≡ answer_of performed.entry) }
 {
     match performed {
-        Performed::Done | Performed::Gave(_) | Performed::Awaits(_) => Ok(Value::Null),
+        Performed::Gave(given) => {
+            drop(given);
+            Ok(Value::Null)
+        }
+        Performed::Done | Performed::Awaits(_) => Ok(Value::Null),
         Performed::Raised(failure) => Ok(Value::Fault(Boxed::new(alloc, failure)?)),
     }
 }

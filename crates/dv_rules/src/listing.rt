@@ -162,7 +162,11 @@ pub fn come<'s>(
     ensures { IfOk result (λ performed. (stack.new, performed, world.new) ≡ come_by child value world.old over stack.old) }
 {
     let Came { fire, pass } = world.come(child.list, child.place, value)?;
-    stack.push(Frame::Give(Performed::Gave(Given::own(pass))))?;
+    let give = Frame::Give(Performed::Gave(Given::own(pass)));
+    if stack.push(give).is_err() {
+        drop(fire);
+        return Err(AllocError);
+    }
     fire_by_child(world, stack, child.of, fire)
 }
 
@@ -179,6 +183,7 @@ fn fire_by_child<'s>(
         return Ok(Performed::Done);
     };
     if !world.is_unfired(id) {
+        drop(value);
         return Ok(Performed::Done);
     }
     fire_and_settle(world, stack, id, value)
@@ -188,7 +193,9 @@ fn fire_by_child<'s>(
 pub fn results<'s>(alloc: Global, value: Value) -> Result<Performed<'s>, AllocError>
     ensures { IfOk result (λ performed. (w : Seen) → ([], performed, w) ≡ results_given (seconds_of value) w) }
 {
-    match seconds(alloc, &value)? {
+    let seconds = seconds(alloc, &value);
+    drop(value);
+    match seconds? {
         None => not_gathered(alloc),
         Some(seconds) => Ok(Performed::Gave(Given::own(seconds))),
     }

@@ -127,6 +127,7 @@ pub fn fail_turn<'s>(
     ensures { IfOk result (λ performed. (stack.new, performed, world.new) ≡ turn_failed looping failure world.old over stack.old) }
 {
     let Some(found) = world.looping(looping) else {
+        drop(failure);
         return Ok(Performed::Done);
     };
     let of = found.of;

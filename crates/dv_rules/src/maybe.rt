@@ -1,8 +1,8 @@
-ghost use Rattle.std.specs.Prelude.{◌≡◌, [], ◌++◌, IfOk, OnOk};
+ghost use Rattle.std.specs.Prelude.{◌≡◌, ◌<◌, ◌^◌, ◌-◌, [], ◌++◌, None, length, IfOk, OnOk};
 ghost use Rattle.dv_rules.specs.Bounds.{Bounded};
 ghost use Rattle.dv_rules.specs.Maybe.{body_for, name_for, used_for, made_with, taken_for, maybe_ended, given_after};
 ghost use Rattle.dv_rules.specs.Turn.{◌over◌};
-ghost use Rattle.dv_world.specs.World.{World as Seen};
+ghost use Rattle.dv_world.specs.World.{World as Seen, make};
 
 use crate::frame::{Frame, Purpose};
 use crate::settling::{done, fire_and_settle, whole};
@@ -62,9 +62,26 @@ fn make_with<'s>(
     ensures { IfOk result (λ next. (stack.new, next, world.new) ≡ made_with purpose.entry value world.old over stack.old) }
 {
     let id = world.next_id();
-    let name = begin_use(stack, purpose, id)?;
-    world.make(name, None)?;
+    if make_for(world, stack, purpose, id).is_err() {
+        drop(value);
+        return Err(AllocError);
+    }
     fire_and_settle(world, stack, id, value)
+}
+
+/// Makes a Deferred, and what it is for is to follow.
+fn make_for<'s>(
+    world: &mut World<'s>,
+    stack: &mut Stack<Frame<'s>>,
+    purpose: Purpose<'s>,
+    id: DeferredId,
+) -> Result<(), AllocError>
+    requires { length world.old.records < 2 ^ 32 - 1 }
+    ensures world { OnOk result (world.new ≡ make (name_for purpose.entry) None world.old) }
+    ensures stack { OnOk result (stack.new ≡ used_for purpose.entry id ++ stack.old) }
+{
+    let name = begin_use(stack, purpose, id)?;
+    world.make(name, None)
 }
 
 /// What a Deferred is for is to follow, and the name that it gets is answered.
@@ -110,7 +127,14 @@ pub fn give_after<'s>(given: Performed<'s>, performed: Performed<'s>) -> Perform
     ensures { (w : Seen) → ([], result, w) ≡ given_after given.entry performed.entry w }
 {
     match performed {
-        Performed::Done | Performed::Gave(_) | Performed::Awaits(_) => given,
-        Performed::Raised(failure) => Performed::Raised(failure),
+        Performed::Done | Performed::Awaits(_) => given,
+        Performed::Gave(before) => {
+            drop(before);
+            given
+        }
+        Performed::Raised(failure) => {
+            drop(given);
+            Performed::Raised(failure)
+        }
     }
 }

@@ -29,7 +29,10 @@ pub fn put<'s>(
     ensures { IfOk result (λ performed. (stack.new, performed, world.new) ≡ begun None (PutInto queue.now given.entry) world.old over stack.old) }
 {
     match world.find_queue(queue) {
-        None => unbound(alloc, queue),
+        None => {
+            drop(given);
+            unbound(alloc, queue)
+        }
         Some(found) => put_where_it_may_be(alloc, world, stack, found, given),
     }
 }
@@ -45,9 +48,11 @@ fn put_where_it_may_be<'s>(
     ensures { IfOk result (λ performed. (stack.new, performed, world.new) ≡ put_of queue given.entry (slice_get world.old.objects.queues queue) world.old over stack.old) }
 {
     let Some(found) = world.queue(queue) else {
+        drop(given);
         return Ok(Performed::Done);
     };
     if !found.may_put() {
+        drop(given);
         return overflow(alloc);
     }
     let value = given.make(alloc)?;

@@ -1,6 +1,7 @@
 ghost use Rattle.std.specs.Prelude.{◌≡◌, ◌∷◌, Some, IfOk, OnOk};
 ghost use Rattle.dv_value.specs.Failure.{is_fault};
 ghost use Rattle.dv_objects.specs.Pair.{side_for};
+ghost use Rattle.dv_store.specs.declared.store.Step.TheVariants.{Run};
 ghost use Rattle.dv_world.specs.World.{World as Seen, append, fire, step};
 ghost use Rattle.dv_rules.specs.Done.{once_done};
 ghost use Rattle.dv_rules.specs.Settling.{place, side_begun, settled};
@@ -41,14 +42,33 @@ pub fn settle<'s>(
     match world.step(id)? {
         Step::Nothing => Ok(Performed::Done),
         Step::Passed => settle_after(stack, id),
-        Step::Run(pair) => {
-            let input = world.value(id)?;
-            stack.push(Frame::Place(id))?;
-            begin_side(alloc, world, stack, id, pair, input)
-        }
+        Step::Run(pair) => run(alloc, world, stack, id, pair),
         Step::Handed(to) => {
             stack.push(Frame::Settle(id))?;
             settle_after(stack, to)
+        }
+    }
+}
+
+/// Begins a pair on the value of its Deferred; what that comes to is to be put in place.
+fn run<'s>(
+    alloc: Global,
+    world: &mut World<'s>,
+    stack: &mut Stack<Frame<'s>>,
+    id: DeferredId,
+    pair: Pair<'s>,
+) -> Result<Performed<'s>, AllocError>
+    ensures { IfOk result (λ performed. (stack.new, performed, world.new) ≡ settled id (Run pair.entry) world.old over stack.old) }
+{
+    if stack.push(Frame::Place(id)).is_err() {
+        drop(pair);
+        return Err(AllocError);
+    }
+    match world.value(id) {
+        Ok(input) => begin_side(alloc, world, stack, id, pair, input),
+        Err(AllocError) => {
+            drop(pair);
+            Err(AllocError)
         }
     }
 }

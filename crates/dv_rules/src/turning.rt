@@ -110,10 +110,15 @@ fn go_on_unless_raised<'s>(
     ensures { IfOk result (λ next. (stack.new, next, world.new) ≡ rest_turned rest.entry performed.entry world.old over stack.old) }
 {
     match performed {
-        Performed::Raised(failure) => Ok(Performed::Raised(failure)),
-        Performed::Done | Performed::Gave(_) | Performed::Awaits(_) => {
+        Performed::Raised(failure) => {
+            drop(rest);
+            Ok(Performed::Raised(failure))
+        }
+        Performed::Gave(given) => {
+            drop(given);
             go_on(alloc, world, stack, rest)
         }
+        Performed::Done | Performed::Awaits(_) => go_on(alloc, world, stack, rest),
     }
 }
 

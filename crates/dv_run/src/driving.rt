@@ -42,8 +42,14 @@ where
 {
     let mut engine = engine;
     let mut inbox = inbox;
-    let is_lawful = perform_events(rt, alloc, &mut engine, &mut inbox)?;
-    let rest = end(rt, alloc, bodies, inbox, callers)?;
+    let Ok(is_lawful) = perform_events(rt, alloc, &mut engine, &mut inbox) else {
+        engine.discard();
+        return Err(AllocError);
+    };
+    let Ok(rest) = end(rt, alloc, bodies, inbox, callers) else {
+        engine.discard();
+        return Err(AllocError);
+    };
     if !is_lawful {
         // Now that the callers have ended, it is known that no post was a stranger.
         unreachable!()
@@ -145,7 +151,10 @@ where
     ensures { IfOk result (IsRun engine.entry.script) }
 {
     let mut engine = engine;
-    take_rest(rt, &mut engine, rest)?;
+    let Ok(()) = take_rest(rt, &mut engine, rest) else {
+        engine.discard();
+        return Err(AllocError);
+    };
     match engine.finish(rt) {
         Ok(report) => Ok(report),
         Err(EngineFault::OutOfMemory) => Err(AllocError),

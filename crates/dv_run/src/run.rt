@@ -55,9 +55,19 @@ where
 {
     let alloc = rt.alloc();
     let script = script_of(alloc, reader)?;
-    let report = perform(rt, &script, workers, gate)?;
-    print_report(alloc, &script.classes, &report, writer)?;
-    Ok(report)
+    let Ok(report) = perform(rt, &script, workers, gate) else {
+        script.discard();
+        return Err(RunFault::OutOfMemory);
+    };
+    let printed = print_report(alloc, &script.classes, &report, writer);
+    script.discard();
+    match printed {
+        Ok(()) => Ok(report),
+        Err(fault) => {
+            report.discard();
+            Err(fault.into())
+        }
+    }
 }
 
 /// The script that the input says.

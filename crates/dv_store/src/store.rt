@@ -197,12 +197,17 @@ impl<P: Sides + Drop, K: Drop> Store<P, K> {
         ensures { FiresUnlessMemory result (self.old, journal.old) (self.new, journal.new) (fire id value (self.old, journal.old)) }
     {
         let Some(record) = self.record(id) else {
+            drop(value);
             return Ok(Fired::Set);
         };
         if record.fired {
+            drop(value);
             return self.fire_again(journal, id);
         }
-        tell_fire(self.alloc, journal, id, &value)?;
+        if let Err(stop) = tell_fire(self.alloc, journal, id, &value) {
+            drop(value);
+            return Err(stop.into());
+        }
         self.set_fired(id, value);
         Ok(Fired::Set)
     }
@@ -243,10 +248,11 @@ impl<P: Sides + Drop, K: Drop> Store<P, K> {
     fn set_fired(&mut self, id: DeferredId, value: Value)
         ensures { self.new ≡ changing id (with_firing value) self.old }
     {
-        if let Some(record) = self.records.get_mut(id.number() as usize) {
-            record.fired = true;
-            record.value = value;
-        }
+        let Some(record) = self.records.get_mut(id.number() as usize) else {
+            return drop(value);
+        };
+        record.fired = true;
+        drop(mem::replace(&mut record.value, value));
     }
 
     /// The first Deferred that doesn't wait, from this one on along those that are waited for; None where the walk comes
@@ -366,9 +372,13 @@ impl<P: Sides + Drop, K: Drop> Store<P, K> {
         ensures { UnlessMemory result (self.old, journal.old) (self.new, journal.new) (put id value (self.old, journal.old)) }
     {
         if id.number() as usize >= self.records.len() {
+            drop(value);
             return Ok(());
         }
-        tell_set(self.alloc, journal, id, &value)?;
+        if let Err(stop) = tell_set(self.alloc, journal, id, &value) {
+            drop(value);
+            return Err(stop);
+        }
         self.set_result(id, value);
         Ok(())
     }
@@ -444,10 +454,11 @@ impl<P: Sides + Drop, K: Drop> Store<P, K> {
     fn set_handed(&mut self, id: DeferredId, value: Value)
         ensures { self.new ≡ changing id (with_handed value) self.old }
     {
-        if let Some(record) = self.records.get_mut(id.number() as usize) {
-            record.value = value;
-            record.waits_for = None;
-        }
+        let Some(record) = self.records.get_mut(id.number() as usize) else {
+            return drop(value);
+        };
+        drop(mem::replace(&mut record.value, value));
+        record.waits_for = None;
     }
 
     /// A side of a Deferred has ended with another that it is to wait for.
@@ -464,10 +475,11 @@ impl<P: Sides + Drop, K: Drop> Store<P, K> {
     fn set_result(&mut self, id: DeferredId, value: Value)
         ensures { self.new ≡ changing id (with_result value) self.old }
     {
-        if let Some(record) = self.records.get_mut(id.number() as usize) {
-            record.value = value;
-            record.running = false;
-        }
+        let Some(record) = self.records.get_mut(id.number() as usize) else {
+            return drop(value);
+        };
+        drop(mem::replace(&mut record.value, value));
+        record.running = false;
     }
 
     /// Pauses a Deferred once more: it uses no items until it is unpaused as often (Twisted: `Deferred.pause`).

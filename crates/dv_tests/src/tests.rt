@@ -13,5 +13,8 @@ use dv_run::error::RunFault;
 
 /// Whether a run stopped at its limit, or why it gave up.
 fn stops(answer: Result<Report, RunFault>) -> Result<bool, RunFault> {
-    Ok(answer?.stopped)
+    let report = answer?;
+    let stopped = report.stopped;
+    report.discard();
+    Ok(stopped)
 }

@@ -123,9 +123,13 @@ impl<'g, G: Gate> JobSource for Pool<'g, G> {
 
     fn submit(&mut self, alloc: Global, work: Work) -> Result<u32, JobFault> {
         let Some(parts) = &mut self.parts else {
+            drop(work);
             return Err(JobFault::OutOfMemory);
         };
-        let copy = work.copy(alloc)?;
+        let Ok(copy) = work.copy(alloc) else {
+            drop(work);
+            return Err(JobFault::OutOfMemory);
+        };
         Ok(submit(&mut self.works, parts, work, copy)?)
     }
 

@@ -195,6 +195,7 @@ impl<'s> World<'s> {
         ensures { OnOk result (self.new ≡ put id value self.old) }
     {
         if self.stopped {
+            drop(value);
             return Ok(());
         }
         match self.store.put(&mut self.journal, id, value) {
@@ -223,6 +224,7 @@ impl<'s> World<'s> {
         ensures { OnOk result (self.new ≡ append id pair.entry self.old) }
     {
         if self.stopped {
+            drop(pair);
             return Ok(());
         }
         match self.store.append(&mut self.journal, id, pair) {
@@ -243,9 +245,13 @@ impl<'s> World<'s> {
         ensures { OnOk result (self.new ≡ make name.entry canceller.entry self.old) }
     {
         if self.stopped {
+            drop(canceller);
             return Ok(());
         }
-        let kept = text_of(self.alloc, &name)?;
+        let Ok(kept) = text_of(self.alloc, &name) else {
+            drop(canceller);
+            return Err(AllocError);
+        };
         match self.store.make(&mut self.journal, kept, canceller) {
             Ok(id) => self.bind_where(name, id),
             Err(stop) => self.stopped_by(stop, ()),
@@ -269,6 +275,7 @@ impl<'s> World<'s> {
         ensures { IfOk result (λ follow. (follow, self.new) ≡ fire id value self.old) }
     {
         if self.stopped {
+            drop(value);
             return Ok(Follow::Nothing);
         }
         match self.store.fire(&mut self.journal, id, value) {
@@ -398,7 +405,7 @@ impl<'s> World<'s> {
         ensures { OnOk result (self.new ≡ tell entry self.old) }
     {
         if self.stopped {
-            drop(entry);
+            entry.discard();
             return Ok(());
         }
         match self.journal.write(entry) {
@@ -589,9 +596,11 @@ impl<'s> World<'s> {
     {
         let place = queue.number();
         if self.stopped || place >= self.queues.len() || !self.queues[place].may_put() {
+            drop(value);
             return Ok(None);
         }
         if !self.journal.fits_value(&value) {
+            drop(value);
             self.stopped = true;
             return Ok(None);
         }
@@ -683,6 +692,9 @@ impl<'s> World<'s> {
         }
     }
 
+    /// Lets a world go. Who does it by this call needs no proof of its own of what a world holds.
+    pub fn discard(self) {}
+
     /// Its journal, whether it has stopped, and all records in order of making.
     pub fn into_parts(self) -> (Journal, bool, Vec<Record<Pair<'s>, Canceller<'s>>>)
         ensures journal { result.0 ≡ self.entry.journal }
@@ -694,11 +706,10 @@ impl<'s> World<'s> {
         let journal = mem::replace(&mut world.journal, Journal::new(alloc, 0));
         let store = mem::replace(&mut world.store, Store::new(alloc));
         let stopped = world.stopped;
-        drop(world);
+        world.discard();
         (journal, stopped, store.into_records())
     }
 }
-
 
 /// The text of a name, where there is one.
 fn text_of<'s>(alloc: Global, name: &Option<TextRef<'s>>) -> Result<Option<Text>, AllocError>

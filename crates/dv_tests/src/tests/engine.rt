@@ -85,8 +85,12 @@ where
 /// How many entries and how many batches a report has.
 fn counts(report: Result<Report, EngineFault>) -> Result<(usize, usize), EngineFault> {
     let report = report?;
-    let batches = report.batches.as_slice().len();
-    Ok((report.journal.entries().len(), batches))
+    let counts = (
+        report.journal.entries().len(),
+        report.batches.as_slice().len(),
+    );
+    report.discard();
+    Ok(counts)
 }
 
 /// Makes calls of an engine with this script, and adds their answers and how many entries and batches its report has.
@@ -111,7 +115,9 @@ where
 {
     let script = script(rt.alloc(), events)?;
     let mut lines = String::new(rt.alloc());
-    add_run(rt, &script, calls, &mut lines)?;
+    let added = add_run(rt, &script, calls, &mut lines);
+    script.discard();
+    added?;
     Ok(lines)
 }
 

@@ -13,6 +13,7 @@ fn what_a_script_leaves_out_has_its_default(rt: HostRuntime) -> Result<(), Fail>
         script.events.as_slice().len(),
     );
     let read = (script.limit, cooperator, script.classes.count(), lengths);
+    script.discard();
     assert_eq!(rt; read, (2_000, (1, 1), 20, (0, 0)));
     Ok(())
 }
@@ -31,10 +32,11 @@ fn each_key_of_a_script_is_read(rt: HostRuntime) -> Result<(), Fail> {
             script.classes.descends(b, ClassId::VALUE_ERROR),
         ),
     );
+    let posts = format!(in rt.alloc(); "{:?}", script.callers);
+    script.discard();
     assert_eq!(rt; read, (6, (4, 5), (Some(b), true)));
-    let posts = format!(in rt.alloc(); "{:?}", script.callers)?;
     assert_eq!(rt;
-        posts.as_str(),
+        posts?.as_str(),
         "Items { items: [Items { items: [Body { actions: Items { items: [] }, end: Pass }, Body { actions: Items { items: [] }, end: Plus(1) }] }, Items { items: [] }] }"
     );
     Ok(())
@@ -43,5 +45,12 @@ fn each_key_of_a_script_is_read(rt: HostRuntime) -> Result<(), Fail> {
 #[test]
 fn bytes_that_are_no_utf8_are_no_json(rt: HostRuntime) {
     let bytes = b"{\"version\":1,\"events\":[[\"note\",\"\xff\"]]}";
-    assert!(rt; matches!(Script::read(rt.alloc(), bytes), Err(ScriptFault::NotJson)));
+    let refusal = match Script::read(rt.alloc(), bytes) {
+        Err(refusal) => Some(refusal),
+        Ok(script) => {
+            script.discard();
+            None
+        }
+    };
+    assert_eq!(rt; refusal, Some(ScriptFault::NotJson));
 }

@@ -100,7 +100,12 @@ where
     let mut engine = Engine::new(alloc, poller, OneThread::new(alloc), script)?;
     let given = give_all(rt, &mut engine, batches);
     let report = engine.finish(rt);
-    given?;
+    if let Err(fail) = given {
+        if let Ok(report) = report {
+            report.discard();
+        }
+        return Err(fail);
+    }
     Ok(report?)
 }
 
@@ -109,11 +114,29 @@ fn retold<S>(rt: &S, text: &str, batches: &[Items<Posted>]) -> Result<MemorySink
 where
     S: Threads + Wait + RandomSource + AllocGlobal,
 {
-    let script = read(rt.alloc(), text)?;
-    let report = replayed(rt, &script, batches)?;
     let mut sink = MemorySink::new(rt.alloc(), ROOM, 4096)?;
-    print_report(rt.alloc(), &script.classes, &report, &mut sink)?;
+    let script = read(rt.alloc(), text)?;
+    let told = retell(rt, &script, batches, &mut sink);
+    script.discard();
+    told?;
     Ok(sink)
+}
+
+/// Has an engine on this thread that takes these batches tell it.
+fn retell<S>(
+    rt: &S,
+    script: &Script,
+    batches: &[Items<Posted>],
+    sink: &mut MemorySink,
+) -> Result<(), Fail>
+where
+    S: Threads + Wait + RandomSource + AllocGlobal,
+    requires { script.now.limit < 2 ^ 32 - 1 }
+{
+    let report = replayed(rt, script, batches)?;
+    let printed = print_report(rt.alloc(), &script.classes, &report, sink);
+    report.discard();
+    Ok(printed?)
 }
 
 /// Whether a run prints what an engine on this thread tells that takes the same batches.
@@ -123,8 +146,9 @@ where
     requires { workers ≤ 16 }
 {
     let (printed, report) = run_text(rt, text, workers, &PlainGate)?;
-    let expected = retold(rt, text, report.batches.as_slice())?;
-    Ok(printed.bytes() == expected.bytes())
+    let expected = retold(rt, text, report.batches.as_slice());
+    report.discard();
+    Ok(printed.bytes() == expected?.bytes())
 }
 
 /// Whether each of a thousand runs does.
@@ -220,11 +244,11 @@ where
 {
     let (_, report) = run_text(rt, text, workers, &Yielding)?;
     let batches = report.batches.as_slice();
-    Ok(
-        batches
-            .iter()
-            .position(|batch| !batch.as_slice().is_empty()),
-    )
+    let place = batches
+        .iter()
+        .position(|batch| !batch.as_slice().is_empty());
+    report.discard();
+    Ok(place)
 }
 
 #[test]
@@ -257,13 +281,12 @@ fn each_job_of_a_run_comes_to_its_gate_once_and_one_more_raises(
     let text = too_many_jobs(rt.alloc())?;
     let gate = Counting::new(rt.alloc(), 4_096)?;
     let (_, report) = run_text(&rt, text.as_str(), 2, &gate)?;
-    let Some(Entry::Unhandled(failure)) = report.journal.entries().last() else {
-        return Err("nothing was told".into());
+    let raised = match report.journal.entries().last() {
+        Some(Entry::Unhandled(failure)) => failure.message.as_str() == "too many jobs",
+        Some(_) | None => false,
     };
     let done = report.ran.dones().len();
-    assert_eq!(rt;
-        (failure.message.as_str(), done, gate.are_all(1)),
-        ("too many jobs", 4_096, true)
-    );
+    report.discard();
+    assert_eq!(rt; (raised, done, gate.are_all(1)), (true, 4_096, true));
     Ok(())
 }

@@ -136,20 +136,28 @@ impl<'s> World<'s> {
     pub fn end_task(&mut self, id: TaskId, end: TaskEnd) -> Result<Items<DeferredId>, AllocError>
         ensures { IfOk result (λ waiting. (waiting, self.new) ≡ end_task id end self.old) }
     {
-        let nobody = Items::new(self.alloc);
         if self.stopped {
-            return Ok(nobody);
+            drop(end);
+            return Ok(Items::new(self.alloc));
         }
         let Some(task) = self.cooperator.task(id) else {
-            return Ok(nobody);
+            drop(end);
+            return Ok(Items::new(self.alloc));
         };
         if task.end.is_some() {
-            return Ok(nobody);
+            drop(end);
+            return Ok(Items::new(self.alloc));
         }
-        let entry = ending(self.alloc, task.name.as_str(), &end)?;
+        let Ok(entry) = ending(self.alloc, task.name.as_str(), &end) else {
+            drop(end);
+            return Err(AllocError);
+        };
         match self.journal.write(entry) {
             Ok(()) => Ok(self.cooperator.end(id, end)),
-            Err(stop) => self.stopped_by(stop, nobody),
+            Err(stop) => {
+                drop(end);
+                self.stopped_by(stop, Items::new(self.alloc))
+            }
         }
     }
 

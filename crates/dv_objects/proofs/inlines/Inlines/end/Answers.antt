@@ -21,10 +21,10 @@ returns-then-not-is_adding-clause-ok c =
 
 pub invariant_of-self-2 : goal.invariant_of-self-2
 invariant_of-self-2 c =
-    kept_in c.self.inside.parked c.park.new.self c.args.place c.args.awaited c.in-Ok.key c.self.inside.kept.items c.args.body c.self.invariant c.in-Ok.ensures.vacant c.in-Ok.ensures.parked
+    rw c.set.ensures (kept_in c.self.inside.parked c.park.new.self c.args.place c.args.awaited c.in-Ok.key c.self.inside.kept.items c.args.body c.self.invariant c.in-Ok.ensures.vacant c.in-Ok.ensures.parked)
 
 pub returns-clause-ok : goal.returns-clause-ok
 returns-clause-ok c =
     let found = found_at c.self.inside.kept.items c.args.place c.in-Some.waiting.now c.in-Some.ensures.item.3.0 c.in-Some.ensures.value in
-    end_adds c.self.inside.parked c.park.new.self c.args.place c.args.awaited c.in-Ok.key c.self.inside.kept.items c.args.body c.in-Some.waiting.now c.take.new.self c.self.invariant found c.in_default-take.ensures (sym c.is_adding.ensures ∙ c.if-not-is_adding.false) c.in-Ok.ensures.vacant c.in-Ok.ensures.parked
-    ∙ ap (end_adding c.args.place c.args.awaited c.args.body) c.self.view_is
+    rw c.set.ensures (end_adds c.self.inside.parked c.park.new.self c.args.place c.args.awaited c.in-Ok.key c.self.inside.kept.items c.args.body c.in-Some.waiting.now c.take.new.self c.self.invariant found c.in_default-take.ensures (sym c.is_adding.ensures ∙ c.if-not-is_adding.false) c.in-Ok.ensures.vacant c.in-Ok.ensures.parked
+    ∙ ap (end_adding c.args.place c.args.awaited c.args.body) c.self.view_is)
