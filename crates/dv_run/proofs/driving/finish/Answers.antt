@@ -6,13 +6,13 @@ use Rattle.dv_threads.specs.Posts.{of}
 use Rattle.dv_run.proofs.CallerLemmas.{joined_more}
 use Rattle.dv_run.proofs.driving.finish.Goals as goal
 
-pub returns-in-Ok : goal.returns-in-Ok
-returns-in-Ok g c =
+pub returns-in-Ok-finish : goal.returns-in-Ok-finish
+returns-in-Ok-finish g c =
     let e = c.args.engine in
     let rest = c.args.rest in
-    let report = c.in-Ok.report in
-    let takes = c.in_ok-take_rest.ensures in
-    let done = c.in-Ok.ensures in
+    let report = c.in-Ok-finish.report in
+    let takes = c.in-Ok.ensures in
+    let done = c.in-Ok-finish.ensures in
     let all : joined report.batches ≡ joined e.batches ++ rest =
     ap joined (done.batches ∙ ap (λ x. x.batches) takes.same) ∙ joined_more e.batches rest in
     record {
