@@ -22,12 +22,12 @@ fn a_reader_that_fails_at_any_call_is_a_read_fault(rt: HostRuntime) -> Result<()
     for calls_before in 0..9u64 {
         let mut source = MemorySource::new(SCRIPT, 10).with_failure(calls_before);
         let mut sink = MemorySink::new(rt.alloc(), 100, 100)?;
+        let ended = stops(run(&rt, &mut source, &mut sink, 0, &PlainGate));
         assert_eq!(rt;
-            stops(run(&rt, &mut source, &mut sink, 0, &PlainGate)),
-            Err(RunFault::ReadFault),
+            (ended, sink.bytes().len()),
+            (Err(RunFault::ReadFault), 0),
             "after {calls_before}"
         );
-        assert!(rt; sink.bytes().is_empty(), "after {calls_before}");
     }
     Ok(())
 }
@@ -37,9 +37,12 @@ fn a_byte_a_call_gives_the_same_text(rt: HostRuntime) -> Result<(), Fail> {
     for (read, written) in [(1usize, 1usize), (1, 100), (4096, 1), (7, 3)] {
         let mut source = MemorySource::new(SCRIPT, read);
         let mut sink = MemorySink::new(rt.alloc(), 100, written)?;
-        let answer = run(&rt, &mut source, &mut sink, 0, &PlainGate);
-        assert_eq!(rt; stops(answer), Ok(false), "{read} and {written}");
-        assert_eq!(rt; sink.bytes(), TEXT, "{read} and {written}");
+        let ended = stops(run(&rt, &mut source, &mut sink, 0, &PlainGate));
+        assert_eq!(rt;
+            (ended, sink.bytes()),
+            (Ok(false), TEXT),
+            "{read} and {written}"
+        );
     }
     Ok(())
 }
@@ -53,14 +56,10 @@ fn a_writer_that_fails_at_any_call_has_a_prefix(rt: HostRuntime) -> Result<(), F
                 calls_before as u64,
                 trouble,
             );
+            let ended = stops(run(&rt, &mut source, &mut sink, 0, &PlainGate));
             assert_eq!(rt;
-                stops(run(&rt, &mut source, &mut sink, 0, &PlainGate)),
-                Err(RunFault::WriteFault),
-                "{trouble:?} after {calls_before}"
-            );
-            assert_eq!(rt;
-                sink.bytes(),
-                &TEXT[..calls_before],
+                (ended, sink.bytes()),
+                (Err(RunFault::WriteFault), &TEXT[..calls_before]),
                 "{trouble:?} after {calls_before}"
             );
         }
@@ -80,12 +79,12 @@ fn the_journal_and_the_outcomes_are_written_in_one_call_each(rt: HostRuntime) ->
             calls_before,
             Trouble::Fails,
         );
+        let ended = stops(run(&rt, &mut source, &mut sink, 0, &PlainGate));
         assert_eq!(rt;
-            stops(run(&rt, &mut source, &mut sink, 0, &PlainGate)),
-            answer,
+            (ended, sink.bytes()),
+            (answer, &TEXT[..len]),
             "after {calls_before}"
         );
-        assert_eq!(rt; sink.bytes(), &TEXT[..len], "after {calls_before}");
     }
     Ok(())
 }
@@ -95,12 +94,12 @@ fn a_full_sink_is_a_write_fault_with_a_prefix(rt: HostRuntime) -> Result<(), Fai
     for room in 0..TEXT.len() {
         let mut source = MemorySource::new(SCRIPT, 100);
         let mut sink = MemorySink::new(rt.alloc(), room, 100)?;
+        let ended = stops(run(&rt, &mut source, &mut sink, 0, &PlainGate));
         assert_eq!(rt;
-            stops(run(&rt, &mut source, &mut sink, 0, &PlainGate)),
-            Err(RunFault::WriteFault),
+            (ended, sink.bytes()),
+            (Err(RunFault::WriteFault), &TEXT[..room]),
             "room for {room}"
         );
-        assert_eq!(rt; sink.bytes(), &TEXT[..room], "room for {room}");
     }
     Ok(())
 }
@@ -117,19 +116,25 @@ impl io::Read for Broken {
 #[test]
 fn a_reader_and_a_writer_of_std_serve_a_run(rt: HostRuntime) -> Result<(), Fail> {
     let mut text = Vec::new(rt.alloc());
-    let answer = run(
+    let ended = stops(run(
         &rt,
         &mut IoSource::new(SCRIPT),
         &mut IoSink::new(&mut text),
         0,
         &PlainGate,
-    );
-    assert_eq!(rt; stops(answer), Ok(false));
-    assert_eq!(rt; text.as_slice(), TEXT);
+    ));
     let mut broken = IoSource::new(SCRIPT.chain(Broken));
-    let answer = run(&rt, &mut broken, &mut IoSink::new(&mut text), 0, &PlainGate);
-    assert_eq!(rt; stops(answer), Err(RunFault::ReadFault));
-    assert_eq!(rt; text.as_slice(), TEXT);
+    let refused = stops(run(
+        &rt,
+        &mut broken,
+        &mut IoSink::new(&mut text),
+        0,
+        &PlainGate,
+    ));
+    assert_eq!(rt;
+        (ended, refused, text.as_slice()),
+        (Ok(false), Err(RunFault::ReadFault), TEXT)
+    );
     Ok(())
 }
 
@@ -137,9 +142,11 @@ fn a_reader_and_a_writer_of_std_serve_a_run(rt: HostRuntime) -> Result<(), Fail>
 fn a_full_writer_of_std_is_a_write_fault(rt: HostRuntime) {
     let mut room = [0u8; 4];
     let mut writer = IoSink::new(room.as_mut_slice());
-    let answer = run(&rt, &mut IoSource::new(SCRIPT), &mut writer, 0, &PlainGate);
-    assert_eq!(rt; stops(answer), Err(RunFault::WriteFault));
-    assert_eq!(rt; room.as_slice(), &TEXT[..4]);
+    let ended = stops(run(&rt, &mut IoSource::new(SCRIPT), &mut writer, 0, &PlainGate));
+    assert_eq!(rt;
+        (ended, room.as_slice()),
+        (Err(RunFault::WriteFault), &TEXT[..4])
+    );
 }
 
 #[test]

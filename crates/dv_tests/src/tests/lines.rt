@@ -22,13 +22,14 @@ const NO_NAME: &str = "name #3 -
 fn an_entry_that_no_script_leads_to_has_its_line(rt: HostRuntime) -> Result<(), Fail> {
     let alloc = rt.alloc();
     let classes = Classes::builtin(alloc)?;
-    let mut journal = Journal::new(alloc, 2000);
-    write_no_name(&mut journal)?;
     let mut bytes = Vec::new(alloc);
+    let mut journal = Journal::new(alloc, 2000);
+    let written = write_no_name(&mut journal);
+    let printed = journal.print(&classes, &mut IoSink::new(&mut bytes));
+    drop(journal);
     assert_eq!(rt;
-        journal.print(&classes, &mut IoSink::new(&mut bytes)),
-        Ok(())
+        (written, printed, bytes.as_slice()),
+        (Ok(()), Ok(()), NO_NAME.as_bytes())
     );
-    assert_eq!(rt; bytes.as_slice(), NO_NAME.as_bytes());
     Ok(())
 }
