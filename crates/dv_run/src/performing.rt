@@ -1,8 +1,8 @@
-ghost use Rattle.std.specs.Prelude.{◌<◌, ◌≤◌, ◌^◌, ◌-◌, IfOk};
-ghost use Rattle.dv_run.specs.Callers.{AreFew};
+ghost use Rattle.std.specs.Prelude.{◌≡◌, ◌<◌, ◌≤◌, ◌^◌, ◌-◌, [], IfOk};
+ghost use Rattle.dv_run.specs.Callers.{AllServe, AreFew, TookBatches};
 ghost use Rattle.dv_run.specs.Headline.{IsRun};
 
-use crate::callers::start_all;
+use crate::callers::{Caller, start_all};
 use crate::driving::drive;
 use dv_engine::engine::Engine;
 use dv_engine::report::Report;
@@ -12,7 +12,8 @@ use dv_threads::gate::Gate;
 use dv_threads::inbox::Inbox;
 use dv_threads::one_thread::OneThread;
 use dv_threads::pool::Pool;
-use std::alloc::{AllocError, AllocGlobal};
+use dv_threads::source::JobSource;
+use std::alloc::{AllocError, AllocGlobal, Global};
 use std::random::RandomSource;
 use std::sync::Wait;
 use std::thread;
@@ -49,13 +50,35 @@ where
             let (inbox, posters) = Inbox::open(alloc, bodies.len() as u32, MOST_POSTS)?;
             let callers = start_all(alloc, scope, bodies, posters)?;
             if workers == 0 {
-                let engine = Engine::new(alloc, poller, OneThread::new(alloc), script)?;
-                drive(rt, alloc, engine, bodies, inbox, callers)
+                let jobs = OneThread::new(alloc);
+                perform_with(rt, alloc, poller, jobs, script, inbox, callers)
             } else {
-                let pool = Pool::open(rt, alloc, scope, workers, gate)?;
-                let engine = Engine::new(alloc, poller, pool, script)?;
-                drive(rt, alloc, engine, bodies, inbox, callers)
+                let jobs = Pool::open(rt, alloc, scope, workers, gate)?;
+                perform_with(rt, alloc, poller, jobs, script, inbox, callers)
             }
         },
     )
+}
+
+/// Performs a script whose callers post, with this source for its jobs, to which nothing was submitted yet.
+fn perform_with<S, J>(
+    rt: &S,
+    alloc: Global,
+    poller: Poller,
+    jobs: J,
+    script: &Script,
+    inbox: Inbox,
+    callers: Vec<Caller>,
+) -> Result<Report, AllocError>
+where
+    S: Threads + Wait + RandomSource + AllocGlobal,
+    J: JobSource,
+    requires limited { script.now.limit < 2 ^ 32 - 1 }
+    requires unused { J.works jobs ≡ [] }
+    requires serve { AllServe script.now.callers inbox callers.items }
+    requires untaken { TookBatches inbox [] }
+    ensures { IfOk result (IsRun script.now) }
+{
+    let engine = Engine::new(alloc, poller, jobs, script)?;
+    drive(rt, alloc, engine, script.callers.as_slice(), inbox, callers)
 }

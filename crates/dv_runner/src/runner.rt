@@ -46,7 +46,10 @@ where
     }
     let mut stack = Stack::new(alloc);
     let performed = begin_event(alloc, world, &mut stack, event)?;
-    jobs.submit_all(alloc, world.works())?;
+    let Ok(()) = jobs.submit_all(alloc, world.works()) else {
+        drop(performed);
+        return Err(AllocError);
+    };
     run(rt, alloc, poller, jobs, world, stack, performed)
 }
 
@@ -74,7 +77,10 @@ where
     }
     let mut stack = Stack::new(alloc);
     let performed = begin_post(world, &mut stack, posted, body)?;
-    jobs.submit_all(alloc, world.works())?;
+    let Ok(()) = jobs.submit_all(alloc, world.works()) else {
+        drop(performed);
+        return Err(AllocError);
+    };
     run(rt, alloc, poller, jobs, world, stack, performed)
 }
 
@@ -101,10 +107,12 @@ where
     let mut last = performed;
     'turns: while !world.is_stopped() {
         let Some(frame) = stack.pop() else {
+            drop(last);
             return Ok(());
         };
         last = go_on_with(rt, alloc, poller, jobs, world, &mut stack, frame, last)?;
     }
+    drop(last);
     Ok(())
 }
 
@@ -129,6 +137,9 @@ where
     ensures jobs { OnOk result (jobs.new ≡ world.new.works) }
 {
     let next = turn(rt, alloc, poller, jobs, world, stack, frame, performed)?;
-    jobs.submit_all(alloc, world.works())?;
+    let Ok(()) = jobs.submit_all(alloc, world.works()) else {
+        drop(next);
+        return Err(AllocError);
+    };
     Ok(next)
 }

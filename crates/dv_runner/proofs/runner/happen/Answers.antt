@@ -16,7 +16,7 @@ submit_all-requires g c =
 pub run-requires : goal.run-requires
 run-requires g c = record {
   bounded = happening_bounded (Occurs c.args.event.now) c.new-stack.result c.args.world.now (c.begin_event.new.stack, c.in_ok-performed.performed, c.begin_event.new.world) c.in_ok-performed.ensures c.requires.bounded;
-  jobs = c.in_ok-submit_all.ensures ∙ c.works.ensures;
+  jobs = c.in-Ok.ensures ∙ c.works.ensures;
 }
 
 pub returns-then-is_stopped-clause-happens : goal.returns-then-is_stopped-clause-happens
