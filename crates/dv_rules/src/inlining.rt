@@ -148,9 +148,7 @@ fn begin_await<'s>(
     ensures { IfOk result (λ next. (stack.new, next, world.new) ≡ wanted inline (Some (Await name.entry)) body.entry world.old over stack.old) }
 {
     match world.find(Some(inline.of), name.as_str()) {
-        None => {
-            throw(alloc, world, stack, inline, name, body)
-        }
+        None => throw(alloc, world, stack, inline, name, body),
         Some(awaited) => add(world, stack, inline, awaited, body),
     }
 }

@@ -124,13 +124,7 @@ fn a_reader_and_a_writer_of_std_serve_a_run(rt: HostRuntime) -> Result<(), Fail>
         &PlainGate,
     ));
     let mut broken = IoSource::new(SCRIPT.chain(Broken));
-    let refused = stops(run(
-        &rt,
-        &mut broken,
-        &mut IoSink::new(&mut text),
-        0,
-        &PlainGate,
-    ));
+    let refused = stops(run(&rt, &mut broken, &mut IoSink::new(&mut text), 0, &PlainGate));
     assert_eq!(rt;
         (ended, refused, text.as_slice()),
         (Ok(false), Err(RunFault::ReadFault), TEXT)

@@ -11,11 +11,7 @@ fn failure(alloc: Global, class: ClassId, message: &str) -> Result<Failure, Allo
 }
 
 /// Which of these classes traps a ValueError. Where none does, what is given back has to be that failure.
-fn traps(
-    alloc: Global,
-    classes: &Classes,
-    listed: &[ClassId],
-) -> Result<Option<ClassId>, Fail> {
+fn traps(alloc: Global, classes: &Classes, listed: &[ClassId]) -> Result<Option<ClassId>, Fail> {
     match failure(alloc, ClassId::VALUE_ERROR, "no")?.trap(classes, listed) {
         Ok(class) => Ok(Some(class)),
         Err(kept) => {
@@ -37,10 +33,7 @@ fn a_failure_that_is_not_trapped_is_given_back(rt: HostRuntime) -> Result<(), Fa
     let listed = [ClassId::TYPE_ERROR, ClassId::EXCEPTION];
     let trapped = traps(alloc, &classes, &listed)?;
     let given_back = traps(alloc, &classes, &listed[..1])?;
-    assert_eq!(rt;
-        (trapped, given_back),
-        (Some(ClassId::EXCEPTION), None)
-    );
+    assert_eq!(rt; (trapped, given_back), (Some(ClassId::EXCEPTION), None));
     Ok(())
 }
 

@@ -3,6 +3,7 @@ ghost use Rattle.dv_clock.specs.declared.due.Due.TheVariants.{Call as CallOf};
 ghost use Rattle.dv_world.specs.World.{was_called, was_cancelled};
 ghost use Rattle.dv_objects.specs.declared.performed.Performed.TheVariants.{Raised};
 
+use super::World;
 use dv_clock::call_id::CallId;
 use dv_clock::due::Due;
 use dv_clock::error::CancelFault;
@@ -13,7 +14,6 @@ use dv_value::class_id::ClassId;
 use dv_value::fault::failure;
 use dv_value::text::Text;
 use std::alloc::{AllocError, Global};
-use super::World;
 
 impl<'s> World<'s> {
     ghost use Rattle.dv_world.specs.World.{call_later, advance, come_due, cancel_call};

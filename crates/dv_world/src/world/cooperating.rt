@@ -2,6 +2,7 @@ ghost use Rattle.std.specs.Prelude.{◌≡◌, slice_get, IfOk, OnOk};
 ghost use Rattle.dv_world.specs.World.{not_paused};
 ghost use Rattle.dv_objects.specs.declared.performed.Performed.TheVariants.{Raised};
 
+use super::World;
 use dv_clock::call_id::CallId;
 use dv_clock::due::Due;
 use dv_clock::task_id::TaskId;
@@ -15,7 +16,6 @@ use dv_value::fault::failure;
 use dv_value::items::Items;
 use dv_value::text::Text;
 use std::alloc::{AllocError, Global};
-use super::World;
 
 impl<'s> World<'s> {
     ghost use Rattle.std.specs.Option.{option_copied};

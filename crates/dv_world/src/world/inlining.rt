@@ -1,12 +1,12 @@
 ghost use Rattle.std.specs.Prelude.{◌≡◌, length, IfOk, OnOk};
 
+use super::World;
 use dv_inline::body::InlineBody;
 use dv_journal::deferred_id::DeferredId;
 use dv_journal::entry::Entry;
 use dv_objects::inline_id::{Inline, InlineId};
 use dv_value::value::Value;
 use std::alloc::AllocError;
-use super::World;
 
 impl<'s> World<'s> {
     ghost use Rattle.dv_world.specs.World.{add_inline, begin_await, come_to_inline, end_await, awaited_in};

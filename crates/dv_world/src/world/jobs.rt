@@ -2,6 +2,7 @@ ghost use Rattle.std.specs.Prelude.{◌≡◌, ◌<◌, length, IfOk, OnOk};
 ghost use Rattle.dv_world.specs.World.{too_many_jobs};
 ghost use Rattle.dv_objects.specs.declared.performed.Performed.TheVariants.{Raised};
 
+use super::World;
 use dv_clock::due::Due;
 use dv_clock::limits::MOST_DELAY;
 use dv_journal::deferred_id::DeferredId;
@@ -12,7 +13,6 @@ use dv_script::lent::WorkRef;
 use dv_value::class_id::ClassId;
 use dv_value::fault::failure;
 use std::alloc::{AllocError, Global};
-use super::World;
 
 impl<'s> World<'s> {
     ghost use Rattle.dv_world.specs.World.{submit, deliver_later};

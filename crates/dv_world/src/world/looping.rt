@@ -3,6 +3,7 @@ ghost use Rattle.dv_objects.specs.Looping.{is_scheduled};
 ghost use Rattle.dv_world.specs.World.{not_running};
 ghost use Rattle.dv_objects.specs.declared.performed.Performed.TheVariants.{Raised};
 
+use super::World;
 use dv_clock::due::Due;
 use dv_clock::interval::Interval;
 use dv_clock::loop_id::LoopId;
@@ -15,7 +16,6 @@ use dv_value::class_id::ClassId;
 use dv_value::fault::failure;
 use dv_value::text::Text;
 use std::alloc::{AllocError, Global};
-use super::World;
 
 impl<'s> World<'s> {
     ghost use Rattle.std.specs.Option.{option_copied};
