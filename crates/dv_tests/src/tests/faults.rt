@@ -123,11 +123,12 @@ fn a_reader_and_a_writer_of_std_serve_a_run(rt: HostRuntime) -> Result<(), Fail>
         0,
         &PlainGate,
     ));
+    let printed = text.as_slice().len();
     let mut broken = IoSource::new(SCRIPT.chain(Broken));
     let refused = stops(run(&rt, &mut broken, &mut IoSink::new(&mut text), 0, &PlainGate));
     assert_eq!(rt;
-        (ended, refused, text.as_slice()),
-        (Ok(false), Err(RunFault::ReadFault), TEXT)
+        (ended, printed, refused, text.as_slice()),
+        (Ok(false), TEXT.len(), Err(RunFault::ReadFault), TEXT)
     );
     Ok(())
 }
