@@ -109,7 +109,9 @@ pub enum Entry {
 
 impl Entry {
     /// Lets an entry go that isn't written. Who does it by this call needs no proof of its own of what an entry holds.
-    pub fn discard(self) {}
+    pub fn discard(self) {
+        drop(self);
+    }
 
     /// How much the entry counts against the journal's limit: one, and the size of the value, the failure or the
     /// noted text that its line shows. It stops at `u64::MAX`.

@@ -1,8 +1,8 @@
 use crate::lines::{first_difference, unfolded};
 use dv_journal::memory_sink::MemorySink;
 use dv_run::exit::exit_of;
-use dv_run::memory_source::MemorySource;
 use dv_run::run::run;
+use dv_source::memory_source::MemorySource;
 use dv_threads::gate::PlainGate;
 use std::alloc::{AllocError, AllocGlobal, Global};
 use std::random::RandomSource;

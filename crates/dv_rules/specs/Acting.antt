@@ -16,8 +16,8 @@ use Rattle.dv_rules.specs.Timing.{called_off}
 use Rattle.dv_rules.specs.Turn.{Turned, ◌over◌, done, settling, settle_next}
 use Rattle.dv_rules.specs.declared.frame.Frame.TheVariants as frame
 use Rattle.dv_rules.specs.declared.frame.Purpose.TheVariants.{Named}
-use Rattle.dv_rules.specs.declared.deed.Deed.{Deed}
-use Rattle.dv_rules.specs.declared.deed.Deed.TheVariants.{NoteOf, Make, FireWith, AddTo, ChainTo, PauseOf, UnpauseOf, CancelOf, MakeLock, MakeSemaphore, AcquireOf, ReleaseOf, RunOf, MaybeOf, MakeQueue, PutInto, GetFrom, ListOf, GatherOf, LaterOf, CancelCallOf, LoopOf, StopLoopOf, CooperateOf, WhenDoneOf, PauseTaskOf, StopTaskOf, ResumeTaskOf, InlineOf, ThreadOf}
+use Rattle.dv_rules.specs.Deed.{Deed}
+use Rattle.dv_rules.specs.Deed.{NoteOf, Make, FireWith, AddTo, ChainTo, PauseOf, UnpauseOf, CancelOf, MakeLock, MakeSemaphore, AcquireOf, ReleaseOf, RunOf, MaybeOf, MakeQueue, PutInto, GetFrom, ListOf, GatherOf, LaterOf, CancelCallOf, LoopOf, StopLoopOf, CooperateOf, WhenDoneOf, PauseTaskOf, StopTaskOf, ResumeTaskOf, InlineOf, ThreadOf}
 use Rattle.dv_world.specs.Found.{deferreds_at}
 use Rattle.dv_objects.specs.Names.{number_of}
 use Rattle.dv_objects.specs.Objects.{with_new_lock, with_new_queue}

@@ -1,5 +1,5 @@
 -- What each action comes to (Twisted: the methods of `Deferred`).
-use Rattle.std.specs.Prelude.{Bool, true, false, List}
+use Rattle.std.specs.Prelude.{ℕ, Bool, true, false, List, Option}
 use Rattle.std.specs.List.{list_any}
 use Rattle.dv_prims.specs.declared.gather.Flags.{Flags}
 use Rattle.dv_script.specs.declared.action.Action.{Action}
@@ -10,10 +10,64 @@ use Rattle.dv_script.specs.declared.action.ListFlag.{ListFlag}
 use Rattle.dv_script.specs.declared.action.ListFlag.TheVariants as list_flag
 use Rattle.dv_script.specs.declared.body.Body.{Body}
 use Rattle.dv_script.specs.declared.body.Statement.{Statement}
+use Rattle.dv_script.specs.declared.work.Work.{Work}
+use Rattle.dv_value.specs.declared.value.Value.{Value}
 use Rattle.dv_value.specs.Failure.{fault}
 use Rattle.dv_objects.specs.Pair.{callback, errback, both}
-use Rattle.dv_rules.specs.declared.deed.Deed.{Deed}
-use Rattle.dv_rules.specs.declared.deed.Deed.TheVariants.{NoteOf, Make, FireWith, AddTo, ChainTo, PauseOf, UnpauseOf, CancelOf, MakeLock, MakeSemaphore, AcquireOf, ReleaseOf, RunOf, MaybeOf, MakeQueue, PutInto, GetFrom, ListOf, GatherOf, LaterOf, CancelCallOf, LoopOf, StopLoopOf, CooperateOf, WhenDoneOf, PauseTaskOf, StopTaskOf, ResumeTaskOf, InlineOf, ThreadOf}
+use Rattle.dv_objects.specs.declared.pair.Pair.{Pair}
+
+-- what an action comes to; several actions come to the same deed
+pub data Deed : Type 0 where
+  -- a text is noted
+  NoteOf : (text : List ℕ) → Deed
+  -- a Deferred is made, which may have a canceller
+  Make : (name : List ℕ) (canceller : Option Body) → Deed
+  -- a Deferred is fired with a value, which may be a failure
+  FireWith : (name : List ℕ) (value : Value) → Deed
+  -- a pair is added to a Deferred
+  AddTo : (name : List ℕ) (pair : Pair) → Deed
+  -- a pair is added to a Deferred that fires another
+  ChainTo : (name next : List ℕ) → Deed
+  -- a Deferred is paused once more, paused once less, cancelled
+  PauseOf : (name : List ℕ) → Deed
+  UnpauseOf : (name : List ℕ) → Deed
+  CancelOf : (name : List ℕ) → Deed
+  -- a lock is made, or a semaphore of so many tokens
+  MakeLock : (name : List ℕ) → Deed
+  MakeSemaphore : (name : List ℕ) (tokens : ℕ) → Deed
+  -- a Deferred is made that asks a lock for a token; a token is given back to a lock
+  AcquireOf : (name lock : List ℕ) → Deed
+  ReleaseOf : (lock : List ℕ) → Deed
+  -- a Deferred is made that asks a lock for a token, and a body is performed with it
+  RunOf : (name lock : List ℕ) (body : Body) → Deed
+  -- a body is performed, and what it gave becomes a Deferred
+  MaybeOf : (name : List ℕ) (body : Body) → Deed
+  -- a queue is made, with the most values that it stores and the most Deferreds that wait for one
+  MakeQueue : (name : List ℕ) (size backlog : Option ℕ) → Deed
+  -- a value is put into a queue; a Deferred is made that asks a queue for one
+  PutInto : (queue : List ℕ) (value : Value) → Deed
+  GetFrom : (name queue : List ℕ) → Deed
+  -- a DeferredList of these children is made; the same, and what they give is taken out of its result
+  ListOf : (name : List ℕ) (children : List (List ℕ)) (flags : Flags) → Deed
+  GatherOf : (name : List ℕ) (children : List (List ℕ)) (flags : Flags) → Deed
+  -- a body is to be performed so many ticks later; a delayed call is cancelled
+  LaterOf : (name : List ℕ) (delay : ℕ) (body : Body) → Deed
+  CancelCallOf : (name : List ℕ) → Deed
+  -- a loop is made with its Deferred, whose turns lie so many ticks apart, and the first of which is taken at once or not
+  LoopOf : (name of : List ℕ) (interval : ℕ) (at_once : Bool) (body : Body) → Deed
+  -- a loop is stopped
+  StopLoopOf : (name : List ℕ) → Deed
+  -- a task is made of bodies; a Deferred is made that is fired when a task ends
+  CooperateOf : (name : List ℕ) (bodies : List Body) → Deed
+  WhenDoneOf : (name task : List ℕ) → Deed
+  -- a task is paused once more, stopped, paused once less
+  PauseTaskOf : (name : List ℕ) → Deed
+  StopTaskOf : (name : List ℕ) → Deed
+  ResumeTaskOf : (name : List ℕ) → Deed
+  -- an inline body of these statements is made with its Deferred, and begins
+  InlineOf : (name : List ℕ) (statements : List Statement) → Deed
+  -- a Deferred is made, and a job of this work submitted whose result it is fired with, so many ticks later
+  ThreadOf : (name : List ℕ) (delay : ℕ) (work : Work) → Deed
 
 -- which flag one is
 abbrev pub fires_on_one_callback : ListFlag → Bool

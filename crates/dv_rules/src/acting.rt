@@ -1,17 +1,18 @@
-ghost use Rattle.std.specs.Prelude.{◌≡◌, [], IfOk};
+ghost use Rattle.std.specs.Prelude.{◌≡◌, [], ◌++◌, None, IfOk, OnOk};
 ghost use Rattle.dv_script.specs.declared.action.Action.{out-Action};
 ghost use Rattle.dv_rules.specs.Acting.{begun};
 ghost use Rattle.dv_rules.specs.Bounds.{Bounded};
-ghost use Rattle.dv_rules.specs.Deed.{deed_of};
+ghost use Rattle.dv_rules.specs.Deed.{deed_of, NoteOf, Make, FireWith, AddTo, ChainTo, PauseOf, UnpauseOf, CancelOf};
+ghost use Rattle.dv_rules.specs.Maybe.{body_for};
 ghost use Rattle.dv_rules.specs.Turn.{◌over◌};
-ghost use Rattle.dv_rules.specs.declared.deed.Deed.TheVariants.{FireWith, AddTo, ChainTo, PauseOf, UnpauseOf, CancelOf};
+ghost use Rattle.dv_rules.specs.declared.frame.Purpose.TheVariants.{Named};
+ghost use Rattle.dv_objects.specs.declared.performed.Performed.TheVariants.{Done};
 ghost use Rattle.dv_world.specs.World.{fire};
 ghost use Rattle.dv_objects.specs.declared.canceller.Canceller.TheVariants.{Body as CancellerBody};
 ghost use Rattle.std.specs.Option.{option_map};
 
 use crate::cancelling::cancel;
 use crate::cooperating::{cooperate, pause_task, resume_task, stop_task, when_done};
-use crate::deed::Deed;
 use crate::frame::{Frame, Purpose};
 use crate::inlining::begin_inline;
 use crate::listing::{gather, list};
@@ -29,8 +30,10 @@ use dv_objects::given::Given;
 use dv_objects::pair::Pair;
 use dv_objects::performed::Performed;
 use dv_script::action::Action;
-use dv_script::lent::BodyRef;
+use dv_script::body::Body;
+use dv_script::lent::{BodiesRef, BodyRef, Statements, TextRef, WorkRef};
 use dv_value::stack::Stack;
+use dv_value::text::Text;
 use dv_value::value::Value;
 use dv_world::world::{World, unbound};
 use std::alloc::{AllocError, Global};
@@ -48,72 +51,181 @@ pub fn begin<'s>(
     requires bounded { Bounded world.old }
     ensures { IfOk result (λ performed. (stack.new, performed, world.new) ≡ begun itself (deed_of (out-Action action.now)) world.old over stack.old) }
 {
-    let deed = Deed::of(alloc, action)?;
-    begin_deed(alloc, world, stack, itself, deed)
-}
-
-/// Begins what an action comes to.
-fn begin_deed<'s>(
-    alloc: Global,
-    world: &mut World<'s>,
-    stack: &mut Stack<Frame<'s>>,
-    itself: Option<DeferredId>,
-    deed: Deed<'s>,
-) -> Result<Performed<'s>, AllocError>
-    requires bounded { Bounded world.old }
-    ensures { IfOk result (λ performed. (stack.new, performed, world.new) ≡ begun itself deed.entry world.old over stack.old) }
-{
-    match deed {
-        Deed::NoteOf(text) => done(world.tell(Entry::Note(text))),
-        Deed::Make(name, canceller) => done(world.make(Some(name), canceller_of(canceller))),
-        Deed::FireWith(name, given) => fire(alloc, world, stack, itself, name.as_str(), given),
-        Deed::AddTo(name, pair) => add(alloc, world, stack, itself, name.as_str(), pair),
-        Deed::ChainTo(name, next) => {
+    match action {
+        Action::Note(text) => note(alloc, world, text),
+        Action::Deferred(name, canceller) => make(world, name, canceller),
+        Action::Callback(name, value) => {
+            fire(
+                alloc,
+                world,
+                stack,
+                itself,
+                name.as_str(),
+                Given::lent(value),
+            )
+        }
+        Action::Errback(name, class, message) => {
+            let given = Given::failed(*class, message);
+            fire(alloc, world, stack, itself, name.as_str(), given)
+        }
+        Action::AddCallback(name, body) => {
+            add(
+                alloc,
+                world,
+                stack,
+                itself,
+                name.as_str(),
+                Pair::callback(body),
+            )
+        }
+        Action::AddErrback(name, body) => {
+            add(
+                alloc,
+                world,
+                stack,
+                itself,
+                name.as_str(),
+                Pair::errback(body),
+            )
+        }
+        Action::AddBoth(name, body) => {
+            add(
+                alloc,
+                world,
+                stack,
+                itself,
+                name.as_str(),
+                Pair::both(body, body),
+            )
+        }
+        Action::AddCallbacks(name, callback, errback) => {
+            let pair = Pair::both(callback, errback);
+            add(alloc, world, stack, itself, name.as_str(), pair)
+        }
+        Action::Chain(name, next) => {
             chain(alloc, world, stack, itself, name.as_str(), next.as_str())
         }
-        Deed::PauseOf(name) => pause(alloc, world, itself, name.as_str()),
-        Deed::UnpauseOf(name) => unpause(alloc, world, stack, itself, name.as_str()),
-        Deed::CancelOf(name) => cancel_named(alloc, world, stack, itself, name.as_str()),
-        Deed::MakeLock(name) => done(world.make_lock(name.as_str())),
-        Deed::MakeSemaphore(name, tokens) => done(world.make_semaphore(name.as_str(), tokens)),
-        Deed::AcquireOf(name, lock) => acquire(alloc, world, stack, name, lock.as_str()),
-        Deed::RunOf(name, lock, body) => run_with(alloc, world, stack, name, lock.as_str(), body),
-        Deed::MaybeOf(name, body) => done(perform_for(stack, Purpose::Named(name), body)),
-        Deed::ReleaseOf(lock) => release(alloc, world, stack, lock.as_str()),
-        Deed::MakeQueue(name, size, backlog) => {
-            done(world.make_queue(name.as_str(), size, backlog))
+        Action::Pause(name) => pause(alloc, world, itself, name.as_str()),
+        Action::Unpause(name) => unpause(alloc, world, stack, itself, name.as_str()),
+        Action::Cancel(name) => cancel_named(alloc, world, stack, itself, name.as_str()),
+        Action::Lock(name) => done(world.make_lock(name.as_str())),
+        Action::Semaphore(name, tokens) => done(world.make_semaphore(name.as_str(), *tokens)),
+        Action::Acquire(name, lock) => {
+            acquire(alloc, world, stack, TextRef::new(name), lock.as_str())
         }
-        Deed::PutInto(queue, given) => put(alloc, world, stack, queue.as_str(), given),
-        Deed::GetFrom(name, queue) => get(alloc, world, stack, name, queue.as_str()),
-        Deed::ListOf(name, children, flags) => {
-            list(alloc, world, stack, itself, name, children, flags)
+        Action::Release(lock) => release(alloc, world, stack, lock.as_str()),
+        Action::RunWith(name, lock, body) => {
+            let body = BodyRef::new(body);
+            run_with(alloc, world, stack, TextRef::new(name), lock.as_str(), body)
         }
-        Deed::GatherOf(name, children, flags) => {
-            gather(alloc, world, stack, itself, name, children, flags)
+        Action::Maybe(name, body) => maybe(stack, name, body),
+        Action::Queue(name, size, backlog) => {
+            done(world.make_queue(name.as_str(), *size, *backlog))
         }
-        Deed::LaterOf(name, delay, body) => done(world.call_later(name, delay, body)),
-        Deed::CancelCallOf(name) => cancel_call(alloc, world, name.as_str()),
-        Deed::LoopOf(name, of, interval, at_once, body) => {
-            start_loop(alloc, world, stack, name, of, interval, at_once, body)
+        Action::Put(queue, value) => {
+            put(alloc, world, stack, queue.as_str(), Given::lent(value))
         }
-        Deed::StopLoopOf(name) => stop_loop(alloc, world, stack, name.as_str()),
-        Deed::CooperateOf(name, bodies) => cooperate(world, name, bodies),
-        Deed::WhenDoneOf(name, task) => when_done(alloc, world, stack, name, task.as_str()),
-        Deed::PauseTaskOf(name) => pause_task(alloc, world, name.as_str()),
-        Deed::StopTaskOf(name) => stop_task(alloc, world, stack, name.as_str()),
-        Deed::ResumeTaskOf(name) => resume_task(alloc, world, name.as_str()),
-        Deed::InlineOf(name, statements) => begin_inline(alloc, world, stack, name, statements),
-        Deed::ThreadOf(name, delay, work) => thread(alloc, world, name, delay, work),
+        Action::Get(name, queue) => get(alloc, world, stack, TextRef::new(name), queue.as_str()),
+        Action::List(name, children, flags) => {
+            list(
+                alloc,
+                world,
+                stack,
+                itself,
+                name,
+                children,
+                flags.as_slice(),
+            )
+        }
+        Action::Gather(name, children, flags) => {
+            gather(
+                alloc,
+                world,
+                stack,
+                itself,
+                name,
+                children,
+                flags.as_slice(),
+            )
+        }
+        Action::Later(name, delay, body) => {
+            done(world.call_later(TextRef::new(name), *delay, BodyRef::new(body)))
+        }
+        Action::CancelCall(name) => cancel_call(alloc, world, name.as_str()),
+        Action::Loop(name, of, interval, at_once, body) => {
+            let of = TextRef::new(of);
+            let body = BodyRef::new(body);
+            start_loop(
+                alloc,
+                world,
+                stack,
+                TextRef::new(name),
+                of,
+                *interval,
+                *at_once,
+                body,
+            )
+        }
+        Action::StopLoop(name) => stop_loop(alloc, world, stack, name.as_str()),
+        Action::Cooperate(name, bodies) => {
+            cooperate(world, TextRef::new(name), BodiesRef::new(bodies.as_slice()))
+        }
+        Action::WhenDone(name, task) => {
+            when_done(alloc, world, stack, TextRef::new(name), task.as_str())
+        }
+        Action::PauseTask(name) => pause_task(alloc, world, name.as_str()),
+        Action::StopTask(name) => stop_task(alloc, world, stack, name.as_str()),
+        Action::ResumeTask(name) => resume_task(alloc, world, name.as_str()),
+        Action::Inline(name, statements) => {
+            let statements = Statements::new(statements.as_slice());
+            begin_inline(alloc, world, stack, TextRef::new(name), statements)
+        }
+        Action::Thread(name, delay, work) => {
+            thread(alloc, world, TextRef::new(name), *delay, WorkRef::new(work))
+        }
     }
 }
 
+/// Notes a text.
+fn note<'s>(alloc: Global, world: &mut World<'s>, text: &Text) -> Result<Performed<'s>, AllocError>
+    ensures { IfOk result (λ performed. ([], performed, world.new) ≡ begun None (NoteOf text.now) world.old) }
+{
+    let noted = text.copy(alloc)?;
+    done(world.tell(Entry::Note(noted)))
+}
+
+/// Makes a Deferred, with a canceller where there is one (Twisted: `Deferred(canceller)`).
+fn make<'s>(
+    world: &mut World<'s>,
+    name: &'s Text,
+    canceller: &'s Option<Body>,
+) -> Result<Performed<'s>, AllocError>
+    requires bounded { Bounded world.old }
+    ensures { IfOk result (λ performed. ([], performed, world.new) ≡ begun None (Make name.now canceller.now) world.old) }
+{
+    done(world.make(Some(TextRef::new(name)), canceller_of(canceller)))
+}
+
+/// Performs a body that is to become a Deferred (Twisted: `maybeDeferred`).
+fn maybe<'s>(
+    stack: &mut Stack<Frame<'s>>,
+    name: &'s Text,
+    body: &'s Body,
+) -> Result<Performed<'s>, AllocError>
+    ensures done { IfOk result (λ performed. performed ≡ Done) }
+    ensures stack { OnOk result (stack.new ≡ body_for (Named name.now) body.now ++ stack.old) }
+{
+    let purpose = Purpose::Named(TextRef::new(name));
+    done(perform_for(stack, purpose, BodyRef::new(body)))
+}
+
 /// A canceller of the script, as one of a Deferred.
-fn canceller_of<'s>(canceller: Option<BodyRef<'s>>) -> Option<Canceller<'s>>
-    ensures { result ≡ option_map CancellerBody canceller.entry }
+fn canceller_of<'s>(canceller: &'s Option<Body>) -> Option<Canceller<'s>>
+    ensures { result ≡ option_map CancellerBody canceller.now }
 {
     match canceller {
         None => None,
-        Some(body) => Some(Canceller::Body(body)),
+        Some(body) => Some(Canceller::Body(BodyRef::new(body))),
     }
 }
 

@@ -5,7 +5,7 @@ ghost use Rattle.dv_rules.specs.Cooperating.{notices, notified, when_done, is_ov
 ghost use Rattle.dv_rules.specs.Turn.{◌over◌};
 ghost use Rattle.dv_world.specs.World.{take_step as taken};
 ghost use Rattle.dv_objects.specs.declared.performed.Performed.TheVariants.{Awaits};
-ghost use Rattle.dv_rules.specs.declared.deed.Deed.TheVariants.{CooperateOf, WhenDoneOf, PauseTaskOf, StopTaskOf, ResumeTaskOf};
+ghost use Rattle.dv_rules.specs.Deed.{CooperateOf, WhenDoneOf, PauseTaskOf, StopTaskOf, ResumeTaskOf};
 
 use crate::frame::Frame;
 use crate::settling::{done, fire_and_settle, whole};

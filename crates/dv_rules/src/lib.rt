@@ -5,7 +5,7 @@ mod acting;
 pub mod beginning;
 mod cancelling;
 mod cooperating;
-mod deed;
+mod flags;
 pub mod frame;
 mod inlining;
 mod listing;

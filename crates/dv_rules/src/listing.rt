@@ -3,10 +3,11 @@ ghost use Rattle.dv_rules.specs.Acting.{begun};
 ghost use Rattle.dv_rules.specs.Bounds.{Bounded};
 ghost use Rattle.dv_rules.specs.Listing.{added_to_children, has_all_at_once, fired_at_once, with_listed, listed, fired_by_child, come_by, results_given, children_cancelled};
 ghost use Rattle.dv_rules.specs.Turn.{◌over◌};
-ghost use Rattle.dv_rules.specs.declared.deed.Deed.TheVariants.{ListOf, GatherOf};
+ghost use Rattle.dv_rules.specs.Deed.{ListOf, GatherOf, list_flags, gather_flags};
 ghost use Rattle.dv_prims.specs.DeferredList.{seconds_of};
 ghost use Rattle.dv_world.specs.World.{World as Seen};
 
+use crate::flags::{gather_flags, list_flags};
 use crate::frame::Frame;
 use crate::settling::fire_and_settle;
 use dv_journal::deferred_id::DeferredId;
@@ -16,9 +17,11 @@ use dv_objects::pair::{Child, Pair};
 use dv_objects::performed::Performed;
 use dv_prims::gather::{Came, Flags, seconds};
 use dv_prims::list_id::ListId;
-use dv_script::lent::{TextRef, TextsRef};
+use dv_script::action::{GatherFlag, ListFlag};
+use dv_script::lent::TextRef;
 use dv_value::items::Items;
 use dv_value::stack::Stack;
+use dv_value::text::Text;
 use dv_value::value::Value;
 use dv_world::found::{Found, find_all};
 use dv_world::world::{World, not_gathered, unbound};
@@ -30,16 +33,19 @@ pub fn list<'s>(
     world: &mut World<'s>,
     stack: &mut Stack<Frame<'s>>,
     itself: Option<DeferredId>,
-    name: TextRef<'s>,
-    children: TextsRef<'s>,
-    flags: Flags,
+    name: &'s Text,
+    children: &'s Items<Text>,
+    flags: &[ListFlag],
 ) -> Result<Performed<'s>, AllocError>
     requires bounded { Bounded world.old }
-    ensures { IfOk result (λ performed. (stack.new, performed, world.new) ≡ begun itself (ListOf name.entry children.entry flags) world.old over stack.old) }
+    ensures { IfOk result (λ performed. (stack.new, performed, world.new) ≡ begun itself (ListOf name.now children.now (list_flags flags.now)) world.old over stack.old) }
 {
-    match find_all(alloc, world, &itself, children.get())? {
+    match find_all(alloc, world, &itself, children.as_slice())? {
         Found::Unbound(name) => unbound(alloc, name.as_str()),
-        Found::All(children) => make(alloc, world, stack, name, children, flags),
+        Found::All(children) => {
+            let flags = list_flags(flags);
+            make(alloc, world, stack, TextRef::new(name), children, flags)
+        }
     }
 }
 
@@ -51,18 +57,19 @@ pub fn gather<'s>(
     world: &mut World<'s>,
     stack: &mut Stack<Frame<'s>>,
     itself: Option<DeferredId>,
-    name: TextRef<'s>,
-    children: TextsRef<'s>,
-    flags: Flags,
+    name: &'s Text,
+    children: &'s Items<Text>,
+    flags: &[GatherFlag],
 ) -> Result<Performed<'s>, AllocError>
     requires bounded { Bounded world.old }
-    ensures { IfOk result (λ performed. (stack.new, performed, world.new) ≡ begun itself (GatherOf name.entry children.entry flags) world.old over stack.old) }
+    ensures { IfOk result (λ performed. (stack.new, performed, world.new) ≡ begun itself (GatherOf name.now children.now (gather_flags flags.now)) world.old over stack.old) }
 {
-    match find_all(alloc, world, &itself, children.get())? {
+    match find_all(alloc, world, &itself, children.as_slice())? {
         Found::Unbound(name) => unbound(alloc, name.as_str()),
         Found::All(children) => {
             stack.push(Frame::Add(world.next_id(), Pair::results()))?;
-            make(alloc, world, stack, name, children, flags)
+            let flags = gather_flags(flags);
+            make(alloc, world, stack, TextRef::new(name), children, flags)
         }
     }
 }

@@ -3,7 +3,7 @@ ghost use Rattle.dv_rules.specs.Acting.{begun};
 ghost use Rattle.dv_rules.specs.Bounds.{Bounded};
 ghost use Rattle.dv_rules.specs.Locking.{granted, asked_of, acquired, released_of};
 ghost use Rattle.dv_rules.specs.Turn.{◌over◌};
-ghost use Rattle.dv_rules.specs.declared.deed.Deed.TheVariants.{AcquireOf, RunOf, ReleaseOf};
+ghost use Rattle.dv_rules.specs.Deed.{AcquireOf, RunOf, ReleaseOf};
 
 use crate::frame::Frame;
 use crate::settling::fire_and_settle;

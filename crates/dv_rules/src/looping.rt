@@ -3,7 +3,7 @@ ghost use Rattle.dv_rules.specs.Acting.{begun};
 ghost use Rattle.dv_rules.specs.Bounds.{Bounded};
 ghost use Rattle.dv_rules.specs.Looping.{loop_begun, turn_begun, turn_taken, turn_ended, turn_failed, over_where, stopped_of};
 ghost use Rattle.dv_rules.specs.Turn.{◌over◌};
-ghost use Rattle.dv_rules.specs.declared.deed.Deed.TheVariants.{LoopOf, StopLoopOf};
+ghost use Rattle.dv_rules.specs.Deed.{LoopOf, StopLoopOf};
 
 use crate::frame::{Frame, Purpose};
 use crate::maybe::perform_for;

@@ -3,7 +3,7 @@ ghost use Rattle.dv_rules.specs.Acting.{begun};
 ghost use Rattle.dv_rules.specs.Bounds.{Bounded};
 ghost use Rattle.dv_rules.specs.Queueing.{put_of, asked_for, get_of, handed_out, got};
 ghost use Rattle.dv_rules.specs.Turn.{◌over◌};
-ghost use Rattle.dv_rules.specs.declared.deed.Deed.TheVariants.{PutInto, GetFrom};
+ghost use Rattle.dv_rules.specs.Deed.{PutInto, GetFrom};
 
 use crate::frame::Frame;
 use crate::settling::fire_and_settle;

@@ -3,7 +3,7 @@ ghost use Rattle.dv_rules.specs.Acting.{begun};
 ghost use Rattle.dv_rules.specs.Bounds.{Bounded};
 ghost use Rattle.dv_rules.specs.Threading.{job_begun, delivered, job_result};
 ghost use Rattle.dv_rules.specs.Turn.{◌over◌};
-ghost use Rattle.dv_rules.specs.declared.deed.Deed.TheVariants.{ThreadOf};
+ghost use Rattle.dv_rules.specs.Deed.{ThreadOf};
 ghost use Rattle.dv_rules.specs.declared.frame.Frame.TheVariants.{Tell};
 
 use crate::frame::Frame;

@@ -2,7 +2,7 @@ ghost use Rattle.std.specs.Prelude.{◌≡◌, [], None, IfOk};
 ghost use Rattle.dv_rules.specs.Acting.{begun};
 ghost use Rattle.dv_rules.specs.Timing.{body_called, come_due_with};
 ghost use Rattle.dv_rules.specs.Turn.{◌over◌};
-ghost use Rattle.dv_rules.specs.declared.deed.Deed.TheVariants.{CancelCallOf};
+ghost use Rattle.dv_rules.specs.Deed.{CancelCallOf};
 ghost use Rattle.dv_world.specs.World.{World as Seen, come_due};
 
 use crate::frame::Frame;

@@ -1,4 +1,3 @@
-pub mod Front
 pub mod OutputLemmas
 pub mod RunLemmas
 pub mod CallerLemmas

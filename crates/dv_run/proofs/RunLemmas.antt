@@ -19,10 +19,10 @@ use Rattle.dv_run.specs.Faults.{of_read, of_script, of_print}
 use Rattle.dv_run.specs.Headline.{IsRun, Prints, SaysReport, Told, most_read}
 use Rattle.dv_run.specs.Output.{report_text}
 use Rattle.dv_run.specs.Run.{SaysScript, RefusesInput, GivesUp, ReaderFailed, WriterFailed, GivesNoScript}
-use Rattle.dv_run.specs.Source.{IsFrontOf}
+use Rattle.dv_source.specs.Source.{IsFrontOf}
 use Rattle.dv_run.specs.declared.error.RunFault.TheVariants.{ScriptRefused, OutOfMemory}
-use Rattle.dv_run.specs.declared.source.ReadError.{ReadError}
-use Rattle.dv_run.specs.declared.source.ReadError.TheVariants as reading
+use Rattle.dv_source.specs.declared.source.ReadError.{ReadError}
+use Rattle.dv_source.specs.declared.source.ReadError.TheVariants as reading
 
 -- a read that gave up: nothing was written
 after_read : (input old : Told) (error : ReadError) → GivesUp (of_read error) input old old

@@ -5,8 +5,8 @@ use Rattle.dv_reader.specs.declared.error.ScriptFault.{ScriptFault}
 use Rattle.dv_reader.specs.declared.error.ScriptFault.TheVariants as script
 use Rattle.dv_run.specs.declared.error.RunFault.{RunFault}
 use Rattle.dv_run.specs.declared.error.RunFault.TheVariants.{ScriptRefused, OutOfMemory, ReadFault, WriteFault}
-use Rattle.dv_run.specs.declared.source.ReadError.{ReadError}
-use Rattle.dv_run.specs.declared.source.ReadError.TheVariants as reading
+use Rattle.dv_source.specs.declared.source.ReadError.{ReadError}
+use Rattle.dv_source.specs.declared.source.ReadError.TheVariants as reading
 
 -- a reader that failed is a read fault, and want of memory stays that
 abbrev pub of_read : ReadError → RunFault

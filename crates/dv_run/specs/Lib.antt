@@ -1,5 +1,3 @@
-pub mod Source
-pub mod MemorySource
 pub mod Output
 pub mod Headline
 pub mod Faults

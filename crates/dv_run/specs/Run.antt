@@ -9,7 +9,7 @@ use Rattle.dv_reader.specs.declared.error.ScriptFault.TheVariants as script
 use Rattle.dv_script.specs.declared.script.Script.{Script}
 use Rattle.dv_run.specs.Headline.{SaysReport, Told, most_read}
 use Rattle.dv_run.specs.Output.{report_text}
-use Rattle.dv_run.specs.Source.{IsFrontOf}
+use Rattle.dv_source.specs.Source.{IsFrontOf}
 use Rattle.dv_run.specs.declared.error.RunFault.{RunFault}
 use Rattle.dv_run.specs.declared.error.RunFault.TheVariants.{ScriptRefused, OutOfMemory, ReadFault, WriteFault}
 

@@ -1,6 +1,6 @@
-use crate::source::ReadError;
 use dv_journal::error::PrintFault;
 use dv_reader::error::ScriptFault;
+use dv_source::source::ReadError;
 use std::alloc::AllocError;
 use thiserror::Error;
 

@@ -7,12 +7,12 @@ ghost use Rattle.dv_run.specs.Run.{SaysScript, GivesNoScript, GivesUp, ReaderFai
 use crate::error::RunFault;
 use crate::output::print_report;
 use crate::performing::perform;
-use crate::source::{Source, read_up_to};
 use dv_engine::report::Report;
 use dv_journal::sink::Sink;
 use dv_reader::MOST_BYTES;
 use dv_reader::read_script::ReadScript;
 use dv_script::script::Script;
+use dv_source::source::{Source, read_up_to};
 use dv_threads::gate::Gate;
 use std::alloc::{AllocGlobal, Global};
 use std::random::RandomSource;

@@ -34,8 +34,8 @@ use Rattle.dv_rules.specs.Cancelling.{awaited_cancelled, cancel_begun, canceller
 use Rattle.dv_rules.specs.Cooperating.{notices, task_over, notified_by, notified, asked_when, when_done, paused_by, paused_of, stopped_by, resumed_of, is_over, hold_over, failed_by, stepped_by, stepped, step_begun, ticked, tick_stepped, tick_gone_on}
 use Rattle.dv_rules.specs.Cooperating as tasks
 use Rattle.dv_rules.specs.Deed.{deed_of}
-use Rattle.dv_rules.specs.declared.deed.Deed.{Deed}
-use Rattle.dv_rules.specs.declared.deed.Deed.TheVariants.{NoteOf, Make, FireWith, AddTo, ChainTo, PauseOf, UnpauseOf, CancelOf, MakeLock, MakeSemaphore, AcquireOf, ReleaseOf, RunOf, MaybeOf, MakeQueue, PutInto, GetFrom, ListOf, GatherOf, LaterOf, CancelCallOf, LoopOf, StopLoopOf, CooperateOf, WhenDoneOf, PauseTaskOf, StopTaskOf, ResumeTaskOf, InlineOf, ThreadOf}
+use Rattle.dv_rules.specs.Deed.{Deed}
+use Rattle.dv_rules.specs.Deed.{NoteOf, Make, FireWith, AddTo, ChainTo, PauseOf, UnpauseOf, CancelOf, MakeLock, MakeSemaphore, AcquireOf, ReleaseOf, RunOf, MaybeOf, MakeQueue, PutInto, GetFrom, ListOf, GatherOf, LaterOf, CancelCallOf, LoopOf, StopLoopOf, CooperateOf, WhenDoneOf, PauseTaskOf, StopTaskOf, ResumeTaskOf, InlineOf, ThreadOf}
 use Rattle.dv_rules.specs.Inlining.{inline_begun, going_where, resumed, await_ended, answer_of}
 use Rattle.dv_rules.specs.Listing.{with_children, added_to_children, has_all_at_once, fired_at_once, with_listed, listed, fired_by_child, come_by, results_given}
 use Rattle.dv_rules.specs.Locking.{granted, asked_of, acquired, released_of}

@@ -2,9 +2,13 @@ mod engine;
 mod errors;
 mod exit;
 mod faults;
+mod gates;
+mod jobs;
 mod journal;
 mod lines;
 mod pieces;
+mod posts;
+mod runs;
 mod scripts;
 mod values;
 

@@ -1,7 +1,9 @@
 ghost use Rattle.std.specs.Prelude.{◌≡◌, ◌↔◌, IsTrue};
+ghost use Rattle.dv_value.specs.declared.value.Value.{Null, Bool, Int, Text as ValueText};
 
 use dv_script::work::Work;
 use dv_value::failure::{Failure, Sub};
+use dv_value::text::Text;
 use dv_value::value::Value;
 
 /// Whether two works are equal.
@@ -30,26 +32,10 @@ fn is_same(first: &Value, second: &Value) -> bool
     ensures { IsTrue result ↔ (first.now ≡ second.now) }
 {
     match first {
-        Value::Null => match second {
-            Value::Null => true,
-            Value::Bool(_) | Value::Int(_) | Value::Text(_) | Value::List(_) | Value::Fault(_) =>
-                false,
-        },
-        Value::Bool(b) => match second {
-            Value::Bool(c) => *b == *c,
-            Value::Null | Value::Int(_) | Value::Text(_) | Value::List(_) | Value::Fault(_) =>
-                false,
-        },
-        Value::Int(n) => match second {
-            Value::Int(m) => *n == *m,
-            Value::Null | Value::Bool(_) | Value::Text(_) | Value::List(_) | Value::Fault(_) =>
-                false,
-        },
-        Value::Text(text) => match second {
-            Value::Text(other) => text.as_str() == other.as_str(),
-            Value::Null | Value::Bool(_) | Value::Int(_) | Value::List(_) | Value::Fault(_) =>
-                false,
-        },
+        Value::Null => is_null(second),
+        Value::Bool(b) => is_bool(*b, second),
+        Value::Int(n) => is_int(*n, second),
+        Value::Text(text) => is_text(text, second),
         Value::List(values) => match second {
             Value::List(others) => are_same(values.as_slice(), others.as_slice()),
             Value::Null | Value::Bool(_) | Value::Int(_) | Value::Text(_) | Value::Fault(_) =>
@@ -59,6 +45,42 @@ fn is_same(first: &Value, second: &Value) -> bool
             Value::Fault(other) => is_same_failure(failure.get(), other.get()),
             Value::Null | Value::Bool(_) | Value::Int(_) | Value::Text(_) | Value::List(_) => false,
         },
+    }
+}
+
+fn is_null(value: &Value) -> bool
+    ensures { IsTrue result ↔ (Null ≡ value.now) }
+{
+    match value {
+        Value::Null => true,
+        Value::Bool(_) | Value::Int(_) | Value::Text(_) | Value::List(_) | Value::Fault(_) => false,
+    }
+}
+
+fn is_bool(b: bool, value: &Value) -> bool
+    ensures { IsTrue result ↔ (Bool b ≡ value.now) }
+{
+    match value {
+        Value::Bool(c) => b == *c,
+        Value::Null | Value::Int(_) | Value::Text(_) | Value::List(_) | Value::Fault(_) => false,
+    }
+}
+
+fn is_int(n: i64, value: &Value) -> bool
+    ensures { IsTrue result ↔ (Int n ≡ value.now) }
+{
+    match value {
+        Value::Int(m) => n == *m,
+        Value::Null | Value::Bool(_) | Value::Text(_) | Value::List(_) | Value::Fault(_) => false,
+    }
+}
+
+fn is_text(text: &Text, value: &Value) -> bool
+    ensures { IsTrue result ↔ (ValueText text.now ≡ value.now) }
+{
+    match value {
+        Value::Text(other) => text.as_str() == other.as_str(),
+        Value::Null | Value::Bool(_) | Value::Int(_) | Value::List(_) | Value::Fault(_) => false,
     }
 }
 

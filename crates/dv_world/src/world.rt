@@ -693,7 +693,9 @@ impl<'s> World<'s> {
     }
 
     /// Lets a world go. Who does it by this call needs no proof of its own of what a world holds.
-    pub fn discard(self) {}
+    pub fn discard(self) {
+        drop(self);
+    }
 
     /// Its journal, whether it has stopped, and all records in order of making.
     pub fn into_parts(self) -> (Journal, bool, Vec<Record<Pair<'s>, Canceller<'s>>>)

@@ -2,7 +2,7 @@ ghost use Rattle.std.specs.Prelude.{◌≡◌, ◌≤◌, List, ℕ, Option, OnO
 ghost use Rattle.std.specs.Io.{ReadsAtMost};
 ghost use Rattle.std.specs.Io.KnownBytes.{Consumes, ReadConsumes};
 ghost use Rattle.dv_journal.specs.Sink.{HasFailed};
-ghost use Rattle.dv_run.specs.Source.{failures_after_read, IsFrontOf, ConsumesSome};
+ghost use Rattle.dv_source.specs.Source.{failures_after_read, IsFrontOf, ConsumesSome};
 
 use std::alloc::{AllocError, Global};
 use thiserror::Error;
@@ -40,7 +40,7 @@ pub enum ReadError {
 }
 
 impl From<SourceFault> for ReadError {
-    ghost use Rattle.dv_run.specs.declared.source.ReadError.TheVariants.{ReadFault};
+    ghost use Rattle.dv_source.specs.declared.source.ReadError.TheVariants.{ReadFault};
 
     ghost from_gives = { λ _ e. e ≡ ReadFault };
 
@@ -50,7 +50,7 @@ impl From<SourceFault> for ReadError {
 }
 
 impl From<AllocError> for ReadError {
-    ghost use Rattle.dv_run.specs.declared.source.ReadError.TheVariants.{OutOfMemory};
+    ghost use Rattle.dv_source.specs.declared.source.ReadError.TheVariants.{OutOfMemory};
 
     ghost from_gives = { λ _ e. e ≡ OutOfMemory };
 

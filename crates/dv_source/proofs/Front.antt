@@ -3,7 +3,7 @@ use Rattle.std.proofs.Common.{◌≤◌, ℕ, List, ◌++◌, Option, Some, None
 use Rattle.std.proofs.lemmas.List.{append-nil, take_at, take_all}
 use Rattle.std.proofs.KnownBytes.{Consumes-trans}
 use Rattle.std.specs.Io.KnownBytes.{Consumes, IsAtEnd}
-use Rattle.dv_run.specs.Source.{IsFrontOf, ConsumesSome}
+use Rattle.dv_source.specs.Source.{IsFrontOf, ConsumesSome}
 
 -- as many as were asked for
 pub front_full : (a b : Option (List ℕ)) (bytes : List ℕ) (most : ℕ) →

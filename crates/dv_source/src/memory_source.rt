@@ -1,9 +1,9 @@
 ghost use Rattle.std.specs.Prelude.{◌≡◌, ◌<◌, Some, length};
 ghost use Rattle.std.specs.Io.{ReadsAtMost};
 ghost use Rattle.std.specs.Io.KnownBytes.{ReadConsumes};
-ghost use Rattle.dv_run.specs.Source.{failures_after_read};
-ghost use Rattle.dv_run.specs.MemorySource.{fresh, fails_here, failure_ahead};
-ghost use Rattle.dv_run.specs.MemorySource.{answer_of, after_read, filled};
+ghost use Rattle.dv_source.specs.Source.{failures_after_read};
+ghost use Rattle.dv_source.specs.MemorySource.{fresh, fails_here, failure_ahead};
+ghost use Rattle.dv_source.specs.MemorySource.{answer_of, after_read, filled};
 
 use crate::source::{Source, SourceFault};
 use std::marker::Model;
@@ -19,7 +19,7 @@ pub struct MemorySource<'a> {
 
 impl<'a> Model for MemorySource<'a> {
     ghost use Rattle.std.specs.Prelude.{◌<◌};
-    ghost use Rattle.dv_run.specs.MemorySource.{Supply};
+    ghost use Rattle.dv_source.specs.MemorySource.{Supply};
 
     ghost Value = { Supply };
 

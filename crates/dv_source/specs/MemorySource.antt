@@ -1,7 +1,7 @@
 -- What a source over bytes has to give, what it answers to a read, and what it has then.
 use Rattle.std.specs.Prelude.{List, ℕ, Bool, false, ◌-◌, ◌++◌, ◌==◌, min, length, take, drop, if◌then◌else◌, Option, Some, None, Result, Ok, Err}
-use Rattle.dv_run.specs.declared.source.SourceFault.{SourceFault}
-use Rattle.dv_run.specs.Source.{failures_after_read}
+use Rattle.dv_source.specs.declared.source.SourceFault.{SourceFault}
+use Rattle.dv_source.specs.Source.{failures_after_read}
 
 -- the bytes that it has left, how many it gives a call at most, after how many calls it fails,
 -- and how often it has failed

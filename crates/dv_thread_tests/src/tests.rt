@@ -1,4 +1,0 @@
-mod gates;
-mod jobs;
-mod posts;
-mod runs;
