@@ -4,8 +4,8 @@
 ghost use Rattle.std.specs.Prelude.{◌≤◌, IfOk, IfSome};
 
 use dv_journal::io_sink::IoSink;
-use dv_run::error::RunFault;
-use dv_run::exit::exit_of;
+use dv_output::error::RunFault;
+use dv_output::exit::exit_of;
 use dv_run::run::run;
 use dv_run::workers::workers_of;
 use dv_source::io_source::IoSource;

@@ -1,10 +1,10 @@
 -- A draft that isn't accepted is refused.
 use Rattle.std.proofs.Common.{◌≡◌, Some, Err, true}
 use Rattle.serde_json.specs.Data.{Data}
-use Rattle.dv_reader.specs.declared.draft.Draft.{Draft}
+use Rattle.dv_grammar.specs.declared.draft.Draft.{Draft}
 use Rattle.dv_reader.specs.declared.error.ScriptFault.{ScriptFault}
 use Rattle.dv_reader.specs.declared.error.ScriptFault.TheVariants.{TooLong, NotJson, BadVersion, BadShape, TooMany, BadName, BadClass, OutOfMemory}
-use Rattle.dv_reader.specs.Shape.{script_at}
+use Rattle.dv_grammar.specs.Shape.{script_at}
 use Rattle.dv_reader.specs.Passes.{is_version, Accepts, Judged}
 
 pub refused : (d : Data) (draft : Draft) (fault : ScriptFault) → is_version d ≡ true → script_at d ≡ Some draft → Accepts d draft (Err fault) → Judged d (Err fault)

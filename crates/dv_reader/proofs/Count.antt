@@ -3,11 +3,11 @@ use Rattle.std.proofs.Common.{◌≡◌, ℕ, ◌+◌, ◌≤◌, List, [], ◌�
 use Rattle.std.specs.Cmp.Lexicographic.{slice_cmp}
 use Rattle.serde_json.specs.Data.{Data, null, boolean, number, string, array, object, Items, no_items, item, Members, no_members, member}
 use Rattle.serde_json.specs.Find.{get_member}
-use Rattle.dv_reader.specs.declared.draft.Draft.{Draft}
-use Rattle.dv_reader.specs.Forms.{Each, IsList, Key}
-use Rattle.dv_reader.specs.Grammar.{IsEvent, IsScript}
+use Rattle.dv_grammar.specs.declared.draft.Draft.{Draft}
+use Rattle.dv_grammar.specs.Forms.{Each, IsList, Key}
+use Rattle.dv_grammar.specs.Grammar.{IsEvent, IsScript}
 use Rattle.dv_reader.specs.Limits.{nodes, item_nodes, member_nodes}
-use Rattle.dv_reader.proofs.Steps.{picked}
+use Rattle.dv_grammar.proofs.Steps.{picked}
 
 -- a member has no more nodes than the members
 member_nodes-get : (key : List ℕ) (ms : Members) (d : Data) → get_member key ms ≡ Some d → nodes d ≤ member_nodes ms

@@ -3,17 +3,17 @@ use Rattle.std.proofs.Common.{◌≡◌, ℕ, Bool, true, false, List, Option, S
 use Rattle.serde_json.specs.Data.{Data}
 use Rattle.serde_json.proofs.Nesting.{depth-read}
 use Rattle.dv_script.specs.declared.script.Script.{Script}
-use Rattle.dv_reader.specs.declared.draft.Draft.{Draft}
+use Rattle.dv_grammar.specs.declared.draft.Draft.{Draft}
 use Rattle.dv_reader.specs.declared.error.ScriptFault.TheVariants.{TooLong, NotJson, BadVersion, BadShape, TooMany, BadName, BadClass, OutOfMemory}
-use Rattle.dv_reader.specs.Grammar.{IsScript}
+use Rattle.dv_grammar.specs.Grammar.{IsScript}
 use Rattle.dv_reader.specs.Limits.{is_small}
 use Rattle.dv_reader.specs.Refusal.{IsDocument, HasVersion, HasShape, are_named, are_known, Says}
-use Rattle.dv_reader.specs.Shape.{script_at}
+use Rattle.dv_grammar.specs.Shape.{script_at}
 use Rattle.dv_reader.specs.Passes.{is_version}
 use Rattle.dv_reader.specs.Laws.{IsRefused, SaysOneAtMost, RefusedSaysNone, SaysOrIsRefused}
-use Rattle.dv_reader.proofs.Steps.{some_injective}
-use Rattle.dv_reader.proofs.Complete.{complete_script}
-use Rattle.dv_reader.proofs.Sound.{sound_script}
+use Rattle.dv_grammar.proofs.Steps.{some_injective}
+use Rattle.dv_grammar.proofs.Complete.{complete_script}
+use Rattle.dv_grammar.proofs.Sound.{sound_script}
 use Rattle.dv_reader.proofs.Version.{version_is, no_version}
 use Rattle.dv_reader.proofs.Answers.{misshapen}
 

@@ -1,10 +1,6 @@
 pub mod Accepted
 pub mod Answers
-pub mod Complete
 pub mod Count
 pub mod Documents
-pub mod Sound
-pub mod Steps
 pub mod TableLemmas
 pub mod Version
-pub mod WordsLemmas

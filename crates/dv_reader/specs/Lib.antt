@@ -1,12 +1,6 @@
-pub mod Forms
-pub mod Table
-pub mod Grammar
 pub mod Names
 pub mod Suits
 pub mod Limits
 pub mod Refusal
 pub mod Laws
-pub mod Words
-pub mod Shape
-pub mod Answer
 pub mod Passes

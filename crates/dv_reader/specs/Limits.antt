@@ -4,9 +4,9 @@ use Rattle.std.specs.List.{list_all}
 use Rattle.serde_json.specs.Data.{Data, null, boolean, number, string, array, object, Items, no_items, item, Members, no_members, member}
 use Rattle.dv_script.specs.declared.event.Event.{Event}
 use Rattle.dv_script.specs.declared.event.Event.TheVariants.{Action, Advance, Drain}
-use Rattle.dv_reader.specs.declared.draft.Draft.{Draft}
+use Rattle.dv_grammar.specs.declared.draft.Draft.{Draft}
 use Rattle.dv_script.specs.declared.body.Body.{Body}
-use Rattle.dv_reader.specs.Table.{most_classes}
+use Rattle.dv_grammar.specs.Table.{most_classes}
 
 -- the most bytes of a script
 abbrev pub most_bytes : ℕ

@@ -5,12 +5,12 @@ use Rattle.serde_json.specs.Data.{Data, number, unsigned}
 use Rattle.serde_json.specs.Find.{get}
 use Rattle.serde_json.specs.Read.{read}
 use Rattle.dv_script.specs.declared.script.Script.{Script}
-use Rattle.dv_reader.specs.declared.draft.Declaration.{Declaration}
-use Rattle.dv_reader.specs.declared.draft.Draft.{Draft}
+use Rattle.dv_grammar.specs.declared.draft.Declaration.{Declaration}
+use Rattle.dv_grammar.specs.declared.draft.Draft.{Draft}
 use Rattle.dv_reader.specs.declared.error.ScriptFault.{ScriptFault}
 use Rattle.dv_reader.specs.declared.error.ScriptFault.TheVariants.{TooLong, NotJson, BadVersion, BadShape, TooMany, BadName, BadClass, OutOfMemory}
 use Rattle.dv_reader.specs.declared.suits.Wanted.TheVariants.{Names, Classes}
-use Rattle.dv_reader.specs.Grammar.{IsScript}
+use Rattle.dv_grammar.specs.Grammar.{IsScript}
 use Rattle.dv_reader.specs.Names.{is_name}
 use Rattle.dv_reader.specs.Suits.{suits_script}
 use Rattle.dv_reader.specs.Limits.{most_bytes, is_small}

@@ -3,7 +3,8 @@ ghost use Rattle.std.specs.List.{list_all};
 ghost use Rattle.serde_json.specs.View.{view, items_view, members_view};
 ghost use Rattle.dv_reader.specs.Limits.{nodes, item_nodes, member_nodes, most_nodes, most_ticks, ticks_of, ticks_in, are_few, is_small};
 
-use crate::draft::Draft;
+use dv_grammar::draft::Draft;
+use dv_grammar::ranges::{MOST_CLASSES, MOST_TICKS};
 use dv_script::body::Body;
 use dv_script::event::Event;
 use dv_value::items::Items;
@@ -15,29 +16,11 @@ pub const MOST_BYTES: usize = 1_048_576;
 /// The most nodes of a script.
 pub const MOST_NODES: u64 = 65_536;
 
-/// The most classes that a script declares.
-pub const MOST_CLASSES: usize = 256;
-
 /// The most callers of a script.
 pub const MOST_CALLERS: usize = 8;
 
 /// The most posts of a caller.
 pub const MOST_POSTS: usize = 256;
-
-/// The most ticks by which a script advances the clock in all.
-pub const MOST_TICKS: u64 = 1_000_000_000_000_000;
-
-/// The most ticks of a delay or of an interval.
-pub const MOST_DELAY: u64 = 1_000_000_000_000;
-
-/// The most tokens of a semaphore, and the most that a queue's size or backlog may be.
-pub const MOST_PLACES: u32 = 65_536;
-
-/// To how many levels bodies and statements may nest: as many as JSON may, so that no script is refused for it.
-pub const MOST_LEVELS: u32 = 127;
-
-/// The most that a script may let its journal weigh.
-pub const MOST_LIMIT: u64 = 200_000;
 
 /// How many nodes the value has, to the last number of 64 bits.
 #[cycle(nodes)]

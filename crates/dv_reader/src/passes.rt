@@ -7,12 +7,12 @@ ghost use Rattle.dv_reader.specs.Limits.{most_nodes, most_limit};
 ghost use Rattle.dv_reader.specs.Refusal.{is_named, are_named, are_known, Says, Refuses};
 ghost use Rattle.dv_reader.specs.Passes.{is_version, Accepts, Judged, Passes};
 
-use crate::draft::{Declaration, Draft};
 use crate::error::ScriptFault;
 use crate::limits::{MOST_BYTES, is_small};
 use crate::names::is_name;
-use crate::reading::script::shape;
 use crate::suits::{Wanted, suits_script};
+use dv_grammar::draft::{Declaration, Draft};
+use dv_grammar::reading::script::shape;
 use dv_script::script::Script;
 use serde_json::Value as Json;
 use std::alloc::Global;
@@ -75,8 +75,13 @@ fn judge(alloc: Global, json: &Json) -> Result<Script, ScriptFault>
         return Err(ScriptFault::BadVersion);
     }
     let draft = shape(alloc, json)?;
-    accept(json, &draft)?;
-    Ok(draft.script)
+    match accept(json, &draft) {
+        Ok(()) => Ok(draft.into_script()),
+        Err(fault) => {
+            draft.discard();
+            Err(fault)
+        }
+    }
 }
 
 /// The script that the passes find in the bytes, or the least refusal.

@@ -1,6 +1,6 @@
 use crate::lines::{first_difference, unfolded};
 use dv_journal::memory_sink::MemorySink;
-use dv_run::exit::exit_of;
+use dv_output::exit::exit_of;
 use dv_run::run::run;
 use dv_source::memory_source::MemorySource;
 use dv_threads::gate::PlainGate;

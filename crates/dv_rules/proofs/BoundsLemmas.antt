@@ -1,15 +1,8 @@
--- There is room for one more Deferred and for one more pause.
-use Rattle.std.proofs.Common.{◌≡◌, ℕ, Bool, true, false, cond, subst, sym, ◌≤◌, ◌<◌, ◌^◌, ◌-◌, Option, None, Some, length, slice_get, refl, ap, arith}
-use Rattle.std.proofs.lemmas.List.Sums.{get_or-le-sum_by}
-use Rattle.std.proofs.lemmas.Option.{slice_get_within, get_or_from_slice_get}
-use Rattle.std.specs.Option.{option_map_or}
-use Rattle.dv_store.specs.Pausing.{pauses_of}
-use Rattle.dv_store.specs.declared.record.Record.{Record}
-use Rattle.dv_rules.specs.Bounds.{all_pauses, Bounded}
-use Rattle.dv_objects.specs.declared.canceller.Canceller.{Canceller}
+-- There is room for one more Deferred.
+use Rattle.std.proofs.Common.{◌≡◌, Bool, true, false, cond, subst, sym, ◌<◌, ◌^◌, ◌-◌, length, refl, arith}
+use Rattle.dv_rules.specs.Bounds.{Bounded}
 use Rattle.dv_objects.specs.Objects.{Objects}
-use Rattle.dv_world.specs.World.{World, Records, arrange}
-use Rattle.dv_objects.specs.declared.pair.Pair.{Pair}
+use Rattle.dv_world.specs.World.{World, arrange}
 
 pub records_within : (w : World) → Bounded w → length w.records < 2 ^ 32 - 1
 records_within w b = omega (arith, b.told, b.within, b.limited)
@@ -22,11 +15,3 @@ same_records false change w = refl
 pub arranged_within : (change : Objects → Objects) (w u : World) → u ≡ arrange change w → Bounded w → length u.records < 2 ^ 32 - 1
 unfolding arrange
 arranged_within change w u e b = subst (λ (v : World). length v.records < 2 ^ 32 - 1) (sym e) (subst (λ rs. length rs < 2 ^ 32 - 1) (sym (same_records w.stopped change w)) (records_within w b))
-
-found_within : (d : ℕ) (rs : Records) (o : Option (Record Pair Canceller)) → slice_get rs d ≡ o → option_map_or (λ (r : Record Pair Canceller). r.pauses) o 0 ≤ all_pauses rs
-found_within d rs None h = omega arith
-found_within d rs (Some r) h =
-    omega (arith, get_or-le-sum_by (λ (s : Record Pair Canceller). s.pauses) rs d r (slice_get_within rs d r h), ap (λ (s : Record Pair Canceller). s.pauses) (get_or_from_slice_get rs d r r h))
-
-pub pauses_within : (d : ℕ) (w : World) → Bounded w → pauses_of d w.records < 2 ^ 32 - 1
-pauses_within d w b = omega (arith, found_within d w.records _ refl, b.told, b.within, b.limited)

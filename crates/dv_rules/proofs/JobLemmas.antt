@@ -1,9 +1,5 @@
--- What comes due submits nothing, and the works that are submitted are the first of those that a run has made.
+-- What is told submits nothing, and the works that are submitted are the first of those that a run has made.
 use Rattle.std.proofs.Common.{◌≡◌, ℕ, zero, suc, Bool, true, false, cond, List, [], ◌∷◌, ◌++◌, Option, None, Some, refl, sym, subst, ap, ◌∙◌, length, ◌≤◌, slice_get, arith}
-use Rattle.dv_clock.specs.Clock.{Upcoming, next_call}
-use Rattle.dv_clock.specs.Due.{coming_due}
-use Rattle.dv_clock.specs.declared.call.CallState.TheVariants as call_state
-use Rattle.dv_clock.specs.declared.due.Due.{Due}
 use Rattle.dv_journal.specs.Journal.{fits}
 use Rattle.dv_journal.specs.declared.entry.Entry.{Entry}
 use Rattle.dv_script.specs.declared.work.Work.{Work}
@@ -12,8 +8,8 @@ use Rattle.dv_threads.specs.Sources.{IsValueAt}
 use Rattle.dv_threads.specs.Works.{value_of}
 use Rattle.dv_value.specs.declared.value.Value.{Value}
 use Rattle.std.specs.Option.{option_map}
-use Rattle.dv_objects.specs.Objects.{Objects, with_ended_call}
-use Rattle.dv_world.specs.World.{World, come_due, come_due_found, aside, tell}
+use Rattle.dv_objects.specs.Objects.{Objects}
+use Rattle.dv_world.specs.World.{World, aside, tell}
 
 one_same : (b : Bool) (u v w : World) → u.works ≡ w.works → v.works ≡ w.works → (cond b u v).works ≡ w.works
 one_same true u v w e f = e
@@ -25,14 +21,6 @@ aside_same e change w = one_same w.stopped w _ w refl (one_same (fits w.journal 
 
 pub told_works : (e : Entry) (w u : World) → u ≡ tell e w → u.works ≡ w.works
 told_works e w u same = ap (λ x. x.works) same ∙ aside_same e (λ objects. objects) w
-
--- what comes due submits nothing
-found_works : (o : Option Upcoming) (w : World) → (come_due_found o w).1.works ≡ w.works
-found_works None w = refl
-found_works (Some call) w = aside_same (coming_due call.what) (with_ended_call call.number call_state.Called) w
-
-pub come_due_works : (w : World) (t : Option Due × World) → t ≡ come_due w → t.1.works ≡ w.works
-come_due_works w t e = subst (λ (x : Option Due × World). x.1.works ≡ w.works) (sym e) (found_works (next_call w.objects.clock) w)
 
 some_injective : {x y : Work} → Some x ≡ Some y → x ≡ y
 some_injective h = cc

@@ -1,3 +1,2 @@
 pub mod BoundsLemmas
-pub mod FireLemmas
 pub mod JobLemmas

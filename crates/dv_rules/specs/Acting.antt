@@ -12,7 +12,6 @@ use Rattle.dv_rules.specs.Looping.{looped, stopped_of}
 use Rattle.dv_rules.specs.Maybe.{body_for}
 use Rattle.dv_rules.specs.Queueing.{put_of, get_of}
 use Rattle.dv_rules.specs.Threading.{threaded}
-use Rattle.dv_rules.specs.Timing.{called_off}
 use Rattle.dv_rules.specs.Turn.{Turned, ◌over◌, done, settling, settle_next}
 use Rattle.dv_rules.specs.declared.frame.Frame.TheVariants as frame
 use Rattle.dv_rules.specs.declared.frame.Purpose.TheVariants.{Named}
@@ -23,7 +22,7 @@ use Rattle.dv_objects.specs.Names.{number_of}
 use Rattle.dv_objects.specs.Objects.{with_new_lock, with_new_queue}
 use Rattle.dv_objects.specs.Pair.{chain, holding}
 use Rattle.dv_objects.specs.declared.performed.Performed.TheVariants.{Done}
-use Rattle.dv_world.specs.World.{World, deferred_at, make, fire, cancel, append, pause, unpause, aside, tell, call_later, unbound}
+use Rattle.dv_world.specs.World.{World, deferred_at, make, fire, cancel, append, pause, unpause, aside, tell, call_later, cancel_call, unbound}
 use Rattle.dv_objects.specs.declared.canceller.Canceller.TheVariants.{Body}
 
 -- what is done with the object of a name, which is to be bound
@@ -46,6 +45,10 @@ with_queue name w next = with_object (number_of name w.objects.queue_names) name
 -- the same for the task of a name
 abbrev pub with_task : List ℕ → World → (ℕ → Turned) → Turned
 with_task name w next = with_object (number_of name w.objects.cooperator.task_names) name w next
+
+-- a delayed call is cancelled (Twisted: `DelayedCall.cancel`), which may be refused
+abbrev pub called_off : ℕ → World → Turned
+called_off number w = ([], (cancel_call number w).0, (cancel_call number w).1)
 
 -- a deed by its rule; whatever is fired, gets a pair or is unpaused is settled at once
 abbrev pub begun : Option ℕ → Deed → World → Turned

@@ -9,12 +9,6 @@ pub mod Queueing
 pub mod Listing
 pub mod Inlining
 pub mod Threading
-pub mod Settling
 pub mod Cancelling
-pub mod Timing
 pub mod Acting
-pub mod Wanting
-pub mod Performing
-pub mod Turning
-pub mod Beginning
 pub mod Bounds

@@ -4,9 +4,9 @@ ghost use Rattle.dv_world.specs.World.{awaited_in, cancel, cancelled, fire};
 ghost use Rattle.dv_rules.specs.Cancelling.{awaited_cancelled, cancel_begun, canceller_ended};
 ghost use Rattle.dv_rules.specs.Turn.{◌over◌, settle_next};
 
+use crate::following::{done, fire_and_settle, settle_after, whole};
 use crate::frame::Frame;
 use crate::listing::cancel_children;
-use crate::settling::{done, fire_and_settle, settle_after, whole};
 use dv_journal::deferred_id::DeferredId;
 use dv_objects::inline_id::InlineId;
 use dv_objects::performed::Performed;

@@ -7,8 +7,8 @@ ghost use Rattle.dv_world.specs.World.{take_step as taken};
 ghost use Rattle.dv_objects.specs.declared.performed.Performed.TheVariants.{Awaits};
 ghost use Rattle.dv_rules.specs.Deed.{CooperateOf, WhenDoneOf, PauseTaskOf, StopTaskOf, ResumeTaskOf};
 
+use crate::following::{done, fire_and_settle, whole};
 use crate::frame::Frame;
-use crate::settling::{done, fire_and_settle, whole};
 use dv_clock::task_id::TaskId;
 use dv_journal::deferred_id::DeferredId;
 use dv_objects::pair::Pair;

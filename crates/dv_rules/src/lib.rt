@@ -1,20 +1,16 @@
-//! What happens in a run, rule by rule: what an event or a post begins with, and what each frame does in one turn.
+//! What each rule leads to: an action's, a canceller's, a job's, and that of each object's; and the frames that follow.
 #![tactic(auto)]
 
-mod acting;
-pub mod beginning;
-mod cancelling;
-mod cooperating;
+pub mod cancelling;
+pub mod cooperating;
 mod flags;
+pub mod following;
 pub mod frame;
-mod inlining;
-mod listing;
-mod locking;
-mod looping;
-mod maybe;
-mod queueing;
-mod settling;
+pub mod inlining;
+pub mod listing;
+pub mod locking;
+pub mod looping;
+pub mod maybe;
+pub mod queueing;
 pub mod submissions;
-mod threading;
-mod timing;
-pub mod turning;
+pub mod threading;

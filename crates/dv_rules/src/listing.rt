@@ -8,8 +8,8 @@ ghost use Rattle.dv_prims.specs.DeferredList.{seconds_of};
 ghost use Rattle.dv_world.specs.World.{World as Seen};
 
 use crate::flags::{gather_flags, list_flags};
+use crate::following::fire_and_settle;
 use crate::frame::Frame;
-use crate::settling::fire_and_settle;
 use dv_journal::deferred_id::DeferredId;
 use dv_objects::canceller::Canceller;
 use dv_objects::given::Given;

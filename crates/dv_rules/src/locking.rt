@@ -5,8 +5,8 @@ ghost use Rattle.dv_rules.specs.Locking.{granted, asked_of, acquired, released_o
 ghost use Rattle.dv_rules.specs.Turn.{◌over◌};
 ghost use Rattle.dv_rules.specs.Deed.{AcquireOf, RunOf, ReleaseOf};
 
+use crate::following::fire_and_settle;
 use crate::frame::Frame;
-use crate::settling::fire_and_settle;
 use dv_journal::deferred_id::DeferredId;
 use dv_objects::canceller::Canceller;
 use dv_objects::pair::Pair;

@@ -5,9 +5,9 @@ ghost use Rattle.dv_rules.specs.Looping.{loop_begun, turn_begun, turn_taken, tur
 ghost use Rattle.dv_rules.specs.Turn.{◌over◌};
 ghost use Rattle.dv_rules.specs.Deed.{LoopOf, StopLoopOf};
 
+use crate::following::{done, fire_and_settle};
 use crate::frame::{Frame, Purpose};
 use crate::maybe::perform_for;
-use crate::settling::{done, fire_and_settle};
 use dv_clock::loop_id::LoopId;
 use dv_journal::deferred_id::DeferredId;
 use dv_journal::entry::Entry;

@@ -4,8 +4,8 @@ ghost use Rattle.dv_rules.specs.Maybe.{body_for, name_for, used_for, made_with, 
 ghost use Rattle.dv_rules.specs.Turn.{◌over◌};
 ghost use Rattle.dv_world.specs.World.{World as Seen, make};
 
+use crate::following::{done, fire_and_settle, whole};
 use crate::frame::{Frame, Purpose};
-use crate::settling::{done, fire_and_settle, whole};
 use dv_journal::deferred_id::DeferredId;
 use dv_objects::pair::Pair;
 use dv_objects::performed::Performed;

@@ -5,8 +5,8 @@ ghost use Rattle.dv_rules.specs.Queueing.{put_of, asked_for, get_of, handed_out,
 ghost use Rattle.dv_rules.specs.Turn.{◌over◌};
 ghost use Rattle.dv_rules.specs.Deed.{PutInto, GetFrom};
 
+use crate::following::fire_and_settle;
 use crate::frame::Frame;
-use crate::settling::fire_and_settle;
 use dv_journal::deferred_id::DeferredId;
 use dv_objects::canceller::Canceller;
 use dv_objects::given::Given;

@@ -6,8 +6,8 @@ ghost use Rattle.dv_rules.specs.Turn.{◌over◌};
 ghost use Rattle.dv_rules.specs.Deed.{ThreadOf};
 ghost use Rattle.dv_rules.specs.declared.frame.Frame.TheVariants.{Tell};
 
+use crate::following::{done, fire_and_settle};
 use crate::frame::Frame;
-use crate::settling::{done, fire_and_settle};
 use crate::submissions::Submissions;
 use dv_journal::deferred_id::DeferredId;
 use dv_objects::performed::Performed;

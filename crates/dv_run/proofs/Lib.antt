@@ -1,3 +1,1 @@
-pub mod OutputLemmas
 pub mod RunLemmas
-pub mod CallerLemmas

@@ -4,7 +4,7 @@ use Rattle.dv_runner.specs.Batches.{AreNext, Batch, Callers, joined}
 use Rattle.dv_engine.specs.Engine.{Engine}
 use Rattle.dv_engine.specs.declared.engine.Phase.TheVariants.{Going, Ended}
 use Rattle.dv_threads.specs.Posts.{Inbox}
-use Rattle.dv_run.specs.Callers.{TookBatches}
+use Rattle.dv_callers.specs.Callers.{TookBatches}
 
 -- what was taken of the inbox is in the engine's batches
 abbrev pub Agree : Engine → Inbox → Type 0

@@ -2,12 +2,12 @@ ghost use Rattle.std.specs.Prelude.{ℕ, ◌≡◌, ◌++◌, [], IfOk, IsFalse,
 ghost use Rattle.dv_runner.specs.Batches.{joined, posts_of};
 ghost use Rattle.dv_engine.specs.Engine.{Takes, first_engine};
 ghost use Rattle.dv_engine.specs.declared.engine.Phase.TheVariants.{Draining, Ended, Going};
-ghost use Rattle.dv_run.specs.Callers.{AllServe, TookBatches};
+ghost use Rattle.dv_callers.specs.Callers.{AllServe, TookBatches};
 ghost use Rattle.dv_run.specs.Driving.{Agree, HasDrained, HasPerformed, HasStranger};
 ghost use Rattle.dv_run.specs.Headline.{IsRun};
 ghost use Rattle.dv_threads.specs.Posts.{SameInbox, of};
 
-use crate::callers::{Caller, end, take_up_to};
+use dv_callers::callers::{Caller, end, take_up_to};
 use dv_engine::engine::{Engine, Next};
 use dv_engine::error::EngineFault;
 use dv_engine::report::Report;

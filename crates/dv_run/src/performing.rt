@@ -1,9 +1,9 @@
 ghost use Rattle.std.specs.Prelude.{◌≡◌, ◌<◌, ◌≤◌, ◌^◌, ◌-◌, [], IfOk};
-ghost use Rattle.dv_run.specs.Callers.{AllServe, AreFew, TookBatches};
+ghost use Rattle.dv_callers.specs.Callers.{AllServe, AreFew, TookBatches};
 ghost use Rattle.dv_run.specs.Headline.{IsRun};
 
-use crate::callers::{Caller, start_all};
 use crate::driving::drive;
+use dv_callers::callers::{Caller, start_all};
 use dv_engine::engine::Engine;
 use dv_engine::report::Report;
 use dv_inline::poller::Poller;

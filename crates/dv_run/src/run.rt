@@ -1,14 +1,14 @@
 ghost use Rattle.std.specs.Prelude.{◌≡◌, ◌≤◌, OnOk, IfOk, IfErr};
 ghost use Rattle.dv_reader.specs.Limits.{most_limit};
-ghost use Rattle.dv_run.specs.Callers.{AreFew};
+ghost use Rattle.dv_callers.specs.Callers.{AreFew};
 ghost use Rattle.dv_run.specs.Headline.{Prints};
 ghost use Rattle.dv_run.specs.Run.{SaysScript, GivesNoScript, GivesUp, ReaderFailed, WriterFailed};
 
-use crate::error::RunFault;
-use crate::output::print_report;
 use crate::performing::perform;
 use dv_engine::report::Report;
 use dv_journal::sink::Sink;
+use dv_output::error::RunFault;
+use dv_output::output::print_report;
 use dv_reader::MOST_BYTES;
 use dv_reader::read_script::ReadScript;
 use dv_script::script::Script;

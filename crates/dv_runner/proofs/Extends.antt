@@ -1,6 +1,6 @@
 -- More depth changes no answer.
 use Rattle.std.proofs.Common.{◌≡◌, ℕ, zero, suc, ◌+◌, List, [], ◌∷◌, ◌++◌, None, Some, refl, ap, subst, zero-add, suc-add, add_comm}
-use Rattle.dv_rules.specs.Turning.{turned}
+use Rattle.dv_turning.specs.Turning.{turned}
 use Rattle.dv_runner.specs.Meaning.{Answer, Meant, ◌>>=◌, through, meaning, Gives}
 use Rattle.dv_rules.specs.declared.frame.Frame.{Frame}
 use Rattle.dv_world.specs.World.{World}

@@ -40,17 +40,17 @@ use Rattle.dv_rules.specs.Inlining.{inline_begun, going_where, resumed, await_en
 use Rattle.dv_rules.specs.Listing.{with_children, added_to_children, has_all_at_once, fired_at_once, with_listed, listed, fired_by_child, come_by, results_given}
 use Rattle.dv_rules.specs.Locking.{granted, asked_of, acquired, released_of}
 use Rattle.dv_rules.specs.Looping.{turn_begun, loop_begun, looped, loop_over, turn_ended, loop_failed, over_where, stopped_of}
-use Rattle.dv_rules.specs.Turning.{told_of, turned}
-use Rattle.dv_rules.specs.Beginning.{happening, Occurrence, Occurs}
-use Rattle.dv_rules.specs.Beginning as occurrence
+use Rattle.dv_turning.specs.Turning.{told_of, turned}
+use Rattle.dv_turning.specs.Beginning.{happening, Occurrence, Occurs}
+use Rattle.dv_turning.specs.Beginning as occurrence
 use Rattle.dv_rules.specs.Maybe.{name_for, used_for, made_with, taken_for, maybe_ended, given_after}
 use Rattle.dv_rules.specs.Queueing.{handed_out, put_of, got, asked_for, get_of}
-use Rattle.dv_rules.specs.Performing.{gone_on, rest_turned}
-use Rattle.dv_rules.specs.Settling.{place, side_begun, settled}
+use Rattle.dv_turning.specs.Performing.{gone_on, rest_turned}
+use Rattle.dv_turning.specs.Settling.{place, side_begun, settled}
 use Rattle.dv_rules.specs.Threading.{threaded, delivered, job_result}
-use Rattle.dv_rules.specs.Timing.{body_called, come_due_with}
-use Rattle.dv_rules.specs.Wanting.{awaited_by, wanted, inline_turned}
-use Rattle.dv_rules.specs.Wanting as wanting
+use Rattle.dv_turning.specs.Timing.{body_called, come_due_with}
+use Rattle.dv_turning.specs.Wanting.{awaited_by, wanted, inline_turned}
+use Rattle.dv_turning.specs.Wanting as wanting
 use Rattle.dv_rules.specs.Turn.{Turned, ◌over◌, done, settling, settle_next}
 use Rattle.dv_rules.specs.declared.frame.Frame.{Frame}
 use Rattle.dv_rules.specs.declared.frame.Frame.TheVariants as frame

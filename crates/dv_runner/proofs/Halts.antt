@@ -1,6 +1,6 @@
 -- Every frame halts: by what a run can still do, and then by what is left of the frame.
 use Rattle.std.proofs.Common.{◌≡◌, ℕ, zero, suc, ◌+◌, ◌<◌, ◌≤◌, List, [], ◌∷◌, ◌++◌, Some, refl, ap, ◌∙◌, arith, zero-add, suc-add}
-use Rattle.dv_rules.specs.Turning.{turned}
+use Rattle.dv_turning.specs.Turning.{turned}
 use Rattle.dv_rules.specs.Turn.{Turned, ◌over◌}
 use Rattle.dv_rules.specs.declared.frame.Frame.{Frame}
 use Rattle.dv_runner.proofs.Extends.{Ended}

@@ -14,8 +14,8 @@ use Rattle.dv_store.specs.declared.store.Fired.TheVariants.{Set, Swallowed}
 use Rattle.dv_store.specs.declared.store.Step.{Step}
 use Rattle.dv_runner.proofs.Fair.{happening_comes, turned_fair}
 use Rattle.dv_runner.proofs.Lasting.{Lasting}
-use Rattle.dv_rules.specs.Turning.{turned}
-use Rattle.dv_rules.specs.Beginning.{happening, Occurrence}
+use Rattle.dv_turning.specs.Turning.{turned}
+use Rattle.dv_turning.specs.Beginning.{happening, Occurrence}
 use Rattle.dv_rules.specs.Threading.{GoesOn}
 use Rattle.dv_rules.specs.Turn.{Turned, ◌over◌}
 use Rattle.dv_rules.specs.declared.frame.Frame.{Frame}

@@ -1,6 +1,6 @@
 -- A run leads on by steps of the world.
 use Rattle.std.proofs.Common.{◌≡◌, ℕ, zero, suc, List, [], ◌∷◌, Some, ap, subst}
-use Rattle.dv_rules.specs.Turning.{turned}
+use Rattle.dv_turning.specs.Turning.{turned}
 use Rattle.dv_rules.specs.Turn.{◌over◌}
 use Rattle.dv_rules.specs.declared.frame.Frame.{Frame}
 use Rattle.dv_runner.proofs.Extends.{Ended}

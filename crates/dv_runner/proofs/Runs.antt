@@ -1,6 +1,6 @@
 -- What a stack leads to is what it has come to when all of it is done.
 use Rattle.std.proofs.Common.{◌≡◌, ℕ, zero, suc, List, [], ◌∷◌, Option, None, Some, sym, ◌∙◌}
-use Rattle.dv_rules.specs.Turning.{turned}
+use Rattle.dv_turning.specs.Turning.{turned}
 use Rattle.dv_runner.specs.Meaning.{through, meaning, Gives}
 use Rattle.dv_rules.specs.Turn.{◌over◌}
 use Rattle.dv_rules.specs.declared.frame.Frame.{Frame}

@@ -7,7 +7,7 @@ use Rattle.dv_runner.specs.Batches.{Batch}
 use Rattle.dv_rules.specs.Deed.{deed_of}
 use Rattle.dv_runner.specs.Laws.{FramesEnd, FramesHaveOneResult, EveryScriptEnds, EachScriptHasOneMeaning}
 use Rattle.dv_runner.specs.Meaning.{Gives, Happens, Runs, Means}
-use Rattle.dv_rules.specs.Beginning.{happening, Occurrence}
+use Rattle.dv_turning.specs.Beginning.{happening, Occurrence}
 use Rattle.dv_runner.specs.Occurrences.{occurrences}
 use Rattle.dv_rules.specs.declared.frame.Frame.{Frame}
 use Rattle.dv_runner.proofs.Extends.{gives_one}

@@ -1,8 +1,8 @@
 ghost use Rattle.std.specs.Prelude.{◌≡◌, IfOk, OnOk};
-ghost use Rattle.dv_rules.specs.Beginning.{Occurs, Comes};
+ghost use Rattle.dv_turning.specs.Beginning.{Occurs, Comes};
 ghost use Rattle.dv_rules.specs.Bounds.{Bounded};
 ghost use Rattle.dv_rules.specs.Turn.{◌over◌};
-ghost use Rattle.dv_rules.specs.Turning.{turned};
+ghost use Rattle.dv_turning.specs.Turning.{turned};
 ghost use Rattle.dv_runner.specs.Meaning.{Ends, Happens};
 
 use dv_inline::poller::Poller;

@@ -1,13 +1,12 @@
 ghost use Rattle.std.specs.Prelude.{◌<◌, ◌≤◌, ◌^◌, ◌-◌, IfOk};
 
-use super::gates::{Counting, Yielding};
 use dv_engine::engine::{Engine, Next};
 use dv_engine::report::Report;
 use dv_inline::poller::Poller;
 use dv_journal::entry::Entry;
 use dv_journal::memory_sink::MemorySink;
+use dv_output::output::print_report;
 use dv_reader::read_script::ReadScript;
-use dv_run::output::print_report;
 use dv_run::run::run;
 use dv_script::script::Script;
 use dv_source::memory_source::MemorySource;
@@ -21,6 +20,7 @@ use std::random::RandomSource;
 use std::sync::Wait;
 use std::test::Fail;
 use std::thread::Threads;
+use super::gates::{Counting, Yielding};
 
 /// How many bytes a run may print.
 const ROOM: usize = 262_144;

@@ -4,7 +4,7 @@ use Rattle.dv_engine.specs.Engine.{Drained, IsStrange, IsWithin, phase_after}
 use Rattle.dv_engine.specs.declared.engine.Phase.{Phase}
 use Rattle.dv_engine.specs.declared.error.EngineFault.{EngineFault}
 use Rattle.dv_threads.specs.Posts.{of}
-use Rattle.dv_run.proofs.CallerLemmas.{joined_more}
+use Rattle.dv_callers.proofs.CallerLemmas.{joined_more}
 use Rattle.dv_run.proofs.driving.drain.Goals as goal
 
 pub returns-in-Ok-clause-yes : goal.returns-in-Ok-clause-yes

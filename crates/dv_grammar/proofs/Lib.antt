@@ -1,0 +1,4 @@
+pub mod Complete
+pub mod Sound
+pub mod Steps
+pub mod WordsLemmas

@@ -1,0 +1,263 @@
+-- The grammar of scripts: which JSON stands for what, a rule a line (Twisted: the methods of `Deferred`, and of the objects round it).
+use Rattle.std.specs.Prelude.{◌≡◌, ◌^◌, ℕ, ℤ, Bool, true, false, List, [], ◌∷◌, Option, Some, None, codes}
+use Rattle.serde_json.specs.Data.{Data, null, boolean, string, array, object, Items, no_items, item, Members}
+use Rattle.serde_json.specs.Find.{get_member}
+use Rattle.dv_value.specs.declared.value.Value.{Value}
+use Rattle.dv_value.specs.declared.classes.Class.{Class}
+use Rattle.dv_script.specs.declared.body.End.{End}
+use Rattle.dv_script.specs.declared.body.End.TheVariants.{Return, Pass, Plus, Raise, Trap, Wait}
+use Rattle.dv_script.specs.declared.body.Body.{Body}
+use Rattle.dv_script.specs.declared.body.Statement.{Statement, Do, Await, Try, End as Leave}
+use Rattle.dv_script.specs.declared.work.Work.{Work}
+use Rattle.dv_script.specs.declared.work.Work.TheVariants as work
+use Rattle.dv_script.specs.declared.action.ListFlag.{ListFlag}
+use Rattle.dv_script.specs.declared.action.ListFlag.TheVariants as flag
+use Rattle.dv_script.specs.declared.action.GatherFlag.{GatherFlag}
+use Rattle.dv_script.specs.declared.action.GatherFlag.TheVariants as gather_flag
+use Rattle.dv_script.specs.declared.action.Action.{Action, Deferred, Callback, Errback, AddCallback, AddErrback, AddBoth, AddCallbacks, Chain, Pause, Unpause, Cancel, Note, List as ListOf, Gather, Maybe, Lock, Semaphore, Acquire, Release, RunWith, Queue, Put, Get, Later, CancelCall, Loop, StopLoop, Cooperate, WhenDone, PauseTask, StopTask, ResumeTask, Inline, Thread}
+use Rattle.dv_script.specs.declared.event.Event.{Event}
+use Rattle.dv_script.specs.declared.event.Event.TheVariants as event
+use Rattle.dv_script.specs.declared.script.Cooperator.{Cooperator}
+use Rattle.dv_grammar.specs.declared.draft.Declaration.{Declaration}
+use Rattle.dv_grammar.specs.declared.draft.Draft.{Draft}
+use Rattle.dv_grammar.specs.Forms.{call, IsList, Field, Key, has_only, IsText, IsInteger, IsNumber, IsClass, IsValue}
+use Rattle.dv_grammar.specs.Table.{table_of, all_declared}
+
+-- the keys of a body
+abbrev pub body_keys : List (List ℕ)
+body_keys = codes "do" ∷ codes "end" ∷ []
+
+-- the keys of a cooperator
+abbrev pub cooperator_keys : List (List ℕ)
+cooperator_keys = codes "units" ∷ codes "delay" ∷ []
+
+-- the keys of a script
+abbrev pub script_keys : List (List ℕ)
+script_keys = codes "version" ∷ codes "events" ∷ codes "limit" ∷ codes "classes" ∷ codes "cooperator" ∷ codes "callers" ∷ []
+
+-- END: how a body gives its result
+pub data IsEnd (table : List Class) : Data → End → Type 0 where
+  -- ["return",VALUE]
+  returns : (d : Data) (v : Value) → IsValue d v → IsEnd table (call (codes "return") (d ∷ [])) (Return v)
+  -- ["pass"]
+  passes : IsEnd table (call (codes "pass") []) Pass
+  -- ["plus",N]
+  adds : (d : Data) (n : ℤ) → IsInteger d n → IsEnd table (call (codes "plus") (d ∷ [])) (Plus n)
+  -- ["raise",CLASS,TEXT]
+  raises : (c : Data) (class : ℕ) (text : List ℕ) → IsClass table c class
+      → IsEnd table (call (codes "raise") (c ∷ string text ∷ [])) (Raise class text)
+  -- ["trap",[CLASS..],VALUE]
+  traps : (c : Data) (classes : List ℕ) (d : Data) (v : Value) → IsList (IsClass table) c classes → IsValue d v
+      → IsEnd table (call (codes "trap") (c ∷ d ∷ [])) (Trap classes v)
+  -- ["wait",D]
+  waits : (name : List ℕ) → IsEnd table (call (codes "wait") (string name ∷ [])) (Wait name)
+
+-- whether an inline body may be left by this END
+abbrev pub may_leave : End → Bool
+may_leave (Return v) = true
+may_leave Pass = true
+may_leave (Plus n) = true
+may_leave (Raise class text) = true
+may_leave (Trap classes v) = false
+may_leave (Wait name) = false
+
+-- WORK: what a thread does
+pub data IsWork (table : List Class) : Data → Work → Type 0 where
+  -- ["value",VALUE]
+  gives : (d : Data) (v : Value) → IsValue d v → IsWork table (call (codes "value") (d ∷ [])) (work.Value v)
+  -- ["raise",CLASS,TEXT]
+  fails : (c : Data) (class : ℕ) (text : List ℕ) → IsClass table c class
+      → IsWork table (call (codes "raise") (c ∷ string text ∷ [])) (work.Raise class text)
+  -- ["sum",N]
+  sums : (d : Data) (n : ℕ) → IsNumber 0 1000000 d n → IsWork table (call (codes "sum") (d ∷ [])) (work.Sum n)
+
+-- FLAG of a list
+pub data IsListFlag : Data → ListFlag → Type 0 where
+  fires_on_callback : IsListFlag (string (codes "fireOnOneCallback")) flag.FireOnOneCallback
+  fires_on_errback : IsListFlag (string (codes "fireOnOneErrback")) flag.FireOnOneErrback
+  consumes_errors : IsListFlag (string (codes "consumeErrors")) flag.ConsumeErrors
+
+-- FLAG of what is gathered
+pub data IsGatherFlag : Data → GatherFlag → Type 0 where
+  gathers_errors : IsGatherFlag (string (codes "consumeErrors")) gather_flag.ConsumeErrors
+
+-- SIZE and BACKLOG of a queue
+pub data IsBound : Data → Option ℕ → Type 0 where
+  -- null
+  no_bound : IsBound null None
+  -- 0 to 65,536
+  a_bound : (d : Data) (n : ℕ) → IsNumber 0 65536 d n → IsBound d (Some n)
+
+mutual
+  -- ACTION: what a script does
+  pub data IsAction (table : List Class) : Data → Action → Type 0 where
+    -- ["deferred",D]
+    deferred : (name : List ℕ) → IsAction table (call (codes "deferred") (string name ∷ [])) (Deferred name None)
+    -- ["deferred",D,BODY]
+    deferred_with : (name : List ℕ) (d : Data) (canceller : Body) → IsBody table d canceller
+        → IsAction table (call (codes "deferred") (string name ∷ d ∷ [])) (Deferred name (Some canceller))
+    -- ["callback",D,VALUE]
+    callback : (name : List ℕ) (d : Data) (v : Value) → IsValue d v
+        → IsAction table (call (codes "callback") (string name ∷ d ∷ [])) (Callback name v)
+    -- ["errback",D,CLASS,TEXT]
+    errback : (name : List ℕ) (c : Data) (class : ℕ) (text : List ℕ) → IsClass table c class
+        → IsAction table (call (codes "errback") (string name ∷ c ∷ string text ∷ [])) (Errback name class text)
+    -- ["addCallback",D,BODY]
+    add_callback : (name : List ℕ) (d : Data) (side : Body) → IsBody table d side
+        → IsAction table (call (codes "addCallback") (string name ∷ d ∷ [])) (AddCallback name side)
+    -- ["addErrback",D,BODY]
+    add_errback : (name : List ℕ) (d : Data) (side : Body) → IsBody table d side
+        → IsAction table (call (codes "addErrback") (string name ∷ d ∷ [])) (AddErrback name side)
+    -- ["addBoth",D,BODY]
+    add_both : (name : List ℕ) (d : Data) (side : Body) → IsBody table d side
+        → IsAction table (call (codes "addBoth") (string name ∷ d ∷ [])) (AddBoth name side)
+    -- ["addCallbacks",D,BODY,BODY]
+    add_callbacks : (name : List ℕ) (c e : Data) (on_value on_failure : Body) → IsBody table c on_value → IsBody table e on_failure
+        → IsAction table (call (codes "addCallbacks") (string name ∷ c ∷ e ∷ [])) (AddCallbacks name on_value on_failure)
+    -- ["chain",D,E]
+    chain : (name other : List ℕ) → IsAction table (call (codes "chain") (string name ∷ string other ∷ [])) (Chain name other)
+    -- ["pause",D]
+    pause : (name : List ℕ) → IsAction table (call (codes "pause") (string name ∷ [])) (Pause name)
+    -- ["unpause",D]
+    unpause : (name : List ℕ) → IsAction table (call (codes "unpause") (string name ∷ [])) (Unpause name)
+    -- ["cancel",D]
+    cancel : (name : List ℕ) → IsAction table (call (codes "cancel") (string name ∷ [])) (Cancel name)
+    -- ["note",TEXT]
+    note : (text : List ℕ) → IsAction table (call (codes "note") (string text ∷ [])) (Note text)
+    -- ["list",D,[D..],[FLAG..]]
+    list : (name : List ℕ) (c e : Data) (children : List (List ℕ)) (flags : List ListFlag) → IsList IsText c children → IsList IsListFlag e flags
+        → IsAction table (call (codes "list") (string name ∷ c ∷ e ∷ [])) (ListOf name children flags)
+    -- ["gather",D,[D..],[FLAG..]]
+    gather : (name : List ℕ) (c e : Data) (children : List (List ℕ)) (flags : List GatherFlag) → IsList IsText c children → IsList IsGatherFlag e flags
+        → IsAction table (call (codes "gather") (string name ∷ c ∷ e ∷ [])) (Gather name children flags)
+    -- ["maybe",D,BODY]
+    maybe : (name : List ℕ) (d : Data) (body : Body) → IsBody table d body
+        → IsAction table (call (codes "maybe") (string name ∷ d ∷ [])) (Maybe name body)
+    -- ["lock",L]
+    lock : (name : List ℕ) → IsAction table (call (codes "lock") (string name ∷ [])) (Lock name)
+    -- ["semaphore",L,N]
+    semaphore : (name : List ℕ) (d : Data) (n : ℕ) → IsNumber 1 65536 d n
+        → IsAction table (call (codes "semaphore") (string name ∷ d ∷ [])) (Semaphore name n)
+    -- ["acquire",D,L]
+    acquire : (name lock : List ℕ) → IsAction table (call (codes "acquire") (string name ∷ string lock ∷ [])) (Acquire name lock)
+    -- ["release",L]
+    release : (name : List ℕ) → IsAction table (call (codes "release") (string name ∷ [])) (Release name)
+    -- ["runWith",D,L,BODY]
+    run_with : (name lock : List ℕ) (d : Data) (body : Body) → IsBody table d body
+        → IsAction table (call (codes "runWith") (string name ∷ string lock ∷ d ∷ [])) (RunWith name lock body)
+    -- ["queue",Q,SIZE,BACKLOG]
+    queue : (name : List ℕ) (c e : Data) (size backlog : Option ℕ) → IsBound c size → IsBound e backlog
+        → IsAction table (call (codes "queue") (string name ∷ c ∷ e ∷ [])) (Queue name size backlog)
+    -- ["put",Q,VALUE]
+    put : (name : List ℕ) (d : Data) (v : Value) → IsValue d v
+        → IsAction table (call (codes "put") (string name ∷ d ∷ [])) (Put name v)
+    -- ["get",D,Q]
+    get : (name queue : List ℕ) → IsAction table (call (codes "get") (string name ∷ string queue ∷ [])) (Get name queue)
+    -- ["later",C,N,BODY]
+    later : (name : List ℕ) (c d : Data) (delay : ℕ) (body : Body) → IsNumber 0 (10 ^ 12) c delay → IsBody table d body
+        → IsAction table (call (codes "later") (string name ∷ c ∷ d ∷ [])) (Later name delay body)
+    -- ["cancelCall",C]
+    cancel_call : (name : List ℕ) → IsAction table (call (codes "cancelCall") (string name ∷ [])) (CancelCall name)
+    -- ["loop",P,D,N,NOW,BODY]
+    loop : (name deferred : List ℕ) (c : Data) (interval : ℕ) (at_once : Bool) (d : Data) (body : Body)
+        → IsNumber 1 (10 ^ 12) c interval → IsBody table d body
+        → IsAction table (call (codes "loop") (string name ∷ string deferred ∷ c ∷ boolean at_once ∷ d ∷ [])) (Loop name deferred interval at_once body)
+    -- ["stopLoop",P]
+    stop_loop : (name : List ℕ) → IsAction table (call (codes "stopLoop") (string name ∷ [])) (StopLoop name)
+    -- ["cooperate",T,[BODY..]]
+    cooperate : (name : List ℕ) (ds : Items) (bodies : List Body) → AreBodies table ds bodies
+        → IsAction table (call (codes "cooperate") (string name ∷ array ds ∷ [])) (Cooperate name bodies)
+    -- ["whenDone",D,T]
+    when_done : (name task : List ℕ) → IsAction table (call (codes "whenDone") (string name ∷ string task ∷ [])) (WhenDone name task)
+    -- ["pauseTask",T]
+    pause_task : (name : List ℕ) → IsAction table (call (codes "pauseTask") (string name ∷ [])) (PauseTask name)
+    -- ["stopTask",T]
+    stop_task : (name : List ℕ) → IsAction table (call (codes "stopTask") (string name ∷ [])) (StopTask name)
+    -- ["resumeTask",T]
+    resume_task : (name : List ℕ) → IsAction table (call (codes "resumeTask") (string name ∷ [])) (ResumeTask name)
+    -- ["inline",D,[STATEMENT..]]
+    inline : (name : List ℕ) (ds : Items) (statements : List Statement) → AreStatements table ds statements
+        → IsAction table (call (codes "inline") (string name ∷ array ds ∷ [])) (Inline name statements)
+    -- ["thread",D,N,WORK]
+    thread : (name : List ℕ) (c d : Data) (delay : ℕ) (job : Work) → IsNumber 0 (10 ^ 12) c delay → IsWork table d job
+        → IsAction table (call (codes "thread") (string name ∷ c ∷ d ∷ [])) (Thread name delay job)
+
+  -- the items of an array of actions
+  pub data AreActions (table : List Class) : Items → List Action → Type 0 where
+    no_actions : AreActions table no_items []
+    more_actions : (d : Data) (ds : Items) (a : Action) (rest : List Action) → IsAction table d a → AreActions table ds rest
+        → AreActions table (item d ds) (a ∷ rest)
+
+  -- the value of a body's key `do`, which may be absent
+  pub data IsDo (table : List Class) : Option Data → List Action → Type 0 where
+    does_nothing : IsDo table None []
+    does : (ds : Items) (actions : List Action) → AreActions table ds actions → IsDo table (Some (array ds)) actions
+
+  -- BODY: an object of the keys `do` and `end`, without which it performs nothing and passes its input on
+  pub data IsBody (table : List Class) : Data → Body → Type 0 where
+    body : (ms : Members) (actions : List Action) (end : End) → has_only body_keys ms ≡ true
+        → IsDo table (get_member (codes "do") ms) actions → Field Pass (IsEnd table) (get_member (codes "end") ms) end
+        → IsBody table (object ms) (record { actions = actions; end = end })
+
+  -- the items of an array of bodies
+  pub data AreBodies (table : List Class) : Items → List Body → Type 0 where
+    no_bodies : AreBodies table no_items []
+    more_bodies : (d : Data) (ds : Items) (b : Body) (rest : List Body) → IsBody table d b → AreBodies table ds rest
+        → AreBodies table (item d ds) (b ∷ rest)
+
+  -- STATEMENT: what an inline body does
+  pub data IsStatement (table : List Class) : Data → Statement → Type 0 where
+    -- ["do",ACTION]
+    performs : (d : Data) (a : Action) → IsAction table d a → IsStatement table (call (codes "do") (d ∷ [])) (Do a)
+    -- ["await",D]
+    awaits : (name : List ℕ) → IsStatement table (call (codes "await") (string name ∷ [])) (Await name)
+    -- ["try",[STATEMENT..],[CLASS..],[STATEMENT..]]
+    tries : (ds : Items) (c : Data) (hs : Items) (first : List Statement) (classes : List ℕ) (second : List Statement)
+        → AreStatements table ds first → IsList (IsClass table) c classes → AreStatements table hs second
+        → IsStatement table (call (codes "try") (array ds ∷ c ∷ array hs ∷ [])) (Try first classes second)
+    -- ["end",END]
+    leaves : (d : Data) (end : End) → IsEnd table d end → may_leave end ≡ true
+        → IsStatement table (call (codes "end") (d ∷ [])) (Leave end)
+
+  -- the items of an array of statements
+  pub data AreStatements (table : List Class) : Items → List Statement → Type 0 where
+    no_statements : AreStatements table no_items []
+    more_statements : (d : Data) (ds : Items) (s : Statement) (rest : List Statement) → IsStatement table d s → AreStatements table ds rest
+        → AreStatements table (item d ds) (s ∷ rest)
+
+-- an event: an action, or what happens to the clock or to the posts
+pub data IsEvent (table : List Class) : Data → Event → Type 0 where
+  acts : (d : Data) (a : Action) → IsAction table d a → IsEvent table d (event.Action a)
+  -- ["advance",N]
+  advances : (d : Data) (n : ℕ) → IsNumber 0 (10 ^ 15) d n → IsEvent table (call (codes "advance") (d ∷ [])) (event.Advance n)
+  -- ["drain",N]
+  drains : (d : Data) (n : ℕ) → IsNumber 0 2048 d n → IsEvent table (call (codes "drain") (d ∷ [])) (event.Drain n)
+
+-- a class that is declared: [NAME,PARENT]
+pub data IsDeclaration : Data → Declaration → Type 0 where
+  declares : (name parent : List ℕ) → IsDeclaration (array (item (string name) (item (string parent) no_items))) (record { name = name; parent = parent })
+
+-- an object with exactly the keys `units` and `delay`
+pub record IsCooperator (d : Data) (c : Cooperator) : Type 0 where
+  pub members : Members
+  pub whole : d ≡ object members
+  pub only : has_only cooperator_keys members ≡ true
+  pub units : Key (IsNumber 1 1000) (get_member (codes "units") members) c.units
+  pub delay : Key (IsNumber 1 (10 ^ 12)) (get_member (codes "delay") members) c.delay
+
+-- one step a tick, a tick of the cooperator each tick of the clock
+abbrev pub plain_cooperator : Cooperator
+plain_cooperator = record { units = 1; delay = 1 }
+
+-- a script by its shape, with the classes that it declares: an object of these keys, of which `version` and `events` have to be there
+pub record IsScript (d : Data) (draft : Draft) : Type 0 where
+  pub members : Members
+  pub whole : d ≡ object members
+  pub only : has_only script_keys members ≡ true
+  pub declared : Field [] (IsList IsDeclaration) (get_member (codes "classes") members) draft.declared
+  pub all_declared : draft.all_declared ≡ all_declared draft.declared
+  pub table : draft.script.classes ≡ table_of draft.declared
+  pub limit : Field 2000 (IsNumber 0 200000) (get_member (codes "limit") members) draft.script.limit
+  pub cooperator : Field plain_cooperator IsCooperator (get_member (codes "cooperator") members) draft.script.cooperator
+  pub callers : Field [] (IsList (IsList (IsBody draft.script.classes))) (get_member (codes "callers") members) draft.script.callers
+  pub events : Key (IsList (IsEvent draft.script.classes)) (get_member (codes "events") members) draft.script.events

@@ -1,0 +1,37 @@
+ghost use Rattle.std.specs.Prelude.{◌≡◌};
+
+use dv_script::script::Script;
+use dv_value::items::Items;
+use dv_value::text::Text;
+
+/// A class that a script declares.
+#[derive(Drop)]
+pub struct Declaration {
+    pub name: Text,
+    /// The name of the class that it is under.
+    pub parent: Text,
+}
+
+/// What a document says by its shape alone.
+#[derive(Drop)]
+pub struct Draft {
+    /// The classes that it declares, whether they may be declared or not.
+    pub declared: Items<Declaration>,
+    /// Whether each of them may be declared.
+    pub all_declared: bool,
+    pub script: Script,
+}
+
+impl Draft {
+    /// The script that it has.
+    pub fn into_script(self) -> Script
+        ensures { result ≡ self.script }
+    {
+        self.script
+    }
+
+    /// Lets a draft go. Who does it by this call needs no proof of its own of what a script holds.
+    pub fn discard(self) {
+        drop(self);
+    }
+}

@@ -1,0 +1,49 @@
+ghost use Rattle.std.specs.Prelude.{option_map, option_and_then, ◌^◌};
+ghost use Rattle.serde_json.specs.View.{view};
+ghost use Rattle.dv_grammar.specs.Answer.{Reads};
+ghost use Rattle.dv_grammar.specs.Shape.{cooperator_at, number_at, field};
+ghost use Rattle.dv_grammar.specs.Grammar.{plain_cooperator};
+
+use crate::ranges::MOST_DELAY;
+use crate::reading::leaf::{fields, number, small};
+use crate::reading::stop::Stop;
+use dv_script::script::Cooperator;
+use serde_json::Value as Json;
+
+/// A cooperator that a script may leave out.
+pub fn cooperator_or_plain(json: Option<&Json>) -> Result<Cooperator, Stop>
+    ensures { Reads result (field plain_cooperator cooperator_at (option_map (λ d. view d.now) json.entry)) }
+{
+    match json {
+        None => Ok(Cooperator { units: 1, delay: 1 }),
+        Some(json) => cooperator(json),
+    }
+}
+
+#[tactic(auto, unfolding(crate::specs::Shape::cooperator_at))]
+fn cooperator(json: &Json) -> Result<Cooperator, Stop>
+    ensures { Reads result (cooperator_at (view json.now)) }
+{
+    fields(json, &["units", "delay"])?;
+    let units = units(json.get("units"))?;
+    let delay = delay(json.get("delay"))?;
+    Ok(Cooperator { units, delay })
+}
+
+fn units(json: Option<&Json>) -> Result<u32, Stop>
+    ensures { Reads result (option_and_then (number_at 1 1000) (option_map (λ d. view d.now) json.entry)) }
+{
+    match json {
+        None => Err(Stop::BadShape),
+        Some(json) => small(json, 1, 1_000),
+    }
+}
+
+fn delay(json: Option<&Json>) -> Result<u64, Stop>
+    ensures { Reads result (option_and_then (number_at 1 (10 ^ 12)) (option_map (λ d. view d.now) json.entry)) }
+{
+    match json {
+        None => Err(Stop::BadShape),
+        Some(json) => number(json, 1, MOST_DELAY),
+    }
+}

@@ -1,0 +1,73 @@
+ghost use Rattle.std.specs.Prelude.{◌≡◌};
+ghost use Rattle.serde_json.specs.View.{view, items_view};
+ghost use Rattle.dv_grammar.specs.Answer.{Reads};
+ghost use Rattle.dv_grammar.specs.Grammar.{may_leave};
+ghost use Rattle.dv_grammar.specs.Shape.{end_at, end_of, leave_at};
+
+use crate::reading::arguments::{
+    class_and_message, classes_and_value, one_integer, one_text, one_value,
+};
+use crate::reading::leaf::{call, none};
+use crate::reading::stop::Stop;
+use crate::words::EndWord;
+use dv_script::body::End;
+use dv_value::classes::Classes;
+use serde_json::Value as Json;
+use std::alloc::Global;
+
+/// How a body ends.
+#[tactic(auto, unfolding(crate::specs::Shape::end_at))]
+pub fn end(alloc: Global, classes: &Classes, json: &Json) -> Result<End, Stop>
+    ensures { Reads result (end_at classes.now (view json.now)) }
+{
+    let (word, arguments) = call(json)?;
+    match EndWord::named(word) {
+        Some(word) => end_of(alloc, classes, word, arguments),
+        None => Err(Stop::BadShape),
+    }
+}
+
+#[tactic(auto, unfolding(crate::specs::Shape::end_of))]
+fn end_of(alloc: Global, classes: &Classes, word: EndWord, arguments: &[Json]) -> Result<End, Stop>
+    ensures { Reads result (end_of classes.now word (items_view arguments.now)) }
+{
+    match word {
+        EndWord::Return => Ok(End::Return(one_value(alloc, arguments)?)),
+        EndWord::Pass => {
+            none(arguments)?;
+            Ok(End::Pass)
+        }
+        EndWord::Plus => Ok(End::Plus(one_integer(arguments)?)),
+        EndWord::Raise => {
+            let (class, message) = class_and_message(alloc, classes, arguments)?;
+            Ok(End::Raise(class, message))
+        }
+        EndWord::Trap => {
+            let (listed, value) = classes_and_value(alloc, classes, arguments)?;
+            Ok(End::Trap(listed, value))
+        }
+        EndWord::Wait => Ok(End::Wait(one_text(alloc, arguments)?)),
+    }
+}
+
+fn may_leave(end: &End) -> bool
+    ensures { result ≡ may_leave end.now }
+{
+    match end {
+        End::Return(_) | End::Pass | End::Plus(_) | End::Raise(_, _) => true,
+        End::Trap(_, _) | End::Wait(_) => false,
+    }
+}
+
+/// How an inline body ends.
+#[tactic(auto, unfolding(crate::specs::Shape::leave_at))]
+pub fn leave(alloc: Global, classes: &Classes, json: &Json) -> Result<End, Stop>
+    ensures { Reads result (leave_at classes.now (view json.now)) }
+{
+    let end = end(alloc, classes, json)?;
+    if may_leave(&end) {
+        Ok(end)
+    } else {
+        Err(Stop::BadShape)
+    }
+}

@@ -1,0 +1,62 @@
+ghost use Rattle.std.specs.Prelude.{◌^◌};
+ghost use Rattle.serde_json.specs.View.{view, items_view};
+ghost use Rattle.dv_grammar.specs.Answer.{Reads};
+ghost use Rattle.dv_grammar.specs.Shape.{text_at, number_at, work_at, work_of, triple};
+
+use crate::ranges::MOST_DELAY;
+use crate::reading::arguments::{class_and_message, one_small, one_value};
+use crate::reading::leaf::{call, number, text, three};
+use crate::reading::stop::Stop;
+use crate::words::WorkWord;
+use dv_script::work::Work;
+use dv_value::classes::Classes;
+use dv_value::text::Text;
+use serde_json::Value as Json;
+use std::alloc::Global;
+
+/// What a thread does.
+#[tactic(auto, unfolding(crate::specs::Shape::work_at))]
+pub fn work(alloc: Global, classes: &Classes, json: &Json) -> Result<Work, Stop>
+    ensures { Reads result (work_at classes.now (view json.now)) }
+{
+    let (word, arguments) = call(json)?;
+    match WorkWord::named(word) {
+        Some(word) => work_of(alloc, classes, word, arguments),
+        None => Err(Stop::BadShape),
+    }
+}
+
+#[tactic(auto, unfolding(crate::specs::Shape::work_of))]
+fn work_of(
+    alloc: Global,
+    classes: &Classes,
+    word: WorkWord,
+    arguments: &[Json],
+) -> Result<Work, Stop>
+    ensures { Reads result (work_of classes.now word (items_view arguments.now)) }
+{
+    match word {
+        WorkWord::Value => Ok(Work::Value(one_value(alloc, arguments)?)),
+        WorkWord::Raise => {
+            let (class, message) = class_and_message(alloc, classes, arguments)?;
+            Ok(Work::Raise(class, message))
+        }
+        WorkWord::Sum => Ok(Work::Sum(one_small(arguments, 0, 1_000_000)?)),
+    }
+}
+
+/// A name, a delay, and a thread's work.
+#[tactic(auto, unfolding(crate::specs::Shape::triple))]
+pub fn named_work(
+    alloc: Global,
+    classes: &Classes,
+    arguments: &[Json],
+) -> Result<(Text, u64, Work), Stop>
+    ensures { Reads result (triple text_at (number_at 0 (10 ^ 12)) (work_at classes.now) (items_view arguments.now)) }
+{
+    let (name, delay, json) = three(arguments)?;
+    let name = text(alloc, name)?;
+    let delay = number(delay, 0, MOST_DELAY)?;
+    let work = work(alloc, classes, json)?;
+    Ok((name, delay, work))
+}

@@ -1,0 +1,42 @@
+-- How a program tells how its run ended: its exit status, and what it writes to standard error.
+use Rattle.std.specs.Prelude.{ℕ, if◌then◌else◌, List, [], Result, Ok, Err, codes}
+use Rattle.dv_engine.specs.declared.report.Report.{Report}
+use Rattle.dv_reader.specs.declared.error.ScriptFault.{ScriptFault}
+use Rattle.dv_reader.specs.declared.error.ScriptFault.TheVariants as script
+use Rattle.dv_output.specs.declared.error.RunFault.{RunFault}
+use Rattle.dv_output.specs.declared.error.RunFault.TheVariants.{ScriptRefused, OutOfMemory, ReadFault, WriteFault}
+
+-- 2 for a script that is refused, 3 for want of memory, 4 for a reader or a writer that failed
+abbrev pub fault_status : RunFault → ℕ
+fault_status (ScriptRefused fault) = 2
+fault_status OutOfMemory = 3
+fault_status ReadFault = 4
+fault_status WriteFault = 4
+
+-- the exit status: 1 where the run stopped at the limit of its journal, 0 where all events were performed, and otherwise that of the fault
+abbrev pub status : Result Report RunFault → ℕ
+status (Ok report) = if report.stopped then 1 else 0
+status (Err fault) = fault_status fault
+
+-- each refusal by its number and its name
+abbrev pub refusal_text : ScriptFault → List ℕ
+refusal_text script.TooLong = codes "script refused: 1 TooLong"
+refusal_text script.NotJson = codes "script refused: 2 NotJson"
+refusal_text script.BadVersion = codes "script refused: 3 BadVersion"
+refusal_text script.BadShape = codes "script refused: 4 BadShape"
+refusal_text script.TooMany = codes "script refused: 5 TooMany"
+refusal_text script.BadName = codes "script refused: 6 BadName"
+refusal_text script.BadClass = codes "script refused: 7 BadClass"
+refusal_text script.OutOfMemory = codes "script refused: 8 OutOfMemory"
+
+-- what each fault is called; a refused script is said to be, with its reason
+abbrev pub fault_text : RunFault → List ℕ
+fault_text (ScriptRefused fault) = refusal_text fault
+fault_text OutOfMemory = codes "out of memory"
+fault_text ReadFault = codes "read failed"
+fault_text WriteFault = codes "write failed"
+
+-- what goes to standard error, as a line where it isn't empty
+abbrev pub error_text : Result Report RunFault → List ℕ
+error_text (Ok report) = []
+error_text (Err fault) = fault_text fault

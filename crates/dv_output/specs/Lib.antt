@@ -1,0 +1,3 @@
+pub mod Output
+pub mod Faults
+pub mod Exit

@@ -1,0 +1,95 @@
+ghost use Rattle.std.specs.Prelude.{◌≡◌, ◌++◌, OnOk, OnErr, IsErrOf, string_bytes};
+ghost use Rattle.std.specs.Io.KnownBytes.{Appends};
+ghost use Rattle.dv_journal.specs.Sink.{HasFailed, AppendsPrefix};
+ghost use Rattle.dv_output.specs.Output.{pauses_text, state_text, outcome_line, output, report_text};
+
+use dv_engine::report::{Outcome, Report, State};
+use dv_journal::error::PrintFault;
+use dv_journal::line::shown_name;
+use dv_journal::sink::{Sink, write_all, write_when_full};
+use dv_value::classes::Classes;
+use dv_value::value_text::write_outcome;
+use std::alloc::{AllocError, Global};
+
+fn pauses_text(pauses: u32) -> &'static str
+    ensures { result.now ≡ pauses_text pauses }
+{
+    if pauses == 0 { "" } else { "paused " }
+}
+
+fn write_state(
+    alloc: Global,
+    classes: &Classes,
+    line: &mut String,
+    state: &State,
+) -> Result<(), AllocError>
+    ensures { OnOk result (string_bytes line.new ≡ string_bytes line.old ++ state_text classes.now state.now) }
+{
+    match state {
+        State::Unfired => write!(line, "unfired"),
+        State::Waiting(id) => write!(line, "waiting #{}", id.number()),
+        State::Fired(value) => write_outcome(alloc, classes, line, value),
+    }
+}
+
+fn write_line(
+    alloc: Global,
+    classes: &Classes,
+    line: &mut String,
+    number: usize,
+    outcome: &Outcome,
+) -> Result<(), AllocError>
+    ensures { OnOk result (string_bytes line.new ≡ string_bytes line.old ++ outcome_line classes.now number outcome.now) }
+{
+    write!(
+        line,
+        "#{number} {} {}",
+        shown_name(&outcome.name),
+        pauses_text(outcome.pauses)
+    )?;
+    write_state(alloc, classes, line, &outcome.state)?;
+    write!(line, "\n")
+}
+
+/// Writes a line for each outcome, some kilobytes at a time, with one buffer for all. Where it gives up, what was
+/// written is a prefix of the text.
+fn print_outcomes<W: Sink>(
+    alloc: Global,
+    classes: &Classes,
+    outcomes: &[Outcome],
+    sink: &mut W,
+) -> Result<(), PrintFault>
+    ensures ok { OnOk result (Appends (W.taken sink.old) (W.taken sink.new) (output classes.now outcomes.now)) }
+    ensures kept { OnOk result (W.failures sink.new ≡ W.failures sink.old) }
+    ensures err { OnErr result (AppendsPrefix (W.taken sink.old) (W.taken sink.new) (output classes.now outcomes.now)) }
+    ensures cause { IsErrOf result PrintFault.WriteFault → HasFailed (W.failures sink.old) (W.failures sink.new) }
+    ensures memory { IsErrOf result PrintFault.OutOfMemory → W.failures sink.new ≡ W.failures sink.old }
+{
+    let mut gathered = String::new(alloc);
+    for (number, outcome) in outcomes.iter().enumerate() {
+        write_line(alloc, classes, &mut gathered, number, outcome)?;
+        write_when_full(sink, &mut gathered)?;
+    }
+    write_all(sink, gathered.as_bytes())?;
+    Ok(())
+}
+
+/// Writes the journal, and then a line for each outcome. WriteFault where the sink fails or takes no byte, OutOfMemory where
+/// memory is refused; what was written then is a prefix of the text.
+#[tactic(auto, using(crate::proofs::OutputLemmas::both_parts))]
+pub fn print_report<W: Sink>(
+    alloc: Global,
+    classes: &Classes,
+    report: &Report,
+    sink: &mut W,
+) -> Result<(), PrintFault>
+    ensures ok { OnOk result (Appends (W.taken sink.old) (W.taken sink.new) (report_text classes.now report.now)) }
+    ensures kept { OnOk result (W.failures sink.new ≡ W.failures sink.old) }
+    ensures err { OnErr result (AppendsPrefix (W.taken sink.old) (W.taken sink.new) (report_text classes.now report.now)) }
+    ensures cause { IsErrOf result PrintFault.WriteFault → HasFailed (W.failures sink.old) (W.failures sink.new) }
+    ensures memory { IsErrOf result PrintFault.OutOfMemory → W.failures sink.new ≡ W.failures sink.old }
+{
+    report.journal.print(classes, sink)?;
+    print_outcomes(alloc, classes, report.outcomes.as_slice(), sink)?;
+    Ok(())
+}

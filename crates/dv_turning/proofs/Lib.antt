@@ -1,0 +1,3 @@
+pub mod BoundsLemmas
+pub mod DueLemmas
+pub mod FireLemmas

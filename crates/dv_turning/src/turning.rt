@@ -1,0 +1,154 @@
+//! One turn: the frame on top of the stack, by its rule.
+
+ghost use Rattle.std.specs.Prelude.{◌≡◌, [], IfOk};
+ghost use Rattle.dv_rules.specs.Bounds.{Bounded};
+ghost use Rattle.dv_turning.specs.Performing.{gone_on, rest_turned};
+ghost use Rattle.dv_rules.specs.Turn.{◌over◌, done};
+ghost use Rattle.dv_turning.specs.Turning.{told_of, turned};
+ghost use Rattle.dv_objects.specs.Performed.{failed_with};
+
+use crate::acting::begin;
+use crate::settling::{end_side, settle};
+use crate::timing::run_due;
+use crate::wanting;
+use dv_inline::poller::Poller;
+use dv_journal::entry::Entry;
+use dv_objects::performed::Performed;
+use dv_rules::cancelling::{cancel, end_canceller};
+use dv_rules::cooperating::{end_step, go_on_ticking, notify};
+use dv_rules::following::{add_and_settle, done};
+use dv_rules::frame::{Frame, Rest};
+use dv_rules::maybe::{end_maybe, give_after};
+use dv_rules::submissions::Submissions;
+use dv_threads::source::JobSource;
+use dv_value::stack::Stack;
+use dv_world::ending::ended;
+use dv_world::world::World;
+use std::alloc::{AllocError, AllocGlobal, Global};
+use std::random::RandomSource;
+use std::sync::Wait;
+
+/// Goes on with the frame that was on top, which gets what was come to above it.
+pub fn turn<'s, R, J>(
+    rt: &R,
+    alloc: Global,
+    poller: &Poller,
+    jobs: &mut Submissions<J>,
+    world: &mut World<'s>,
+    stack: &mut Stack<Frame<'s>>,
+    frame: Frame<'s>,
+    performed: Performed<'s>,
+) -> Result<Performed<'s>, AllocError>
+where
+    R: Wait + RandomSource + AllocGlobal,
+    J: JobSource,
+    requires bounded { Bounded world.old }
+    requires jobs { jobs.old ≡ world.old.works }
+    ensures turned { IfOk result (λ next. (stack.new, next, world.new) ≡ turned frame.entry performed.entry world.old over stack.old) }
+    ensures jobs { jobs.new ≡ jobs.old }
+{
+    match frame {
+        Frame::Settle(id) => {
+            drop(performed);
+            settle(alloc, world, stack, id)
+        }
+        Frame::Place(id) => end_side(alloc, world, stack, id, performed),
+        Frame::Rest(rest) => go_on_unless_raised(alloc, world, stack, rest, performed),
+        Frame::Canceller(id) => end_canceller(alloc, world, stack, id, performed),
+        Frame::Maybe(purpose) => end_maybe(alloc, world, stack, purpose, performed),
+        Frame::Add(id, pair) => {
+            drop(performed);
+            add_and_settle(world, stack, id, pair)
+        }
+        Frame::Cancel(id) => {
+            drop(performed);
+            cancel(alloc, world, stack, id)
+        }
+        Frame::Give(given) => Ok(give_after(given, performed)),
+        Frame::Notify(id, task) => {
+            drop(performed);
+            notify(alloc, world, stack, id, task)
+        }
+        Frame::Stepped(task) => end_step(alloc, world, stack, task, performed),
+        Frame::Tick(units) => {
+            drop(performed);
+            go_on_ticking(world, stack, units)
+        }
+        Frame::Tell => tell_failure(alloc, world, performed),
+        Frame::Due => {
+            drop(performed);
+            run_due(rt, alloc, jobs, world, stack)
+        }
+        Frame::Inline(inlining) => {
+            wanting::go_on(alloc, poller, world, stack, inlining, performed)
+        }
+    }
+}
+
+/// Tells of the failure that was come to, where one was.
+fn tell_failure<'s>(
+    alloc: Global,
+    world: &mut World<'s>,
+    performed: Performed<'s>,
+) -> Result<Performed<'s>, AllocError>
+    ensures { IfOk result (λ next. ([], next, world.new) ≡ done (told_of (failed_with performed.entry) world.old)) }
+{
+    match performed.into_failure(alloc)? {
+        None => Ok(Performed::Done),
+        Some(failure) => done(world.tell(Entry::Unhandled(failure))),
+    }
+}
+
+/// Goes on with a body, unless what it performed last raised.
+fn go_on_unless_raised<'s>(
+    alloc: Global,
+    world: &mut World<'s>,
+    stack: &mut Stack<Frame<'s>>,
+    rest: Rest<'s>,
+    performed: Performed<'s>,
+) -> Result<Performed<'s>, AllocError>
+    requires bounded { Bounded world.old }
+    ensures { IfOk result (λ next. (stack.new, next, world.new) ≡ rest_turned rest.entry performed.entry world.old over stack.old) }
+{
+    match performed {
+        Performed::Raised(failure) => {
+            drop(rest);
+            Ok(Performed::Raised(failure))
+        }
+        Performed::Gave(given) => {
+            drop(given);
+            go_on(alloc, world, stack, rest)
+        }
+        Performed::Done | Performed::Awaits(_) => go_on(alloc, world, stack, rest),
+    }
+}
+
+/// Begins the next action of a body, or ends it.
+fn go_on<'s>(
+    alloc: Global,
+    world: &mut World<'s>,
+    stack: &mut Stack<Frame<'s>>,
+    rest: Rest<'s>,
+) -> Result<Performed<'s>, AllocError>
+    requires bounded { Bounded world.old }
+    ensures { IfOk result (λ next. (stack.new, next, world.new) ≡ gone_on rest.entry.itself rest.entry.actions rest.entry.end rest.entry.input world.old over stack.old) }
+{
+    let Rest {
+        itself,
+        actions,
+        end,
+        input,
+    } = rest;
+    match actions.split() {
+        None => Ok(ended(alloc, world, itself, end.get(), input)?),
+        Some((action, actions)) => {
+            stack.push(Frame::Rest(Rest {
+                itself,
+                actions,
+                end,
+                input,
+            }))?;
+            begin(alloc, world, stack, itself, action)
+        }
+    }
+}
