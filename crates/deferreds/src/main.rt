@@ -4,11 +4,9 @@
 ghost use Rattle.std.specs.Prelude.{◌≤◌, IfOk, IfSome};
 
 use dv_journal::io_sink::IoSink;
-use dv_output::error::RunFault;
-use dv_output::exit::exit_of;
 use dv_run::run::run;
 use dv_run::workers::workers_of;
-use dv_source::io_source::IoSource;
+use dv_run::{IoSource, RunFault, exit_of};
 use dv_threads::gate::PlainGate;
 use std::alloc::AllocGlobal;
 use std::process::ExitCode;

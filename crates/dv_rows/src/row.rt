@@ -1,8 +1,7 @@
 use crate::lines::{first_difference, unfolded};
 use dv_journal::memory_sink::MemorySink;
-use dv_output::exit::exit_of;
 use dv_run::run::run;
-use dv_source::memory_source::MemorySource;
+use dv_run::{MemorySource, exit_of};
 use dv_threads::gate::PlainGate;
 use std::alloc::{AllocError, AllocGlobal, Global};
 use std::random::RandomSource;

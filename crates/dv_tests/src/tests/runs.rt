@@ -1,5 +1,6 @@
 ghost use Rattle.std.specs.Prelude.{◌<◌, ◌≤◌, ◌^◌, ◌-◌, IfOk};
 
+use super::gates::{Counting, Yielding};
 use dv_engine::engine::{Engine, Next};
 use dv_engine::report::Report;
 use dv_inline::poller::Poller;
@@ -20,7 +21,6 @@ use std::random::RandomSource;
 use std::sync::Wait;
 use std::test::Fail;
 use std::thread::Threads;
-use super::gates::{Counting, Yielding};
 
 /// How many bytes a run may print.
 const ROOM: usize = 262_144;
