@@ -13,7 +13,7 @@ mod scripts;
 mod values;
 
 use dv_engine::report::Report;
-use dv_output::error::RunFault;
+use dv_run::RunFault;
 
 /// Whether a run stopped at its limit, or why it gave up.
 fn stops(answer: Result<Report, RunFault>) -> Result<bool, RunFault> {

@@ -1,5 +1,4 @@
-use dv_output::error::RunFault;
-use dv_output::exit::exit_of;
+use dv_run::{RunFault, exit_of};
 
 #[test]
 fn what_no_script_leads_to_has_its_status_and_its_text(rt: HostRuntime) {

@@ -1,7 +1,7 @@
 use crate::tests::stops;
 use dv_journal::io_sink::IoSink;
 use dv_journal::memory_sink::{MemorySink, Trouble};
-use dv_output::error::RunFault;
+use dv_run::RunFault;
 use dv_run::run::run;
 use dv_source::io_source::IoSource;
 use dv_source::memory_source::MemorySource;
