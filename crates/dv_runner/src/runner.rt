@@ -7,14 +7,14 @@ ghost use Rattle.dv_runner.specs.Meaning.{Ends, Happens};
 
 use dv_inline::poller::Poller;
 use dv_objects::performed::Performed;
-use dv_rules::beginning::{begin_event, begin_post};
 use dv_rules::frame::Frame;
 use dv_rules::submissions::Submissions;
-use dv_rules::turning::turn;
 use dv_script::body::Body;
 use dv_script::event::Event;
 use dv_threads::posted::Posted;
 use dv_threads::source::JobSource;
+use dv_turning::beginning::{begin_event, begin_post};
+use dv_turning::turning::turn;
 use dv_value::stack::Stack;
 use dv_world::world::World;
 use std::alloc::{AllocError, AllocGlobal, Global};
