@@ -1,13 +1,13 @@
 -- What callers and their inbox have of a script's posts.
-use Rattle.std.proofs.Common.{All, arith, ◌≡◌, ◌≢◌, ℕ, zero, suc, ◌+◌, ◌<◌, ◌≤◌, ◌==◌, Bool, true, false, List, [], ◌∷◌, ◌++◌, ◌∙◌, length, map, take, drop, slice_index_or, slice_get, Option, Some, None, refl, sym, ap, subst, append-nil, append_assoc, length-append, add-one}
+use Rattle.std.proofs.Common.{arith, ◌≡◌, ◌≢◌, ℕ, zero, suc, ◌+◌, ◌<◌, ◌≤◌, ◌==◌, Bool, true, false, List, [], ◌∷◌, ◌++◌, ◌∙◌, length, map, take, drop, slice_index_or, slice_get, Some, refl, sym, ap, subst, append-nil, append_assoc, length-append, add-one}
 use mathlib.Core.Logic.{◌⊎◌, inl, inr}
 use Rattle.std.proofs.lemmas.Bool.Decides.{nat_tests}
-use Rattle.std.proofs.lemmas.List.{length-map, get_or_past, get_or-map, take-append-drop, take-append-le, nil_from_length}
+use Rattle.std.proofs.lemmas.List.{length-map, get_or_past, take-append-drop, take-append-le, nil_from_length}
 use Rattle.std.proofs.lemmas.List.Elements.{filter-append}
 use Rattle.std.proofs.lemmas.Option.{slice_get_within}
 use Rattle.std.proofs.Math.Seq.{take-append_seam}
 use Rattle.dv_script.specs.declared.body.Body.{Body}
-use Rattle.dv_runner.specs.Batches.{AreFirst, AreNext, Batch, Callers, below, bodies_of, first_posts, joined, posts_of}
+use Rattle.dv_runner.specs.Batches.{AreNext, Batch, Callers, below, bodies_of, first_posts, joined, posts_of}
 use Rattle.dv_threads.specs.Posts.{post, of}
 use Rattle.dv_threads.specs.Posts as inbox
 use Rattle.dv_threads.specs.Ring.{Ring}

@@ -1,6 +1,6 @@
 -- The callers of a run, each on a thread of its own.
-use Rattle.std.specs.Prelude.{◌≡◌, ℕ, ◌≤◌, ◌+◌, List, ◌++◌, length, slice_get, slice_index_or, Some}
-use Rattle.dv_runner.specs.Batches.{AreNext, Batch, Callers, bodies_of, first_posts, posts_of}
+use Rattle.std.specs.Prelude.{◌≡◌, ℕ, ◌≤◌, List, length, slice_get, Some}
+use Rattle.dv_runner.specs.Batches.{Batch, Callers, bodies_of, first_posts, posts_of}
 use Rattle.dv_threads.specs.Posts.{of}
 use Rattle.dv_threads.specs.Posts as inbox
 use Rattle.dv_threads.specs.Ring.{Ring}

@@ -20,7 +20,7 @@ use Rattle.dv_run.specs.Headline.{IsRun, Prints, SaysReport, Told, most_read}
 use Rattle.dv_output.specs.Output.{report_text}
 use Rattle.dv_run.specs.Run.{SaysScript, RefusesInput, GivesUp, ReaderFailed, WriterFailed, GivesNoScript}
 use Rattle.dv_source.specs.Source.{IsFrontOf}
-use Rattle.dv_output.specs.declared.error.RunFault.TheVariants.{ScriptRefused, OutOfMemory}
+use Rattle.dv_output.specs.declared.error.RunFault.TheVariants.{OutOfMemory}
 use Rattle.dv_source.specs.declared.source.ReadError.{ReadError}
 use Rattle.dv_source.specs.declared.source.ReadError.TheVariants as reading
 

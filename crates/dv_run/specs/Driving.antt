@@ -1,5 +1,5 @@
 -- A run: what an engine and an inbox have of each other.
-use Rattle.std.specs.Prelude.{◌≡◌, List}
+use Rattle.std.specs.Prelude.{◌≡◌}
 use Rattle.dv_runner.specs.Batches.{AreNext, Batch, Callers, joined}
 use Rattle.dv_engine.specs.Engine.{Engine}
 use Rattle.dv_engine.specs.declared.engine.Phase.TheVariants.{Going, Ended}

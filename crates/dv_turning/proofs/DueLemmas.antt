@@ -1,5 +1,5 @@
 -- What comes due submits nothing.
-use Rattle.std.proofs.Common.{◌≡◌, ℕ, Option, None, Some, refl, sym, subst}
+use Rattle.std.proofs.Common.{◌≡◌, Option, None, Some, refl, sym, subst}
 use Rattle.dv_clock.specs.Clock.{Upcoming, next_call}
 use Rattle.dv_clock.specs.Due.{coming_due}
 use Rattle.dv_clock.specs.declared.call.CallState.TheVariants as call_state

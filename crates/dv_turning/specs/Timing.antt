@@ -1,5 +1,5 @@
 -- What is due is run (Twisted: `Clock.advance`).
-use Rattle.std.specs.Prelude.{ℕ, [], ◌∷◌, ◌++◌, Option, None, Some, slice_get}
+use Rattle.std.specs.Prelude.{[], ◌∷◌, ◌++◌, Option, None, Some, slice_get}
 use Rattle.dv_clock.specs.declared.due.Due.{Due}
 use Rattle.dv_clock.specs.declared.due.Due.TheVariants as what
 use Rattle.dv_script.specs.declared.body.Body.{Body}

@@ -1,5 +1,5 @@
 -- One turn: each frame by its rule.
-use Rattle.std.specs.Prelude.{[], ◌∷◌, Option, None, Some, slice_get}
+use Rattle.std.specs.Prelude.{Option, None, Some, slice_get}
 use Rattle.dv_value.specs.declared.failure.Failure.{Failure}
 use Rattle.dv_journal.specs.declared.entry.Entry.TheVariants as entry
 use Rattle.dv_objects.specs.Performed.{failed_with}
