@@ -8,9 +8,9 @@ ghost use Rattle.dv_engine.specs.Taking.{with_batch};
 
 use crate::batches::Batches;
 use crate::engine::Phase;
+use dv_actions::submissions::Submissions;
 use dv_inline::poller::Poller;
 use dv_journal::entry::Entry;
-use dv_rules::submissions::Submissions;
 use dv_runner::runner::come;
 use dv_script::body::Body;
 use dv_threads::posted::Posted;

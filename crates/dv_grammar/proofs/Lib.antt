@@ -1,4 +1,2 @@
-pub mod Complete
-pub mod Sound
 pub mod Steps
 pub mod WordsLemmas

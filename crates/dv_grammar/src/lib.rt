@@ -1,7 +1,7 @@
-//! The grammar of scripts, and how a JSON value is read by it: which value says which draft of a script.
+//! The grammar of scripts: which JSON value says which draft of a script, the words, and readers of the parts in which nothing nests.
 #![tactic(auto)]
 
 pub mod draft;
 pub mod ranges;
 pub mod reading;
-mod words;
+pub mod words;

@@ -21,7 +21,8 @@ use Rattle.dv_runner.specs.Meaning.{Means}
 use Rattle.dv_runner.proofs.Kept.{Both, Kind, Kept, telling_of, every_step}
 use Rattle.dv_laws.proofs.ReadBackLemmas.{get_set}
 use Rattle.dv_runner.proofs.Total.{means_keeps}
-use Rattle.dv_world.specs.World.{World, Records, state_of, cancelled}
+use Rattle.dv_world.specs.World.{World, Records, state_of}
+use Rattle.dv_objects.specs.Refusals.{cancelled}
 
 -- what counts of a Deferred: that it is fired, and that its next firing is swallowed
 abbrev fired_of : Kind → ℕ

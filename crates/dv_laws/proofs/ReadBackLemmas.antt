@@ -20,7 +20,8 @@ use Rattle.dv_engine.specs.Report.{outcome_of}
 use Rattle.dv_engine.specs.declared.report.Outcome.{Outcome}
 use Rattle.dv_runner.proofs.Kept.{Both, Kind, Kept, telling_of, every_step}
 use Rattle.dv_runner.proofs.Total.{means_keeps}
-use Rattle.dv_world.specs.World.{World, Records, state_of, cancelled}
+use Rattle.dv_world.specs.World.{World, Records, state_of}
+use Rattle.dv_objects.specs.Refusals.{cancelled}
 
 -- what is found after a record was set
 pub get_set : {X : Type 0} (l : List X) (d n : ℕ) (r s : X) → slice_get l d ≡ Some r → slice_get (slice_set l d s) n ≡ cond (nat_eq d n) (Some s) (slice_get l n)

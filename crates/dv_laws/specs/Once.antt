@@ -6,7 +6,7 @@ use Rattle.dv_journal.specs.declared.entry.Entry.TheVariants as entry
 use Rattle.dv_script.specs.declared.script.Script.{Script}
 use Rattle.dv_engine.specs.Report.{Reports}
 use Rattle.dv_engine.specs.declared.report.Report.{Report}
-use Rattle.dv_world.specs.World.{cancelled}
+use Rattle.dv_objects.specs.Refusals.{cancelled}
 
 -- what is told counts one where it is that n is fired
 abbrev pub fires_of : ℕ → Change → ℕ

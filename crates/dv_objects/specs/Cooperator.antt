@@ -1,5 +1,5 @@
 -- The Cooperator and its tasks (Twisted: `Cooperator`, `CooperativeTask`).
-use Rattle.std.specs.Prelude.{ℕ, ◌+◌, ◌-◌, max, min, Bool, false, not, ◌&&◌, ◌||◌, is_none, nat_eq, if◌then◌else◌, List, [], ◌∷◌, ◌++◌, length, drop, Option, None, Some, slice_get, slice_set}
+use Rattle.std.specs.Prelude.{ℕ, ◌+◌, ◌-◌, max, min, Bool, false, not, ◌&&◌, ◌||◌, is_none, is_some, nat_eq, if◌then◌else◌, List, [], ◌∷◌, ◌++◌, length, drop, Option, None, Some, slice_get, slice_set}
 use Rattle.dv_clock.specs.Turns.{Turns, new_turns, joined, left, gone_on}
 use Rattle.dv_clock.specs.declared.limits.TheConstants.{MOST_DELAY}
 use Rattle.dv_script.specs.declared.body.Body.{Body}
@@ -46,6 +46,11 @@ new_task name bodies = record { name = name; bodies = bodies; pauses = 0; end = 
 abbrev pub with_new_task : List ℕ → List Body → Cooperator → Cooperator
 with_new_task name bodies c =
     record c { task_names = with_name name (length c.tasks) c.task_names; tasks = c.tasks ++ new_task name bodies ∷ []; turns = joined (length c.tasks) c.turns }
+
+-- a task, unless it has ended
+abbrev pub unended : Option Task → Option Task
+unended None = None
+unended (Some x) = if is_some x.end then None else Some x
 
 -- task t is now this
 abbrev pub with_task : ℕ → Task → Cooperator → Cooperator

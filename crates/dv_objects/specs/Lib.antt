@@ -8,3 +8,6 @@ pub mod Cooperator
 pub mod Works
 pub mod Objects
 pub mod Looping
+pub mod Refusals
+pub mod Reached
+pub mod Trap

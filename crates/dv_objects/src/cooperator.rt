@@ -43,7 +43,7 @@ impl<'s> Model for Cooperator<'s> {
 impl<'s> Cooperator<'s> {
     ghost use Rattle.std.specs.Option.{option_copied};
     ghost use Rattle.dv_clock.specs.Turns.{turn_of};
-    ghost use Rattle.dv_objects.specs.Cooperator.{new_cooperator, with_new_task, with_step, with_pause, with_resume, with_end, with_waiting, changing, next_body, waiting_for, wants_tick, idle_tick};
+    ghost use Rattle.dv_objects.specs.Cooperator.{new_cooperator, with_new_task, with_step, with_pause, with_resume, with_end, with_waiting, changing, unended, next_body, waiting_for, wants_tick, idle_tick};
     ghost use Rattle.dv_objects.specs.Names.{number_of};
 
     /// A Cooperator without tasks, which takes so many steps in a tick, and from tick to tick of which it is so many ticks of
@@ -75,6 +75,17 @@ impl<'s> Cooperator<'s> {
         ensures { option_copied result ≡ slice_get self.now.tasks id }
     {
         self.tasks.get(id.number() as usize)
+    }
+
+    /// A task by its id, unless it has ended.
+    pub fn unended(&self, id: TaskId) -> Option<&Task<'s>>
+        ensures { option_copied result ≡ unended (slice_get self.now.tasks id) }
+    {
+        let task = self.task(id)?;
+        if task.end.is_some() {
+            return None;
+        }
+        Some(task)
     }
 
     /// A task is made of bodies, and its name is bound to it, also where that was bound to another; it takes turns, last.

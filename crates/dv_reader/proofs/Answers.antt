@@ -12,8 +12,8 @@ use Rattle.dv_reader.specs.Limits.{most_nodes, most_limit, nodes}
 use Rattle.dv_reader.specs.Refusal.{IsDocument, IsMisshapen, HasShape, Says, Refuses}
 use Rattle.dv_grammar.specs.Shape.{script_at}
 use Rattle.dv_reader.specs.Passes.{JudgedIn, Passes, is_version}
-use Rattle.dv_grammar.proofs.Complete.{complete_script}
-use Rattle.dv_grammar.proofs.Sound.{sound_script}
+use Rattle.dv_drafts.proofs.Complete.{complete_script}
+use Rattle.dv_drafts.proofs.Sound.{sound_script}
 use Rattle.dv_reader.proofs.Version.{version_is, no_version}
 use Rattle.dv_reader.proofs.Count.{events_few}
 

@@ -1,2 +1,1 @@
 pub mod BoundsLemmas
-pub mod JobLemmas

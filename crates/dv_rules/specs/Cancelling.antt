@@ -1,11 +1,12 @@
 -- Cancelling (Twisted: `Deferred.cancel`): whoever is reached is fired with CancelledError, or its canceller runs first, on null.
-use Rattle.std.specs.Prelude.{ℕ, if◌then◌else◌, [], ◌∷◌, Option, None, Some}
+use Rattle.std.specs.Prelude.{ℕ, if◌then◌else◌, List, [], ◌∷◌, Option, None, Some}
 use Rattle.dv_value.specs.declared.failure.Failure.{Failure}
 use Rattle.dv_value.specs.declared.value.Value.{Null}
-use Rattle.dv_rules.specs.Listing.{children_cancelled}
 use Rattle.dv_rules.specs.Turn.{Turned, done, raised, settling, settle_next, rest_of}
-use Rattle.dv_rules.specs.declared.frame.Frame.TheVariants.{Rest, Canceller, Cancel}
-use Rattle.dv_world.specs.World.{World, cancelled, fire, fire_guarded, forget, withdraw, is_unfired, awaited_in}
+use Rattle.dv_rules.specs.declared.frame.Frame.{Frame}
+use Rattle.dv_rules.specs.declared.frame.Frame.TheVariants.{Rest, Canceller, Cancel, Tell}
+use Rattle.dv_world.specs.World.{World, fire, fire_guarded, forget, withdraw, is_unfired, awaited_in}
+use Rattle.dv_objects.specs.Refusals.{cancelled}
 use Rattle.dv_objects.specs.declared.performed.Performed.TheVariants.{Done}
 use Rattle.dv_objects.specs.declared.reached.Reached.{Reached}
 use Rattle.dv_objects.specs.declared.reached.Reached.TheVariants as reached
@@ -14,6 +15,11 @@ use Rattle.dv_objects.specs.declared.reached.Reached.TheVariants as reached
 abbrev pub awaited_cancelled : Option ℕ → World → Turned
 awaited_cancelled None w = done w
 awaited_cancelled (Some e) w = (Cancel e ∷ [], Done, w)
+
+-- the children of a list are cancelled in order, and a failure that leaves the cancel of one is told
+abbrev pub children_cancelled : List ℕ → List Frame
+children_cancelled [] = []
+children_cancelled (c ∷ cs) = Cancel c ∷ Tell ∷ children_cancelled cs
 
 -- a cancel goes on by whom it reaches: one without a canceller is fired, and its next firing is swallowed; else its canceller runs, in which `@` is the Deferred, or it is taken out of where it waits and fired; of a list the children are cancelled, and of an inline body what it awaits
 abbrev pub cancel_begun : Reached → World → Turned

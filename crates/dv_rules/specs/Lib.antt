@@ -1,14 +1,5 @@
 pub mod Turn
 pub mod Done
-pub mod Deed
 pub mod Maybe
-pub mod Looping
-pub mod Cooperating
-pub mod Locking
-pub mod Queueing
-pub mod Listing
-pub mod Inlining
-pub mod Threading
 pub mod Cancelling
-pub mod Acting
 pub mod Bounds

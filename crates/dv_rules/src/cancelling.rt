@@ -1,19 +1,20 @@
-ghost use Rattle.std.specs.Prelude.{◌≡◌, IfOk};
+ghost use Rattle.std.specs.Prelude.{◌≡◌, ◌++◌, IfOk, OnOk};
 ghost use Rattle.dv_objects.specs.Performed.{failed_with};
-ghost use Rattle.dv_world.specs.World.{awaited_in, cancel, cancelled, fire};
-ghost use Rattle.dv_rules.specs.Cancelling.{awaited_cancelled, cancel_begun, canceller_ended};
+ghost use Rattle.dv_world.specs.World.{awaited_in, cancel, fire};
+ghost use Rattle.dv_objects.specs.Refusals.{cancelled};
+ghost use Rattle.dv_rules.specs.Cancelling.{awaited_cancelled, children_cancelled, cancel_begun, canceller_ended};
 ghost use Rattle.dv_rules.specs.Turn.{◌over◌, settle_next};
 
 use crate::following::{done, fire_and_settle, settle_after, whole};
 use crate::frame::Frame;
-use crate::listing::cancel_children;
 use dv_journal::deferred_id::DeferredId;
 use dv_objects::inline_id::InlineId;
 use dv_objects::performed::Performed;
 use dv_objects::reached::Reached;
+use dv_objects::refusals::cancelled;
 use dv_value::stack::Stack;
 use dv_value::value::Value;
-use dv_world::world::{World, cancelled};
+use dv_world::world::World;
 use std::alloc::{AllocError, Global};
 
 /// Cancels a Deferred: tells of it, and begins with whom it reaches (Twisted: `Deferred.cancel`).
@@ -58,6 +59,21 @@ fn fire_cancelled<'s>(
     ensures { IfOk result (λ next. (stack.new, next, world.new) ≡ settle_next id (fire id cancelled world.old).0 (fire id cancelled world.old).1 over stack.old) }
 {
     fire_and_settle(world, stack, id, cancelled(alloc)?)
+}
+
+/// The children of a DeferredList are to be cancelled in order; a failure that leaves the cancel of one is told, and the
+/// next one follows.
+fn cancel_children<'s>(
+    stack: &mut Stack<Frame<'s>>,
+    children: &[DeferredId],
+) -> Result<(), AllocError>
+    ensures { OnOk result (stack.new ≡ children_cancelled children.now ++ stack.old) }
+{
+    for place in (0..children.len()).rev() {
+        stack.push(Frame::Tell)?;
+        stack.push(Frame::Cancel(children[place]))?;
+    }
+    Ok(())
 }
 
 /// What an inline body awaits is to be cancelled, where it awaits something, and nothing else happens.

@@ -19,7 +19,8 @@ use Rattle.dv_rules.specs.Bounds.{all_pauses, Bounded}
 use Rattle.dv_runner.proofs.Kept.{Both, Kind, telling_of, Kept, every_step}
 use Rattle.dv_runner.proofs.Lasting.{Lasting}
 use Rattle.dv_runner.proofs.Tally.{tally_set, tally_changing, length_changing}
-use Rattle.dv_world.specs.World.{World, Records, state_of, cancelled}
+use Rattle.dv_world.specs.World.{World, Records, state_of}
+use Rattle.dv_objects.specs.Refusals.{cancelled}
 
 -- each Deferred and each pause was told
 record Fine (s : Both) : Type 0 where

@@ -1,5 +1,5 @@
 -- Each rule leads on by steps of the world, and leaves less to do, or less of each frame.
-use Rattle.std.proofs.Common.{ℕ, ◌+◌, ◌<◌, ◌≤◌, ◌≡◌, is_some, Bool, true, false, if◌then◌else◌, List, [], ◌∷◌, ◌++◌, Option, None, Some, length, nat_eq, ◌-◌, slice_get, refl, ap, arith}
+use Rattle.std.proofs.Common.{ℕ, ◌+◌, ◌<◌, ◌≤◌, ◌≡◌, Bool, true, false, if◌then◌else◌, List, [], ◌∷◌, ◌++◌, Option, None, Some, length, nat_eq, ◌-◌, slice_get, refl, ap, arith}
 use Rattle.std.specs.Option.{option_map}
 use Rattle.dv_value.specs.Builtin.{name_error}
 use Rattle.dv_value.specs.Failure.{failure_in, fault}
@@ -28,29 +28,29 @@ use Rattle.dv_script.specs.declared.event.Event.TheVariants as event
 use Rattle.dv_store.specs.Laws.{used}
 use Rattle.dv_store.specs.declared.store.Step.{Step}
 use Rattle.dv_store.specs.declared.store.Step.TheVariants.{Nothing, Passed, Run, Handed}
-use Rattle.dv_rules.specs.Acting.{with_object, with_named, with_lock, begun}
-use Rattle.dv_rules.specs.Acting as acting
+use Rattle.dv_actions.specs.Acting.{with_object, with_named, with_lock, begun}
+use Rattle.dv_actions.specs.Acting as acting
 use Rattle.dv_rules.specs.Cancelling.{awaited_cancelled, cancel_begun, canceller_ended}
-use Rattle.dv_rules.specs.Cooperating.{notices, task_over, notified_by, notified, asked_when, when_done, paused_by, paused_of, stopped_by, resumed_of, is_over, hold_over, failed_by, stepped_by, stepped, step_begun, ticked, tick_stepped, tick_gone_on}
-use Rattle.dv_rules.specs.Cooperating as tasks
-use Rattle.dv_rules.specs.Deed.{deed_of}
-use Rattle.dv_rules.specs.Deed.{Deed}
-use Rattle.dv_rules.specs.Deed.{NoteOf, Make, FireWith, AddTo, ChainTo, PauseOf, UnpauseOf, CancelOf, MakeLock, MakeSemaphore, AcquireOf, ReleaseOf, RunOf, MaybeOf, MakeQueue, PutInto, GetFrom, ListOf, GatherOf, LaterOf, CancelCallOf, LoopOf, StopLoopOf, CooperateOf, WhenDoneOf, PauseTaskOf, StopTaskOf, ResumeTaskOf, InlineOf, ThreadOf}
-use Rattle.dv_rules.specs.Inlining.{inline_begun, going_where, resumed, await_ended, answer_of}
-use Rattle.dv_rules.specs.Listing.{with_children, added_to_children, has_all_at_once, fired_at_once, with_listed, listed, fired_by_child, come_by, results_given}
-use Rattle.dv_rules.specs.Locking.{granted, asked_of, acquired, released_of}
-use Rattle.dv_rules.specs.Looping.{turn_begun, loop_begun, looped, loop_over, turn_ended, loop_failed, over_where, stopped_of}
+use Rattle.dv_actions.specs.Cooperating.{notices, task_over, notified_by, notified, asked_when, when_done, paused_by, paused_of, stopped_by, resumed_of, is_over, hold_over, failed_by, stepped_by, stepped, step_begun, ticked, tick_stepped, tick_gone_on}
+use Rattle.dv_actions.specs.Cooperating as tasks
+use Rattle.dv_actions.specs.Deed.{deed_of}
+use Rattle.dv_actions.specs.Deed.{Deed}
+use Rattle.dv_actions.specs.Deed.{NoteOf, Make, FireWith, AddTo, ChainTo, PauseOf, UnpauseOf, CancelOf, MakeLock, MakeSemaphore, AcquireOf, ReleaseOf, RunOf, MaybeOf, MakeQueue, PutInto, GetFrom, ListOf, GatherOf, LaterOf, CancelCallOf, LoopOf, StopLoopOf, CooperateOf, WhenDoneOf, PauseTaskOf, StopTaskOf, ResumeTaskOf, InlineOf, ThreadOf}
+use Rattle.dv_actions.specs.Inlining.{inline_begun, going_where, resumed, await_ended, answer_of}
+use Rattle.dv_actions.specs.Listing.{with_children, added_to_children, has_all_at_once, fired_at_once, with_listed, listed, fired_by_child, come_by, results_given}
+use Rattle.dv_actions.specs.Locking.{granted, asked_of, acquired, released_of}
+use Rattle.dv_actions.specs.Looping.{turn_begun, loop_begun, looped, loop_over, turn_ended, loop_failed, over_where, stopped_of}
 use Rattle.dv_turning.specs.Turning.{told_of, turned}
-use Rattle.dv_turning.specs.Beginning.{happening, Occurrence, Occurs}
-use Rattle.dv_turning.specs.Beginning as occurrence
+use Rattle.dv_actions.specs.Beginning.{happening, Occurrence, Occurs}
+use Rattle.dv_actions.specs.Beginning as occurrence
 use Rattle.dv_rules.specs.Maybe.{name_for, used_for, made_with, taken_for, maybe_ended, given_after}
-use Rattle.dv_rules.specs.Queueing.{handed_out, put_of, got, asked_for, get_of}
+use Rattle.dv_actions.specs.Queueing.{handed_out, put_of, got, asked_for, get_of}
 use Rattle.dv_turning.specs.Performing.{gone_on, rest_turned}
 use Rattle.dv_turning.specs.Settling.{place, side_begun, settled}
-use Rattle.dv_rules.specs.Threading.{threaded, delivered, job_result}
-use Rattle.dv_turning.specs.Timing.{body_called, come_due_with}
-use Rattle.dv_turning.specs.Wanting.{awaited_by, wanted, inline_turned}
-use Rattle.dv_turning.specs.Wanting as wanting
+use Rattle.dv_actions.specs.Threading.{threaded, delivered, job_result}
+use Rattle.dv_actions.specs.Timing.{body_called, come_due_with}
+use Rattle.dv_actions.specs.Wanting.{awaited_by, wanted, inline_turned}
+use Rattle.dv_actions.specs.Wanting as wanting
 use Rattle.dv_rules.specs.Turn.{Turned, ◌over◌, done, settling, settle_next}
 use Rattle.dv_rules.specs.declared.frame.Frame.{Frame}
 use Rattle.dv_rules.specs.declared.frame.Frame.TheVariants as frame
@@ -68,10 +68,11 @@ use Rattle.dv_journal.specs.Change.{change_of, Aside}
 use Rattle.dv_world.specs.Found.{deferreds_at}
 use Rattle.dv_objects.specs.Names.{number_of}
 use Rattle.dv_objects.specs.Pair.{chain, continuing}
-use Rattle.dv_world.specs.World.{World, state_of, deferred_at, step, append, fire, is_unfired, cancelled, cancel, pause, unpause, make, aside, lock_told, ask, release_found, release, forget, unless_stopped, put_into_found, put_into, get_from_found, get_from, withdraw, value_of, arrange, came_to_found, came_to, come_due_found, waiting_cancelled, state_cancelled, call_cancelled, cancel_call, turn_scheduled, loop_stopped, stop_loop, end_loop, task_told, pause_task, resume_task, hold_task, task_ended, end_task, all_unless_stopped, tick_dropped, keep_tick, end_tick, step_taken, turn_taken, add_inline, begin_await, come_to_inline, end_await, awaited_in, submit, deliver_later}
+use Rattle.dv_world.specs.World.{World, state_of, deferred_at, step, append, fire, is_unfired, cancel, pause, unpause, make, aside, lock_told, ask, release_found, release, forget, unless_stopped, put_into_found, put_into, get_from_found, get_from, withdraw, value_of, arrange, came_to_found, came_to, come_due_found, waiting_cancelled, state_cancelled, call_cancelled, cancel_call, turn_scheduled, loop_stopped, stop_loop, end_loop, task_told, pause_task, resume_task, hold_task, task_ended, end_task, tick_dropped, keep_tick, end_tick, step_taken, turn_taken, add_inline, begin_await, come_to_inline, end_await, awaited_in, submit, deliver_later}
+use Rattle.dv_objects.specs.Refusals.{cancelled}
 use Rattle.dv_objects.specs.Works.{is_full}
 use Rattle.dv_script.specs.declared.work.Work.{Work}
-use Rattle.dv_objects.specs.Cooperator.{Cooperator, with_new_task, with_step, with_end, result_of, wants_tick, idle_tick}
+use Rattle.dv_objects.specs.Cooperator.{Cooperator, with_new_task, with_step, result_of, unended, wants_tick, idle_tick}
 use Rattle.dv_objects.specs.Objects.{Objects, with_queue, with_new_list, with_list, with_ended_call, cooperating, inlining}
 use Rattle.dv_objects.specs.declared.canceller.Canceller.TheVariants.{Body, Token, Item, Children, Inline as InlineCanceller}
 use Rattle.dv_objects.specs.declared.inline_id.Inline.{Inline}
@@ -325,8 +326,7 @@ keep_comes w u c = join w u _ c (one_comes (wants_tick u.objects.cooperator) u _
 
 task_ended_comes : (t : ℕ) (end : TaskEnd) (o : Option Task) (w : World) → Comes w (task_ended t end o w).1
 task_ended_comes t end None w = same w
-task_ended_comes t end (Some x) w =
-    first_comes (is_some x.end) ([], w) (all_unless_stopped x.waiting (aside (entry.End x.name (result_of x.name end)) (cooperating (with_end t end x)) w)) w (same w) (by_aside (entry.End x.name (result_of x.name end)) _ w refl)
+task_ended_comes t end (Some x) w = by_aside (entry.End x.name (result_of x.name end)) _ w refl
 
 notices_lighter : (m t : ℕ) (ds : List ℕ) → 1 < m → Lighter m (notices t ds)
 notices_lighter m t [] q = tt
@@ -335,7 +335,7 @@ notices_lighter m t (d ∷ ds) q = (q, (omega (arith, q), notices_lighter m t ds
 task_over_fair : (m t : ℕ) (end : TaskEnd) (w : World) → 1 < m → Fair w m (task_over t end w)
 task_over_fair m t end w q =
     let e = end_task t end w in
-    record { comes = keep_comes w e.1 (task_ended_comes t end (slice_get w.objects.cooperator.tasks t) w); falls = lighter (notices_lighter m t e.0 q) }
+    record { comes = keep_comes w e.1 (task_ended_comes t end (unended (slice_get w.objects.cooperator.tasks t)) w); falls = lighter (notices_lighter m t e.0 q) }
 
 notified_by_fair : (m d : ℕ) (name : List ℕ) (o : Option TaskEnd) (w : World) → 0 < m → Fair w m (notified_by d name o w)
 notified_by_fair m d name None w q = now_fair m Done w

@@ -15,8 +15,8 @@ use Rattle.dv_store.specs.declared.store.Step.{Step}
 use Rattle.dv_runner.proofs.Fair.{happening_comes, turned_fair}
 use Rattle.dv_runner.proofs.Lasting.{Lasting}
 use Rattle.dv_turning.specs.Turning.{turned}
-use Rattle.dv_turning.specs.Beginning.{happening, Occurrence}
-use Rattle.dv_rules.specs.Threading.{GoesOn}
+use Rattle.dv_actions.specs.Beginning.{happening, Occurrence}
+use Rattle.dv_actions.specs.Threading.{GoesOn}
 use Rattle.dv_rules.specs.Turn.{Turned, ◌over◌}
 use Rattle.dv_rules.specs.declared.frame.Frame.{Frame}
 use Rattle.dv_objects.specs.Works.{is_full}
@@ -24,7 +24,7 @@ use Rattle.dv_world.specs.World.{World, after, moved, named, fired, unpaused, gu
 use Rattle.dv_objects.specs.declared.canceller.Canceller.{Canceller}
 use Rattle.dv_objects.specs.declared.pair.Pair.{Pair}
 use Rattle.dv_objects.specs.declared.performed.Performed.{Performed}
-use Rattle.dv_rules.proofs.JobLemmas.{aside_same}
+use Rattle.dv_actions.proofs.JobLemmas.{aside_same}
 
 -- the works of one world go on from those of another
 record Grows (w u : World) : Type 0 where

@@ -7,9 +7,9 @@ use Rattle.dv_script.specs.declared.action.Action.TheOpen.{Action-F, Statement-F
 use Rattle.dv_script.specs.declared.action.Action.TheFolds.{fold-Action, fold-Statement, fold-Body, fold_out-Action, fold_out-Statement, fold_out-Body}
 use Rattle.dv_script.specs.declared.body.Body.{Body, out-Body}
 use Rattle.dv_script.specs.declared.body.Statement.{Statement, out-Statement, map-Statement}
-use Rattle.dv_rules.specs.Deed.{deed_of}
-use Rattle.dv_rules.specs.Deed.{Deed}
-use Rattle.dv_rules.specs.Deed.{NoteOf, Make, FireWith, AddTo, ChainTo, PauseOf, UnpauseOf, CancelOf, MakeLock, MakeSemaphore, AcquireOf, ReleaseOf, RunOf, MaybeOf, MakeQueue, PutInto, GetFrom, ListOf, GatherOf, LaterOf, CancelCallOf, LoopOf, StopLoopOf, CooperateOf, WhenDoneOf, PauseTaskOf, StopTaskOf, ResumeTaskOf, InlineOf, ThreadOf}
+use Rattle.dv_actions.specs.Deed.{deed_of}
+use Rattle.dv_actions.specs.Deed.{Deed}
+use Rattle.dv_actions.specs.Deed.{NoteOf, Make, FireWith, AddTo, ChainTo, PauseOf, UnpauseOf, CancelOf, MakeLock, MakeSemaphore, AcquireOf, ReleaseOf, RunOf, MaybeOf, MakeQueue, PutInto, GetFrom, ListOf, GatherOf, LaterOf, CancelCallOf, LoopOf, StopLoopOf, CooperateOf, WhenDoneOf, PauseTaskOf, StopTaskOf, ResumeTaskOf, InlineOf, ThreadOf}
 
 -- an action counts one, or two where a pair is to be added by it, and what the bodies in it count
 abbrev action_step : Action-F ℕ ℕ ℕ → ℕ

@@ -4,7 +4,7 @@ use Rattle.dv_runner.proofs.Lasting.{Lasting}
 use Rattle.dv_runner.proofs.Total.{gives_keeps, begun_gives_keeps, happens_keeps, frames_end, happens_end}
 use Rattle.dv_runner.specs.Laws.{StoppedWorldsStay, StoppedActionsStay}
 use Rattle.dv_runner.specs.Meaning.{Gives, Ends, Happens}
-use Rattle.dv_turning.specs.Beginning.{Occurrence}
+use Rattle.dv_actions.specs.Beginning.{Occurrence}
 use Rattle.dv_rules.specs.declared.frame.Frame.{Frame}
 use Rattle.dv_world.specs.World.{World, step, put, put_deferred, append, make, fire, fire_guarded, cancel, pause, unpause, aside, arrange, submit}
 use Rattle.dv_objects.specs.declared.performed.Performed.{Performed}

@@ -2,12 +2,12 @@
 use Rattle.std.proofs.Common.{◌≡◌, ℕ, Option, List, [], ◌∷◌, refl, sym, subst, ◌∙◌}
 use Rattle.dv_script.specs.declared.action.Action.{Action, out-Action}
 use Rattle.dv_script.specs.declared.script.Script.{Script}
-use Rattle.dv_rules.specs.Acting.{begun}
+use Rattle.dv_actions.specs.Acting.{begun}
 use Rattle.dv_runner.specs.Batches.{Batch}
-use Rattle.dv_rules.specs.Deed.{deed_of}
+use Rattle.dv_actions.specs.Deed.{deed_of}
 use Rattle.dv_runner.specs.Laws.{FramesEnd, FramesHaveOneResult, EveryScriptEnds, EachScriptHasOneMeaning}
 use Rattle.dv_runner.specs.Meaning.{Gives, Happens, Runs, Means}
-use Rattle.dv_turning.specs.Beginning.{happening, Occurrence}
+use Rattle.dv_actions.specs.Beginning.{happening, Occurrence}
 use Rattle.dv_runner.specs.Occurrences.{occurrences}
 use Rattle.dv_rules.specs.declared.frame.Frame.{Frame}
 use Rattle.dv_runner.proofs.Extends.{gives_one}

@@ -6,7 +6,7 @@ use Rattle.dv_runner.proofs.Fair.{happening_comes, turned_fair}
 use Rattle.dv_runner.proofs.Runs.{turned_leads}
 use Rattle.dv_rules.specs.Bounds.{Bounded}
 use Rattle.dv_turning.specs.Turning.{turned}
-use Rattle.dv_turning.specs.Beginning.{happening, Occurrence}
+use Rattle.dv_actions.specs.Beginning.{happening, Occurrence}
 use Rattle.dv_runner.specs.Meaning.{Gives}
 use Rattle.dv_rules.specs.Turn.{Turned, ◌over◌}
 use Rattle.dv_rules.specs.declared.frame.Frame.{Frame}

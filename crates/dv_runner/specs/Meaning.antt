@@ -2,7 +2,7 @@
 use Rattle.std.specs.Prelude.{ℕ, zero, suc, ◌≡◌, List, [], ◌∷◌, Option, None, Some}
 use Rattle.dv_script.specs.declared.script.Script.{Script}
 use Rattle.dv_objects.specs.declared.performed.Performed.{Performed}
-use Rattle.dv_turning.specs.Beginning.{Occurrence, happening}
+use Rattle.dv_actions.specs.Beginning.{Occurrence, happening}
 use Rattle.dv_turning.specs.Turning.{turned}
 use Rattle.dv_rules.specs.declared.frame.Frame.{Frame}
 use Rattle.dv_runner.specs.Batches.{Batch}

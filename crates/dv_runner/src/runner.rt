@@ -1,19 +1,19 @@
 ghost use Rattle.std.specs.Prelude.{◌≡◌, IfOk, OnOk};
-ghost use Rattle.dv_turning.specs.Beginning.{Occurs, Comes};
+ghost use Rattle.dv_actions.specs.Beginning.{Occurs, Comes};
 ghost use Rattle.dv_rules.specs.Bounds.{Bounded};
 ghost use Rattle.dv_rules.specs.Turn.{◌over◌};
 ghost use Rattle.dv_turning.specs.Turning.{turned};
 ghost use Rattle.dv_runner.specs.Meaning.{Ends, Happens};
 
+use dv_actions::beginning::{begin_event, begin_post};
+use dv_actions::submissions::Submissions;
 use dv_inline::poller::Poller;
 use dv_objects::performed::Performed;
 use dv_rules::frame::Frame;
-use dv_rules::submissions::Submissions;
 use dv_script::body::Body;
 use dv_script::event::Event;
 use dv_threads::posted::Posted;
 use dv_threads::source::JobSource;
-use dv_turning::beginning::{begin_event, begin_post};
 use dv_turning::turning::turn;
 use dv_value::stack::Stack;
 use dv_world::world::World;

@@ -5,5 +5,6 @@ pub mod action;
 pub mod body;
 pub mod event;
 pub mod lent;
+pub mod same;
 pub mod script;
 pub mod work;

@@ -3,7 +3,7 @@ ghost use Rattle.dv_threads.specs.Jobs.{job_of};
 ghost use Rattle.dv_threads.specs.Works.{value_of};
 
 use crate::job::{Answer, Job};
-use crate::same::is_same_work;
+use dv_script::same::is_same_work;
 use dv_script::work::Work;
 use dv_value::value::Value;
 use std::alloc::{AllocError, Global};

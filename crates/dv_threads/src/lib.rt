@@ -12,6 +12,5 @@ pub mod posted;
 pub mod poster;
 pub mod ran;
 mod receiver;
-mod same;
 pub mod source;
 pub mod taken;

@@ -3,8 +3,8 @@ use Rattle.std.specs.Prelude.{ℕ, List, [], ◌∷◌, Option}
 use Rattle.dv_value.specs.declared.value.Value.{Value}
 use Rattle.dv_script.specs.declared.action.Action.{Action, out-Action}
 use Rattle.dv_script.specs.declared.body.End.{End}
-use Rattle.dv_rules.specs.Acting.{begun}
-use Rattle.dv_rules.specs.Deed.{deed_of}
+use Rattle.dv_actions.specs.Acting.{begun}
+use Rattle.dv_actions.specs.Deed.{deed_of}
 use Rattle.dv_rules.specs.Turn.{Turned, ◌over◌, raised}
 use Rattle.dv_rules.specs.declared.frame.Frame.TheVariants as frame
 use Rattle.dv_rules.specs.declared.frame.Rest.{Rest}

@@ -5,11 +5,11 @@ use Rattle.dv_value.specs.Failure.{is_fault, failure_in}
 use Rattle.dv_value.specs.declared.value.Value.{Value, Null, Fault}
 use Rattle.dv_store.specs.declared.store.Step.{Step}
 use Rattle.dv_store.specs.declared.store.Step.TheVariants.{Nothing, Passed, Run, Handed}
-use Rattle.dv_rules.specs.Inlining.{resumed}
-use Rattle.dv_rules.specs.Listing.{come_by, results_given}
-use Rattle.dv_rules.specs.Cooperating.{hold_over, failed_by}
-use Rattle.dv_rules.specs.Locking.{released_of}
-use Rattle.dv_rules.specs.Looping.{turn_ended, turn_failed}
+use Rattle.dv_actions.specs.Inlining.{resumed}
+use Rattle.dv_actions.specs.Listing.{come_by, results_given}
+use Rattle.dv_actions.specs.Cooperating.{hold_over, failed_by}
+use Rattle.dv_actions.specs.Locking.{released_of}
+use Rattle.dv_actions.specs.Looping.{turn_ended, turn_failed}
 use Rattle.dv_rules.specs.Maybe.{body_for}
 use Rattle.dv_rules.specs.Turn.{Turned, ◌over◌, done, settling, settle_next, rest_of}
 use Rattle.dv_rules.specs.declared.frame.Frame.TheVariants.{Settle, Place, Rest, Give}

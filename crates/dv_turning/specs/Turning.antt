@@ -5,13 +5,13 @@ use Rattle.dv_journal.specs.declared.entry.Entry.TheVariants as entry
 use Rattle.dv_objects.specs.Performed.{failed_with}
 use Rattle.dv_objects.specs.declared.performed.Performed.{Performed}
 use Rattle.dv_rules.specs.Cancelling.{cancel_begun, canceller_ended}
-use Rattle.dv_rules.specs.Cooperating.{notified, stepped, tick_gone_on}
+use Rattle.dv_actions.specs.Cooperating.{notified, stepped, tick_gone_on}
 use Rattle.dv_rules.specs.Maybe.{maybe_ended, given_after}
 use Rattle.dv_turning.specs.Performing.{rest_turned}
 use Rattle.dv_turning.specs.Settling.{place, settled}
-use Rattle.dv_turning.specs.Timing.{come_due_with}
+use Rattle.dv_actions.specs.Timing.{come_due_with}
 use Rattle.dv_rules.specs.Turn.{Turned, done, settling}
-use Rattle.dv_turning.specs.Wanting.{inline_turned}
+use Rattle.dv_actions.specs.Wanting.{inline_turned}
 use Rattle.dv_rules.specs.declared.frame.Frame.{Frame}
 use Rattle.dv_rules.specs.declared.frame.Frame.TheVariants.{Settle, Place, Rest, Canceller, Maybe, Add, Cancel, Give, Notify, Stepped, Tick, Tell, Due, Inline}
 use Rattle.dv_world.specs.World.{World, step, append, cancel, tell, come_due}

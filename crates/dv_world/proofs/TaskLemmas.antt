@@ -5,9 +5,9 @@ use Rattle.dv_journal.specs.Journal.{fits, with_entry}
 use Rattle.dv_journal.specs.declared.entry.Entry.{Entry}
 use Rattle.dv_journal.specs.declared.entry.Entry.TheVariants as entry
 use Rattle.dv_clock.specs.Turns.{turn_of}
-use Rattle.dv_objects.specs.Cooperator.{Cooperator, new_task, with_new_task, with_step, with_pause, with_resume, with_end, with_waiting, result_of}
+use Rattle.dv_objects.specs.Cooperator.{Cooperator, new_task, with_new_task, with_step, with_pause, with_resume, with_end, with_waiting, result_of, unended}
 use Rattle.dv_objects.specs.Objects.{Objects, cooperating}
-use Rattle.dv_world.specs.World.{World, aside, task_told, step_taken, turn_taken, task_ended, all_unless_stopped}
+use Rattle.dv_world.specs.World.{World, aside, task_told, step_taken, turn_taken, task_ended}
 use Rattle.dv_world.specs.Laws.{end_in, end_of, Same, Elsewhere, Makes, Steps, Pauses, Resumes, Holds, Awaits, Ends, TasksEndOnce, EndedTasksAreLeftAlone}
 use Rattle.dv_objects.specs.declared.task.Task.{Task}
 use Rattle.dv_objects.specs.declared.task.TaskEnd.{TaskEnd}
@@ -88,14 +88,14 @@ turns_keep t end (Some s) w h = steps_keep t s end (slice_get w.objects.cooperat
 
 -- a task that is still to end is another
 ends_keep : (t s : ℕ) (end other : TaskEnd) (x : Task) (w : World) (b : Bool) → is_some x.end ≡ b → slice_get w.objects.cooperator.tasks s ≡ Some x → end_of t w ≡ Some end
-    → end_of t (if b then ([], w) else all_unless_stopped x.waiting (aside (entry.End x.name (result_of x.name other)) (cooperating (with_end s other x)) w)).1 ≡ Some end
+    → end_of t (task_ended s other (if b then None else Some x) w).1 ≡ Some end
 ends_keep t s end other x w true b g h = h
 ends_keep t s end other x w false b g h =
     aside_keeps t end (entry.End x.name (result_of x.name other)) (cooperating (with_end s other x)) w h (set_keeps w.objects.cooperator.tasks t s x (record x { end = Some other; waiting = [] }) end g (λ k. absurd (no k)) h) where
       no : x.end ≡ Some end → ⊥
       no k = let e : true ≡ false = sym (ap is_some k) ∙ b in absurd cc
 
-found_ends_keep : (t s : ℕ) (end other : TaskEnd) (o : Option Task) (w : World) → slice_get w.objects.cooperator.tasks s ≡ o → end_of t w ≡ Some end → end_of t (task_ended s other o w).1 ≡ Some end
+found_ends_keep : (t s : ℕ) (end other : TaskEnd) (o : Option Task) (w : World) → slice_get w.objects.cooperator.tasks s ≡ o → end_of t w ≡ Some end → end_of t (task_ended s other (unended o) w).1 ≡ Some end
 found_ends_keep t s end other None w g h = h
 found_ends_keep t s end other (Some x) w g h = ends_keep t s end other x w (is_some x.end) refl g h
 
@@ -113,7 +113,7 @@ ends_stay w _ t end h (Awaits v s d b) = task_keeps (λ r. with_waiting r d) (wa
 ends_stay w _ t end h (Ends v s other b) = found_ends_keep t s end other (slice_get v.objects.cooperator.tasks s) v refl (ends_stay w v t end h b)
 
 -- a task that has ended doesn't end again
-left_alone : (t : ℕ) (end again : TaskEnd) (o : Option Task) (w : World) → ended_in o ≡ Some end → task_ended t again o w ≡ ([], w)
+left_alone : (t : ℕ) (end again : TaskEnd) (o : Option Task) (w : World) → ended_in o ≡ Some end → task_ended t again (unended o) w ≡ ([], w)
 left_alone t end again None w h = absurd cc
 left_alone t end again (Some x) w h = rw h refl
 

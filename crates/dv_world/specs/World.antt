@@ -1,11 +1,11 @@
 -- The world of a run: its Deferreds, their names, the classes of failures and the journal, and one step of each kind.
-use Rattle.std.specs.Prelude.{ℕ, ◌+◌, min, Bool, true, false, not, is_some, if◌then◌else◌, List, [], ◌∷◌, ◌++◌, length, Option, None, Some, Result, Ok, Err, slice_get, bytes_eq, codes}
+use Rattle.std.specs.Prelude.{ℕ, ◌+◌, min, Bool, true, false, not, if◌then◌else◌, List, [], ◌∷◌, ◌++◌, length, Option, None, Some, Result, Ok, Err, slice_get, bytes_eq, codes}
 use Rattle.std.specs.Option.{option_map_or}
-use Rattle.dv_value.specs.Builtin.{name_error, assertion_error, runtime_error, already_called_error, cancelled_error, type_error, already_called, already_cancelled, queue_overflow, queue_underflow, not_paused as paused_not}
+use Rattle.dv_value.specs.Builtin.{assertion_error, runtime_error, already_called_error, already_called, already_cancelled, not_paused as paused_not}
 use Rattle.dv_value.specs.Failure.{plain_failure}
 use Rattle.dv_value.specs.declared.classes.Class.{Class}
 use Rattle.dv_value.specs.declared.failure.Failure.{Failure}
-use Rattle.dv_value.specs.declared.value.Value.{Value, Null, Fault}
+use Rattle.dv_value.specs.declared.value.Value.{Value, Null}
 use Rattle.dv_journal.specs.Journal.{Written, empty, fits, with_entry}
 use Rattle.dv_journal.specs.declared.entry.Entry.{Entry}
 use Rattle.dv_journal.specs.declared.entry.Entry.TheVariants as entry
@@ -42,13 +42,15 @@ use Rattle.dv_store.specs.declared.store.Fired.{Fired}
 use Rattle.dv_store.specs.declared.store.Fired.TheVariants.{Set, Swallowed}
 use Rattle.dv_store.specs.declared.store.Step.{Step}
 use Rattle.dv_store.specs.declared.store.Step.TheVariants.{Nothing}
-use Rattle.dv_objects.specs.Cooperator.{Cooperator, with_step, with_pause, with_resume, with_end, with_waiting, result_of, wants_tick, idle_tick}
+use Rattle.dv_objects.specs.Cooperator.{Cooperator, with_step, with_pause, with_resume, with_end, with_waiting, result_of, unended, wants_tick, idle_tick}
 use Rattle.dv_inline.specs.Position.{Position}
 use Rattle.dv_objects.specs.Inlines.{come_to, end_adding, now_waiting, awaited_by}
 use Rattle.dv_objects.specs.Looping.{next_due, with_turn, with_stopped, with_ended}
 use Rattle.dv_objects.specs.Names.{number_of}
 use Rattle.dv_objects.specs.Objects.{Objects, no_objects, naming_where, with_list, with_new_call, with_delivery, with_ended_call, with_time, with_lock, lock_changed, with_queue, queue_changed, cooperating, with_tick, without_tick, inlining, with_new_inline}
 use Rattle.dv_objects.specs.Pair.{passes}
+use Rattle.dv_objects.specs.Reached.{reached_at}
+use Rattle.dv_objects.specs.Refusals.{cancelled}
 use Rattle.dv_objects.specs.Works.{is_full}
 use Rattle.dv_objects.specs.declared.canceller.Canceller.{Canceller}
 use Rattle.dv_objects.specs.declared.canceller.Canceller.TheVariants as canceller
@@ -167,10 +169,6 @@ fire d value w =
     if w.stopped then (follow.Nothing, w) else
     let told = firing.fire d value (state_of w) in fired told.0 told.1 w
 
--- what a Deferred is fired with that is cancelled
-abbrev pub cancelled : Value
-cancelled = Fault (plain_failure cancelled_error [])
-
 -- once its firing is told, the next one is swallowed; a firing that can't be told stops the run
 abbrev pub guarded : ℕ → Result Fired StoreFault → State Pair Canceller → World → World
 guarded d (Ok Set) s w = with_state (guard d s.0, s.1) w
@@ -202,19 +200,10 @@ unpause d w =
     if w.stopped then (follow.Nothing, w) else
     let told = pausing.unpause d (state_of w) in unpaused told.0 told.1 w
 
--- an unfired Deferred is to be fired, after its canceller has run, or after it was taken out of where it waits; of a list the children are to be cancelled, and of an inline body what it awaits
-abbrev pub unfired_reached : ℕ → Option Canceller → Reached
-unfired_reached d None = reached.Fire d
-unfired_reached d (Some (canceller.Body body)) = reached.Run d body
-unfired_reached d (Some (canceller.Token l)) = reached.ForToken d l
-unfired_reached d (Some (canceller.Item k)) = reached.ForItem d k
-unfired_reached d (Some (canceller.Children children)) = reached.Children children
-unfired_reached d (Some (canceller.Inline i)) = reached.Inline i
-
--- nothing happens to one that is fired
+-- nothing happens where there is none
 abbrev pub record_reached : ℕ → Option (Record Pair Canceller) → Reached
 record_reached d None = reached.Nothing
-record_reached d (Some r) = if r.fired then reached.Nothing else unfired_reached d r.canceller
+record_reached d (Some r) = reached_at d r
 
 -- nothing happens where the walk comes back
 abbrev pub end_reached : Option ℕ → Records → Reached
@@ -430,14 +419,14 @@ take_step w = turn_taken (turn_of w.objects.cooperator.turns) w
 abbrev pub all_unless_stopped : List ℕ → World → List ℕ × World
 all_unless_stopped ds w = (if w.stopped then [] else ds, w)
 
--- the task that is found ends, unless it has ended, and who waits for that is answered
+-- the task that is found ends, and who waits for that is answered
 abbrev pub task_ended : ℕ → TaskEnd → Option Task → World → List ℕ × World
 task_ended t end None w = ([], w)
-task_ended t end (Some x) w =
-    if is_some x.end then ([], w) else all_unless_stopped x.waiting (aside (entry.End x.name (result_of x.name end)) (cooperating (with_end t end x)) w)
+task_ended t end (Some x) w = all_unless_stopped x.waiting (aside (entry.End x.name (result_of x.name end)) (cooperating (with_end t end x)) w)
 
+-- a task ends, unless it has ended
 abbrev pub end_task : ℕ → TaskEnd → World → List ℕ × World
-end_task t end w = task_ended t end (slice_get w.objects.cooperator.tasks t) w
+end_task t end w = task_ended t end (unended (slice_get w.objects.cooperator.tasks t)) w
 
 -- the next tick is scheduled
 abbrev pub schedule_tick : World → World
@@ -482,23 +471,3 @@ end_await i e p w = if w.stopped then (None, w) else let t = end_adding i e p w.
 -- what an inline body awaits
 abbrev pub awaited_in : ℕ → World → Option ℕ
 awaited_in i w = awaited_by i w.objects.inlines
-
--- what the gathering of what isn't the result of a list raises
-abbrev pub not_gathered : Failure
-not_gathered = plain_failure type_error (codes "gather")
-
--- what a putting raises where as many values are stored as may be
-abbrev pub overflow : Failure
-overflow = plain_failure queue_overflow []
-
--- what an asking raises where as many wait as may
-abbrev pub underflow : Failure
-underflow = plain_failure queue_underflow []
-
--- what the giving back of a token raises where none is given
-abbrev pub not_held : Failure
-not_held = plain_failure assertion_error (codes "not held")
-
--- what a name that isn't bound raises
-abbrev pub unbound : List ℕ → Performed
-unbound name = Raised (plain_failure name_error name)

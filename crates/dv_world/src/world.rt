@@ -1,8 +1,4 @@
 ghost use Rattle.std.specs.Prelude.{◌≡◌, ◌<◌, ◌^◌, ◌-◌, Some, length, slice_get, IfOk, OnOk, OnErr};
-ghost use Rattle.dv_value.specs.Failure.{plain_failure};
-ghost use Rattle.dv_world.specs.World.{cancelled, unbound, not_held, not_gathered, overflow, underflow, unfired_reached};
-ghost use Rattle.dv_objects.specs.declared.performed.Performed.TheVariants.{Raised};
-ghost use Rattle.dv_objects.specs.declared.follow.Follow.TheVariants.{Raise};
 
 use dv_clock::call_id::CallId;
 use dv_clock::clock::Clock;
@@ -18,8 +14,9 @@ use dv_objects::inlines::Inlines;
 use dv_objects::looping_call::LoopingCall;
 use dv_objects::names::Names;
 use dv_objects::pair::Pair;
-use dv_objects::performed::Performed;
 use dv_objects::reached::Reached;
+use dv_objects::refusals::{cancelled, refused};
+use dv_objects::stopping::stopped;
 use dv_objects::works::Works;
 use dv_prims::error::{PutFault, ReleaseFault};
 use dv_prims::gather::{Came, Flags, Gather};
@@ -35,8 +32,6 @@ use dv_store::record::Record;
 use dv_store::store::{Fired, Step, Store};
 use dv_value::class_id::ClassId;
 use dv_value::classes::Classes;
-use dv_value::fault::{failure, fault};
-use dv_value::items::Items;
 use dv_value::text::Text;
 use dv_value::value::Value;
 use std::alloc::{AllocError, Global};
@@ -352,12 +347,7 @@ impl<'s> World<'s> {
         };
         match self.store.record(end) {
             None => Ok(Reached::Nothing),
-            Some(record) => {
-                if record.fired {
-                    return Ok(Reached::Nothing);
-                }
-                reached_unfired(self.alloc, end, &record.canceller)
-            }
+            Some(record) => Reached::at(self.alloc, end, record),
         }
     }
 
@@ -683,13 +673,8 @@ impl<'s> World<'s> {
         ensures value { IfOk result (λ x. x ≡ otherwise) }
         ensures err { OnErr result ((stop ≡ Stop.OutOfMemory) × (self.new ≡ self.old)) }
     {
-        match stop {
-            Stop::Limit => {
-                self.stopped = true;
-                Ok(otherwise)
-            }
-            Stop::OutOfMemory => Err(AllocError),
-        }
+        self.stopped = stopped(stop)?;
+        Ok(otherwise)
     }
 
     /// Lets a world go. Who does it by this call needs no proof of its own of what a world holds.
@@ -721,90 +706,4 @@ fn text_of<'s>(alloc: Global, name: &Option<TextRef<'s>>) -> Result<Option<Text>
         None => Ok(None),
         Some(name) => Ok(Some(Text::of(alloc, name.as_str())?)),
     }
-}
-
-/// What is to happen to an unfired Deferred that a cancel reaches, by its canceller.
-fn reached_unfired<'s>(
-    alloc: Global,
-    id: DeferredId,
-    canceller: &Option<Canceller<'s>>,
-) -> Result<Reached<'s>, AllocError>
-    ensures { IfOk result (λ reached. reached ≡ unfired_reached id canceller.now) }
-{
-    match canceller {
-        None => Ok(Reached::Fire(id)),
-        Some(Canceller::Body(body)) => Ok(Reached::Run(id, BodyRef::new(body.get()))),
-        Some(Canceller::Token(lock)) => Ok(Reached::ForToken(id, *lock)),
-        Some(Canceller::Item(queue)) => Ok(Reached::ForItem(id, *queue)),
-        Some(Canceller::Children(children)) => {
-            let children = copy_of(alloc, children.as_slice())?;
-            Ok(Reached::Children(children))
-        }
-        Some(Canceller::Inline(inline)) => Ok(Reached::Inline(*inline)),
-    }
-}
-
-/// A copy of a list of Deferreds.
-fn copy_of(alloc: Global, ids: &[DeferredId]) -> Result<Items<DeferredId>, AllocError>
-    ensures { IfOk result (λ copy. copy ≡ ids.now) }
-{
-    let mut copy = Items::new(alloc);
-    for id in ids {
-        copy.push(*id)?;
-    }
-    Ok(copy)
-}
-
-/// What a name that isn't bound raises.
-pub fn unbound<'s>(alloc: Global, name: &str) -> Result<Performed<'s>, AllocError>
-    ensures { IfOk result (λ p. p ≡ unbound name.now) }
-{
-    let failure = failure(alloc, ClassId::NAME_ERROR, name)?;
-    Ok(Performed::Raised(failure))
-}
-
-/// What a putting raises where as many values are stored as may be (Twisted: `QueueOverflow`).
-pub fn overflow<'s>(alloc: Global) -> Result<Performed<'s>, AllocError>
-    ensures { IfOk result (λ p. p ≡ Raised overflow) }
-{
-    let failure = failure(alloc, ClassId::QUEUE_OVERFLOW, "")?;
-    Ok(Performed::Raised(failure))
-}
-
-/// What an asking raises where as many wait as may (Twisted: `QueueUnderflow`).
-pub fn underflow<'s>(alloc: Global) -> Result<Performed<'s>, AllocError>
-    ensures { IfOk result (λ p. p ≡ Raised underflow) }
-{
-    let failure = failure(alloc, ClassId::QUEUE_UNDERFLOW, "")?;
-    Ok(Performed::Raised(failure))
-}
-
-/// What the giving back of a token raises where none is given.
-pub fn not_held<'s>(alloc: Global) -> Result<Performed<'s>, AllocError>
-    ensures { IfOk result (λ p. p ≡ Raised not_held) }
-{
-    let failure = failure(alloc, ClassId::ASSERTION_ERROR, "not held")?;
-    Ok(Performed::Raised(failure))
-}
-
-/// What the gathering of what isn't the result of a DeferredList raises.
-pub fn not_gathered<'s>(alloc: Global) -> Result<Performed<'s>, AllocError>
-    ensures { IfOk result (λ p. p ≡ Raised not_gathered) }
-{
-    let failure = failure(alloc, ClassId::TYPE_ERROR, "gather")?;
-    Ok(Performed::Raised(failure))
-}
-
-/// What a change that is refused raises.
-fn refused(alloc: Global, class: ClassId, message: &str) -> Result<Follow, AllocError>
-    ensures { IfOk result (λ f. f ≡ Raise (plain_failure class message.now)) }
-{
-    Ok(Follow::Raise(failure(alloc, class, message)?))
-}
-
-/// What a Deferred is fired with that is cancelled.
-pub fn cancelled(alloc: Global) -> Result<Value, AllocError>
-    ensures { IfOk result (λ v. v ≡ cancelled) }
-{
-    fault(alloc, ClassId::CANCELLED_ERROR, "")
 }

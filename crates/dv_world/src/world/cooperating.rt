@@ -140,14 +140,10 @@ impl<'s> World<'s> {
             drop(end);
             return Ok(Items::new(self.alloc));
         }
-        let Some(task) = self.cooperator.task(id) else {
+        let Some(task) = self.cooperator.unended(id) else {
             drop(end);
             return Ok(Items::new(self.alloc));
         };
-        if task.end.is_some() {
-            drop(end);
-            return Ok(Items::new(self.alloc));
-        }
         let Ok(entry) = ending(self.alloc, task.name.as_str(), &end) else {
             drop(end);
             return Err(AllocError);

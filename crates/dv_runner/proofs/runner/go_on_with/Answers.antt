@@ -1,7 +1,7 @@
 use Rattle.std.proofs.Common.{◌∙◌, List, sym, subst}
 use Rattle.dv_script.specs.declared.work.Work.{Work}
 use Rattle.dv_runner.proofs.JobsKept.{turned_goes_on}
-use Rattle.dv_rules.specs.Threading.{GoesOn}
+use Rattle.dv_actions.specs.Threading.{GoesOn}
 use Rattle.dv_runner.proofs.runner.go_on_with.Goals as goal
 
 pub submit_all-requires : goal.submit_all-requires

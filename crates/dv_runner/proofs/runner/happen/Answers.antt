@@ -3,8 +3,8 @@ use Rattle.dv_script.specs.declared.work.Work.{Work}
 use Rattle.dv_runner.proofs.JobsKept.{happening_goes_on}
 use Rattle.dv_runner.proofs.Stopped.{happens_stopped}
 use Rattle.dv_runner.proofs.Turns.{happening_bounded}
-use Rattle.dv_turning.specs.Beginning.{Occurs}
-use Rattle.dv_rules.specs.Threading.{GoesOn}
+use Rattle.dv_actions.specs.Beginning.{Occurs}
+use Rattle.dv_actions.specs.Threading.{GoesOn}
 use Rattle.dv_runner.proofs.runner.happen.Goals as goal
 
 pub submit_all-requires : goal.submit_all-requires

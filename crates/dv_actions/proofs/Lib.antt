@@ -1,0 +1,4 @@
+pub mod BoundsLemmas
+pub mod DueLemmas
+pub mod FireLemmas
+pub mod JobLemmas

@@ -1,0 +1,12 @@
+pub mod Deed
+pub mod Looping
+pub mod Cooperating
+pub mod Locking
+pub mod Queueing
+pub mod Listing
+pub mod Inlining
+pub mod Threading
+pub mod Acting
+pub mod Timing
+pub mod Wanting
+pub mod Beginning

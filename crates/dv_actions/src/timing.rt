@@ -1,0 +1,115 @@
+ghost use Rattle.std.specs.Prelude.{◌≡◌, [], None, IfOk};
+ghost use Rattle.dv_actions.specs.Acting.{begun};
+ghost use Rattle.dv_actions.specs.Timing.{body_called, come_due_with};
+ghost use Rattle.dv_rules.specs.Turn.{◌over◌};
+ghost use Rattle.dv_actions.specs.Deed.{CancelCallOf};
+ghost use Rattle.dv_world.specs.World.{World as Seen, come_due};
+
+use crate::looping::take_turn;
+use crate::submissions::Submissions;
+use crate::threading::deliver;
+use dv_clock::due::Due;
+use dv_clock::loop_id::LoopId;
+use dv_journal::deferred_id::DeferredId;
+use dv_objects::performed::Performed;
+use dv_objects::refusals::unbound;
+use dv_rules::following::{done, whole};
+use dv_rules::frame::Frame;
+use dv_script::lent::BodyRef;
+use dv_threads::source::JobSource;
+use dv_value::stack::Stack;
+use dv_value::value::Value;
+use dv_world::world::World;
+use std::alloc::{AllocError, AllocGlobal, Global};
+use std::random::RandomSource;
+use std::sync::Wait;
+
+/// Cancels a delayed call by its name (Twisted: `DelayedCall.cancel`).
+pub fn cancel_call<'s>(
+    alloc: Global,
+    world: &mut World<'s>,
+    name: &str,
+) -> Result<Performed<'s>, AllocError>
+    ensures { IfOk result (λ performed. ([], performed, world.new) ≡ begun None (CancelCallOf name.now) world.old) }
+{
+    match world.find_call(name) {
+        None => unbound(alloc, name),
+        Some(call) => world.cancel_call(call),
+    }
+}
+
+/// What is due next is run, where something is, and then what is due after it (Twisted: `Clock.advance`). It may wait for a
+/// job.
+#[tactic(auto, using(crate::proofs::DueLemmas::come_due_works))]
+pub fn run_due<'s, R, J>(
+    rt: &R,
+    alloc: Global,
+    jobs: &mut Submissions<J>,
+    world: &mut World<'s>,
+    stack: &mut Stack<Frame<'s>>,
+) -> Result<Performed<'s>, AllocError>
+where
+    R: Wait + RandomSource + AllocGlobal,
+    J: JobSource,
+    requires { jobs.old ≡ world.old.works }
+    ensures performed { IfOk result (λ performed. (stack.new, performed, world.new) ≡ come_due_with (come_due world.old).0 (come_due world.old).1 over stack.old) }
+    ensures jobs { jobs.new ≡ jobs.old }
+{
+    let what = world.come_due()?;
+    run_what(rt, alloc, jobs, world, stack, what)
+}
+
+/// This is run, and then what is due after it.
+fn run_what<'s, R, J>(
+    rt: &R,
+    alloc: Global,
+    jobs: &mut Submissions<J>,
+    world: &mut World<'s>,
+    stack: &mut Stack<Frame<'s>>,
+    what: Option<Due>,
+) -> Result<Performed<'s>, AllocError>
+where
+    R: Wait + RandomSource + AllocGlobal,
+    J: JobSource,
+    requires { jobs.old ≡ world.old.works }
+    ensures performed { IfOk result (λ performed. (stack.new, performed, world.new) ≡ come_due_with what world.old over stack.old) }
+    ensures jobs { jobs.new ≡ jobs.old }
+{
+    match what {
+        None => Ok(Performed::Done),
+        Some(Due::Call(name, key)) => {
+            drop(name);
+            call_body(stack, world.body(key))
+        }
+        Some(Due::Turn(name, key)) => {
+            drop(name);
+            stack.push(Frame::Due)?;
+            done(take_turn(world, stack, LoopId::new(key)))
+        }
+        Some(Due::Tick) => {
+            stack.push(Frame::Due)?;
+            done(stack.push(Frame::Tick(world.begin_tick())))
+        }
+        Some(Due::Delivery(job, key)) => {
+            stack.push(Frame::Due)?;
+            deliver(rt, alloc, jobs, world, stack, job, DeferredId::new(key))
+        }
+    }
+}
+
+/// The body of a delayed call is to be performed, and then what is due next.
+fn call_body<'s>(
+    stack: &mut Stack<Frame<'s>>,
+    body: Option<BodyRef<'s>>,
+) -> Result<Performed<'s>, AllocError>
+    ensures { IfOk result (λ performed. (w : Seen) → (stack.new, performed, w) ≡ body_called body.entry w over stack.old) }
+{
+    stack.push(Frame::Due)?;
+    match body {
+        None => Ok(Performed::Done),
+        Some(body) => {
+            stack.push(Frame::Tell)?;
+            done(stack.push(Frame::Rest(whole(None, body, Value::Null))))
+        }
+    }
+}

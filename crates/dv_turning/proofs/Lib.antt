@@ -1,3 +1,0 @@
-pub mod BoundsLemmas
-pub mod DueLemmas
-pub mod FireLemmas
