@@ -1,14 +1,19 @@
 use crate::tests::stops;
 use dv_journal::io_sink::IoSink;
 use dv_journal::memory_sink::{MemorySink, Trouble};
+use dv_journal::sink::Sink;
 use dv_run::RunFault;
 use dv_run::run::run;
 use dv_source::io_source::IoSource;
 use dv_source::memory_source::MemorySource;
-use dv_source::source::read_up_to;
+use dv_source::source::{Source, read_up_to};
 use dv_threads::gate::PlainGate;
+use std::alloc::AllocGlobal;
 use std::io::{self, Read};
+use std::random::RandomSource;
+use std::sync::Wait;
 use std::test::Fail;
+use std::thread::Threads;
 
 /// A script of 77 bytes, whose text has 54 bytes in five lines.
 const SCRIPT: &[u8] =
@@ -16,13 +21,23 @@ const SCRIPT: &[u8] =
 
 const TEXT: &[u8] = b"new #0 a\nnew #1 b\nfire #0 ok 1\n#0 a ok 1\n#1 b unfired\n";
 
+/// How a run on this thread ends: whether it stopped at its limit, or why it gave up.
+fn ended<R, S, K>(rt: &R, source: &mut S, sink: &mut K) -> Result<bool, RunFault>
+where
+    R: Threads + Wait + RandomSource + AllocGlobal + Sync,
+    S: Source,
+    K: Sink,
+{
+    stops(run(rt, source, sink, 0, &PlainGate))
+}
+
 #[test]
 fn a_reader_that_fails_at_any_call_is_a_read_fault(rt: HostRuntime) -> Result<(), Fail> {
     // 8 calls give the script, and the ninth its end
     for calls_before in 0..9u64 {
         let mut source = MemorySource::new(SCRIPT, 10).with_failure(calls_before);
         let mut sink = MemorySink::new(rt.alloc(), 100, 100)?;
-        let ended = stops(run(&rt, &mut source, &mut sink, 0, &PlainGate));
+        let ended = ended(&rt, &mut source, &mut sink);
         assert_eq!(rt;
             (ended, sink.bytes().len()),
             (Err(RunFault::ReadFault), 0),
@@ -37,7 +52,7 @@ fn a_byte_a_call_gives_the_same_text(rt: HostRuntime) -> Result<(), Fail> {
     for (read, written) in [(1usize, 1usize), (1, 100), (4096, 1), (7, 3)] {
         let mut source = MemorySource::new(SCRIPT, read);
         let mut sink = MemorySink::new(rt.alloc(), 100, written)?;
-        let ended = stops(run(&rt, &mut source, &mut sink, 0, &PlainGate));
+        let ended = ended(&rt, &mut source, &mut sink);
         assert_eq!(rt;
             (ended, sink.bytes()),
             (Ok(false), TEXT),
@@ -56,7 +71,7 @@ fn a_writer_that_fails_at_any_call_has_a_prefix(rt: HostRuntime) -> Result<(), F
                 calls_before as u64,
                 trouble,
             );
-            let ended = stops(run(&rt, &mut source, &mut sink, 0, &PlainGate));
+            let ended = ended(&rt, &mut source, &mut sink);
             assert_eq!(rt;
                 (ended, sink.bytes()),
                 (Err(RunFault::WriteFault), &TEXT[..calls_before]),
@@ -79,7 +94,7 @@ fn the_journal_and_the_outcomes_are_written_in_one_call_each(rt: HostRuntime) ->
             calls_before,
             Trouble::Fails,
         );
-        let ended = stops(run(&rt, &mut source, &mut sink, 0, &PlainGate));
+        let ended = ended(&rt, &mut source, &mut sink);
         assert_eq!(rt;
             (ended, sink.bytes()),
             (answer, &TEXT[..len]),
@@ -94,7 +109,7 @@ fn a_full_sink_is_a_write_fault_with_a_prefix(rt: HostRuntime) -> Result<(), Fai
     for room in 0..TEXT.len() {
         let mut source = MemorySource::new(SCRIPT, 100);
         let mut sink = MemorySink::new(rt.alloc(), room, 100)?;
-        let ended = stops(run(&rt, &mut source, &mut sink, 0, &PlainGate));
+        let ended = ended(&rt, &mut source, &mut sink);
         assert_eq!(rt;
             (ended, sink.bytes()),
             (Err(RunFault::WriteFault), &TEXT[..room]),
@@ -116,18 +131,12 @@ impl io::Read for Broken {
 #[test]
 fn a_reader_and_a_writer_of_std_serve_a_run(rt: HostRuntime) -> Result<(), Fail> {
     let mut text = Vec::new(rt.alloc());
-    let ended = stops(run(
-        &rt,
-        &mut IoSource::new(SCRIPT),
-        &mut IoSink::new(&mut text),
-        0,
-        &PlainGate,
-    ));
+    let served = ended(&rt, &mut IoSource::new(SCRIPT), &mut IoSink::new(&mut text));
     let printed = text.as_slice().len();
     let mut broken = IoSource::new(SCRIPT.chain(Broken));
-    let refused = stops(run(&rt, &mut broken, &mut IoSink::new(&mut text), 0, &PlainGate));
+    let refused = ended(&rt, &mut broken, &mut IoSink::new(&mut text));
     assert_eq!(rt;
-        (ended, printed, refused, text.as_slice()),
+        (served, printed, refused, text.as_slice()),
         (Ok(false), TEXT.len(), Err(RunFault::ReadFault), TEXT)
     );
     Ok(())
@@ -137,7 +146,7 @@ fn a_reader_and_a_writer_of_std_serve_a_run(rt: HostRuntime) -> Result<(), Fail>
 fn a_full_writer_of_std_is_a_write_fault(rt: HostRuntime) {
     let mut room = [0u8; 4];
     let mut writer = IoSink::new(room.as_mut_slice());
-    let ended = stops(run(&rt, &mut IoSource::new(SCRIPT), &mut writer, 0, &PlainGate));
+    let ended = ended(&rt, &mut IoSource::new(SCRIPT), &mut writer);
     assert_eq!(rt;
         (ended, room.as_slice()),
         (Err(RunFault::WriteFault), &TEXT[..4])
