@@ -1,15 +1,13 @@
--- There is room for one more Deferred, and for one more pause.
-use Rattle.std.proofs.Common.{◌≡◌, ℕ, ap, ◌≤◌, ◌<◌, ◌^◌, ◌-◌, Option, None, Some, slice_get, length, refl, arith}
+-- There is room for one more pause.
+use Rattle.std.proofs.Common.{◌≡◌, ℕ, ap, ◌≤◌, ◌<◌, ◌^◌, ◌-◌, Option, None, Some, slice_get, refl, arith}
 use Rattle.std.proofs.lemmas.List.Sums.{get_or-le-sum_by}
 use Rattle.std.proofs.lemmas.Option.{slice_get_within, get_or_from_slice_get}
 use Rattle.std.specs.Option.{option_map_or}
 use Rattle.dv_store.specs.Pausing.{pauses_of}
 use Rattle.dv_store.specs.declared.record.Record.{Record}
-use Rattle.dv_rules.proofs.BoundsLemmas as below
 use Rattle.dv_rules.specs.Bounds.{all_pauses, Bounded}
 use Rattle.dv_objects.specs.declared.canceller.Canceller.{Canceller}
-use Rattle.dv_objects.specs.Objects.{Objects}
-use Rattle.dv_world.specs.World.{World, Records, arrange}
+use Rattle.dv_world.specs.World.{World, Records}
 use Rattle.dv_objects.specs.declared.pair.Pair.{Pair}
 
 found_within : (d : ℕ) (rs : Records) (o : Option (Record Pair Canceller)) → slice_get rs d ≡ o → option_map_or (λ (r : Record Pair Canceller). r.pauses) o 0 ≤ all_pauses rs
@@ -19,9 +17,3 @@ found_within d rs (Some r) h =
 
 pub pauses_within : (d : ℕ) (w : World) → Bounded w → pauses_of d w.records < 2 ^ 32 - 1
 pauses_within d w b = omega (arith, found_within d w.records _ refl, b.told, b.within, b.limited)
-
-pub records_within : (w : World) → Bounded w → length w.records < 2 ^ 32 - 1
-records_within w b = below.records_within w b
-
-pub arranged_within : (change : Objects → Objects) (w u : World) → u ≡ arrange change w → Bounded w → length u.records < 2 ^ 32 - 1
-arranged_within change w u e b = below.arranged_within change w u e b

@@ -53,7 +53,7 @@ pub fn when_done<'s>(
 }
 
 /// Makes a Deferred that is fired when a task ends, at once where it has ended.
-#[tactic(auto, using(crate::proofs::BoundsLemmas::records_within))]
+#[tactic(auto, using(dv_rules::proofs::BoundsLemmas::records_within))]
 fn ask_when<'s>(
     alloc: Global,
     world: &mut World<'s>,

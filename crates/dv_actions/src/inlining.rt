@@ -18,7 +18,7 @@ use dv_world::world::World;
 use std::alloc::{AllocError, Global};
 
 /// Makes the Deferred of an inline body, and begins the body (Twisted: `inlineCallbacks`).
-#[tactic(auto, using(crate::proofs::BoundsLemmas::records_within, crate::proofs::BoundsLemmas::arranged_within))]
+#[tactic(auto, using(dv_rules::proofs::BoundsLemmas::records_within, dv_rules::proofs::BoundsLemmas::arranged_within))]
 pub fn begin_inline<'s>(
     alloc: Global,
     world: &mut World<'s>,

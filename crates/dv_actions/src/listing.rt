@@ -52,7 +52,7 @@ pub fn list<'s>(
 
 /// Makes a DeferredList of children, all by their names, whose result becomes what they gave (Twisted:
 /// `gatherResults`).
-#[tactic(auto, using(crate::proofs::BoundsLemmas::records_within))]
+#[tactic(auto, using(dv_rules::proofs::BoundsLemmas::records_within))]
 pub fn gather<'s>(
     alloc: Global,
     world: &mut World<'s>,
@@ -76,7 +76,7 @@ pub fn gather<'s>(
 }
 
 /// Makes a DeferredList of children, each of which is to get its pair.
-#[tactic(auto, using(crate::proofs::BoundsLemmas::records_within))]
+#[tactic(auto, using(dv_rules::proofs::BoundsLemmas::records_within))]
 fn make<'s>(
     alloc: Global,
     world: &mut World<'s>,
@@ -102,7 +102,7 @@ fn has_all_at_once(children: &[DeferredId], flags: Flags) -> bool
 }
 
 /// Makes a DeferredList and its Deferred; the pairs of its children are to be added.
-#[tactic(auto, using(crate::proofs::BoundsLemmas::arranged_within))]
+#[tactic(auto, using(dv_rules::proofs::BoundsLemmas::arranged_within))]
 fn begin<'s>(
     world: &mut World<'s>,
     stack: &mut Stack<Frame<'s>>,

@@ -40,7 +40,7 @@ pub fn acquire<'s>(
 
 /// Performs a body with a token of a lock, and gives the token back once what the body gave is fired; the lock and the
 /// Deferred that is made are given by their names (Twisted: `DeferredLock.run`, `DeferredSemaphore.run`).
-#[tactic(auto, using(crate::proofs::BoundsLemmas::records_within))]
+#[tactic(auto, using(dv_rules::proofs::BoundsLemmas::records_within))]
 pub fn run_with<'s>(
     alloc: Global,
     world: &mut World<'s>,
@@ -63,7 +63,7 @@ pub fn run_with<'s>(
 }
 
 /// Makes a Deferred that asks a lock for a token.
-#[tactic(auto, using(crate::proofs::BoundsLemmas::records_within))]
+#[tactic(auto, using(dv_rules::proofs::BoundsLemmas::records_within))]
 fn acquire_found<'s>(
     alloc: Global,
     world: &mut World<'s>,

@@ -22,7 +22,7 @@ use dv_world::world::looping::not_running;
 use std::alloc::{AllocError, Global};
 
 /// Makes a loop and its Deferred, and takes its first turn at once or schedules it (Twisted: `LoopingCall.start`).
-#[tactic(auto, using(crate::proofs::BoundsLemmas::records_within))]
+#[tactic(auto, using(dv_rules::proofs::BoundsLemmas::records_within))]
 pub fn start_loop<'s>(
     alloc: Global,
     world: &mut World<'s>,

@@ -93,7 +93,7 @@ pub fn get<'s>(
 }
 
 /// Makes a Deferred that asks a queue for a value, where it may.
-#[tactic(auto, using(crate::proofs::BoundsLemmas::records_within))]
+#[tactic(auto, using(dv_rules::proofs::BoundsLemmas::records_within))]
 fn get_where_it_may<'s>(
     alloc: Global,
     world: &mut World<'s>,

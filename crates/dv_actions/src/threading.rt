@@ -21,7 +21,7 @@ use std::random::RandomSource;
 use std::sync::Wait;
 
 /// Makes a Deferred and submits the job that it is for (Twisted: `deferToThread`).
-#[tactic(auto, using(crate::proofs::BoundsLemmas::records_within))]
+#[tactic(auto, using(dv_rules::proofs::BoundsLemmas::records_within))]
 pub fn thread<'s>(
     alloc: Global,
     world: &mut World<'s>,

@@ -1,4 +1,3 @@
-use crate::tests::stops;
 use dv_journal::io_sink::IoSink;
 use dv_journal::memory_sink::{MemorySink, Trouble};
 use dv_journal::sink::Sink;
@@ -22,13 +21,16 @@ const SCRIPT: &[u8] =
 const TEXT: &[u8] = b"new #0 a\nnew #1 b\nfire #0 ok 1\n#0 a ok 1\n#1 b unfired\n";
 
 /// How a run on this thread ends: whether it stopped at its limit, or why it gave up.
-fn ended<R, S, K>(rt: &R, source: &mut S, sink: &mut K) -> Result<bool, RunFault>
+fn run_here<R, S, K>(rt: &R, source: &mut S, sink: &mut K) -> Result<bool, RunFault>
 where
     R: Threads + Wait + RandomSource + AllocGlobal + Sync,
     S: Source,
     K: Sink,
 {
-    stops(run(rt, source, sink, 0, &PlainGate))
+    let report = run(rt, source, sink, 0, &PlainGate)?;
+    let stopped = report.stopped;
+    report.discard();
+    Ok(stopped)
 }
 
 #[test]
@@ -37,7 +39,7 @@ fn a_reader_that_fails_at_any_call_is_a_read_fault(rt: HostRuntime) -> Result<()
     for calls_before in 0..9u64 {
         let mut source = MemorySource::new(SCRIPT, 10).with_failure(calls_before);
         let mut sink = MemorySink::new(rt.alloc(), 100, 100)?;
-        let ended = ended(&rt, &mut source, &mut sink);
+        let ended = run_here(&rt, &mut source, &mut sink);
         assert_eq!(rt;
             (ended, sink.bytes().len()),
             (Err(RunFault::ReadFault), 0),
@@ -52,7 +54,7 @@ fn a_byte_a_call_gives_the_same_text(rt: HostRuntime) -> Result<(), Fail> {
     for (read, written) in [(1usize, 1usize), (1, 100), (4096, 1), (7, 3)] {
         let mut source = MemorySource::new(SCRIPT, read);
         let mut sink = MemorySink::new(rt.alloc(), 100, written)?;
-        let ended = ended(&rt, &mut source, &mut sink);
+        let ended = run_here(&rt, &mut source, &mut sink);
         assert_eq!(rt;
             (ended, sink.bytes()),
             (Ok(false), TEXT),
@@ -71,7 +73,7 @@ fn a_writer_that_fails_at_any_call_has_a_prefix(rt: HostRuntime) -> Result<(), F
                 calls_before as u64,
                 trouble,
             );
-            let ended = ended(&rt, &mut source, &mut sink);
+            let ended = run_here(&rt, &mut source, &mut sink);
             assert_eq!(rt;
                 (ended, sink.bytes()),
                 (Err(RunFault::WriteFault), &TEXT[..calls_before]),
@@ -94,7 +96,7 @@ fn the_journal_and_the_outcomes_are_written_in_one_call_each(rt: HostRuntime) ->
             calls_before,
             Trouble::Fails,
         );
-        let ended = ended(&rt, &mut source, &mut sink);
+        let ended = run_here(&rt, &mut source, &mut sink);
         assert_eq!(rt;
             (ended, sink.bytes()),
             (answer, &TEXT[..len]),
@@ -109,7 +111,7 @@ fn a_full_sink_is_a_write_fault_with_a_prefix(rt: HostRuntime) -> Result<(), Fai
     for room in 0..TEXT.len() {
         let mut source = MemorySource::new(SCRIPT, 100);
         let mut sink = MemorySink::new(rt.alloc(), room, 100)?;
-        let ended = ended(&rt, &mut source, &mut sink);
+        let ended = run_here(&rt, &mut source, &mut sink);
         assert_eq!(rt;
             (ended, sink.bytes()),
             (Err(RunFault::WriteFault), &TEXT[..room]),
@@ -131,10 +133,10 @@ impl io::Read for Broken {
 #[test]
 fn a_reader_and_a_writer_of_std_serve_a_run(rt: HostRuntime) -> Result<(), Fail> {
     let mut text = Vec::new(rt.alloc());
-    let served = ended(&rt, &mut IoSource::new(SCRIPT), &mut IoSink::new(&mut text));
+    let served = run_here(&rt, &mut IoSource::new(SCRIPT), &mut IoSink::new(&mut text));
     let printed = text.as_slice().len();
     let mut broken = IoSource::new(SCRIPT.chain(Broken));
-    let refused = ended(&rt, &mut broken, &mut IoSink::new(&mut text));
+    let refused = run_here(&rt, &mut broken, &mut IoSink::new(&mut text));
     assert_eq!(rt;
         (served, printed, refused, text.as_slice()),
         (Ok(false), TEXT.len(), Err(RunFault::ReadFault), TEXT)
@@ -146,7 +148,7 @@ fn a_reader_and_a_writer_of_std_serve_a_run(rt: HostRuntime) -> Result<(), Fail>
 fn a_full_writer_of_std_is_a_write_fault(rt: HostRuntime) {
     let mut room = [0u8; 4];
     let mut writer = IoSink::new(room.as_mut_slice());
-    let ended = ended(&rt, &mut IoSource::new(SCRIPT), &mut writer);
+    let ended = run_here(&rt, &mut IoSource::new(SCRIPT), &mut writer);
     assert_eq!(rt;
         (ended, room.as_slice()),
         (Err(RunFault::WriteFault), &TEXT[..4])
