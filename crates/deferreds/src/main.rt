@@ -3,14 +3,18 @@
 
 ghost use Rattle.std.specs.Prelude.{◌≤◌, IfOk, IfSome};
 
+use dv_jobs::gate::PlainGate;
 use dv_journal::io_sink::IoSink;
+use dv_journal::sink::Sink;
 use dv_run::run::run;
 use dv_run::workers::workers_of;
-use dv_run::{IoSource, RunFault, exit_of};
-use dv_threads::gate::PlainGate;
+use dv_run::{IoSource, RunFault, Source, exit_of};
 use std::alloc::AllocGlobal;
 use std::process::ExitCode;
+use std::random::RandomSource;
 use std::rt::Env;
+use std::sync::Wait;
+use std::thread::Threads;
 use std::{env, io};
 
 fn main(rt: HostRuntime) -> ExitCode {
@@ -18,12 +22,7 @@ fn main(rt: HostRuntime) -> ExitCode {
         Ok(Some(workers)) => {
             let mut reader = IoSource::new(rt.stdin());
             let mut writer = IoSink::new(rt.stdout());
-            let ended = run(&rt, &mut reader, &mut writer, workers, &PlainGate);
-            let exit = exit_of(&ended);
-            if let Ok(report) = ended {
-                report.discard();
-            }
-            exit
+            end_of_run(&rt, &mut reader, &mut writer, workers)
         }
         Err(error) if error.kind() == io::ErrorKind::OutOfMemory => {
             exit_of(&Err(RunFault::OutOfMemory))
@@ -34,6 +33,22 @@ fn main(rt: HostRuntime) -> ExitCode {
         let _ = eprintln!(rt; "{text}");
     }
     ExitCode::from(status)
+}
+
+/// Runs the script of the reader with so many workers, and gives the status and the text with which the program ends.
+fn end_of_run<S, R, W>(rt: &S, reader: &mut R, writer: &mut W, workers: u32) -> (u8, &'static str)
+where
+    S: Threads + Wait + RandomSource + AllocGlobal + Sync,
+    R: Source,
+    W: Sink,
+    requires { workers ≤ 16 }
+{
+    let ended = run(rt, reader, writer, workers, &PlainGate);
+    let exit = exit_of(&ended);
+    if let Ok(report) = ended {
+        report.discard();
+    }
+    exit
 }
 
 /// How many workers the words after the program's name ask for; None where these are wrong. A word that isn't text is an error.

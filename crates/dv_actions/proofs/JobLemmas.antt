@@ -4,8 +4,8 @@ use Rattle.dv_journal.specs.Journal.{fits}
 use Rattle.dv_journal.specs.declared.entry.Entry.{Entry}
 use Rattle.dv_script.specs.declared.work.Work.{Work}
 use Rattle.dv_actions.specs.Threading.{GoesOn, job_result}
-use Rattle.dv_threads.specs.Sources.{IsValueAt}
-use Rattle.dv_threads.specs.Works.{value_of}
+use Rattle.dv_jobs.specs.Sources.{IsValueAt}
+use Rattle.dv_jobs.specs.Works.{value_of}
 use Rattle.dv_value.specs.declared.value.Value.{Value}
 use Rattle.std.specs.Option.{option_map}
 use Rattle.dv_objects.specs.Objects.{Objects}

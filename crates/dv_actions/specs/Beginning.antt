@@ -7,7 +7,7 @@ use Rattle.dv_script.specs.declared.action.Action.{out-Action}
 use Rattle.dv_script.specs.declared.body.Body.{Body}
 use Rattle.dv_script.specs.declared.event.Event.{Event}
 use Rattle.dv_script.specs.declared.event.Event.TheVariants as event
-use Rattle.dv_threads.specs.declared.posted.Posted.{Posted}
+use Rattle.dv_posts.specs.declared.posted.Posted.{Posted}
 use Rattle.dv_actions.specs.Acting.{begun}
 use Rattle.dv_actions.specs.Deed.{deed_of}
 use Rattle.dv_rules.specs.Turn.{Turned, ◌over◌, done, rest_of}

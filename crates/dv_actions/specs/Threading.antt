@@ -2,7 +2,7 @@
 use Rattle.std.specs.Prelude.{ℕ, if◌then◌else◌, List, ◌≡◌, ◌++◌, length, Option, None, Some, slice_get}
 use Rattle.std.specs.Option.{option_map}
 use Rattle.dv_script.specs.declared.work.Work.{Work}
-use Rattle.dv_threads.specs.Works.{value_of}
+use Rattle.dv_jobs.specs.Works.{value_of}
 use Rattle.dv_value.specs.declared.value.Value.{Value}
 use Rattle.dv_rules.specs.Turn.{Turned, done, raised, settle_next}
 use Rattle.dv_objects.specs.Works.{is_full}

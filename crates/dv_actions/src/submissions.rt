@@ -1,14 +1,14 @@
 ghost use Rattle.std.specs.Prelude.{◌≡◌, ◌<◌, [], ◌∷◌, ◌++◌, length, IfOk, OnOk};
 ghost use Rattle.dv_actions.specs.Threading.{GoesOn, job_result};
 ghost use Rattle.dv_script.specs.declared.work.TheConstants.{MOST_JOBS};
-ghost use Rattle.dv_threads.specs.Jobs.{jobs_from};
-ghost use Rattle.dv_threads.specs.Sources.{jobs_of};
+ghost use Rattle.dv_jobs.specs.Jobs.{jobs_from};
+ghost use Rattle.dv_jobs.specs.Sources.{jobs_of};
 
+use dv_jobs::error::JobFault;
+use dv_jobs::ran::Ran;
+use dv_jobs::source::JobSource;
 use dv_objects::works::Works;
 use dv_script::lent::WorkRef;
-use dv_threads::error::JobFault;
-use dv_threads::ran::Ran;
-use dv_threads::source::JobSource;
 use dv_value::value::Value;
 use std::alloc::{AllocError, AllocGlobal, Global};
 use std::marker::Model;

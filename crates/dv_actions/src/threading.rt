@@ -7,12 +7,12 @@ ghost use Rattle.dv_actions.specs.Deed.{ThreadOf};
 ghost use Rattle.dv_rules.specs.declared.frame.Frame.TheVariants.{Tell};
 
 use crate::submissions::Submissions;
+use dv_jobs::source::JobSource;
 use dv_journal::deferred_id::DeferredId;
 use dv_objects::performed::Performed;
 use dv_rules::following::{done, fire_and_settle};
 use dv_rules::frame::Frame;
 use dv_script::lent::{TextRef, WorkRef};
-use dv_threads::source::JobSource;
 use dv_value::stack::Stack;
 use dv_world::world::World;
 use dv_world::world::jobs::too_many_jobs;

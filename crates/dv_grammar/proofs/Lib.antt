@@ -1,2 +1,4 @@
 pub mod Steps
 pub mod WordsLemmas
+pub mod Sound
+pub mod Complete

@@ -1,5 +1,5 @@
 -- The grammar of scripts: which JSON stands for what, a rule a line (Twisted: the methods of `Deferred`, and of the objects round it).
-use Rattle.std.specs.Prelude.{◌≡◌, ◌^◌, ℕ, ℤ, Bool, true, false, List, [], ◌∷◌, Option, Some, None, codes}
+use Rattle.std.specs.Prelude.{◌≡◌, ◌^◌, ℕ, ℤ, Bool, true, List, [], ◌∷◌, Option, Some, None, codes}
 use Rattle.serde_json.specs.Data.{Data, null, boolean, string, array, object, Items, no_items, item, Members}
 use Rattle.serde_json.specs.Find.{get_member}
 use Rattle.dv_value.specs.declared.value.Value.{Value}
@@ -18,10 +18,11 @@ use Rattle.dv_script.specs.declared.action.Action.{Action, Deferred, Callback, E
 use Rattle.dv_script.specs.declared.event.Event.{Event}
 use Rattle.dv_script.specs.declared.event.Event.TheVariants as event
 use Rattle.dv_script.specs.declared.script.Cooperator.{Cooperator}
-use Rattle.dv_grammar.specs.declared.draft.Declaration.{Declaration}
+use Rattle.dv_forms.specs.declared.declaration.Declaration.{Declaration}
 use Rattle.dv_grammar.specs.declared.draft.Draft.{Draft}
-use Rattle.dv_grammar.specs.Forms.{call, IsList, Field, Key, has_only, IsText, IsInteger, IsNumber, IsClass, IsValue}
-use Rattle.dv_grammar.specs.Table.{table_of, all_declared}
+use Rattle.dv_forms.specs.Leaving.{may_leave}
+use Rattle.dv_forms.specs.Forms.{call, IsList, Field, Key, has_only, IsText, IsInteger, IsNumber, IsClass, IsValue}
+use Rattle.dv_forms.specs.Table.{table_of, all_declared}
 
 -- the keys of a body
 abbrev pub body_keys : List (List ℕ)
@@ -51,15 +52,6 @@ pub data IsEnd (table : List Class) : Data → End → Type 0 where
       → IsEnd table (call (codes "trap") (c ∷ d ∷ [])) (Trap classes v)
   -- ["wait",D]
   waits : (name : List ℕ) → IsEnd table (call (codes "wait") (string name ∷ [])) (Wait name)
-
--- whether an inline body may be left by this END
-abbrev pub may_leave : End → Bool
-may_leave (Return v) = true
-may_leave Pass = true
-may_leave (Plus n) = true
-may_leave (Raise class text) = true
-may_leave (Trap classes v) = false
-may_leave (Wait name) = false
 
 -- WORK: what a thread does
 pub data IsWork (table : List Class) : Data → Work → Type 0 where

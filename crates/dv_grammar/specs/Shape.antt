@@ -1,9 +1,9 @@
 -- What a JSON value reads as by its shape, step by step: the reader that the code follows.
-use Rattle.std.specs.Prelude.{ℕ, zero, suc, ℤ, ◌^◌, Bool, ◌&&◌, nat_le, List, [], ◌∷◌, Option, Some, None, option_map, option_and_then, if◌then◌else◌, ⊤, bytes_eq, codes}
-use Rattle.serde_json.specs.Data.{Data, null, boolean, number, string, array, object, Items, no_items, item}
-use Rattle.serde_json.specs.Find.{as_i64, as_u64, as_number, as_str, as_bool, as_array, get}
+use Rattle.std.specs.Prelude.{ℕ, zero, suc, ◌^◌, List, [], Option, Some, None, if◌then◌else◌, codes}
+use Rattle.serde_json.specs.Data.{Data, Items}
+use Rattle.serde_json.specs.Find.{as_bool, get}
 use Rattle.serde_json.specs.Read.{max_depth}
-use Rattle.dv_value.specs.declared.value.Value.{Value, Null, Bool as Flag, Int, Text, List as Values}
+use Rattle.dv_value.specs.declared.value.Value.{Value}
 use Rattle.dv_value.specs.declared.classes.Class.{Class}
 use Rattle.dv_script.specs.declared.body.End.{End}
 use Rattle.dv_script.specs.declared.body.End.TheVariants.{Return, Pass, Plus, Raise, Trap, Wait}
@@ -11,15 +11,10 @@ use Rattle.dv_script.specs.declared.body.Body.{Body}
 use Rattle.dv_script.specs.declared.body.Statement.{Statement, Do, Await, Try, End as Leave}
 use Rattle.dv_script.specs.declared.work.Work.{Work}
 use Rattle.dv_script.specs.declared.work.Work.TheVariants as job
-use Rattle.dv_script.specs.declared.action.ListFlag.{ListFlag}
-use Rattle.dv_script.specs.declared.action.ListFlag.TheVariants as flag
-use Rattle.dv_script.specs.declared.action.GatherFlag.{GatherFlag}
-use Rattle.dv_script.specs.declared.action.GatherFlag.TheVariants as gather_flag
 use Rattle.dv_script.specs.declared.action.Action.{Action, Deferred, Callback, Errback, AddCallback, AddErrback, AddBoth, AddCallbacks, Chain, Pause, Unpause, Cancel, Note, List as ListOf, Gather, Maybe, Lock, Semaphore, Acquire, Release, RunWith, Queue, Put, Get, Later, CancelCall, Loop, StopLoop, Cooperate, WhenDone, PauseTask, StopTask, ResumeTask, Inline, Thread}
 use Rattle.dv_script.specs.declared.event.Event.{Event}
 use Rattle.dv_script.specs.declared.event.Event.TheVariants as happens
 use Rattle.dv_script.specs.declared.script.Cooperator.{Cooperator}
-use Rattle.dv_grammar.specs.declared.draft.Declaration.{Declaration}
 use Rattle.dv_grammar.specs.declared.draft.Draft.{Draft}
 use Rattle.dv_grammar.specs.declared.words.NameWord.{NameWord}
 use Rattle.dv_grammar.specs.declared.words.NameWord.TheVariants as of_name
@@ -41,189 +36,10 @@ use Rattle.dv_grammar.specs.declared.words.StatementWord.{StatementWord}
 use Rattle.dv_grammar.specs.declared.words.StatementWord.TheVariants as statement
 use Rattle.dv_grammar.specs.declared.words.WorkWord.{WorkWord}
 use Rattle.dv_grammar.specs.declared.words.WorkWord.TheVariants as work
-use Rattle.dv_grammar.specs.Forms.{has_only, place_of}
-use Rattle.dv_grammar.specs.Table.{table_of, all_declared}
-use Rattle.dv_grammar.specs.Grammar.{body_keys, cooperator_keys, script_keys, may_leave, plain_cooperator}
+use Rattle.dv_forms.specs.Leaving.{may_leave}
+use Rattle.dv_forms.specs.Parts.{◌>>=◌, bound_at, call_at, class_at, declaration_at, field, fields_at, five, gather_flag_at, if_there, integer_at, list_at, list_flag_at, none, number_at, one, one_of, one_or_two, table_for, text_at, three_of, two, two_of, value_at}
+use Rattle.dv_grammar.specs.Grammar.{body_keys, cooperator_keys, script_keys, plain_cooperator}
 use Rattle.dv_grammar.specs.Words.{action_word, event_word, end_word, statement_word, work_word}
-
-infixl 10 ◌>>=◌
-abbrev pub ◌>>=◌ : {A B : Type 0} → Option A → (A → Option B) → Option B
-o >>= f = option_and_then f o
-
-abbrev mutual
-  -- a value
-  pub value_at : Data → Option Value
-  value_at null = Some Null
-  value_at (boolean b) = Some (Flag b)
-  value_at (number x) = option_map Int (as_i64 x)
-  value_at (string text) = Some (Text text)
-  value_at (array ds) = option_map Values (values_at ds)
-  value_at (object ms) = None
-
-  pub values_at : Items → Option (List Value)
-  values_at no_items = Some []
-  values_at (item d ds) = option_and_then (λ v. option_map (λ vs. v ∷ vs) (values_at ds)) (value_at d)
-
--- the items, each as it is read
-abbrev pub each : {X : Type 0} → (Data → Option X) → Items → Option (List X)
-each at no_items = Some []
-each at (item d ds) = option_and_then (λ x. option_map (λ xs. x ∷ xs) (each at ds)) (at d)
-
--- the items of an array, each as it is read
-abbrev pub list_at : {X : Type 0} → (Data → Option X) → Data → Option (List X)
-list_at at d = as_array d >>= each at
-
--- a text
-abbrev pub text_at : Data → Option (List ℕ)
-text_at = as_str
-
--- an integer of 64 bits
-abbrev pub integer_at : Data → Option ℤ
-integer_at d = option_and_then as_i64 (as_number d)
-
--- the number, if it is from the first bound to the second
-abbrev pub within : ℕ → ℕ → ℕ → Option ℕ
-within low high n = if nat_le low n && nat_le n high then Some n else None
-
--- an integer from the first bound to the second
-abbrev pub number_at : ℕ → ℕ → Data → Option ℕ
-number_at low high d = option_and_then (within low high) (option_and_then as_u64 (as_number d))
-
--- no bound, or one up to 65,536
-abbrev pub bound_at : Data → Option (Option ℕ)
-bound_at null = Some None
-bound_at (boolean b) = None
-bound_at (number x) = option_map Some (number_at 0 65536 (number x))
-bound_at (string text) = None
-bound_at (array ds) = None
-bound_at (object ms) = None
-
--- the place of a class
-abbrev pub class_at : List Class → Data → Option ℕ
-class_at table d = option_map (λ name. place_of name table) (as_str d)
-
--- a flag of a list, by its word
-abbrev pub list_flag : List ℕ → Option ListFlag
-list_flag text =
-    if bytes_eq text (codes "fireOnOneCallback") then Some flag.FireOnOneCallback else
-    if bytes_eq text (codes "fireOnOneErrback") then Some flag.FireOnOneErrback else
-    if bytes_eq text (codes "consumeErrors") then Some flag.ConsumeErrors else None
-
--- a flag of a list
-abbrev pub list_flag_at : Data → Option ListFlag
-list_flag_at d = option_and_then list_flag (as_str d)
-
--- a flag of what is gathered, by its word
-abbrev pub gather_flag_named : List ℕ → Option GatherFlag
-gather_flag_named text = if bytes_eq text (codes "consumeErrors") then Some gather_flag.ConsumeErrors else None
-
--- a flag of what is gathered
-abbrev pub gather_flag_at : Data → Option GatherFlag
-gather_flag_at d = option_and_then gather_flag_named (as_str d)
-
--- a word, and what comes with it
-unfoldable pub call_at : Data → Option (List ℕ × Items)
-call_at (array (item (string word) ds)) = Some (word, ds)
-call_at _ = None
-
--- nothing more
-unfoldable pub none : Items → Option ⊤
-none no_items = Some tt
-none (item d ds) = None
-
--- the first item, and the rest
-unfoldable pub first : Items → Option (Data × Items)
-first no_items = None
-first (item d ds) = Some (d, ds)
-
--- an item at most
-unfoldable pub if_any : Items → Option (Option Data)
-if_any no_items = Some None
-if_any (item d ds) = none ds >>= λ _. Some (Some d)
-
--- one item
-unfoldable pub one : Items → Option Data
-one ds = do
-  a ← first ds
-  _ ← none a.1
-  Some a.0
-
--- one item or two
-unfoldable pub one_or_two : Items → Option (Data × Option Data)
-one_or_two ds = do
-  a ← first ds
-  b ← if_any a.1
-  Some (a.0, b)
-
--- two items
-unfoldable pub two : Items → Option (Data × Data)
-two ds = do
-  a ← first ds
-  b ← one a.1
-  Some (a.0, b)
-
--- three items
-unfoldable pub three : Items → Option (Data × Data × Data)
-three ds = do
-  a ← first ds
-  b ← two a.1
-  Some (a.0, b.0, b.1)
-
--- five items
-unfoldable pub five : Items → Option (Data × Data × Data × Data × Data)
-five ds = do
-  a ← first ds
-  b ← first a.1
-  c ← three b.1
-  Some (a.0, b.0, c.0, c.1, c.2)
-
--- an item, as it is read
-unfoldable pub sole : {A : Type 0} → (Data → Option A) → Items → Option A
-sole at ds = one ds >>= at
-
--- two items, as they are read
-unfoldable pub pair : {A B : Type 0} → (Data → Option A) → (Data → Option B) → Items → Option (A × B)
-pair at bt ds = do
-  p ← two ds
-  a ← at p.0
-  b ← bt p.1
-  Some (a, b)
-
--- three items, as they are read
-unfoldable pub triple : {A B C : Type 0} → (Data → Option A) → (Data → Option B) → (Data → Option C) → Items → Option (A × B × C)
-triple at bt ct ds = do
-  p ← three ds
-  a ← at p.0
-  b ← bt p.1
-  c ← ct p.2
-  Some (a, b, c)
-
--- what one item makes
-abbrev pub one_of : {A X : Type 0} → (Data → Option A) → (A → X) → Items → Option X
-one_of at make ds = option_map make (sole at ds)
-
--- what two items make
-abbrev pub two_of : {A B X : Type 0} → (Data → Option A) → (Data → Option B) → (A → B → X) → Items → Option X
-two_of at bt make ds = option_map (λ p. make p.0 p.1) (pair at bt ds)
-
--- what three items make
-abbrev pub three_of : {A B C X : Type 0} → (Data → Option A) → (Data → Option B) → (Data → Option C) → (A → B → C → X) → Items → Option X
-three_of at bt ct make ds = option_map (λ p. make p.0 p.1 p.2) (triple at bt ct ds)
-
--- an object with no other keys than these
-unfoldable pub fields_at : List (List ℕ) → Data → Option ⊤
-fields_at keys (object ms) = if has_only keys ms then Some tt else None
-fields_at keys _ = None
-
--- a key's value as it is read, or the default where the key is absent
-abbrev pub field : {X : Type 0} → X → (Data → Option X) → Option Data → Option X
-field default at None = Some default
-field default at (Some d) = at d
-
--- what is there, as it is read
-abbrev pub if_there : {X : Type 0} → (Data → Option X) → Option Data → Option (Option X)
-if_there at None = Some None
-if_there at (Some d) = option_map Some (at d)
 
 -- an end, by its word
 unfoldable pub end_of : List Class → EndWord → Items → Option End
@@ -416,16 +232,6 @@ event_by None other = other
 -- an event
 unfoldable pub event_at : List Class → Data → Option Event
 event_at table d = event_by (action_at table max_depth d) (other_event d)
-
--- a class that is declared
-unfoldable pub declaration_at : Data → Option Declaration
-declaration_at d = do
-  ds ← as_array d
-  two_of text_at text_at (λ name parent. record { name = name; parent = parent }) ds
-
--- the table of a script that declares these classes, and whether each of them may be declared
-unfoldable pub table_for : List Declaration → Option (List Class × Bool)
-table_for declared = Some (table_of declared, all_declared declared)
 
 -- a cooperator
 unfoldable pub cooperator_at : Data → Option Cooperator

@@ -1,16 +1,8 @@
 ghost use Rattle.std.specs.Prelude.{◌≡◌};
 
+use dv_forms::declaration::Declaration;
 use dv_script::script::Script;
 use dv_value::items::Items;
-use dv_value::text::Text;
-
-/// A class that a script declares.
-#[derive(Drop)]
-pub struct Declaration {
-    pub name: Text,
-    /// The name of the class that it is under.
-    pub parent: Text,
-}
 
 /// What a document says by its shape alone.
 #[derive(Drop)]

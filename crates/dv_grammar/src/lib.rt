@@ -1,7 +1,6 @@
-//! The grammar of scripts: which JSON value says which draft of a script, the words, and readers of the parts in which nothing nests.
+//! The grammar of scripts: which JSON value says which draft of a script, and reading one as what it says.
 #![tactic(auto)]
 
 pub mod draft;
-pub mod ranges;
 pub mod reading;
 pub mod words;

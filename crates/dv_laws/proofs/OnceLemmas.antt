@@ -16,7 +16,7 @@ use Rattle.dv_store.specs.Pausing.{with_pauses}
 use Rattle.dv_store.specs.Record.{with_item, new_record, changed, changing}
 use Rattle.dv_store.specs.declared.record.Item.TheVariants as item
 use Rattle.dv_laws.specs.Once.{firing, firings, swallowing, swallowings, ComesFired, Stands, SwallowsTheCancelled, FiredOnce, EachDeferredIsFiredOnce}
-use Rattle.dv_runner.specs.Batches.{Batch}
+use Rattle.dv_posts.specs.Batches.{Batch}
 use Rattle.dv_runner.specs.Meaning.{Means}
 use Rattle.dv_runner.proofs.Kept.{Both, Kind, Kept, telling_of, every_step}
 use Rattle.dv_laws.proofs.ReadBackLemmas.{get_set}

@@ -14,10 +14,10 @@ use Rattle.dv_store.specs.Fire.{with_guard}
 use Rattle.dv_store.specs.Record.{with_item, new_record, changed, changing}
 use Rattle.dv_store.specs.declared.record.Item.TheVariants as item
 use Rattle.dv_laws.specs.ReadBack.{Shown, with_firing, with_value, with_wait, with_handed, with_pause, without_pause, told_at, told, told_by, outcome_shown, read_back, OutcomesAreToldByTheJournal}
-use Rattle.dv_runner.specs.Batches.{Batch}
+use Rattle.dv_posts.specs.Batches.{Batch}
 use Rattle.dv_runner.specs.Meaning.{Means}
-use Rattle.dv_engine.specs.Report.{outcome_of}
-use Rattle.dv_engine.specs.declared.report.Outcome.{Outcome}
+use Rattle.dv_store.specs.Outcome.{outcome_of}
+use Rattle.dv_store.specs.declared.outcome.Outcome.{Outcome}
 use Rattle.dv_runner.proofs.Kept.{Both, Kind, Kept, telling_of, every_step}
 use Rattle.dv_runner.proofs.Total.{means_keeps}
 use Rattle.dv_world.specs.World.{World, Records, state_of}

@@ -4,8 +4,9 @@ use Rattle.dv_value.specs.declared.value.Value.{Value, Null}
 use Rattle.dv_journal.specs.Change.{Change, change_of, Aside, Makes, Adds, Fires, Swallows, Refuses, Runs, Sets, Takes, Waits, Hands, Pauses, Unpauses, Cancels}
 use Rattle.dv_journal.specs.declared.entry.Entry.{Entry}
 use Rattle.dv_script.specs.declared.script.Script.{Script}
-use Rattle.dv_engine.specs.Report.{state_of, Reports}
-use Rattle.dv_engine.specs.declared.report.Outcome.{Outcome}
+use Rattle.dv_engine.specs.Report.{Reports}
+use Rattle.dv_store.specs.Outcome.{state_of}
+use Rattle.dv_store.specs.declared.outcome.Outcome.{Outcome}
 use Rattle.dv_engine.specs.declared.report.Report.{Report}
 
 -- what is told of a Deferred: its name at its making, whether it is fired, its value, which one it waits for, and its count of pauses

@@ -6,7 +6,7 @@ use Rattle.std.specs.Io.KnownBytes.{Appends}
 use Rattle.dv_journal.proofs.Taken.{prefix_next}
 use Rattle.dv_journal.specs.Sink.{AppendsBut, AppendsPrefix}
 use Rattle.dv_value.specs.declared.classes.Class.{Class}
-use Rattle.dv_engine.specs.declared.report.Outcome.{Outcome}
+use Rattle.dv_store.specs.declared.outcome.Outcome.{Outcome}
 use Rattle.dv_output.specs.Output.{outcome_line, lines_from}
 
 -- the line of the next outcome stands first

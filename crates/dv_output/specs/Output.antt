@@ -3,10 +3,10 @@ use Rattle.std.specs.Prelude.{ℕ, suc, nat_eq, if◌then◌else◌, List, [], �
 use Rattle.dv_value.specs.ValueText.{outcome}
 use Rattle.dv_value.specs.declared.classes.Class.{Class}
 use Rattle.dv_journal.specs.Line.{text_of, hash, name_text}
-use Rattle.dv_engine.specs.declared.report.Outcome.{Outcome}
+use Rattle.dv_store.specs.declared.outcome.Outcome.{Outcome}
 use Rattle.dv_engine.specs.declared.report.Report.{Report}
-use Rattle.dv_engine.specs.declared.report.State.{State}
-use Rattle.dv_engine.specs.declared.report.State.TheVariants.{Unfired, Waiting, Fired}
+use Rattle.dv_store.specs.declared.outcome.State.{State}
+use Rattle.dv_store.specs.declared.outcome.State.TheVariants.{Unfired, Waiting, Fired}
 
 -- unfired, waiting for another, or what it was fired with: `ok` and a value, or `fail` and a failure
 abbrev pub state_text : List Class → State → List ℕ

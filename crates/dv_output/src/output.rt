@@ -3,10 +3,11 @@ ghost use Rattle.std.specs.Io.KnownBytes.{Appends};
 ghost use Rattle.dv_journal.specs.Sink.{HasFailed, AppendsPrefix};
 ghost use Rattle.dv_output.specs.Output.{pauses_text, state_text, outcome_line, output, report_text};
 
-use dv_engine::report::{Outcome, Report, State};
+use dv_engine::report::Report;
 use dv_journal::error::PrintFault;
 use dv_journal::line::shown_name;
 use dv_journal::sink::{Sink, write_all, write_when_full};
+use dv_store::outcome::{Outcome, State};
 use dv_value::classes::Classes;
 use dv_value::value_text::write_outcome;
 use std::alloc::{AllocError, Global};

@@ -7,13 +7,13 @@ use Rattle.dv_grammar.specs.declared.draft.Draft.{Draft}
 use Rattle.dv_script.specs.declared.script.Script.{Script}
 use Rattle.dv_reader.specs.declared.error.ScriptFault.{ScriptFault}
 use Rattle.dv_reader.specs.declared.error.ScriptFault.TheVariants.{TooLong, NotJson, BadVersion, BadShape, TooMany, BadName, BadClass, OutOfMemory}
-use Rattle.dv_grammar.specs.Forms.{Field, IsNumber}
+use Rattle.dv_forms.specs.Forms.{Field, IsNumber}
 use Rattle.dv_reader.specs.Limits.{most_nodes, most_limit, nodes}
 use Rattle.dv_reader.specs.Refusal.{IsDocument, IsMisshapen, HasShape, Says, Refuses}
 use Rattle.dv_grammar.specs.Shape.{script_at}
 use Rattle.dv_reader.specs.Passes.{JudgedIn, Passes, is_version}
-use Rattle.dv_drafts.proofs.Complete.{complete_script}
-use Rattle.dv_drafts.proofs.Sound.{sound_script}
+use Rattle.dv_grammar.proofs.Complete.{complete_script}
+use Rattle.dv_grammar.proofs.Sound.{sound_script}
 use Rattle.dv_reader.proofs.Version.{version_is, no_version}
 use Rattle.dv_reader.proofs.Count.{events_few}
 

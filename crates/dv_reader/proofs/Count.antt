@@ -4,7 +4,7 @@ use Rattle.std.specs.Cmp.Lexicographic.{slice_cmp}
 use Rattle.serde_json.specs.Data.{Data, null, boolean, number, string, array, object, Items, no_items, item, Members, no_members, member}
 use Rattle.serde_json.specs.Find.{get_member}
 use Rattle.dv_grammar.specs.declared.draft.Draft.{Draft}
-use Rattle.dv_grammar.specs.Forms.{Each, IsList, Key}
+use Rattle.dv_forms.specs.Forms.{Each, IsList, Key}
 use Rattle.dv_grammar.specs.Grammar.{IsEvent, IsScript}
 use Rattle.dv_reader.specs.Limits.{nodes, item_nodes, member_nodes}
 use Rattle.dv_grammar.proofs.Steps.{picked}

@@ -12,8 +12,8 @@ use Rattle.dv_grammar.specs.Shape.{script_at}
 use Rattle.dv_reader.specs.Passes.{is_version}
 use Rattle.dv_reader.specs.Laws.{IsRefused, SaysOneAtMost, RefusedSaysNone, SaysOrIsRefused}
 use Rattle.dv_grammar.proofs.Steps.{some_injective}
-use Rattle.dv_drafts.proofs.Complete.{complete_script}
-use Rattle.dv_drafts.proofs.Sound.{sound_script}
+use Rattle.dv_grammar.proofs.Complete.{complete_script}
+use Rattle.dv_grammar.proofs.Sound.{sound_script}
 use Rattle.dv_reader.proofs.Version.{version_is, no_version}
 use Rattle.dv_reader.proofs.Answers.{misshapen}
 

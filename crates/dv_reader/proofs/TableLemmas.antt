@@ -5,9 +5,9 @@ use Rattle.dv_value.specs.Builtin.{builtin}
 use Rattle.dv_value.specs.Declaring.{with_class}
 use Rattle.dv_value.specs.Laws.{ParentsStandBefore}
 use Rattle.dv_value.proofs.Paths.{paths_go_up, builtin_ordered, declared_ordered}
-use Rattle.dv_grammar.specs.declared.draft.Declaration.{Declaration}
+use Rattle.dv_forms.specs.declared.declaration.Declaration.{Declaration}
 use Rattle.dv_script.specs.declared.script.Script.{Script}
-use Rattle.dv_grammar.specs.Table.{most_classes, can_declare, with_declared, table_after, table_of}
+use Rattle.dv_forms.specs.Table.{most_classes, can_declare, with_declared, table_after, table_of}
 use Rattle.dv_reader.specs.Laws.{ParentsOfScriptsStandBefore, PathsOfScriptsGoUp}
 
 either_ordered : (b : Bool) (table other : List Class) → ParentsStandBefore table → ParentsStandBefore other → ParentsStandBefore (cond b table other)

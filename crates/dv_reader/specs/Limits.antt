@@ -6,7 +6,7 @@ use Rattle.dv_script.specs.declared.event.Event.{Event}
 use Rattle.dv_script.specs.declared.event.Event.TheVariants.{Action, Advance, Drain}
 use Rattle.dv_grammar.specs.declared.draft.Draft.{Draft}
 use Rattle.dv_script.specs.declared.body.Body.{Body}
-use Rattle.dv_grammar.specs.Table.{most_classes}
+use Rattle.dv_forms.specs.Table.{most_classes}
 
 -- the most bytes of a script
 abbrev pub most_bytes : ℕ

@@ -6,8 +6,8 @@ use Rattle.serde_json.specs.Read.{read}
 use Rattle.dv_script.specs.declared.script.Script.{Script}
 use Rattle.dv_reader.specs.declared.error.ScriptFault.{ScriptFault}
 use Rattle.dv_reader.specs.declared.error.ScriptFault.TheVariants.{TooLong, NotJson, BadVersion, BadShape, TooMany, BadName, BadClass, OutOfMemory}
-use Rattle.dv_grammar.specs.declared.reading.stop.Stop.{Stop}
-use Rattle.dv_grammar.specs.declared.reading.stop.Stop.TheVariants as stop
+use Rattle.dv_forms.specs.declared.stop.Stop.{Stop}
+use Rattle.dv_forms.specs.declared.stop.Stop.TheVariants as stop
 use Rattle.dv_grammar.specs.declared.draft.Draft.{Draft}
 use Rattle.dv_reader.specs.Limits.{most_bytes, is_small}
 use Rattle.dv_reader.specs.Refusal.{are_named, are_known}

@@ -1,4 +1,4 @@
-use dv_grammar::reading::stop::Stop;
+use dv_forms::stop::Stop;
 use thiserror::Error;
 
 /// Why a script is refused: the least of these of which the condition holds.

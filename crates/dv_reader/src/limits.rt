@@ -3,8 +3,8 @@ ghost use Rattle.std.specs.List.{list_all};
 ghost use Rattle.serde_json.specs.View.{view, items_view, members_view};
 ghost use Rattle.dv_reader.specs.Limits.{nodes, item_nodes, member_nodes, most_nodes, most_ticks, ticks_of, ticks_in, are_few, is_small};
 
+use dv_forms::ranges::{MOST_CLASSES, MOST_TICKS};
 use dv_grammar::draft::Draft;
-use dv_grammar::ranges::{MOST_CLASSES, MOST_TICKS};
 use dv_script::body::Body;
 use dv_script::event::Event;
 use dv_value::items::Items;

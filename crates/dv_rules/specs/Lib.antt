@@ -3,3 +3,4 @@ pub mod Done
 pub mod Maybe
 pub mod Cancelling
 pub mod Bounds
+pub mod Raising

@@ -52,6 +52,19 @@ pub fn settle_after<'s>(
     done(stack.push(Frame::Settle(id)))
 }
 
+/// Who gets a value that is handed over is to be settled, and then who gave it.
+pub fn settle_both<'s>(
+    stack: &mut Stack<Frame<'s>>,
+    from: DeferredId,
+    to: DeferredId,
+) -> Result<Performed<'s>, AllocError>
+    ensures stack { OnOk result (stack.new ≡ Settle to ∷ Settle from ∷ stack.old) }
+    ensures performed { IfOk result (λ next. next ≡ Done) }
+{
+    stack.push(Frame::Settle(from))?;
+    settle_after(stack, to)
+}
+
 /// The Deferred is fired with a value, and is to be settled, where that is to follow. A refusal is raised.
 pub fn fire_and_settle<'s>(
     world: &mut World<'s>,

@@ -5,3 +5,4 @@ pub mod cancelling;
 pub mod following;
 pub mod frame;
 pub mod maybe;
+pub mod raising;

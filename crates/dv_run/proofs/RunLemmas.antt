@@ -4,7 +4,7 @@ use Rattle.std.proofs.lemmas.Bool.Decides.{nat_tests}
 use Rattle.std.specs.List.{list_all}
 use Rattle.std.proofs.KnownBytes.{Keeps-refl}
 use Rattle.std.specs.Io.KnownBytes.{Appends}
-use Rattle.dv_runner.specs.Batches.{Callers, bodies_of}
+use Rattle.dv_posts.specs.Batches.{Callers, bodies_of}
 use Rattle.dv_engine.specs.declared.report.Report.{Report}
 use Rattle.dv_journal.specs.Sink.{AppendsPrefix, HasFailed}
 use Rattle.dv_journal.specs.declared.error.PrintFault.{PrintFault}
@@ -14,7 +14,7 @@ use Rattle.dv_reader.specs.Refusal.{Says, Refuses}
 use Rattle.dv_reader.specs.declared.error.ScriptFault.{ScriptFault}
 use Rattle.dv_reader.specs.declared.error.ScriptFault.TheVariants as script
 use Rattle.dv_script.specs.declared.script.Script.{Script}
-use Rattle.dv_callers.specs.Callers.{AreFew}
+use Rattle.dv_posts.specs.Callers.{AreFew}
 use Rattle.dv_output.specs.Faults.{of_read, of_script, of_print}
 use Rattle.dv_run.specs.Headline.{IsRun, Prints, SaysReport, Told, most_read}
 use Rattle.dv_output.specs.Output.{report_text}

@@ -1,10 +1,10 @@
 -- A run: what an engine and an inbox have of each other.
 use Rattle.std.specs.Prelude.{◌≡◌}
-use Rattle.dv_runner.specs.Batches.{AreNext, Batch, Callers, joined}
+use Rattle.dv_posts.specs.Batches.{AreNext, Batch, Callers, joined}
 use Rattle.dv_engine.specs.Engine.{Engine}
 use Rattle.dv_engine.specs.declared.engine.Phase.TheVariants.{Going, Ended}
-use Rattle.dv_threads.specs.Posts.{Inbox}
-use Rattle.dv_callers.specs.Callers.{TookBatches}
+use Rattle.dv_posts.specs.Posts.{Inbox}
+use Rattle.dv_posts.specs.Callers.{TookBatches}
 
 -- what was taken of the inbox is in the engine's batches
 abbrev pub Agree : Engine → Inbox → Type 0

@@ -1,7 +1,7 @@
 -- The headline: what a run over threads reports and prints.
 use Rattle.std.specs.Prelude.{ℕ, List, Option}
 use Rattle.std.specs.Io.KnownBytes.{Appends}
-use Rattle.dv_runner.specs.Batches.{AreComplete}
+use Rattle.dv_posts.specs.Batches.{AreComplete}
 use Rattle.dv_engine.specs.Report.{Reports}
 use Rattle.dv_engine.specs.declared.report.Report.{Report}
 use Rattle.dv_reader.specs.Refusal.{Says}

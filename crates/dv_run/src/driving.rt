@@ -1,20 +1,20 @@
 ghost use Rattle.std.specs.Prelude.{ℕ, ◌≡◌, ◌++◌, [], IfOk, IsFalse, IsTrue, OnOk};
-ghost use Rattle.dv_runner.specs.Batches.{joined, posts_of};
+ghost use Rattle.dv_posts.specs.Batches.{joined, posts_of};
 ghost use Rattle.dv_engine.specs.Engine.{Takes, first_engine};
 ghost use Rattle.dv_engine.specs.declared.engine.Phase.TheVariants.{Draining, Ended, Going};
-ghost use Rattle.dv_callers.specs.Callers.{AllServe, TookBatches};
+ghost use Rattle.dv_posts.specs.Callers.{AllServe, TookBatches};
 ghost use Rattle.dv_run.specs.Driving.{Agree, HasDrained, HasPerformed, HasStranger};
 ghost use Rattle.dv_run.specs.Headline.{IsRun};
-ghost use Rattle.dv_threads.specs.Posts.{SameInbox, of};
+ghost use Rattle.dv_posts.specs.Posts.{SameInbox, of};
 
-use dv_callers::callers::{Caller, end, take_up_to};
 use dv_engine::engine::{Engine, Next};
 use dv_engine::error::EngineFault;
 use dv_engine::report::Report;
+use dv_jobs::source::JobSource;
+use dv_posts::callers::{Caller, end, take_up_to};
+use dv_posts::inbox::Inbox;
+use dv_posts::posted::Posted;
 use dv_script::body::Body;
-use dv_threads::inbox::Inbox;
-use dv_threads::posted::Posted;
-use dv_threads::source::JobSource;
 use dv_value::items::Items;
 use std::alloc::{AllocError, AllocGlobal, Global};
 use std::random::RandomSource;

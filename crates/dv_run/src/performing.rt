@@ -1,18 +1,18 @@
 ghost use Rattle.std.specs.Prelude.{◌≡◌, ◌<◌, ◌≤◌, ◌^◌, ◌-◌, [], IfOk};
-ghost use Rattle.dv_callers.specs.Callers.{AllServe, AreFew, TookBatches};
+ghost use Rattle.dv_posts.specs.Callers.{AllServe, AreFew, TookBatches};
 ghost use Rattle.dv_run.specs.Headline.{IsRun};
 
 use crate::driving::drive;
-use dv_callers::callers::{Caller, start_all};
 use dv_engine::engine::Engine;
 use dv_engine::report::Report;
 use dv_inline::poller::Poller;
+use dv_jobs::gate::Gate;
+use dv_jobs::one_thread::OneThread;
+use dv_jobs::source::JobSource;
+use dv_posts::callers::{Caller, start_all};
+use dv_posts::inbox::Inbox;
 use dv_script::script::Script;
-use dv_threads::gate::Gate;
-use dv_threads::inbox::Inbox;
-use dv_threads::one_thread::OneThread;
 use dv_threads::pool::Pool;
-use dv_threads::source::JobSource;
 use std::alloc::{AllocError, AllocGlobal, Global};
 use std::random::RandomSource;
 use std::sync::Wait;

@@ -1,11 +1,12 @@
 ghost use Rattle.std.specs.Prelude.{◌≡◌, ◌≤◌, OnOk, IfOk, IfErr};
 ghost use Rattle.dv_reader.specs.Limits.{most_limit};
-ghost use Rattle.dv_callers.specs.Callers.{AreFew};
+ghost use Rattle.dv_posts.specs.Callers.{AreFew};
 ghost use Rattle.dv_run.specs.Headline.{Prints};
 ghost use Rattle.dv_run.specs.Run.{SaysScript, GivesNoScript, GivesUp, ReaderFailed, WriterFailed};
 
 use crate::performing::perform;
 use dv_engine::report::Report;
+use dv_jobs::gate::Gate;
 use dv_journal::sink::Sink;
 use dv_output::error::RunFault;
 use dv_output::output::print_report;
@@ -13,7 +14,6 @@ use dv_reader::MOST_BYTES;
 use dv_reader::read_script::ReadScript;
 use dv_script::script::Script;
 use dv_source::source::{Source, read_up_to};
-use dv_threads::gate::Gate;
 use std::alloc::{AllocGlobal, Global};
 use std::random::RandomSource;
 use std::sync::Wait;

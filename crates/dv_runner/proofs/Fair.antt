@@ -40,7 +40,8 @@ use Rattle.dv_actions.specs.Inlining.{inline_begun, going_where, resumed, await_
 use Rattle.dv_actions.specs.Listing.{with_children, added_to_children, has_all_at_once, fired_at_once, with_listed, listed, fired_by_child, come_by, results_given}
 use Rattle.dv_actions.specs.Locking.{granted, asked_of, acquired, released_of}
 use Rattle.dv_actions.specs.Looping.{turn_begun, loop_begun, looped, loop_over, turn_ended, loop_failed, over_where, stopped_of}
-use Rattle.dv_turning.specs.Turning.{told_of, turned}
+use Rattle.dv_rules.specs.Raising.{told_of}
+use Rattle.dv_turning.specs.Turning.{turned}
 use Rattle.dv_actions.specs.Beginning.{happening, Occurrence, Occurs}
 use Rattle.dv_actions.specs.Beginning as occurrence
 use Rattle.dv_rules.specs.Maybe.{name_for, used_for, made_with, taken_for, maybe_ended, given_after}

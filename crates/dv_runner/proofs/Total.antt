@@ -3,7 +3,7 @@ use Rattle.std.proofs.Common.{◌≡◌, ℕ, Option, List, [], ◌∷◌, refl,
 use Rattle.dv_script.specs.declared.action.Action.{Action, out-Action}
 use Rattle.dv_script.specs.declared.script.Script.{Script}
 use Rattle.dv_actions.specs.Acting.{begun}
-use Rattle.dv_runner.specs.Batches.{Batch}
+use Rattle.dv_posts.specs.Batches.{Batch}
 use Rattle.dv_actions.specs.Deed.{deed_of}
 use Rattle.dv_runner.specs.Laws.{FramesEnd, FramesHaveOneResult, EveryScriptEnds, EachScriptHasOneMeaning}
 use Rattle.dv_runner.specs.Meaning.{Gives, Happens, Runs, Means}

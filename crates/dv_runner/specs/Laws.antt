@@ -3,7 +3,7 @@ use Rattle.std.specs.Prelude.{◌≡◌, ℕ, true, List, Option}
 use Rattle.dv_script.specs.declared.action.Action.{Action, out-Action}
 use Rattle.dv_script.specs.declared.script.Script.{Script}
 use Rattle.dv_actions.specs.Acting.{begun}
-use Rattle.dv_runner.specs.Batches.{Batch}
+use Rattle.dv_posts.specs.Batches.{Batch}
 use Rattle.dv_actions.specs.Deed.{deed_of}
 use Rattle.dv_runner.specs.Meaning.{Gives, Means}
 use Rattle.dv_rules.specs.declared.frame.Frame.{Frame}

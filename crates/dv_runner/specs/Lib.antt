@@ -1,4 +1,3 @@
-pub mod Batches
 pub mod Occurrences
 pub mod Meaning
 pub mod Laws

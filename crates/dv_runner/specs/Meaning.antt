@@ -5,7 +5,7 @@ use Rattle.dv_objects.specs.declared.performed.Performed.{Performed}
 use Rattle.dv_actions.specs.Beginning.{Occurrence, happening}
 use Rattle.dv_turning.specs.Turning.{turned}
 use Rattle.dv_rules.specs.declared.frame.Frame.{Frame}
-use Rattle.dv_runner.specs.Batches.{Batch}
+use Rattle.dv_posts.specs.Batches.{Batch}
 use Rattle.dv_runner.specs.Occurrences.{occurrences}
 use Rattle.dv_world.specs.World.{World, first_world}
 

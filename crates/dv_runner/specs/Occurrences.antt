@@ -3,9 +3,9 @@ use Rattle.std.specs.Prelude.{List, [], ◌∷◌, ◌++◌, Option, None, Some}
 use Rattle.dv_script.specs.declared.body.Body.{Body}
 use Rattle.dv_script.specs.declared.event.Event.{Event}
 use Rattle.dv_script.specs.declared.event.Event.TheVariants as event
-use Rattle.dv_threads.specs.declared.posted.Posted.{Posted}
+use Rattle.dv_posts.specs.declared.posted.Posted.{Posted}
 use Rattle.dv_actions.specs.Beginning.{Occurrence, Occurs, Comes}
-use Rattle.dv_runner.specs.Batches.{Batch, Callers, body_of}
+use Rattle.dv_posts.specs.Batches.{Batch, Callers, body_of}
 
 -- a post comes with its body, where there is such a post
 abbrev pub coming_with : Posted → Option Body → List Occurrence

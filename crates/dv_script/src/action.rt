@@ -25,7 +25,7 @@ pub enum GatherFlag {
 
 /// What a script does. The names that it makes come first, then those that it looks up.
 #[cycle(script)]
-#[derive(Debug, Drop)]
+#[derive(Drop)]
 pub enum Action {
     /// Makes the Deferred, with a canceller where there is one (Twisted: `Deferred(canceller)`).
     Deferred(Text, Option<Body>),

@@ -5,7 +5,7 @@ use dv_value::text::Text;
 use dv_value::value::Value;
 
 /// How a body gives its result, from its input.
-#[derive(Debug, Drop)]
+#[derive(Drop)]
 pub enum End {
     /// The value, whatever the input.
     Return(Value),
@@ -23,7 +23,7 @@ pub enum End {
 
 /// What an inline body does, one after the other (Twisted: the lines of a function under `inlineCallbacks`).
 #[cycle(script)]
-#[derive(Debug, Drop)]
+#[derive(Drop)]
 pub enum Statement {
     /// Performs the action. What it raises is thrown here.
     Do(Action),
@@ -37,7 +37,7 @@ pub enum Statement {
 
 /// What a callback, an errback or a canceller does.
 #[cycle(script)]
-#[derive(Debug, Drop)]
+#[derive(Drop)]
 pub struct Body {
     /// What it performs first, in order. The first that raises ends it with that failure.
     pub actions: Items<Action>,

@@ -1,7 +1,7 @@
 use crate::action::Action;
 
 /// What happens in a script, one after the other.
-#[derive(Debug, Drop)]
+#[derive(Drop)]
 pub enum Event {
     /// Performs the action.
     Action(Action),

@@ -13,7 +13,7 @@ pub struct Cooperator {
 }
 
 /// A script.
-#[derive(Debug, Drop)]
+#[derive(Drop)]
 pub struct Script {
     /// The classes of its failures: those that every script has, then those that it declares.
     pub classes: Classes,

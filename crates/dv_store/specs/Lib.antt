@@ -6,3 +6,4 @@ pub mod Chaining
 pub mod Pausing
 pub mod Cancelling
 pub mod Laws
+pub mod Outcome

@@ -3,6 +3,7 @@
 
 pub mod error;
 pub mod laws;
+pub mod outcome;
 pub mod record;
 pub mod sides;
 pub mod store;

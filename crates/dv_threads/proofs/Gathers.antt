@@ -6,13 +6,13 @@ use Rattle.crossbeam_deque.specs.Handles.{worker_view}
 use Rattle.crossbeam_queue.specs.Passes.{view}
 use Rattle.dv_script.specs.contracts.work.Work as work_contract
 use Rattle.dv_script.specs.declared.work.Work.{Work}
-use Rattle.dv_threads.specs.declared.job.Done.{Done}
-use Rattle.dv_threads.specs.declared.job.Job.{Job}
+use Rattle.dv_jobs.specs.declared.job.Done.{Done}
+use Rattle.dv_jobs.specs.declared.job.Job.{Job}
 use Rattle.dv_threads.specs.declared.pool.parts.Parts.{Parts}
-use Rattle.dv_threads.specs.Jobs.{numbered, jobs_from, job_of, Answer}
+use Rattle.dv_jobs.specs.Jobs.{numbered, jobs_from, job_of, Answer}
 use Rattle.dv_script.specs.declared.work.TheConstants.{MOST_JOBS}
-use Rattle.dv_threads.specs.Sources.{jobs_of}
-use Rattle.dv_threads.specs.Rules.{weigh, IsEmptied}
+use Rattle.dv_jobs.specs.Sources.{jobs_of}
+use Rattle.dv_workers.specs.Rules.{weigh, IsEmptied}
 use Rattle.dv_threads.specs.Parts.{empty_place, passes, any, ArePlaced, IsOrderly, HasSubmitted, seen_by}
 use Rattle.dv_threads.proofs.Places.{passes-other, passes-low, passes-any, passes-sound}
 

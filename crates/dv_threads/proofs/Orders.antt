@@ -4,16 +4,16 @@ use Rattle.std.proofs.Math.ListN.{length-replicate}
 use Rattle.std.specs.Arc.{arc_value}
 use Rattle.crossbeam_deque.specs.Handles.{worker_deque, worker_flavor, worker_capacity, worker_view, stealer_deque, SameWorker}
 use Rattle.crossbeam_queue.specs.Passes.{view, IsPassOf}
-use Rattle.dv_threads.specs.declared.job.Job.{Job}
+use Rattle.dv_jobs.specs.declared.job.Job.{Job}
 use Rattle.dv_threads.specs.declared.pool.parts.Parts.{Parts}
-use Rattle.dv_threads.specs.declared.pool.rule.Hand.{Hand}
-use Rattle.dv_threads.specs.declared.pool.worker.End.{End}
-use Rattle.dv_threads.specs.Jobs.{job_of, Answer}
+use Rattle.dv_workers.specs.declared.rule.Hand.{Hand}
+use Rattle.dv_workers.specs.declared.worker.End.{End}
+use Rattle.dv_jobs.specs.Jobs.{job_of, Answer}
 use Rattle.dv_script.specs.declared.work.TheConstants.{MOST_JOBS}
-use Rattle.dv_threads.specs.Rules.{all_parts, hand, weigh}
-use Rattle.dv_threads.specs.Worker.{job_hand, answer_hand, HasServed}
+use Rattle.dv_workers.specs.Rules.{all_parts, hand, weigh}
+use Rattle.dv_workers.specs.Worker.{job_hand, answer_hand, HasServed}
 use Rattle.dv_threads.specs.Parts.{empty_place, TakesIn, IsOrderly, ArePlaced, seen_by}
-use Rattle.dv_threads.proofs.RuleLemmas.{weigh-append}
+use Rattle.dv_workers.proofs.RuleLemmas.{weigh-append}
 use Rattle.dv_threads.proofs.Places as places
 
 -- the owner's end of the deque, and its token of the queue, are still of this pool

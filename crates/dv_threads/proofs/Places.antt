@@ -3,9 +3,9 @@ use Rattle.std.proofs.Common.{◌≡◌, ◌≢◌, ℕ, zero, suc, ◌+◌, ◌
 use Rattle.std.specs.Option.{is_some}
 use Rattle.std.proofs.lemmas.List.{get_or_default}
 use Rattle.dv_script.specs.declared.work.Work.{Work}
-use Rattle.dv_threads.specs.declared.job.Job.{Job}
-use Rattle.dv_threads.specs.Jobs.{job_of, Answer}
-use Rattle.dv_threads.specs.Rules.{weigh}
+use Rattle.dv_jobs.specs.declared.job.Job.{Job}
+use Rattle.dv_jobs.specs.Jobs.{job_of, Answer}
+use Rattle.dv_workers.specs.Rules.{weigh}
 use Rattle.dv_threads.specs.Parts.{passes, any, IsPlaced, ArePlaced, TakesIn, seen_by}
 
 pub passes-other : (n : ℕ) (test : Work → Bool) (j : Job) → j.number ≢ n → passes n test j ≡ 0

@@ -1,11 +1,3 @@
-pub mod Works
-pub mod Jobs
-pub mod Sources
-pub mod Rules
-pub mod Worker
 pub mod Parts
 pub mod Reply
 pub mod Pool
-pub mod Ring
-pub mod Posts
-pub mod Receiving

@@ -4,11 +4,11 @@ use Rattle.std.specs.Arc.{arc_value}
 use Rattle.crossbeam_deque.specs.Handles.{worker_deque, worker_flavor, worker_capacity, worker_index, worker_view, stealer_deque}
 use Rattle.crossbeam_queue.specs.Passes.{view, IsPassOf}
 use Rattle.dv_script.specs.declared.work.Work.{Work}
-use Rattle.dv_threads.specs.declared.job.Job.{Job}
+use Rattle.dv_jobs.specs.declared.job.Job.{Job}
 use Rattle.dv_threads.specs.declared.pool.parts.Parts.{Parts}
-use Rattle.dv_threads.specs.Jobs.{jobs_from, job_of, Answer}
+use Rattle.dv_jobs.specs.Jobs.{jobs_from, job_of, Answer}
 use Rattle.dv_script.specs.declared.work.TheConstants.{MOST_JOBS}
-use Rattle.dv_threads.specs.Rules.{weigh}
+use Rattle.dv_workers.specs.Rules.{weigh}
 
 abbrev pub empty_place : Option Answer
 empty_place = None

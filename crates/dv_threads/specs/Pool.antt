@@ -4,13 +4,13 @@ use Rattle.std.specs.Arc.{arc_value}
 use Rattle.std.specs.declared.thread.PromisedHandle.{PromisedHandle}
 use Rattle.crossbeam_deque.specs.Handles.{worker_view}
 use Rattle.dv_script.specs.declared.work.Work.{Work}
-use Rattle.dv_threads.specs.declared.pool.worker.Shared.{Shared}
-use Rattle.dv_threads.specs.declared.pool.worker.End.{End}
+use Rattle.dv_workers.specs.declared.worker.Shared.{Shared}
+use Rattle.dv_workers.specs.declared.worker.End.{End}
 use Rattle.dv_threads.specs.declared.pool.threads.EndOf.{EndOf}
 use Rattle.dv_threads.specs.declared.pool.parts.Parts.{Parts}
 use Rattle.dv_threads.specs.declared.pool.crew.Crew.{Crew}
 use Rattle.dv_script.specs.declared.work.TheConstants.{MOST_JOBS}
-use Rattle.dv_threads.specs.Rules.{all_parts}
+use Rattle.dv_workers.specs.Rules.{all_parts}
 use Rattle.dv_threads.specs.Parts.{IsOrderly, HasSubmitted}
 
 -- each handle promises tokens of this pool

@@ -5,7 +5,7 @@ use Rattle.dv_script.specs.declared.work.Work.{Work}
 use Rattle.dv_value.specs.declared.value.Value.{Value}
 use Rattle.dv_threads.specs.declared.pool.parts.Parts.{Parts}
 use Rattle.dv_script.specs.declared.work.TheConstants.{MOST_JOBS}
-use Rattle.dv_threads.specs.Sources.{IsValueAt}
+use Rattle.dv_jobs.specs.Sources.{IsValueAt}
 use Rattle.dv_threads.specs.Parts.{IsOrderly, Keeps}
 
 -- it has its parts, and its number is that of a work

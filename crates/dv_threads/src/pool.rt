@@ -5,15 +5,15 @@ ghost use Rattle.dv_script.specs.declared.work.Work.{Work as SpecWork};
 ghost use Rattle.dv_script.specs.declared.work.TheConstants.{MOST_JOBS};
 ghost use Rattle.dv_threads.specs.Parts.{IsOrderly, HasSubmitted};
 
-use crate::error::JobFault;
-use crate::gate::Gate;
-use crate::job::Job;
 use crate::pool::closing::{collect_all, gather, help_all};
 use crate::pool::crew::Crew;
 use crate::pool::parts::Parts;
 use crate::pool::reply::reply;
-use crate::ran::Ran;
-use crate::source::JobSource;
+use dv_jobs::error::JobFault;
+use dv_jobs::gate::Gate;
+use dv_jobs::job::Job;
+use dv_jobs::ran::Ran;
+use dv_jobs::source::JobSource;
 use dv_script::work::{MOST_JOBS, Work};
 use dv_value::value::Value;
 use std::alloc::{AllocError, AllocGlobal, Global};
@@ -22,15 +22,11 @@ use std::random::RandomSource;
 use std::sync::Wait;
 use std::thread::{Scope, Threads};
 
-mod answer_queue;
 mod closing;
 mod crew;
-mod job_deque;
 mod parts;
 mod reply;
-mod rule;
 mod threads;
-mod worker;
 
 /// Workers on threads of a scope, which answer jobs at a gate (Twisted: `ThreadPool`). The owner helps where it waits.
 /// Dropped, it tells its workers to leave. Where the executor of an `outcome` fails it tells them so, too, and wants memory at
@@ -104,9 +100,10 @@ fn submit(
     ensures ok { OnOk result (works.new.items ≡ works.old.items ++ work ∷ []) }
     ensures kept { OnErr result (works.new.items ≡ works.old.items) }
 {
-    let number = works.len() as u32;
+    let job = Job::new(works.len(), work);
     works.push(copy).map_err(AllocError::from)?;
-    parts.put(Job { number, work });
+    let number = job.number;
+    parts.put(job);
     Ok(number)
 }
 

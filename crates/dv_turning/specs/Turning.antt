@@ -1,7 +1,5 @@
 -- One turn: each frame by its rule.
-use Rattle.std.specs.Prelude.{Option, None, Some, slice_get}
-use Rattle.dv_value.specs.declared.failure.Failure.{Failure}
-use Rattle.dv_journal.specs.declared.entry.Entry.TheVariants as entry
+use Rattle.std.specs.Prelude.{slice_get}
 use Rattle.dv_objects.specs.Performed.{failed_with}
 use Rattle.dv_objects.specs.declared.performed.Performed.{Performed}
 use Rattle.dv_rules.specs.Cancelling.{cancel_begun, canceller_ended}
@@ -10,16 +8,12 @@ use Rattle.dv_rules.specs.Maybe.{maybe_ended, given_after}
 use Rattle.dv_turning.specs.Performing.{rest_turned}
 use Rattle.dv_turning.specs.Settling.{place, settled}
 use Rattle.dv_actions.specs.Timing.{come_due_with}
+use Rattle.dv_rules.specs.Raising.{told_of}
 use Rattle.dv_rules.specs.Turn.{Turned, done, settling}
 use Rattle.dv_actions.specs.Wanting.{inline_turned}
 use Rattle.dv_rules.specs.declared.frame.Frame.{Frame}
 use Rattle.dv_rules.specs.declared.frame.Frame.TheVariants.{Settle, Place, Rest, Canceller, Maybe, Add, Cancel, Give, Notify, Stepped, Tick, Tell, Due, Inline}
-use Rattle.dv_world.specs.World.{World, step, append, cancel, tell, come_due}
-
--- a failure is told, and nothing else
-abbrev pub told_of : Option Failure → World → World
-told_of None w = w
-told_of (Some failure) w = tell (entry.Unhandled failure) w
+use Rattle.dv_world.specs.World.{World, step, append, cancel, come_due}
 
 -- each frame by its rule, on what was come to before it
 abbrev pub turned : Frame → Performed → World → Turned

@@ -15,7 +15,7 @@ use dv_journal::deferred_id::DeferredId;
 use dv_objects::given::Given;
 use dv_objects::pair::{Pair, Side};
 use dv_objects::performed::Performed;
-use dv_rules::following::{done, fire_and_settle, settle_after, whole};
+use dv_rules::following::{done, fire_and_settle, settle_after, settle_both, whole};
 use dv_rules::frame::{Frame, Purpose};
 use dv_rules::maybe::perform_for;
 use dv_store::store::Step;
@@ -39,10 +39,7 @@ pub fn settle<'s>(
         Step::Nothing => Ok(Performed::Done),
         Step::Passed => settle_after(stack, id),
         Step::Run(pair) => run(alloc, world, stack, id, pair),
-        Step::Handed(to) => {
-            stack.push(Frame::Settle(id))?;
-            settle_after(stack, to)
-        }
+        Step::Handed(to) => settle_both(stack, id, to),
     }
 }
 

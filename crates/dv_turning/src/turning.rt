@@ -1,11 +1,10 @@
 //! One turn: the frame on top of the stack, by its rule.
 
-ghost use Rattle.std.specs.Prelude.{◌≡◌, [], IfOk};
+ghost use Rattle.std.specs.Prelude.{◌≡◌, IfOk};
 ghost use Rattle.dv_rules.specs.Bounds.{Bounded};
 ghost use Rattle.dv_turning.specs.Performing.{gone_on, rest_turned};
-ghost use Rattle.dv_rules.specs.Turn.{◌over◌, done};
-ghost use Rattle.dv_turning.specs.Turning.{told_of, turned};
-ghost use Rattle.dv_objects.specs.Performed.{failed_with};
+ghost use Rattle.dv_rules.specs.Turn.{◌over◌};
+ghost use Rattle.dv_turning.specs.Turning.{turned};
 
 use crate::settling::{end_side, settle};
 use dv_actions::acting::begin;
@@ -14,13 +13,13 @@ use dv_actions::submissions::Submissions;
 use dv_actions::timing::run_due;
 use dv_actions::wanting;
 use dv_inline::poller::Poller;
-use dv_journal::entry::Entry;
+use dv_jobs::source::JobSource;
 use dv_objects::performed::Performed;
 use dv_rules::cancelling::{cancel, end_canceller};
-use dv_rules::following::{add_and_settle, done};
+use dv_rules::following::add_and_settle;
 use dv_rules::frame::{Frame, Rest};
 use dv_rules::maybe::{end_maybe, give_after};
-use dv_threads::source::JobSource;
+use dv_rules::raising::{raised_by, tell_failure};
 use dv_value::stack::Stack;
 use dv_world::ending::ended;
 use dv_world::world::World;
@@ -85,20 +84,6 @@ where
     }
 }
 
-/// Tells of the failure that was come to, where one was.
-fn tell_failure<'s>(
-    alloc: Global,
-    world: &mut World<'s>,
-    performed: Performed<'s>,
-) -> Result<Performed<'s>, AllocError>
-    ensures { IfOk result (λ next. ([], next, world.new) ≡ done (told_of (failed_with performed.entry) world.old)) }
-{
-    match performed.into_failure(alloc)? {
-        None => Ok(Performed::Done),
-        Some(failure) => done(world.tell(Entry::Unhandled(failure))),
-    }
-}
-
 /// Goes on with a body, unless what it performed last raised.
 fn go_on_unless_raised<'s>(
     alloc: Global,
@@ -110,16 +95,12 @@ fn go_on_unless_raised<'s>(
     requires bounded { Bounded world.old }
     ensures { IfOk result (λ next. (stack.new, next, world.new) ≡ rest_turned rest.entry performed.entry world.old over stack.old) }
 {
-    match performed {
-        Performed::Raised(failure) => {
+    match raised_by(performed) {
+        Some(failure) => {
             drop(rest);
             Ok(Performed::Raised(failure))
         }
-        Performed::Gave(given) => {
-            drop(given);
-            go_on(alloc, world, stack, rest)
-        }
-        Performed::Done | Performed::Awaits(_) => go_on(alloc, world, stack, rest),
+        None => go_on(alloc, world, stack, rest),
     }
 }
 

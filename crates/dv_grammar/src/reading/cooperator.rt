@@ -1,12 +1,13 @@
 ghost use Rattle.std.specs.Prelude.{option_map, option_and_then, ◌^◌};
 ghost use Rattle.serde_json.specs.View.{view};
-ghost use Rattle.dv_grammar.specs.Answer.{Reads};
-ghost use Rattle.dv_grammar.specs.Shape.{cooperator_at, number_at, field};
+ghost use Rattle.dv_forms.specs.Answer.{Reads};
+ghost use Rattle.dv_forms.specs.Parts.{number_at, field};
+ghost use Rattle.dv_grammar.specs.Shape.{cooperator_at};
 ghost use Rattle.dv_grammar.specs.Grammar.{plain_cooperator};
 
-use crate::ranges::MOST_DELAY;
-use crate::reading::leaf::{fields, number, small};
-use crate::reading::stop::Stop;
+use dv_forms::leaf::{fields, number, small};
+use dv_forms::ranges::MOST_DELAY;
+use dv_forms::stop::Stop;
 use dv_script::script::Cooperator;
 use serde_json::Value as Json;
 

@@ -1,15 +1,12 @@
-ghost use Rattle.std.specs.Prelude.{◌≡◌};
 ghost use Rattle.serde_json.specs.View.{view, items_view};
-ghost use Rattle.dv_grammar.specs.Answer.{Reads};
-ghost use Rattle.dv_grammar.specs.Grammar.{may_leave};
+ghost use Rattle.dv_forms.specs.Answer.{Reads};
 ghost use Rattle.dv_grammar.specs.Shape.{end_at, end_of, leave_at};
 
-use crate::reading::arguments::{
-    class_and_message, classes_and_value, one_integer, one_text, one_value,
-};
-use crate::reading::leaf::{call, none};
-use crate::reading::stop::Stop;
 use crate::words::EndWord;
+use dv_forms::arguments::{class_and_message, classes_and_value, one_integer, one_text, one_value};
+use dv_forms::leaf::{call, none};
+use dv_forms::leaving::may_leave;
+use dv_forms::stop::Stop;
 use dv_script::body::End;
 use dv_value::classes::Classes;
 use serde_json::Value as Json;
@@ -47,15 +44,6 @@ fn end_of(alloc: Global, classes: &Classes, word: EndWord, arguments: &[Json]) -
             Ok(End::Trap(listed, value))
         }
         EndWord::Wait => Ok(End::Wait(one_text(alloc, arguments)?)),
-    }
-}
-
-fn may_leave(end: &End) -> bool
-    ensures { result ≡ may_leave end.now }
-{
-    match end {
-        End::Return(_) | End::Pass | End::Plus(_) | End::Raise(_, _) => true,
-        End::Trap(_, _) | End::Wait(_) => false,
     }
 }
 

@@ -1,14 +1,15 @@
 ghost use Rattle.serde_json.specs.View.{items_view};
-ghost use Rattle.dv_grammar.specs.Answer.{Reads};
-ghost use Rattle.dv_grammar.specs.Shape.{text_at, with_name, with_names, plain_of, one_of, two_of};
+ghost use Rattle.dv_forms.specs.Answer.{Reads};
+ghost use Rattle.dv_forms.specs.Parts.{text_at, one_of, two_of};
+ghost use Rattle.dv_grammar.specs.Shape.{with_name, with_names, plain_of};
 
-use crate::reading::arguments::{
+use crate::reading::work::named_work;
+use crate::words::{NameWord, NamesWord, PlainWord};
+use dv_forms::arguments::{
     named_bounds, named_failure, named_gathering, named_list, named_places, named_value, one_text,
     two_texts,
 };
-use crate::reading::stop::Stop;
-use crate::reading::work::named_work;
-use crate::words::{NameWord, NamesWord, PlainWord};
+use dv_forms::stop::Stop;
 use dv_script::action::Action;
 use dv_value::classes::Classes;
 use serde_json::Value as Json;

@@ -1,13 +1,14 @@
 ghost use Rattle.std.specs.Prelude.{◌^◌};
 ghost use Rattle.serde_json.specs.View.{view, items_view};
-ghost use Rattle.dv_grammar.specs.Answer.{Reads};
-ghost use Rattle.dv_grammar.specs.Shape.{text_at, number_at, work_at, work_of, triple};
+ghost use Rattle.dv_forms.specs.Answer.{Reads};
+ghost use Rattle.dv_forms.specs.Parts.{text_at, number_at, triple};
+ghost use Rattle.dv_grammar.specs.Shape.{work_at, work_of};
 
-use crate::ranges::MOST_DELAY;
-use crate::reading::arguments::{class_and_message, one_small, one_value};
-use crate::reading::leaf::{call, number, text, three};
-use crate::reading::stop::Stop;
 use crate::words::WorkWord;
+use dv_forms::arguments::{class_and_message, one_small, one_value};
+use dv_forms::leaf::{call, number, text, three};
+use dv_forms::ranges::MOST_DELAY;
+use dv_forms::stop::Stop;
 use dv_script::work::Work;
 use dv_value::classes::Classes;
 use dv_value::text::Text;
@@ -46,7 +47,7 @@ fn work_of(
 }
 
 /// A name, a delay, and a thread's work.
-#[tactic(auto, unfolding(crate::specs::Shape::triple))]
+#[tactic(auto, unfolding(dv_forms::specs::Parts::triple))]
 pub fn named_work(
     alloc: Global,
     classes: &Classes,

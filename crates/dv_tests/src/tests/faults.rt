@@ -1,3 +1,4 @@
+use dv_jobs::gate::PlainGate;
 use dv_journal::io_sink::IoSink;
 use dv_journal::memory_sink::{MemorySink, Trouble};
 use dv_journal::sink::Sink;
@@ -6,7 +7,6 @@ use dv_run::run::run;
 use dv_source::io_source::IoSource;
 use dv_source::memory_source::MemorySource;
 use dv_source::source::{Source, read_up_to};
-use dv_threads::gate::PlainGate;
 use std::alloc::AllocGlobal;
 use std::io::{self, Read};
 use std::random::RandomSource;

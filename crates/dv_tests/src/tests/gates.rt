@@ -1,5 +1,5 @@
-use dv_threads::gate::Gate;
-use dv_threads::job::{Answer, Job};
+use dv_jobs::gate::Gate;
+use dv_jobs::job::{Answer, Job};
 use std::alloc::{AllocError, Global};
 use std::sync::atomic::{AtomicU32, Ordering};
 use std::thread;

@@ -1,11 +1,11 @@
 ghost use Rattle.std.specs.Prelude.{◌≡◌, ◌≤◌, []};
 
 use super::gates::{Counting, Holding, Refusing};
+use dv_jobs::error::JobFault;
+use dv_jobs::gate::Gate;
+use dv_jobs::source::JobSource;
 use dv_script::work::Work;
-use dv_threads::error::JobFault;
-use dv_threads::gate::Gate;
 use dv_threads::pool::Pool;
-use dv_threads::source::JobSource;
 use dv_value::value::Value;
 use std::alloc::{AllocError, AllocGlobal, Global};
 use std::random::RandomSource;

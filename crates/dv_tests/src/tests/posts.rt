@@ -1,9 +1,9 @@
-ghost use Rattle.dv_threads.specs.Posts.{SamePoster};
+ghost use Rattle.dv_posts.specs.Posts.{SamePoster};
 
 use super::gates::MOST_LOOKS;
-use dv_threads::inbox::Inbox;
-use dv_threads::posted::Posted;
-use dv_threads::poster::Poster;
+use dv_posts::inbox::Inbox;
+use dv_posts::posted::Posted;
+use dv_posts::poster::Poster;
 use std::sync::Wait;
 use std::test::Fail;
 use std::thread;

@@ -1,15 +1,15 @@
 ghost use Rattle.std.specs.Prelude.{◌≡◌, ◌≤◌, length, IfOk};
 ghost use Rattle.crossbeam_deque.specs.Handles.{worker_view};
 ghost use Rattle.crossbeam_queue.specs.Passes.{view};
-ghost use Rattle.dv_threads.specs.Jobs.{jobs_from};
+ghost use Rattle.dv_jobs.specs.Jobs.{jobs_from};
 ghost use Rattle.dv_script.specs.declared.work.TheConstants.{MOST_JOBS};
-ghost use Rattle.dv_threads.specs.Sources.{jobs_of};
-ghost use Rattle.dv_threads.specs.Rules.{all_parts, IsEmptied, FindsEmptied};
+ghost use Rattle.dv_jobs.specs.Sources.{jobs_of};
+ghost use Rattle.dv_workers.specs.Rules.{all_parts, IsEmptied, FindsEmptied};
 ghost use Rattle.dv_threads.specs.Parts.{IsOrderly, HasSubmitted, Keeps};
 
-use crate::gate::Gate;
 use crate::pool::parts::Parts;
-use crate::ran::Ran;
+use dv_jobs::gate::Gate;
+use dv_jobs::ran::Ran;
 use dv_script::work::Work;
 use std::alloc::{AllocError, Global};
 use std::sync::Wait;

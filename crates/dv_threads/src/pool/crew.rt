@@ -1,14 +1,14 @@
 ghost use Rattle.std.specs.Prelude.{◌≡◌, ◌≤◌, ◌+◌, length, IfOk};
 ghost use Rattle.std.specs.Arc.{arc_value};
 ghost use Rattle.crossbeam_deque.specs.Handles.{worker_view};
-ghost use Rattle.dv_threads.specs.Rules.{all_parts};
+ghost use Rattle.dv_workers.specs.Rules.{all_parts};
 ghost use Rattle.dv_threads.specs.Parts.{IsOrderly, IsSamePool};
 ghost use Rattle.dv_threads.specs.Pool.{AreOf};
 
-use crate::gate::Gate;
 use crate::pool::parts::Parts;
 use crate::pool::threads::{Handle, finish, start};
-use crate::pool::worker::{EVERYBODY, Shared};
+use dv_jobs::gate::Gate;
+use dv_workers::worker::{EVERYBODY, Shared};
 use std::alloc::{AllocError, Global};
 use std::sync::atomic::Ordering;
 use std::sync::{Arc, Wait};

@@ -1,11 +1,11 @@
-ghost use Rattle.std.specs.Prelude.{◌<◌, ◌≤◌, length, IfOk, IfErr, IfSome};
+ghost use Rattle.std.specs.Prelude.{◌<◌, ◌≤◌, length, IfOk, IfSome};
 ghost use Rattle.dv_script.specs.declared.work.TheConstants.{MOST_JOBS};
-ghost use Rattle.dv_threads.specs.Sources.{IsValueAt};
+ghost use Rattle.dv_jobs.specs.Sources.{IsValueAt};
 ghost use Rattle.dv_threads.specs.Parts.{IsOrderly, Keeps};
 ghost use Rattle.dv_threads.specs.Reply.{MayPoll, MayGive};
 
-use crate::gate::Gate;
 use crate::pool::parts::Parts;
+use dv_jobs::gate::Gate;
 use dv_script::work::Work;
 use dv_value::value::Value;
 use futures::Future;

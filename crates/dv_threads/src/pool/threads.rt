@@ -1,9 +1,9 @@
 ghost use Rattle.std.specs.Prelude.{◌≡◌, MatchResult};
 ghost use Rattle.std.specs.Arc.{arc_value};
-ghost use Rattle.dv_threads.specs.Worker.{IsEndOf, IsFresh, HasServed};
+ghost use Rattle.dv_workers.specs.Worker.{IsEndOf, IsFresh, HasServed};
 
-use crate::gate::Gate;
-use crate::pool::worker::{End, OWNER, Shared, serve};
+use dv_jobs::gate::Gate;
+use dv_workers::worker::{End, OWNER, Shared, serve};
 use std::alloc::Global;
 use std::snapshot::Snapshot;
 use std::sync::atomic::Ordering;

@@ -1,5 +1,5 @@
 use Rattle.std.proofs.Common.{List, subst, sym}
-use Rattle.dv_runner.specs.Batches.{AreNext, Batch, joined}
+use Rattle.dv_posts.specs.Batches.{AreNext, Batch, joined}
 use Rattle.dv_engine.proofs.engine.report.Goals as goal
 
 pub returns-clause-next : goal.returns-clause-next

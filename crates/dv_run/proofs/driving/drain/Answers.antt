@@ -1,10 +1,10 @@
 use Rattle.std.proofs.Common.{◌++◌, ◌≡◌, ◌∙◌, Err, ap, sym, subst}
-use Rattle.dv_runner.specs.Batches.{joined}
+use Rattle.dv_posts.specs.Batches.{joined}
 use Rattle.dv_engine.specs.Engine.{Drained, IsStrange, IsWithin, phase_after}
 use Rattle.dv_engine.specs.declared.engine.Phase.{Phase}
 use Rattle.dv_engine.specs.declared.error.EngineFault.{EngineFault}
-use Rattle.dv_threads.specs.Posts.{of}
-use Rattle.dv_callers.proofs.CallerLemmas.{joined_more}
+use Rattle.dv_posts.specs.Posts.{of}
+use Rattle.dv_posts.proofs.CallerLemmas.{joined_more}
 use Rattle.dv_run.proofs.driving.drain.Goals as goal
 
 pub returns-in-Ok-clause-yes : goal.returns-in-Ok-clause-yes

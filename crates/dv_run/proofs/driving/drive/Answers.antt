@@ -1,5 +1,5 @@
 use Rattle.std.proofs.Common.{subst}
-use Rattle.dv_runner.specs.Batches.{AreNext, Callers}
+use Rattle.dv_posts.specs.Batches.{AreNext, Callers}
 use Rattle.dv_run.proofs.driving.drive.Goals as goal
 
 pub unreachable-requires : goal.unreachable-requires

@@ -1,9 +1,9 @@
 use Rattle.std.proofs.Common.{◌++◌, ◌≡◌, ◌∙◌, ap, subst}
-use Rattle.dv_runner.specs.Batches.{joined}
+use Rattle.dv_posts.specs.Batches.{joined}
 use Rattle.dv_engine.specs.Report.{Reports}
 use Rattle.dv_script.specs.declared.script.Script.{Script}
-use Rattle.dv_threads.specs.Posts.{of}
-use Rattle.dv_callers.proofs.CallerLemmas.{joined_more}
+use Rattle.dv_posts.specs.Posts.{of}
+use Rattle.dv_posts.proofs.CallerLemmas.{joined_more}
 use Rattle.dv_run.proofs.driving.finish.Goals as goal
 
 pub returns-in-Ok-finish : goal.returns-in-Ok-finish

@@ -1,6 +1,6 @@
 use Rattle.std.proofs.Common.{◌≡◌, length}
 use Rattle.dv_engine.specs.declared.engine.Phase.TheVariants.{Going}
-use Rattle.dv_threads.specs.Posts.{SameInbox}
+use Rattle.dv_posts.specs.Posts.{SameInbox}
 use Rattle.dv_run.specs.Driving.{Agree}
 use Rattle.dv_run.proofs.driving.perform_events.Given as goal
 

@@ -1,9 +1,9 @@
 use Rattle.std.proofs.Common.{◌++◌, Err, sym, subst}
-use Rattle.dv_runner.specs.Batches.{joined}
+use Rattle.dv_posts.specs.Batches.{joined}
 use Rattle.dv_engine.specs.Engine.{Drained, IsStrange, IsWithin}
 use Rattle.dv_engine.specs.declared.engine.Phase.{Phase}
 use Rattle.dv_engine.specs.declared.error.EngineFault.{EngineFault}
-use Rattle.dv_callers.proofs.CallerLemmas.{all_next}
+use Rattle.dv_posts.proofs.CallerLemmas.{all_next}
 use Rattle.dv_run.proofs.driving.take_rest.Goals as goal
 
 pub unreachable-requires-in-Err-Stranger : goal.unreachable-requires-in-Err-Stranger

@@ -1,6 +1,6 @@
 use Rattle.std.proofs.Common.{subst}
 use Rattle.dv_engine.proofs.EngineLemmas.{over_reports}
-use Rattle.dv_runner.specs.Batches.{AreNext, Callers, joined}
+use Rattle.dv_posts.specs.Batches.{AreNext, Callers, joined}
 use Rattle.dv_engine.specs.Engine.{Engine, Finishes, Stands}
 use Rattle.dv_engine.specs.declared.engine.Phase.{Phase}
 use Rattle.dv_engine.specs.declared.engine.Phase.TheVariants.{Over}

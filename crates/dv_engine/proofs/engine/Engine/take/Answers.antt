@@ -1,8 +1,8 @@
 use Rattle.std.proofs.Common.{◌≡◌, ◌++◌, ap, refl, subst, sym}
 use Rattle.dv_engine.proofs.EngineLemmas.{within_waits}
-use Rattle.dv_runner.specs.Batches.{AreNext, Batch, Callers, joined}
+use Rattle.dv_posts.specs.Batches.{AreNext, Batch, Callers, joined}
 use Rattle.dv_engine.specs.Engine.{Engine, IsStrange, IsWithin, MayTake}
-use Rattle.dv_engine.specs.Taking.{Taken}
+use Rattle.dv_posts.specs.Taking.{Taken}
 use Rattle.dv_engine.proofs.engine.Engine.take.Goals as goal
 
 pub returns-then-not-are_next : goal.returns-then-not-are_next

@@ -1,7 +1,7 @@
 use Rattle.std.proofs.Common.{arith, ◌<◌, ◌∙◌, length, subst, sym}
 use Rattle.std.proofs.lemmas.List.{length-map}
-use Rattle.dv_threads.specs.Posts.{SamePoster}
-use Rattle.dv_threads.proofs.PosterLemmas.{same_then, set_of, still_of}
+use Rattle.dv_posts.specs.Posts.{SamePoster}
+use Rattle.dv_posts.proofs.PosterLemmas.{same_then, set_of, still_of}
 use Rattle.dv_tests.proofs.tests.posts.a_full_ring_gives_the_post_back.Goals as goal
 
 pub gather-requires : goal.gather-requires

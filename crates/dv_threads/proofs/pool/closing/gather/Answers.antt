@@ -1,7 +1,7 @@
 use Rattle.std.proofs.Common.{rules, ◌≡◌, ◌++◌, ◌∷◌, [], length, take, map, Some, Ok, ap, ◌∙◌, sym, append-nil}
 use Rattle.std.specs.Vec.Iter.{into_iter_items}
-use Rattle.dv_threads.specs.Jobs.{job_of}
-use Rattle.dv_threads.specs.Sources.{jobs_of}
+use Rattle.dv_jobs.specs.Jobs.{job_of}
+use Rattle.dv_jobs.specs.Sources.{jobs_of}
 use Rattle.dv_threads.proofs.Gathers.{all_gathered, next_full, none_next, some_none, some_some, one_more_done}
 use Rattle.dv_threads.proofs.pool.closing.gather.Goals as goal
 

@@ -1,7 +1,7 @@
 use Rattle.std.proofs.Common.{◌≡◌, ◌++◌, List, map, Some}
 use Rattle.std.specs.Vec.Iter.{into_iter_items}
-use Rattle.dv_threads.specs.Jobs.{job_of, Answer, jobs_from}
-use Rattle.dv_threads.specs.Sources.{jobs_of}
+use Rattle.dv_jobs.specs.Jobs.{job_of, Answer, jobs_from}
+use Rattle.dv_jobs.specs.Sources.{jobs_of}
 use Rattle.dv_threads.proofs.pool.closing.gather.Given as goal
 
 abbrev pub invariant-loop-place : goal.invariant-loop-place

@@ -3,7 +3,7 @@ use denote.Exit.{yes}
 use denote.Param.{param}
 use denote.Param.Send.{IsSync, sendable, param_send, arg_send, shr_send}
 use Rattle.std.proofs.Crossing.{send}
-use Rattle.dv_threads.proofs.Crossing.{End-send, Arc-of_shared-send, six-send, number-send}
+use Rattle.dv_workers.proofs.Crossing.{End-send, Arc-of_shared-send, six-send, number-send}
 use Rattle.dv_threads.proofs.pool.threads.start.Lts as lts
 use Rattle.dv_threads.proofs.pool.threads.start.Goals as goal
 

@@ -2,7 +2,7 @@ use Rattle.std.proofs.Common.{◌≡◌, ◌+◌, ◌≤◌}
 use Rattle.std.specs.Prelude.{vec_len, vec_capacity}
 use Rattle.std.specs.Arc.{arc_value}
 use Rattle.crossbeam_deque.specs.Handles.{worker_view}
-use Rattle.dv_threads.specs.Rules.{all_parts}
+use Rattle.dv_workers.specs.Rules.{all_parts}
 use Rattle.dv_threads.specs.Parts.{IsOrderly, IsSamePool}
 use Rattle.dv_threads.specs.Pool.{AreOf}
 use Rattle.dv_threads.proofs.pool.crew.Crew.start.Given as goal

@@ -1,6 +1,0 @@
-use Rattle.dv_callers.specs.Callers.{HasPosted}
-use Rattle.dv_callers.proofs.callers.post_all.Given as goal
-
--- so many were posted
-abbrev pub invariant-loop-index : goal.invariant-loop-index
-invariant-loop-index l = HasPosted l.initial.poster l.index l.poster

@@ -1,8 +1,0 @@
-use Rattle.std.proofs.Common.{◌≡◌, drop}
-use Rattle.serde_json.specs.View.{items_view}
-use Rattle.dv_grammar.specs.Answer.{with_front}
-use Rattle.dv_grammar.specs.Shape.{each, caller_at}
-use Rattle.dv_drafts.proofs.script.each_caller.Given as goal
-
-abbrev pub invariant-loop-item : goal.invariant-loop-item
-invariant-loop-item l = with_front l.callers (each (caller_at l.classes) (items_view (drop l.item-index l.items))) ≡ each (caller_at l.classes) (items_view l.items)

@@ -1,0 +1,10 @@
+use Rattle.std.proofs.Common.{◌≡◌, ◌+◌, ◌≤◌, ◌&&◌, drop, length}
+use Rattle.dv_value.specs.Builtin.{builtin}
+use Rattle.dv_forms.specs.Table.{table_after, are_declared}
+use Rattle.dv_forms.proofs.table.table.Given as goal
+
+abbrev pub invariant-loop-declaration : goal.invariant-loop-declaration
+invariant-loop-declaration l =
+    (table_after l.classes (drop l.declaration-index l.declared) ≡ table_after builtin l.declared)
+    × ((l.all && are_declared l.classes (drop l.declaration-index l.declared)) ≡ are_declared builtin l.declared)
+    × (length l.classes ≤ 20 + l.declaration-index)

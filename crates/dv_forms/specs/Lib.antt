@@ -1,0 +1,5 @@
+pub mod Forms
+pub mod Table
+pub mod Leaving
+pub mod Parts
+pub mod Answer

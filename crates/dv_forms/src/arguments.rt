@@ -1,0 +1,183 @@
+ghost use Rattle.serde_json.specs.View.{items_view};
+ghost use Rattle.dv_forms.specs.Answer.{Reads};
+ghost use Rattle.dv_forms.specs.Parts.{text_at, integer_at, number_at, bound_at, value_at, class_at, list_flag_at, gather_flag_at, list_at, sole, pair, triple};
+
+use crate::leaf::{
+    bound, class, classes_in, gather_flags_in, integer, list_flags_in, number, one, small, text,
+    texts_in, three, two,
+};
+use crate::ranges::MOST_PLACES;
+use crate::stop::Stop;
+use crate::value::value;
+use dv_script::action::{GatherFlag, ListFlag};
+use dv_value::class_id::ClassId;
+use dv_value::classes::Classes;
+use dv_value::items::Items;
+use dv_value::text::Text;
+use dv_value::value::Value;
+use serde_json::Value as Json;
+use std::alloc::Global;
+
+/// A text alone.
+#[tactic(auto, unfolding(crate::specs::Parts::sole))]
+pub fn one_text(alloc: Global, arguments: &[Json]) -> Result<Text, Stop>
+    ensures { Reads result (sole text_at (items_view arguments.now)) }
+{
+    text(alloc, one(arguments)?)
+}
+
+/// A value alone.
+#[tactic(auto, unfolding(crate::specs::Parts::sole))]
+pub fn one_value(alloc: Global, arguments: &[Json]) -> Result<Value, Stop>
+    ensures { Reads result (sole value_at (items_view arguments.now)) }
+{
+    value(alloc, one(arguments)?)
+}
+
+/// An integer of 64 bits alone.
+#[tactic(auto, unfolding(crate::specs::Parts::sole))]
+pub fn one_integer(arguments: &[Json]) -> Result<i64, Stop>
+    ensures { Reads result (sole integer_at (items_view arguments.now)) }
+{
+    integer(one(arguments)?)
+}
+
+/// An integer alone, from `low` to `high`.
+#[tactic(auto, unfolding(crate::specs::Parts::sole))]
+pub fn one_number(arguments: &[Json], low: u64, high: u64) -> Result<u64, Stop>
+    ensures { Reads result (sole (number_at low high) (items_view arguments.now)) }
+{
+    number(one(arguments)?, low, high)
+}
+
+/// An integer alone, from `low` to `high`, which are of 32 bits.
+#[tactic(auto, unfolding(crate::specs::Parts::sole))]
+pub fn one_small(arguments: &[Json], low: u32, high: u32) -> Result<u32, Stop>
+    ensures { Reads result (sole (number_at low high) (items_view arguments.now)) }
+{
+    small(one(arguments)?, low, high)
+}
+
+/// Two texts.
+#[tactic(auto, unfolding(crate::specs::Parts::pair))]
+pub fn two_texts(alloc: Global, arguments: &[Json]) -> Result<(Text, Text), Stop>
+    ensures { Reads result (pair text_at text_at (items_view arguments.now)) }
+{
+    let (first, second) = two(arguments)?;
+    let first = text(alloc, first)?;
+    let second = text(alloc, second)?;
+    Ok((first, second))
+}
+
+/// A name, and a value.
+#[tactic(auto, unfolding(crate::specs::Parts::pair))]
+pub fn named_value(alloc: Global, arguments: &[Json]) -> Result<(Text, Value), Stop>
+    ensures { Reads result (pair text_at value_at (items_view arguments.now)) }
+{
+    let (name, json) = two(arguments)?;
+    let name = text(alloc, name)?;
+    let value = value(alloc, json)?;
+    Ok((name, value))
+}
+
+/// A name, and a number of places.
+#[tactic(auto, unfolding(crate::specs::Parts::pair))]
+pub fn named_places(alloc: Global, arguments: &[Json]) -> Result<(Text, u32), Stop>
+    ensures { Reads result (pair text_at (number_at 1 65536) (items_view arguments.now)) }
+{
+    let (name, json) = two(arguments)?;
+    let name = text(alloc, name)?;
+    let places = small(json, 1, MOST_PLACES)?;
+    Ok((name, places))
+}
+
+/// A class, and a message.
+#[tactic(auto, unfolding(crate::specs::Parts::pair))]
+pub fn class_and_message(
+    alloc: Global,
+    classes: &Classes,
+    arguments: &[Json],
+) -> Result<(ClassId, Text), Stop>
+    ensures { Reads result (pair (class_at classes.now) text_at (items_view arguments.now)) }
+{
+    let (name, message) = two(arguments)?;
+    let class = class(classes, name)?;
+    let message = text(alloc, message)?;
+    Ok((class, message))
+}
+
+/// Classes, and a value.
+#[tactic(auto, unfolding(crate::specs::Parts::pair))]
+pub fn classes_and_value(
+    alloc: Global,
+    classes: &Classes,
+    arguments: &[Json],
+) -> Result<(Items<ClassId>, Value), Stop>
+    ensures { Reads result (pair (list_at (class_at classes.now)) value_at (items_view arguments.now)) }
+{
+    let (names, json) = two(arguments)?;
+    let listed = classes_in(alloc, classes, names)?;
+    let value = value(alloc, json)?;
+    Ok((listed, value))
+}
+
+/// A name, a class, and a message.
+#[tactic(auto, unfolding(crate::specs::Parts::triple))]
+pub fn named_failure(
+    alloc: Global,
+    classes: &Classes,
+    arguments: &[Json],
+) -> Result<(Text, ClassId, Text), Stop>
+    ensures { Reads result (triple text_at (class_at classes.now) text_at (items_view arguments.now)) }
+{
+    let (name, class_name, message) = three(arguments)?;
+    let name = text(alloc, name)?;
+    let class = class(classes, class_name)?;
+    let message = text(alloc, message)?;
+    Ok((name, class, message))
+}
+
+/// The name of a list, its children, and its flags.
+#[tactic(auto, unfolding(crate::specs::Parts::triple))]
+pub fn named_list(
+    alloc: Global,
+    arguments: &[Json],
+) -> Result<(Text, Items<Text>, Items<ListFlag>), Stop>
+    ensures { Reads result (triple text_at (list_at text_at) (list_at list_flag_at) (items_view arguments.now)) }
+{
+    let (name, children, flags) = three(arguments)?;
+    let name = text(alloc, name)?;
+    let children = texts_in(alloc, children)?;
+    let flags = list_flags_in(alloc, flags)?;
+    Ok((name, children, flags))
+}
+
+/// The name of what is gathered, its children, and its flags.
+#[tactic(auto, unfolding(crate::specs::Parts::triple))]
+pub fn named_gathering(
+    alloc: Global,
+    arguments: &[Json],
+) -> Result<(Text, Items<Text>, Items<GatherFlag>), Stop>
+    ensures { Reads result (triple text_at (list_at text_at) (list_at gather_flag_at) (items_view arguments.now)) }
+{
+    let (name, children, flags) = three(arguments)?;
+    let name = text(alloc, name)?;
+    let children = texts_in(alloc, children)?;
+    let flags = gather_flags_in(alloc, flags)?;
+    Ok((name, children, flags))
+}
+
+/// The name of a queue, the bound of its items, and that of those who wait for one.
+#[tactic(auto, unfolding(crate::specs::Parts::triple))]
+pub fn named_bounds(
+    alloc: Global,
+    arguments: &[Json],
+) -> Result<(Text, Option<u32>, Option<u32>), Stop>
+    ensures { Reads result (triple text_at bound_at bound_at (items_view arguments.now)) }
+{
+    let (name, size, backlog) = three(arguments)?;
+    let name = text(alloc, name)?;
+    let size = bound(size)?;
+    let backlog = bound(backlog)?;
+    Ok((name, size, backlog))
+}

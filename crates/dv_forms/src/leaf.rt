@@ -1,0 +1,321 @@
+ghost use Rattle.std.specs.Prelude.{◌≡◌, ◌≤◌, map, option_map, bytes_eq, IfOk};
+ghost use Rattle.std.specs.List.{list_any};
+ghost use Rattle.serde_json.specs.View.{view, items_view, members_view};
+ghost use Rattle.serde_json.specs.Find.{as_array, as_bool};
+ghost use Rattle.dv_forms.specs.Forms.{has_only};
+ghost use Rattle.dv_forms.specs.Answer.{Reads, Gives};
+ghost use Rattle.dv_forms.specs.Parts.{text_at, integer_at, number_at, bound_at, class_at, list_flag, list_flag_at, gather_flag_named, gather_flag_at, list_at, call_at, none, first, if_any, one, one_or_two, two, three, five, fields_at};
+
+use crate::ranges::MOST_PLACES;
+use crate::stop::Stop;
+use dv_script::action::{GatherFlag, ListFlag};
+use dv_value::class_id::ClassId;
+use dv_value::classes::Classes;
+use dv_value::items::Items;
+use dv_value::text::Text;
+use serde_json::{Map, Value as Json};
+use std::alloc::Global;
+
+/// A text.
+pub fn text(alloc: Global, json: &Json) -> Result<Text, Stop>
+    ensures { Reads result (text_at (view json.now)) }
+{
+    let Json::String(text) = json else {
+        return Err(Stop::BadShape);
+    };
+    Ok(Text::of(alloc, text.as_str())?)
+}
+
+/// An integer of 64 bits.
+pub fn integer(json: &Json) -> Result<i64, Stop>
+    ensures { Reads result (integer_at (view json.now)) }
+{
+    json.as_i64().ok_or(Stop::BadShape)
+}
+
+/// An integer from `low` to `high`.
+pub fn number(json: &Json, low: u64, high: u64) -> Result<u64, Stop>
+    ensures read { Reads result (number_at low high (view json.now)) }
+    ensures most { IfOk result (λ n. n ≤ high) }
+{
+    match json.as_u64() {
+        Some(n) => if low <= n && n <= high {
+            Ok(n)
+        } else {
+            Err(Stop::BadShape)
+        },
+        None => Err(Stop::BadShape),
+    }
+}
+
+/// An integer from `low` to `high`, which are of 32 bits.
+pub fn small(json: &Json, low: u32, high: u32) -> Result<u32, Stop>
+    ensures { Reads result (number_at low high (view json.now)) }
+{
+    Ok(number(json, u64::from(low), u64::from(high))? as u32)
+}
+
+/// A boolean.
+pub fn boolean(json: &Json) -> Result<bool, Stop>
+    ensures { Reads result (as_bool (view json.now)) }
+{
+    json.as_bool().ok_or(Stop::BadShape)
+}
+
+/// A bound of a queue, or none.
+pub fn bound(json: &Json) -> Result<Option<u32>, Stop>
+    ensures { Reads result (bound_at (view json.now)) }
+{
+    match json {
+        Json::Null => Ok(None),
+        Json::Number(_) => Ok(Some(small(json, 0, MOST_PLACES)?)),
+        Json::Bool(_) | Json::String(_) | Json::Array(_) | Json::Object(_) => Err(Stop::BadShape),
+    }
+}
+
+/// The place of a class, or the place past the last where the table has none of this name.
+pub fn class(classes: &Classes, json: &Json) -> Result<ClassId, Stop>
+    ensures { Reads result (class_at classes.now (view json.now)) }
+{
+    let Json::String(name) = json else {
+        return Err(Stop::BadShape);
+    };
+    let past_the_last = ClassId::new(classes.count());
+    Ok(classes.find(name.as_str()).unwrap_or(past_the_last))
+}
+
+/// An array of classes.
+pub fn classes_in(alloc: Global, classes: &Classes, json: &Json) -> Result<Items<ClassId>, Stop>
+    ensures { Reads result (list_at (class_at classes.now) (view json.now)) }
+{
+    let items = array(json)?;
+    let mut listed = Items::new(alloc);
+    for item in items {
+        listed.push(class(classes, item)?)?;
+    }
+    Ok(listed)
+}
+
+/// An array of texts.
+pub fn texts_in(alloc: Global, json: &Json) -> Result<Items<Text>, Stop>
+    ensures { Reads result (list_at text_at (view json.now)) }
+{
+    let items = array(json)?;
+    let mut texts = Items::new(alloc);
+    for item in items {
+        texts.push(text(alloc, item)?)?;
+    }
+    Ok(texts)
+}
+
+fn list_flag_named(word: &str) -> Option<ListFlag>
+    ensures { result ≡ list_flag word.now }
+{
+    match word {
+        "fireOnOneCallback" => Some(ListFlag::FireOnOneCallback),
+        "fireOnOneErrback" => Some(ListFlag::FireOnOneErrback),
+        "consumeErrors" => Some(ListFlag::ConsumeErrors),
+        _ => None,
+    }
+}
+
+fn list_flag(json: &Json) -> Result<ListFlag, Stop>
+    ensures { Reads result (list_flag_at (view json.now)) }
+{
+    let Json::String(word) = json else {
+        return Err(Stop::BadShape);
+    };
+    list_flag_named(word.as_str()).ok_or(Stop::BadShape)
+}
+
+/// An array of flags of a list.
+pub fn list_flags_in(alloc: Global, json: &Json) -> Result<Items<ListFlag>, Stop>
+    ensures { Reads result (list_at list_flag_at (view json.now)) }
+{
+    let items = array(json)?;
+    let mut flags = Items::new(alloc);
+    for item in items {
+        flags.push(list_flag(item)?)?;
+    }
+    Ok(flags)
+}
+
+fn gather_flag_named(word: &str) -> Option<GatherFlag>
+    ensures { result ≡ gather_flag_named word.now }
+{
+    match word {
+        "consumeErrors" => Some(GatherFlag::ConsumeErrors),
+        _ => None,
+    }
+}
+
+fn gather_flag(json: &Json) -> Result<GatherFlag, Stop>
+    ensures { Reads result (gather_flag_at (view json.now)) }
+{
+    let Json::String(word) = json else {
+        return Err(Stop::BadShape);
+    };
+    gather_flag_named(word.as_str()).ok_or(Stop::BadShape)
+}
+
+/// An array of flags of what is gathered.
+pub fn gather_flags_in(alloc: Global, json: &Json) -> Result<Items<GatherFlag>, Stop>
+    ensures { Reads result (list_at gather_flag_at (view json.now)) }
+{
+    let items = array(json)?;
+    let mut flags = Items::new(alloc);
+    for item in items {
+        flags.push(gather_flag(item)?)?;
+    }
+    Ok(flags)
+}
+
+/// The items of an array.
+pub fn array(json: &Json) -> Result<&[Json], Stop>
+    ensures { Gives (λ items. items_view items.now) result (as_array (view json.now)) }
+{
+    let Json::Array(items) = json else {
+        return Err(Stop::BadShape);
+    };
+    Ok(items.as_slice())
+}
+
+/// A word, and what comes with it.
+#[tactic(auto, unfolding(crate::specs::Parts::call_at))]
+pub fn call(json: &Json) -> Result<(&str, &[Json]), Stop>
+    ensures { Gives (λ call. (call.0.now, items_view call.1.now)) result (call_at (view json.now)) }
+{
+    let parts = array(json)?;
+    let Some((first, arguments)) = parts.split_first() else {
+        return Err(Stop::BadShape);
+    };
+    let Json::String(word) = first else {
+        return Err(Stop::BadShape);
+    };
+    Ok((word.as_str(), arguments))
+}
+
+/// No argument.
+#[tactic(auto, unfolding(crate::specs::Parts::none))]
+pub fn none(items: &[Json]) -> Result<(), Stop>
+    ensures { Gives (λ _. tt) result (none (items_view items.now)) }
+{
+    match items.split_first() {
+        None => Ok(()),
+        Some(_) => Err(Stop::BadShape),
+    }
+}
+
+/// An argument, and the rest.
+#[tactic(auto, unfolding(crate::specs::Parts::first))]
+fn first(items: &[Json]) -> Result<(&Json, &[Json]), Stop>
+    ensures { Gives (λ p. (view p.0.now, items_view p.1.now)) result (first (items_view items.now)) }
+{
+    match items.split_first() {
+        None => Err(Stop::BadShape),
+        Some((json, rest)) => Ok((json, rest)),
+    }
+}
+
+/// An argument, or none.
+#[tactic(auto, unfolding(crate::specs::Parts::if_any))]
+fn if_any(items: &[Json]) -> Result<Option<&Json>, Stop>
+    ensures { Gives (λ o. option_map (λ json. view json.now) o) result (if_any (items_view items.now)) }
+{
+    match items.split_first() {
+        None => Ok(None),
+        Some((json, rest)) => {
+            none(rest)?;
+            Ok(Some(json))
+        }
+    }
+}
+
+/// One argument.
+#[tactic(auto, unfolding(crate::specs::Parts::one))]
+pub fn one(items: &[Json]) -> Result<&Json, Stop>
+    ensures { Gives (λ json. view json.now) result (one (items_view items.now)) }
+{
+    let (json, rest) = first(items)?;
+    none(rest)?;
+    Ok(json)
+}
+
+/// One argument or two.
+#[tactic(auto, unfolding(crate::specs::Parts::one_or_two))]
+pub fn one_or_two(items: &[Json]) -> Result<(&Json, Option<&Json>), Stop>
+    ensures { Gives (λ p. (view p.0.now, option_map (λ json. view json.now) p.1)) result (one_or_two (items_view items.now)) }
+{
+    let (json, rest) = first(items)?;
+    let last = if_any(rest)?;
+    Ok((json, last))
+}
+
+/// Two arguments.
+#[tactic(auto, unfolding(crate::specs::Parts::two))]
+pub fn two(items: &[Json]) -> Result<(&Json, &Json), Stop>
+    ensures { Gives (λ p. (view p.0.now, view p.1.now)) result (two (items_view items.now)) }
+{
+    let (json, rest) = first(items)?;
+    let last = one(rest)?;
+    Ok((json, last))
+}
+
+/// Three arguments.
+#[tactic(auto, unfolding(crate::specs::Parts::three))]
+pub fn three(items: &[Json]) -> Result<(&Json, &Json, &Json), Stop>
+    ensures { Gives (λ p. (view p.0.now, view p.1.now, view p.2.now)) result (three (items_view items.now)) }
+{
+    let (json, rest) = first(items)?;
+    let (next, last) = two(rest)?;
+    Ok((json, next, last))
+}
+
+/// Five arguments.
+#[tactic(auto, unfolding(crate::specs::Parts::five))]
+pub fn five(items: &[Json]) -> Result<(&Json, &Json, &Json, &Json, &Json), Stop>
+    ensures { Gives (λ p. (view p.0.now, view p.1.now, view p.2.now, view p.3.now, view p.4.now)) result (five (items_view items.now)) }
+{
+    let (json, rest) = first(items)?;
+    let (second, rest) = first(rest)?;
+    let (third, fourth, last) = three(rest)?;
+    Ok((json, second, third, fourth, last))
+}
+
+/// An object with no other keys than these.
+#[tactic(auto, unfolding(crate::specs::Parts::fields_at))]
+pub fn fields(json: &Json, keys: &[&str]) -> Result<(), Stop>
+    ensures { Gives (λ _. tt) result (fields_at (map (λ k. k.now) keys.now) (view json.now)) }
+{
+    let Json::Object(members) = json else {
+        return Err(Stop::BadShape);
+    };
+    if has_only(members, keys) {
+        Ok(())
+    } else {
+        Err(Stop::BadShape)
+    }
+}
+
+#[tactic(auto, unfolding(crate::specs::Forms::has_only))]
+fn has_only(members: &Map<String, Json>, keys: &[&str]) -> bool
+    ensures { result ≡ has_only (map (λ k. k.now) keys.now) (members_view members.now.entries) }
+{
+    for (key, _) in members.iter() {
+        if !is_among(key.as_str(), keys) {
+            return false;
+        }
+    }
+    true
+}
+
+fn is_among(key: &str, keys: &[&str]) -> bool
+    ensures { result ≡ list_any (λ k. bytes_eq key.now k) (map (λ k. k.now) keys.now) }
+{
+    for k in keys {
+        if key == *k {
+            return true;
+        }
+    }
+    false
+}

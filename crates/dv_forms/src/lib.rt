@@ -1,0 +1,11 @@
+//! The parts of a JSON value in which nothing nests but values: texts, numbers, classes, flags, the arguments of a word, and the classes that a script declares.
+#![tactic(auto)]
+
+pub mod arguments;
+pub mod declaration;
+pub mod leaf;
+pub mod leaving;
+pub mod ranges;
+pub mod stop;
+pub mod table;
+pub mod value;

@@ -1,0 +1,78 @@
+ghost use Rattle.std.specs.Prelude.{◌≡◌, ◌+◌, ◌<◌, ◌^◌, [], length, Some, option_map, OnOk};
+ghost use Rattle.serde_json.specs.View.{view, items_view};
+ghost use Rattle.dv_forms.specs.Answer.{Reads};
+ghost use Rattle.dv_forms.specs.Parts.{declaration_at, each, list_at, field, table_for};
+ghost use Rattle.dv_forms.specs.Table.{can_declare, with_declared};
+
+use crate::arguments::two_texts;
+use crate::declaration::Declaration;
+use crate::leaf::array;
+use crate::ranges::MOST_CLASSES;
+use crate::stop::Stop;
+use dv_value::class_fault::ClassFault;
+use dv_value::classes::Classes;
+use dv_value::items::Items;
+use serde_json::Value as Json;
+use std::alloc::Global;
+
+/// The classes that a script declares, which it may leave out.
+pub fn declarations(alloc: Global, json: Option<&Json>) -> Result<Items<Declaration>, Stop>
+    ensures { Reads result (field [] (list_at declaration_at) (option_map (λ d. view d.now) json.entry)) }
+{
+    match json {
+        None => Ok(Items::new(alloc)),
+        Some(json) => each_declaration(alloc, array(json)?),
+    }
+}
+
+fn each_declaration(alloc: Global, items: &[Json]) -> Result<Items<Declaration>, Stop>
+    ensures { Reads result (each declaration_at (items_view items.now)) }
+{
+    let mut declarations = Items::new(alloc);
+    for item in items {
+        declarations.push(declaration(alloc, item)?)?;
+    }
+    Ok(declarations)
+}
+
+#[tactic(auto, unfolding(crate::specs::Parts::declaration_at))]
+fn declaration(alloc: Global, json: &Json) -> Result<Declaration, Stop>
+    ensures { Reads result (declaration_at (view json.now)) }
+{
+    let (name, parent) = two_texts(alloc, array(json)?)?;
+    Ok(Declaration { name, parent })
+}
+
+/// The table of a script that declares these classes, and whether each of them may be declared.
+#[tactic(auto, unfolding(crate::specs::Parts::table_for, dv_value::specs::Builtin::builtin))]
+pub fn table(alloc: Global, declared: &[Declaration]) -> Result<(Classes, bool), Stop>
+    ensures { Reads result (table_for declared.now) }
+{
+    let mut classes = Classes::builtin(alloc)?;
+    if declared.len() > MOST_CLASSES {
+        return Ok((classes, false));
+    }
+    let mut all = true;
+    for declaration in declared {
+        if !declare(&mut classes, declaration)? {
+            all = false;
+        }
+    }
+    Ok((classes, all))
+}
+
+/// Adds the class where it may be declared, and tells whether it may.
+fn declare(classes: &mut Classes, declaration: &Declaration) -> Result<bool, Stop>
+    requires room { length classes.old + 1 < 2 ^ 32 }
+    ensures told { Reads result (Some (can_declare classes.old declaration.now)) }
+    ensures table { OnOk result (classes.new ≡ with_declared classes.old declaration.now) }
+{
+    if declaration.name.as_str() == "TimeoutError" {
+        return Ok(false);
+    }
+    match classes.declare(declaration.name.as_str(), declaration.parent.as_str()) {
+        Ok(_) => Ok(true),
+        Err(ClassFault::Taken | ClassFault::NoParent) => Ok(false),
+        Err(ClassFault::OutOfMemory) => Err(Stop::OutOfMemory),
+    }
+}

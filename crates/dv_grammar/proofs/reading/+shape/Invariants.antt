@@ -1,0 +1,81 @@
+use Rattle.std.proofs.Common.{◌≡◌, ◌+◌, ◌*◌, drop}
+use Rattle.serde_json.specs.View.{items_view}
+use Rattle.dv_forms.specs.Answer.{with_front}
+use Rattle.dv_forms.specs.Parts.{each}
+use Rattle.dv_grammar.specs.Shape.{action_at, body_at, statement_at}
+use Rattle.dv_grammar.proofs.reading.+shape.Given as goal
+
+abbrev pub decreases-action::action : goal.decreases-action::action
+decreases-action::action l = 16 * l.levels + 5
+
+abbrev pub decreases-action::action_of : goal.decreases-action::action_of
+decreases-action::action_of l = 16 * l.levels + 4
+
+abbrev pub decreases-action::actions : goal.decreases-action::actions
+decreases-action::actions l = 16 * l.levels + 6
+
+abbrev pub decreases-action::body_of : goal.decreases-action::body_of
+decreases-action::body_of l = 16 * l.levels + 3
+
+abbrev pub decreases-action::canceller : goal.decreases-action::canceller
+decreases-action::canceller l = 16 * l.levels + 1
+
+abbrev pub decreases-action::delayed_body : goal.decreases-action::delayed_body
+decreases-action::delayed_body l = 16 * l.levels + 1
+
+abbrev pub decreases-action::locked_body : goal.decreases-action::locked_body
+decreases-action::locked_body l = 16 * l.levels + 1
+
+abbrev pub decreases-action::loop_of : goal.decreases-action::loop_of
+decreases-action::loop_of l = 16 * l.levels + 1
+
+abbrev pub decreases-action::named_bodies : goal.decreases-action::named_bodies
+decreases-action::named_bodies l = 16 * l.levels + 2
+
+abbrev pub decreases-action::named_body : goal.decreases-action::named_body
+decreases-action::named_body l = 16 * l.levels + 1
+
+abbrev pub decreases-action::named_sides : goal.decreases-action::named_sides
+decreases-action::named_sides l = 16 * l.levels + 1
+
+abbrev pub decreases-action::named_statements : goal.decreases-action::named_statements
+decreases-action::named_statements l = 16 * l.levels + 2
+
+abbrev pub decreases-action::nesting_of : goal.decreases-action::nesting_of
+decreases-action::nesting_of l = 16 * l.levels + 3
+
+abbrev pub decreases-action::new_deferred : goal.decreases-action::new_deferred
+decreases-action::new_deferred l = 16 * l.levels + 2
+
+abbrev pub decreases-body::bodies : goal.decreases-body::bodies
+decreases-body::bodies l = 16 * l.levels + 1
+
+abbrev pub decreases-body::body : goal.decreases-body::body
+decreases-body::body l = 16 * l.levels
+
+abbrev pub decreases-body::performed : goal.decreases-body::performed
+decreases-body::performed l = 16 * l.levels + 7
+
+abbrev pub decreases-statement::statement : goal.decreases-statement::statement
+decreases-statement::statement l = 16 * l.levels
+
+abbrev pub decreases-statement::statement_of : goal.decreases-statement::statement_of
+decreases-statement::statement_of l = 16 * l.levels + 8
+
+abbrev pub decreases-statement::statements : goal.decreases-statement::statements
+decreases-statement::statements l = 16 * l.levels + 1
+
+abbrev pub decreases-statement::tried : goal.decreases-statement::tried
+decreases-statement::tried l = 16 * l.levels + 2
+
+abbrev pub invariant-action::actions-loop-item : goal.invariant-action::actions-loop-item
+invariant-action::actions-loop-item l =
+    with_front l.actions (each (action_at l.classes l.levels) (items_view (drop l.item-index l.items))) ≡ each (action_at l.classes l.levels) (items_view l.items)
+
+abbrev pub invariant-body::bodies-loop-item : goal.invariant-body::bodies-loop-item
+invariant-body::bodies-loop-item l =
+    with_front l.bodies (each (body_at l.classes l.levels) (items_view (drop l.item-index l.items))) ≡ each (body_at l.classes l.levels) (items_view l.items)
+
+abbrev pub invariant-statement::statements-loop-item : goal.invariant-statement::statements-loop-item
+invariant-statement::statements-loop-item l =
+    with_front l.statements (each (statement_at l.classes l.levels) (items_view (drop l.item-index l.items))) ≡ each (statement_at l.classes l.levels) (items_view l.items)

@@ -1,8 +1,0 @@
-use Rattle.std.proofs.Common.{◌≡◌, drop}
-use Rattle.serde_json.specs.View.{items_view}
-use Rattle.dv_grammar.specs.Answer.{with_front}
-use Rattle.dv_grammar.specs.Shape.{each, list_flag_at}
-use Rattle.dv_grammar.proofs.reading.leaf.list_flags_in.Given as goal
-
-abbrev pub invariant-loop-item : goal.invariant-loop-item
-invariant-loop-item l = with_front l.flags (each list_flag_at (items_view (drop l.item-index l.items))) ≡ each list_flag_at (items_view l.items)

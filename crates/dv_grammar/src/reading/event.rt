@@ -1,0 +1,60 @@
+ghost use Rattle.serde_json.specs.View.{view, items_view};
+ghost use Rattle.dv_forms.specs.Answer.{Reads};
+ghost use Rattle.dv_forms.specs.Parts.{each};
+ghost use Rattle.dv_grammar.specs.Shape.{event_at, event_of, other_event};
+
+use crate::reading::action::action;
+use crate::words::EventWord;
+use dv_forms::arguments::{one_number, one_small};
+use dv_forms::leaf::call;
+use dv_forms::ranges::{MOST_LEVELS, MOST_TICKS};
+use dv_forms::stop::Stop;
+use dv_script::event::Event;
+use dv_value::classes::Classes;
+use dv_value::items::Items;
+use serde_json::Value as Json;
+use std::alloc::Global;
+
+/// An event: an action, or what happens to the clock or to the posts.
+#[tactic(auto, unfolding(crate::specs::Shape::event_at))]
+fn event(alloc: Global, classes: &Classes, json: &Json) -> Result<Event, Stop>
+    ensures { Reads result (event_at classes.now (view json.now)) }
+{
+    match action(alloc, classes, MOST_LEVELS, json) {
+        Ok(action) => Ok(Event::Action(action)),
+        Err(Stop::BadShape) => other_event(json),
+        Err(Stop::OutOfMemory) => Err(Stop::OutOfMemory),
+    }
+}
+
+#[tactic(auto, unfolding(crate::specs::Shape::other_event))]
+fn other_event(json: &Json) -> Result<Event, Stop>
+    ensures { Reads result (other_event (view json.now)) }
+{
+    let (word, arguments) = call(json)?;
+    match EventWord::named(word) {
+        Some(word) => event_of(word, arguments),
+        None => Err(Stop::BadShape),
+    }
+}
+
+#[tactic(auto, unfolding(crate::specs::Shape::event_of))]
+fn event_of(word: EventWord, arguments: &[Json]) -> Result<Event, Stop>
+    ensures { Reads result (event_of word (items_view arguments.now)) }
+{
+    match word {
+        EventWord::Advance => Ok(Event::Advance(one_number(arguments, 0, MOST_TICKS)?)),
+        EventWord::Drain => Ok(Event::Drain(one_small(arguments, 0, 2_048)?)),
+    }
+}
+
+/// The items of an array of events.
+pub fn events(alloc: Global, classes: &Classes, items: &[Json]) -> Result<Items<Event>, Stop>
+    ensures { Reads result (each (event_at classes.now) (items_view items.now)) }
+{
+    let mut events = Items::new(alloc);
+    for item in items {
+        events.push(event(alloc, classes, item)?)?;
+    }
+    Ok(events)
+}

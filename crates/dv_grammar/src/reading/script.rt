@@ -1,0 +1,103 @@
+ghost use Rattle.std.specs.Prelude.{[], option_map, option_and_then};
+ghost use Rattle.serde_json.specs.View.{view, items_view};
+ghost use Rattle.dv_forms.specs.Answer.{Reads};
+ghost use Rattle.dv_forms.specs.Parts.{each, field, list_at, number_at};
+ghost use Rattle.dv_grammar.specs.Shape.{caller_at, event_at, script_at};
+
+use crate::draft::Draft;
+use crate::reading::body::bodies;
+use crate::reading::cooperator::cooperator_or_plain;
+use crate::reading::event::events;
+use dv_forms::leaf::{array, fields, number};
+use dv_forms::ranges::{MOST_LEVELS, MOST_LIMIT};
+use dv_forms::stop::Stop;
+use dv_forms::table::{declarations, table};
+use dv_script::body::Body;
+use dv_script::event::Event;
+use dv_script::script::Script;
+use dv_value::classes::Classes;
+use dv_value::items::Items;
+use serde_json::Value as Json;
+use std::alloc::Global;
+
+fn limit(json: Option<&Json>) -> Result<u64, Stop>
+    ensures { Reads result (field 2000 (number_at 0 200000) (option_map (λ d. view d.now) json.entry)) }
+{
+    match json {
+        None => Ok(2_000),
+        Some(json) => number(json, 0, MOST_LIMIT),
+    }
+}
+
+fn callers(
+    alloc: Global,
+    classes: &Classes,
+    json: Option<&Json>,
+) -> Result<Items<Items<Body>>, Stop>
+    ensures { Reads result (field [] (list_at (caller_at classes.now)) (option_map (λ d. view d.now) json.entry)) }
+{
+    match json {
+        None => Ok(Items::new(alloc)),
+        Some(json) => each_caller(alloc, classes, array(json)?),
+    }
+}
+
+fn each_caller(alloc: Global, classes: &Classes, items: &[Json]) -> Result<Items<Items<Body>>, Stop>
+    ensures { Reads result (each (caller_at classes.now) (items_view items.now)) }
+{
+    let mut callers = Items::new(alloc);
+    for item in items {
+        callers.push(caller(alloc, classes, item)?)?;
+    }
+    Ok(callers)
+}
+
+fn caller(alloc: Global, classes: &Classes, json: &Json) -> Result<Items<Body>, Stop>
+    ensures { Reads result (caller_at classes.now (view json.now)) }
+{
+    bodies(alloc, classes, MOST_LEVELS, array(json)?)
+}
+
+fn all_events(alloc: Global, classes: &Classes, json: Option<&Json>) -> Result<Items<Event>, Stop>
+    ensures { Reads result (option_and_then (list_at (event_at classes.now)) (option_map (λ d. view d.now) json.entry)) }
+{
+    match json {
+        None => Err(Stop::BadShape),
+        Some(json) => events(alloc, classes, array(json)?),
+    }
+}
+
+/// A script by its shape alone.
+#[tactic(auto, unfolding(crate::specs::Shape::script_at))]
+pub fn shape(alloc: Global, json: &Json) -> Result<Draft, Stop>
+    ensures { Reads result (script_at (view json.now)) }
+{
+    fields(
+        json,
+        &[
+            "version",
+            "events",
+            "limit",
+            "classes",
+            "cooperator",
+            "callers",
+        ],
+    )?;
+    let limit = limit(json.get("limit"))?;
+    let cooperator = cooperator_or_plain(json.get("cooperator"))?;
+    let declared = declarations(alloc, json.get("classes"))?;
+    let (classes, all_declared) = table(alloc, declared.as_slice())?;
+    let callers = callers(alloc, &classes, json.get("callers"))?;
+    let events = all_events(alloc, &classes, json.get("events"))?;
+    Ok(Draft {
+        declared,
+        all_declared,
+        script: Script {
+            classes,
+            limit,
+            cooperator,
+            callers,
+            events,
+        },
+    })
+}

@@ -1,0 +1,95 @@
+ghost use Rattle.serde_json.specs.View.{view, items_view};
+ghost use Rattle.dv_forms.specs.Answer.{Reads};
+ghost use Rattle.dv_forms.specs.Parts.{class_at, list_at, triple, each};
+ghost use Rattle.dv_grammar.specs.Shape.{action_at, statement_at, statement_of};
+
+use crate::reading::action::action;
+use crate::reading::end::leave;
+use crate::words::StatementWord;
+use dv_forms::arguments::one_text;
+use dv_forms::leaf::{array, call, classes_in, one, three};
+use dv_forms::stop::Stop;
+use dv_script::body::Statement;
+use dv_value::class_id::ClassId;
+use dv_value::classes::Classes;
+use dv_value::items::Items;
+use serde_json::Value as Json;
+use std::alloc::Global;
+
+/// A statement, in which bodies and statements nest to `levels`, itself among them.
+#[cycle(shape)]
+#[tactic(auto, unfolding(crate::specs::Shape::readers, crate::specs::Shape::statement_by))]
+pub fn statement(
+    alloc: Global,
+    classes: &Classes,
+    levels: u32,
+    json: &Json,
+) -> Result<Statement, Stop>
+    ensures { Reads result (statement_at classes.now levels (view json.now)) }
+{
+    if levels == 0 {
+        return Err(Stop::BadShape);
+    }
+    let (word, arguments) = call(json)?;
+    match StatementWord::named(word) {
+        Some(word) => statement_of(alloc, classes, levels - 1, word, arguments),
+        None => Err(Stop::BadShape),
+    }
+}
+
+#[cycle(shape)]
+#[tactic(auto, unfolding(crate::specs::Shape::statement_of, dv_forms::specs::Parts::sole))]
+fn statement_of(
+    alloc: Global,
+    classes: &Classes,
+    levels: u32,
+    word: StatementWord,
+    arguments: &[Json],
+) -> Result<Statement, Stop>
+    ensures { Reads result (statement_of classes.now (action_at classes.now levels) (statement_at classes.now levels) word (items_view arguments.now)) }
+{
+    match word {
+        StatementWord::Do => Ok(Statement::Do(action(alloc, classes, levels, one(arguments)?)?)),
+        StatementWord::Await => Ok(Statement::Await(one_text(alloc, arguments)?)),
+        StatementWord::Try => {
+            let (body, listed, handler) = tried(alloc, classes, levels, arguments)?;
+            Ok(Statement::Try(body, listed, handler))
+        }
+        StatementWord::End => Ok(Statement::End(leave(alloc, classes, one(arguments)?)?)),
+    }
+}
+
+/// What is tried, the classes that are caught, and what then runs.
+#[cycle(shape)]
+#[tactic(auto, unfolding(dv_forms::specs::Parts::triple))]
+fn tried(
+    alloc: Global,
+    classes: &Classes,
+    levels: u32,
+    arguments: &[Json],
+) -> Result<(Items<Statement>, Items<ClassId>, Items<Statement>), Stop>
+    ensures { Reads result (triple (list_at (statement_at classes.now levels)) (list_at (class_at classes.now)) (list_at (statement_at classes.now levels)) (items_view arguments.now)) }
+{
+    let (body, names, handler) = three(arguments)?;
+    let body = statements(alloc, classes, levels, array(body)?)?;
+    let listed = classes_in(alloc, classes, names)?;
+    let handler = statements(alloc, classes, levels, array(handler)?)?;
+    Ok((body, listed, handler))
+}
+
+/// The items of an array of statements.
+#[cycle(shape)]
+pub fn statements(
+    alloc: Global,
+    classes: &Classes,
+    levels: u32,
+    items: &[Json],
+) -> Result<Items<Statement>, Stop>
+    ensures { Reads result (each (statement_at classes.now levels) (items_view items.now)) }
+{
+    let mut statements = Items::new(alloc);
+    for item in items {
+        statements.push(statement(alloc, classes, levels, item)?)?;
+    }
+    Ok(statements)
+}

@@ -1,0 +1,3 @@
+pub mod Works
+pub mod Jobs
+pub mod Sources

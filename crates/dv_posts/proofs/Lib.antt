@@ -1,0 +1,4 @@
+pub mod InboxLemmas
+pub mod PosterLemmas
+pub mod CallerLemmas
+pub mod CountLemmas

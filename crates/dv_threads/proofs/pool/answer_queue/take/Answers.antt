@@ -1,5 +1,0 @@
-use Rattle.dv_threads.proofs.RuleLemmas.{queue_takes}
-use Rattle.dv_threads.proofs.pool.answer_queue.take.Goals as goal
-
-pub try_pop_as-requires-clause-rule : goal.try_pop_as-requires-clause-rule
-try_pop_as-requires-clause-rule c = queue_takes _ _ c.requires.part

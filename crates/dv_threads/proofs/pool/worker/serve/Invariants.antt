@@ -1,5 +1,0 @@
-use Rattle.dv_threads.specs.Worker.{IsEndOf, HasServed}
-use Rattle.dv_threads.proofs.pool.worker.serve.Given as goal
-
-abbrev pub invariant-loop : goal.invariant-loop
-invariant-loop g l = IsEndOf l.shared l.end × HasServed l.end

@@ -1,8 +1,0 @@
-use Rattle.std.proofs.Common.{◌≡◌, ◌+◌, ◌++◌, length, map}
-use Rattle.dv_threads.specs.Posts.{post}
-use Rattle.dv_threads.proofs.receiver.Receiver.drain.Given as goal
-
-abbrev pub invariant-loop : goal.invariant-loop
-invariant-loop l =
-    (l.rest ++ map (post l.caller) l.self.seen ≡ l.initial.rest ++ map (post l.caller) l.initial.self.seen)
-    × (length l.self.seen + l.counter ≡ l.left)
