@@ -12,11 +12,12 @@ use Rattle.dv_actions.specs.Looping.{looped, stopped_of}
 use Rattle.dv_rules.specs.Maybe.{body_for}
 use Rattle.dv_actions.specs.Queueing.{put_of, get_of}
 use Rattle.dv_actions.specs.Threading.{threaded}
+use Rattle.dv_actions.specs.Timing.{timer_begun}
 use Rattle.dv_rules.specs.Turn.{Turned, ◌over◌, done, settling, settle_next}
 use Rattle.dv_rules.specs.declared.frame.Frame.TheVariants as frame
 use Rattle.dv_rules.specs.declared.frame.Purpose.TheVariants.{Named}
 use Rattle.dv_actions.specs.Deed.{Deed}
-use Rattle.dv_actions.specs.Deed.{NoteOf, Make, FireWith, AddTo, ChainTo, PauseOf, UnpauseOf, CancelOf, MakeLock, MakeSemaphore, AcquireOf, ReleaseOf, RunOf, MaybeOf, MakeQueue, PutInto, GetFrom, ListOf, GatherOf, LaterOf, CancelCallOf, LoopOf, StopLoopOf, CooperateOf, WhenDoneOf, PauseTaskOf, StopTaskOf, ResumeTaskOf, InlineOf, ThreadOf}
+use Rattle.dv_actions.specs.Deed.{NoteOf, Make, FireWith, AddTo, ChainTo, PauseOf, UnpauseOf, CancelOf, TimeoutOf, MakeLock, MakeSemaphore, AcquireOf, ReleaseOf, RunOf, MaybeOf, MakeQueue, PutInto, GetFrom, ListOf, GatherOf, LaterOf, CancelCallOf, LoopOf, StopLoopOf, CooperateOf, WhenDoneOf, PauseTaskOf, StopTaskOf, ResumeTaskOf, InlineOf, ThreadOf}
 use Rattle.dv_world.specs.Found.{deferreds_at}
 use Rattle.dv_objects.specs.Names.{number_of}
 use Rattle.dv_objects.specs.Objects.{with_new_lock, with_new_queue}
@@ -61,6 +62,7 @@ begun itself (ChainTo name next) w = with_named itself name w (λ d. with_named 
 begun itself (PauseOf name) w = with_named itself name w (λ d. done (pause d w))
 begun itself (UnpauseOf name) w = with_named itself name w (λ d. settle_next d (unpause d w).0 (unpause d w).1)
 begun itself (CancelOf name) w = with_named itself name w (λ d. cancel_begun (cancel d w).0 (cancel d w).1)
+begun itself (TimeoutOf name delay) w = with_named itself name w (λ d. timer_begun d delay w)
 begun itself (MakeLock name) w = done (aside (entry.Lock name) (with_new_lock name 1) w)
 begun itself (MakeSemaphore name tokens) w = done (aside (entry.Semaphore name tokens) (with_new_lock name tokens) w)
 begun itself (AcquireOf name lock) w = with_lock lock w (λ l. acquired name l w)

@@ -32,6 +32,8 @@ pub data Deed : Type 0 where
   PauseOf : (name : List ℕ) → Deed
   UnpauseOf : (name : List ℕ) → Deed
   CancelOf : (name : List ℕ) → Deed
+  -- a Deferred is cancelled so many ticks later, unless it has come to something by then
+  TimeoutOf : (name : List ℕ) (delay : ℕ) → Deed
   -- a lock is made, or a semaphore of so many tokens
   MakeLock : (name : List ℕ) → Deed
   MakeSemaphore : (name : List ℕ) (tokens : ℕ) → Deed
@@ -109,6 +111,7 @@ deed_of (Action-F.Chain name next) = ChainTo name next
 deed_of (Action-F.Pause name) = PauseOf name
 deed_of (Action-F.Unpause name) = UnpauseOf name
 deed_of (Action-F.Cancel name) = CancelOf name
+deed_of (Action-F.AddTimeout name delay) = TimeoutOf name delay
 deed_of (Action-F.Note text) = NoteOf text
 deed_of (Action-F.List name children flags) = ListOf name children (list_flags flags)
 deed_of (Action-F.Gather name children flags) = GatherOf name children (gather_flags flags)

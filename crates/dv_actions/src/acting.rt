@@ -18,7 +18,7 @@ use crate::locking::{acquire, release, run_with};
 use crate::looping::{start_loop, stop_loop};
 use crate::queueing::{get, put};
 use crate::threading::thread;
-use crate::timing::cancel_call;
+use crate::timing::{add_timeout, cancel_call};
 use dv_journal::deferred_id::DeferredId;
 use dv_journal::entry::Entry;
 use dv_objects::canceller::Canceller;
@@ -109,6 +109,9 @@ pub fn begin<'s>(
         Action::Pause(name) => pause(alloc, world, itself, name.as_str()),
         Action::Unpause(name) => unpause(alloc, world, stack, itself, name.as_str()),
         Action::Cancel(name) => cancel_named(alloc, world, stack, itself, name.as_str()),
+        Action::AddTimeout(name, delay) => {
+            add_timeout(alloc, world, stack, itself, name.as_str(), *delay)
+        }
         Action::Lock(name) => done(world.make_lock(name.as_str())),
         Action::Semaphore(name, tokens) => done(world.make_semaphore(name.as_str(), *tokens)),
         Action::Acquire(name, lock) => {

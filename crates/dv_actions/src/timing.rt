@@ -1,8 +1,8 @@
 ghost use Rattle.std.specs.Prelude.{◌≡◌, [], None, IfOk};
 ghost use Rattle.dv_actions.specs.Acting.{begun};
-ghost use Rattle.dv_actions.specs.Timing.{body_called, come_due_with};
+ghost use Rattle.dv_actions.specs.Timing.{timer_begun, body_called, come_due_with};
 ghost use Rattle.dv_rules.specs.Turn.{◌over◌};
-ghost use Rattle.dv_actions.specs.Deed.{CancelCallOf};
+ghost use Rattle.dv_actions.specs.Deed.{CancelCallOf, TimeoutOf};
 ghost use Rattle.dv_world.specs.World.{World as Seen, come_due};
 
 use crate::looping::take_turn;
@@ -12,9 +12,10 @@ use dv_clock::due::Due;
 use dv_clock::loop_id::LoopId;
 use dv_jobs::source::JobSource;
 use dv_journal::deferred_id::DeferredId;
+use dv_objects::pair::Pair;
 use dv_objects::performed::Performed;
 use dv_objects::refusals::unbound;
-use dv_rules::following::{done, whole};
+use dv_rules::following::{add_and_settle, done, whole};
 use dv_rules::frame::Frame;
 use dv_script::lent::BodyRef;
 use dv_value::stack::Stack;
@@ -36,6 +37,37 @@ pub fn cancel_call<'s>(
         None => unbound(alloc, name),
         Some(call) => world.cancel_call(call),
     }
+}
+
+/// Gives a Deferred so many ticks, by its name, after which it is cancelled (Twisted: `Deferred.addTimeout`).
+pub fn add_timeout<'s>(
+    alloc: Global,
+    world: &mut World<'s>,
+    stack: &mut Stack<Frame<'s>>,
+    itself: Option<DeferredId>,
+    name: &str,
+    delay: u64,
+) -> Result<Performed<'s>, AllocError>
+    ensures { IfOk result (λ performed. (stack.new, performed, world.new) ≡ begun itself (TimeoutOf name.now delay) world.old over stack.old) }
+{
+    match world.find(itself, name) {
+        None => unbound(alloc, name),
+        Some(id) => begin_timer(world, stack, id, delay),
+    }
+}
+
+/// Starts a timer of a Deferred, and adds the two pairs that go with it.
+fn begin_timer<'s>(
+    world: &mut World<'s>,
+    stack: &mut Stack<Frame<'s>>,
+    id: DeferredId,
+    delay: u64,
+) -> Result<Performed<'s>, AllocError>
+    ensures { IfOk result (λ performed. (stack.new, performed, world.new) ≡ timer_begun id delay world.old over stack.old) }
+{
+    let timer = world.start_timer(id, delay)?;
+    stack.push(Frame::Add(id, Pair::ending(timer)))?;
+    add_and_settle(world, stack, id, Pair::timing(timer))
 }
 
 /// What is due next is run, where something is, and then what is due after it (Twisted: `Clock.advance`). It may wait for a
@@ -93,6 +125,11 @@ where
         Some(Due::Delivery(job, key)) => {
             stack.push(Frame::Due)?;
             deliver(rt, alloc, jobs, world, stack, job, DeferredId::new(key))
+        }
+        Some(Due::Timeout(id)) => {
+            stack.push(Frame::Due)?;
+            stack.push(Frame::Tell)?;
+            done(stack.push(Frame::Cancel(id)))
         }
     }
 }

@@ -76,6 +76,7 @@ waiting_keeps P s n (kind.Call name key) h k = uncall_keeps P s n name (fits s.1
 waiting_keeps P s n (kind.Turn name key) h k = h
 waiting_keeps P s n kind.Tick h k = h
 waiting_keeps P s n (kind.Delivery job key) h k = h
+waiting_keeps P s n (kind.Timeout d) h k = h
 
 state_keeps : (P : Clock → Type 0) (s : State Clock) (n : ℕ) (state : CallState) → P s.0 → P (ended n Cancelled s.0) → P (cancel_in n state s).1.0
 state_keeps P s n (Waiting what) h k = waiting_keeps P s n what h k

@@ -143,6 +143,7 @@ cancel_waiting number (kind.Call name key) s = uncall number name s
 cancel_waiting number (kind.Turn name key) s = (Ok tt, s)
 cancel_waiting number kind.Tick s = (Ok tt, s)
 cancel_waiting number (kind.Delivery job key) s = (Ok tt, s)
+cancel_waiting number (kind.Timeout d) s = (Ok tt, s)
 
 -- a call that waits no longer isn't cancelled
 abbrev pub cancel_in : ℕ → CallState → State Clock → Cancelling
@@ -193,6 +194,17 @@ numbered call = (call.number, call.what)
 -- whether the call of a number waits
 abbrev pub waits : ℕ → List Call → Bool
 waits number calls = option_map_or (λ call. is_waiting call.state) (slice_get calls number) false
+
+-- whether a call was called
+abbrev pub was_called : CallState → Bool
+was_called (Waiting what) = false
+was_called Called = true
+was_called Cancelled = false
+was_called Dropped = false
+
+-- whether the call of a number has run
+abbrev pub has_run : ℕ → List Call → Bool
+has_run number calls = option_map_or (λ call. was_called call.state) (slice_get calls number) false
 
 -- whether it waits for this time
 abbrev pub waits_at : ℕ × ℕ → List Call → Bool

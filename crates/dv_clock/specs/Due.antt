@@ -3,7 +3,7 @@ use Rattle.std.specs.Prelude.{ℕ}
 use Rattle.dv_journal.specs.declared.entry.Entry.{Entry}
 use Rattle.dv_journal.specs.declared.entry.Entry.TheVariants as entry
 use Rattle.dv_clock.specs.declared.due.Due.{Due}
-use Rattle.dv_clock.specs.declared.due.Due.TheVariants.{Call, Turn, Tick, Delivery}
+use Rattle.dv_clock.specs.declared.due.Due.TheVariants.{Call, Turn, Tick, Delivery, Timeout}
 
 -- what is told when it is scheduled, with the time that it is due at
 abbrev pub scheduling : Due → ℕ → Entry
@@ -11,6 +11,7 @@ scheduling (Call name key) time = entry.LaterCall name time
 scheduling (Turn name key) time = entry.LaterLoop name time
 scheduling Tick time = entry.LaterTick time
 scheduling (Delivery job key) time = entry.LaterJob job time
+scheduling (Timeout d) time = entry.LaterTimeout d time
 
 -- what is told when its time has come
 abbrev pub coming_due : Due → Entry
@@ -18,3 +19,4 @@ coming_due (Call name key) = entry.Call name
 coming_due (Turn name key) = entry.Turn name
 coming_due Tick = entry.Tick
 coming_due (Delivery job key) = entry.Deliver job
+coming_due (Timeout d) = entry.Timeout d

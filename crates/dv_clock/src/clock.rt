@@ -1,4 +1,4 @@
-ghost use Rattle.std.specs.Prelude.{◌≡◌, ◌≤◌, false, Some, IfSome};
+ghost use Rattle.std.specs.Prelude.{◌≡◌, ◌≤◌, false, length, Some, IfSome};
 ghost use Rattle.std.specs.Option.{option_map, option_copied};
 
 use crate::call::{Call, CallState};
@@ -43,7 +43,7 @@ impl Model for Clock {
 }
 
 impl Clock {
-    ghost use Rattle.dv_clock.specs.Clock.{new_clock, later, next_turn, scheduled_at, advance_to, due, cancel, CancelsUnlessMemory, ended, due_of, what_of, waits, is_waiting, next_call, numbered, with_number};
+    ghost use Rattle.dv_clock.specs.Clock.{new_clock, later, next_turn, scheduled_at, advance_to, due, cancel, CancelsUnlessMemory, ended, due_of, what_of, waits, has_run, is_waiting, next_call, numbered, with_number};
     ghost use Rattle.dv_journal.specs.Telling.{UnlessMemory};
 
     /// Time begins at 0, and nothing is scheduled.
@@ -105,6 +105,26 @@ impl Clock {
         Ok(CallId::new(number))
     }
 
+    /// The number of the call that is scheduled next.
+    pub fn next_id(&self) -> CallId
+        ensures { result ≡ length self.now.calls }
+    {
+        CallId::new(self.calls.len())
+    }
+
+    /// Whether a call has run: one that was cancelled or dropped hasn't.
+    pub fn has_run(&self, id: CallId) -> bool
+        ensures { result ≡ has_run id self.now.calls }
+    {
+        match self.calls.get(id.number()) {
+            None => false,
+            Some(call) => match &call.state {
+                CallState::Called => true,
+                CallState::Waiting(_) | CallState::Cancelled | CallState::Dropped => false,
+            },
+        }
+    }
+
     /// Whether a call still waits.
     pub fn waits(&self, id: CallId) -> bool
         ensures { result ≡ waits id self.now.calls }
@@ -121,7 +141,9 @@ impl Clock {
         };
         let name = match &call.state {
             CallState::Waiting(Due::Call(name, _)) => name,
-            CallState::Waiting(Due::Turn(_, _) | Due::Tick | Due::Delivery(_, _)) => return Ok(()),
+            CallState::Waiting(
+                Due::Turn(_, _) | Due::Tick | Due::Delivery(_, _) | Due::Timeout(_),
+            ) => return Ok(()),
             CallState::Called => return Err(CancelFault::AlreadyCalled),
             CallState::Cancelled | CallState::Dropped => return Err(CancelFault::AlreadyCancelled),
         };

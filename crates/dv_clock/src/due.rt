@@ -1,12 +1,14 @@
 ghost use Rattle.std.specs.Prelude.{◌≡◌, IfOk};
 ghost use Rattle.dv_clock.specs.Due.{scheduling, coming_due};
 
+use dv_journal::deferred_id::DeferredId;
 use dv_journal::entry::Entry;
 use dv_value::text::Text;
 use std::alloc::{AllocError, Global};
 
-/// What waits for its time. The names and the job's number are those that the journal's lines show; the number that comes
-/// last in each is the caller's own, by which it knows what is due, since a name can be bound anew.
+/// What waits for its time. The names, the job's number and the timer's Deferred are those that the journal's lines show;
+/// the number that comes last in each of the others is the caller's own, by which it knows what is due, since a name can
+/// be bound anew.
 #[derive(Debug, Drop)]
 pub enum Due {
     /// A delayed call of the script (Twisted: `callLater`).
@@ -17,6 +19,8 @@ pub enum Due {
     Tick,
     /// The delivery of a job's result (Twisted: `deferToThread`).
     Delivery(u32, u32),
+    /// The end of the time that a Deferred is given (Twisted: `Deferred.addTimeout`).
+    Timeout(DeferredId),
 }
 
 impl Due {
@@ -29,6 +33,7 @@ impl Due {
             Due::Turn(name, _) => Ok(Entry::LaterLoop(name.copy(alloc)?, time)),
             Due::Tick => Ok(Entry::LaterTick(time)),
             Due::Delivery(job, _) => Ok(Entry::LaterJob(*job, time)),
+            Due::Timeout(id) => Ok(Entry::LaterTimeout(*id, time)),
         }
     }
 
@@ -41,6 +46,7 @@ impl Due {
             Due::Turn(name, _) => Ok(Entry::Turn(name.copy(alloc)?)),
             Due::Tick => Ok(Entry::Tick),
             Due::Delivery(job, _) => Ok(Entry::Deliver(*job)),
+            Due::Timeout(id) => Ok(Entry::Timeout(*id)),
         }
     }
 }

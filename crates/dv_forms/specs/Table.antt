@@ -1,5 +1,5 @@
 -- The table of a script: the classes that every script has, then those that it declares.
-use Rattle.std.specs.Prelude.{ℕ, Bool, true, false, ◌&&◌, List, [], ◌∷◌, length, Option, Some, None, bytes_eq, nat_le, if◌then◌else◌, codes}
+use Rattle.std.specs.Prelude.{ℕ, Bool, true, false, ◌&&◌, List, [], ◌∷◌, length, Option, Some, None, nat_le, if◌then◌else◌}
 use Rattle.dv_value.specs.declared.classes.Class.{Class}
 use Rattle.dv_value.specs.Classes.{find_class}
 use Rattle.dv_value.specs.Declaring.{with_class}
@@ -16,10 +16,9 @@ is_free_under (Some class) parent = false
 is_free_under None None = false
 is_free_under None (Some parent) = true
 
--- whether the table may have one more class: its name is free and isn't `TimeoutError`, and its parent is in the table
+-- whether the table may have one more class: its name is free, and its parent is in the table
 abbrev pub can_declare : List Class → Declaration → Bool
-can_declare table c =
-    if bytes_eq c.name (codes "TimeoutError") then false else is_free_under (find_class c.name table) (find_class c.parent table)
+can_declare table c = is_free_under (find_class c.name table) (find_class c.parent table)
 
 -- the table with the class, where that may be declared
 abbrev pub with_declared : List Class → Declaration → List Class

@@ -1,3 +1,4 @@
+ghost use Rattle.std.specs.Prelude.{◌^◌};
 ghost use Rattle.serde_json.specs.View.{items_view};
 ghost use Rattle.dv_forms.specs.Answer.{Reads};
 ghost use Rattle.dv_forms.specs.Parts.{text_at, integer_at, number_at, bound_at, value_at, class_at, list_flag_at, gather_flag_at, list_at, sole, pair, triple};
@@ -6,7 +7,7 @@ use crate::leaf::{
     bound, class, classes_in, gather_flags_in, integer, list_flags_in, number, one, small, text,
     texts_in, three, two,
 };
-use crate::ranges::MOST_PLACES;
+use crate::ranges::{MOST_DELAY, MOST_PLACES};
 use crate::stop::Stop;
 use crate::value::value;
 use dv_script::action::{GatherFlag, ListFlag};
@@ -89,6 +90,17 @@ pub fn named_places(alloc: Global, arguments: &[Json]) -> Result<(Text, u32), St
     let name = text(alloc, name)?;
     let places = small(json, 1, MOST_PLACES)?;
     Ok((name, places))
+}
+
+/// A name, and a delay.
+#[tactic(auto, unfolding(crate::specs::Parts::pair))]
+pub fn named_delay(alloc: Global, arguments: &[Json]) -> Result<(Text, u64), Stop>
+    ensures { Reads result (pair text_at (number_at 0 (10 ^ 12)) (items_view arguments.now)) }
+{
+    let (name, json) = two(arguments)?;
+    let name = text(alloc, name)?;
+    let delay = number(json, 0, MOST_DELAY)?;
+    Ok((name, delay))
 }
 
 /// A class, and a message.

@@ -21,7 +21,7 @@ use Rattle.dv_forms.specs.declared.declaration.Declaration.{Declaration}
 use Rattle.dv_grammar.specs.declared.draft.Draft.{Draft}
 use Rattle.dv_forms.specs.Forms.{Each, IsList, Field, Key, IsText, IsNumber, IsClass, IsValue, a_null, a_bool, an_int, a_text, a_list, AreValues, no_values, more_values}
 use Rattle.dv_forms.specs.Table.{table_of}
-use Rattle.dv_grammar.specs.Grammar.{plain_cooperator, IsEnd, returns, passes, adds, raises, traps, waits, IsWork, gives, fails, sums, IsListFlag, fires_on_callback, fires_on_errback, consumes_errors, IsGatherFlag, gathers_errors, IsBound, no_bound, a_bound, IsAction, deferred, deferred_with, callback, errback, add_callback, add_errback, add_both, add_callbacks, chain, pause, unpause, cancel, note, list, gather, maybe, lock, semaphore, acquire, release, run_with, queue, put, get, later, cancel_call, loop, stop_loop, cooperate, when_done, pause_task, stop_task, resume_task, inline, thread, AreActions, no_actions, more_actions, IsDo, does_nothing, does, IsBody, body, AreBodies, no_bodies, more_bodies, IsStatement, performs, awaits, tries, leaves, AreStatements, no_statements, more_statements, IsEvent, acts, advances, drains, IsDeclaration, declares, IsCooperator, IsScript}
+use Rattle.dv_grammar.specs.Grammar.{plain_cooperator, IsEnd, returns, passes, adds, raises, traps, waits, IsWork, gives, fails, sums, IsListFlag, fires_on_callback, fires_on_errback, consumes_errors, IsGatherFlag, gathers_errors, IsBound, no_bound, a_bound, IsAction, deferred, deferred_with, callback, errback, add_callback, add_errback, add_both, add_callbacks, chain, pause, unpause, cancel, add_timeout, note, list, gather, maybe, lock, semaphore, acquire, release, run_with, queue, put, get, later, cancel_call, loop, stop_loop, cooperate, when_done, pause_task, stop_task, resume_task, inline, thread, AreActions, no_actions, more_actions, IsDo, does_nothing, does, IsBody, body, AreBodies, no_bodies, more_bodies, IsStatement, performs, awaits, tries, leaves, AreStatements, no_statements, more_statements, IsEvent, acts, advances, drains, IsDeclaration, declares, IsCooperator, IsScript}
 use Rattle.dv_forms.specs.Parts.{value_at, values_at, each, list_at, text_at, number_at, within, bound_at, class_at, list_flag_at, gather_flag_at, call_at, none, first, if_any, one, one_or_two, two, three, five, sole, pair, triple, fields_at, field, declaration_at, table_for}
 use Rattle.dv_grammar.specs.Shape.{end_at, end_of, leave_at, work_at, work_of, action_by, action_of, new_deferred_of, plain_of, loop_of, nesting_of, body_by, statement_by, statement_of, readers, body_at, statement_at, action_at, event_at, event_of, other_event, cooperator_at, caller_at, script_at}
 use Rattle.dv_grammar.proofs.Steps.{picked}
@@ -131,6 +131,7 @@ mutual
   complete_action table n (pause name) h = refl
   complete_action table n (unpause name) h = refl
   complete_action table n (cancel name) h = refl
+  complete_action table n (add_timeout name d delay g) h = rw (complete_number 0 (10 ^ 12) d delay g) refl
   complete_action table n (note text) h = refl
   complete_action table n (list name c e children flags g k) h = rw (complete_list IsText text_at complete_text c children g, complete_list IsListFlag list_flag_at complete_list_flag e flags k) refl
   complete_action table n (gather name c e children flags g k) h = rw (complete_list IsText text_at complete_text c children g, complete_list IsGatherFlag gather_flag_at complete_gather_flag e flags k) refl

@@ -14,7 +14,7 @@ use Rattle.dv_script.specs.declared.action.ListFlag.{ListFlag}
 use Rattle.dv_script.specs.declared.action.ListFlag.TheVariants as flag
 use Rattle.dv_script.specs.declared.action.GatherFlag.{GatherFlag}
 use Rattle.dv_script.specs.declared.action.GatherFlag.TheVariants as gather_flag
-use Rattle.dv_script.specs.declared.action.Action.{Action, Deferred, Callback, Errback, AddCallback, AddErrback, AddBoth, AddCallbacks, Chain, Pause, Unpause, Cancel, Note, List as ListOf, Gather, Maybe, Lock, Semaphore, Acquire, Release, RunWith, Queue, Put, Get, Later, CancelCall, Loop, StopLoop, Cooperate, WhenDone, PauseTask, StopTask, ResumeTask, Inline, Thread}
+use Rattle.dv_script.specs.declared.action.Action.{Action, Deferred, Callback, Errback, AddCallback, AddErrback, AddBoth, AddCallbacks, Chain, Pause, Unpause, Cancel, AddTimeout, Note, List as ListOf, Gather, Maybe, Lock, Semaphore, Acquire, Release, RunWith, Queue, Put, Get, Later, CancelCall, Loop, StopLoop, Cooperate, WhenDone, PauseTask, StopTask, ResumeTask, Inline, Thread}
 use Rattle.dv_script.specs.declared.event.Event.{Event}
 use Rattle.dv_script.specs.declared.event.Event.TheVariants as event
 use Rattle.dv_script.specs.declared.script.Cooperator.{Cooperator}
@@ -114,6 +114,9 @@ mutual
     unpause : (name : List ℕ) → IsAction table (call (codes "unpause") (string name ∷ [])) (Unpause name)
     -- ["cancel",D]
     cancel : (name : List ℕ) → IsAction table (call (codes "cancel") (string name ∷ [])) (Cancel name)
+    -- ["addTimeout",D,N]
+    add_timeout : (name : List ℕ) (d : Data) (delay : ℕ) → IsNumber 0 (10 ^ 12) d delay
+        → IsAction table (call (codes "addTimeout") (string name ∷ d ∷ [])) (AddTimeout name delay)
     -- ["note",TEXT]
     note : (text : List ℕ) → IsAction table (call (codes "note") (string text ∷ [])) (Note text)
     -- ["list",D,[D..],[FLAG..]]

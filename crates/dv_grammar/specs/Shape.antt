@@ -11,7 +11,7 @@ use Rattle.dv_script.specs.declared.body.Body.{Body}
 use Rattle.dv_script.specs.declared.body.Statement.{Statement, Do, Await, Try, End as Leave}
 use Rattle.dv_script.specs.declared.work.Work.{Work}
 use Rattle.dv_script.specs.declared.work.Work.TheVariants as job
-use Rattle.dv_script.specs.declared.action.Action.{Action, Deferred, Callback, Errback, AddCallback, AddErrback, AddBoth, AddCallbacks, Chain, Pause, Unpause, Cancel, Note, List as ListOf, Gather, Maybe, Lock, Semaphore, Acquire, Release, RunWith, Queue, Put, Get, Later, CancelCall, Loop, StopLoop, Cooperate, WhenDone, PauseTask, StopTask, ResumeTask, Inline, Thread}
+use Rattle.dv_script.specs.declared.action.Action.{Action, Deferred, Callback, Errback, AddCallback, AddErrback, AddBoth, AddCallbacks, Chain, Pause, Unpause, Cancel, AddTimeout, Note, List as ListOf, Gather, Maybe, Lock, Semaphore, Acquire, Release, RunWith, Queue, Put, Get, Later, CancelCall, Loop, StopLoop, Cooperate, WhenDone, PauseTask, StopTask, ResumeTask, Inline, Thread}
 use Rattle.dv_script.specs.declared.event.Event.{Event}
 use Rattle.dv_script.specs.declared.event.Event.TheVariants as happens
 use Rattle.dv_script.specs.declared.script.Cooperator.{Cooperator}
@@ -124,6 +124,7 @@ plain_of table plain.Gather ds = three_of text_at (list_at text_at) (list_at gat
 plain_of table plain.Semaphore ds = two_of text_at (number_at 1 65536) Semaphore ds
 plain_of table plain.Queue ds = three_of text_at bound_at bound_at Queue ds
 plain_of table plain.Thread ds = three_of text_at (number_at 0 (10 ^ 12)) (work_at table) Thread ds
+plain_of table plain.AddTimeout ds = two_of text_at (number_at 0 (10 ^ 12)) AddTimeout ds
 
 -- a loop, whose body is read so
 unfoldable pub loop_of : (Data → Option Body) → Items → Option Action

@@ -46,6 +46,7 @@ pub enum PlainWord {
     Semaphore,
     Queue,
     Thread,
+    AddTimeout,
 }
 
 /// The first word of another action in which there are bodies or statements.
@@ -171,6 +172,7 @@ impl PlainWord {
             "semaphore" => Some(PlainWord::Semaphore),
             "queue" => Some(PlainWord::Queue),
             "thread" => Some(PlainWord::Thread),
+            "addTimeout" => Some(PlainWord::AddTimeout),
             _ => None,
         }
     }

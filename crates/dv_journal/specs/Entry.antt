@@ -2,7 +2,7 @@
 use Rattle.std.specs.Prelude.{ℕ, ◌+◌, length}
 use Rattle.dv_value.specs.Size.{size, failure_size}
 use Rattle.dv_journal.specs.declared.entry.Entry.{Entry}
-use Rattle.dv_journal.specs.declared.entry.Entry.TheVariants.{New, Name, Add, Fire, Swallow, Refuse, Run, Set, Take, Wait, Hand, Pause, Unpause, Cancel, Note, Unhandled, Lock, Semaphore, Acquire, Release, Queue, Put, Get, LaterCall, LaterLoop, LaterTick, LaterJob, Uncall, Call, Tick, Deliver, Loop, Turn, Stop, Task, Step, Hold, End, PauseTask, ResumeTask, WhenDone, Await, Job, Advance, Drain, Post}
+use Rattle.dv_journal.specs.declared.entry.Entry.TheVariants.{New, Name, Add, Fire, Swallow, Refuse, Run, Set, Take, Wait, Hand, Pause, Unpause, Cancel, Note, Unhandled, Lock, Semaphore, Acquire, Release, Queue, Put, Get, LaterCall, LaterLoop, LaterTick, LaterJob, LaterTimeout, Uncall, Call, Tick, Deliver, Timeout, Loop, Turn, Stop, Task, Step, Hold, End, PauseTask, ResumeTask, WhenDone, Await, Job, Advance, Drain, Post}
 
 -- the size of the value, the failure or the noted text that the line shows
 abbrev pub shown : Entry → ℕ
@@ -33,10 +33,12 @@ shown (LaterCall name due) = 0
 shown (LaterLoop name due) = 0
 shown (LaterTick due) = 0
 shown (LaterJob job due) = 0
+shown (LaterTimeout id due) = 0
 shown (Uncall name) = 0
 shown (Call name) = 0
 shown Tick = 0
 shown (Deliver job) = 0
+shown (Timeout id) = 0
 shown (Loop name id) = 0
 shown (Turn name) = 0
 shown (Stop name) = 0

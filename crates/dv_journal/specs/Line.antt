@@ -5,7 +5,7 @@ use Rattle.json.specs.Print.{quoted}
 use Rattle.dv_value.specs.ValueText.{json, failure_text, outcome}
 use Rattle.dv_value.specs.declared.classes.Class.{Class}
 use Rattle.dv_journal.specs.declared.entry.Entry.{Entry}
-use Rattle.dv_journal.specs.declared.entry.Entry.TheVariants.{New, Name, Add, Fire, Swallow, Refuse, Run, Set, Take, Wait, Hand, Pause, Unpause, Cancel, Note, Unhandled, Lock, Semaphore, Acquire, Release, Queue, Put, Get, LaterCall, LaterLoop, LaterTick, LaterJob, Uncall, Call, Tick, Deliver, Loop, Turn, Stop, Task, Step, Hold, End, PauseTask, ResumeTask, WhenDone, Await, Job, Advance, Drain, Post}
+use Rattle.dv_journal.specs.declared.entry.Entry.TheVariants.{New, Name, Add, Fire, Swallow, Refuse, Run, Set, Take, Wait, Hand, Pause, Unpause, Cancel, Note, Unhandled, Lock, Semaphore, Acquire, Release, Queue, Put, Get, LaterCall, LaterLoop, LaterTick, LaterJob, LaterTimeout, Uncall, Call, Tick, Deliver, Timeout, Loop, Turn, Stop, Task, Step, Hold, End, PauseTask, ResumeTask, WhenDone, Await, Job, Advance, Drain, Post}
 
 -- #N, a Deferred by its number
 abbrev pub hash : ℕ → List ℕ
@@ -50,10 +50,12 @@ words_of table (LaterCall name due) = codes "later call " ++ name ++ codes " " +
 words_of table (LaterLoop name due) = codes "later loop " ++ name ++ codes " " ++ decimal due
 words_of table (LaterTick due) = codes "later tick " ++ decimal due
 words_of table (LaterJob job due) = codes "later job " ++ decimal job ++ codes " " ++ decimal due
+words_of table (LaterTimeout id due) = codes "later timeout " ++ hash id ++ codes " " ++ decimal due
 words_of table (Uncall name) = codes "uncall " ++ name
 words_of table (Call name) = codes "call " ++ name
 words_of table Tick = codes "tick"
 words_of table (Deliver job) = codes "deliver " ++ decimal job
+words_of table (Timeout id) = codes "timeout " ++ hash id
 words_of table (Loop name id) = codes "loop " ++ name ++ codes " " ++ hash id
 words_of table (Turn name) = codes "turn " ++ name
 words_of table (Stop name) = codes "stop " ++ name

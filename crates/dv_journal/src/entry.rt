@@ -67,6 +67,8 @@ pub enum Entry {
     LaterTick(u64),
     /// `later job K TIME`: the delivery of a job's result is scheduled, due at that time.
     LaterJob(u32, u64),
+    /// `later timeout #N TIME`: a timer is set on a Deferred, due at that time.
+    LaterTimeout(DeferredId, u64),
     /// `uncall C`: a delayed call is cancelled.
     Uncall(Text),
     /// `call C`: a delayed call runs.
@@ -75,6 +77,8 @@ pub enum Entry {
     Tick,
     /// `deliver K`: a job's result is delivered.
     Deliver(u32),
+    /// `timeout #N`: the time of a timer on a Deferred has come.
+    Timeout(DeferredId),
     /// `loop P #N`: a loop starts, and its Deferred fires when it ends.
     Loop(Text, DeferredId),
     /// `turn P`: a loop takes a turn.
@@ -147,10 +151,12 @@ impl Entry {
             | Entry::LaterLoop(_, _)
             | Entry::LaterTick(_)
             | Entry::LaterJob(_, _)
+            | Entry::LaterTimeout(_, _)
             | Entry::Uncall(_)
             | Entry::Call(_)
             | Entry::Tick
             | Entry::Deliver(_)
+            | Entry::Timeout(_)
             | Entry::Loop(_, _)
             | Entry::Turn(_)
             | Entry::Stop(_)

@@ -93,6 +93,18 @@ fn write_ids_and_outcome(
     write_outcome(alloc, classes, out, value)
 }
 
+/// Adds a word, a Deferred, and a number.
+fn write_id_and_number(
+    out: &mut String,
+    word: &str,
+    id: DeferredId,
+    number: u64,
+) -> Result<(), AllocError>
+    ensures { OnOk result (string_bytes out.new ≡ string_bytes out.old ++ (word.now ++ hash id ++ codes " " ++ decimal number)) }
+{
+    write!(out, "{word}#{} {number}", id.number())
+}
+
 /// Adds a word and the name of another object.
 fn write_named(out: &mut String, word: &str, name: &Text) -> Result<(), AllocError>
     ensures { OnOk result (string_bytes out.new ≡ string_bytes out.old ++ (word.now ++ name.now)) }
@@ -253,10 +265,12 @@ fn write_words(
         Entry::LaterLoop(name, due) => write_named_and_number(out, "later loop ", name, *due),
         Entry::LaterTick(due) => write_number(out, "later tick ", *due),
         Entry::LaterJob(job, due) => write_numbers(out, "later job ", u64::from(*job), *due),
+        Entry::LaterTimeout(id, due) => write_id_and_number(out, "later timeout ", *id, *due),
         Entry::Uncall(name) => write_named(out, "uncall ", name),
         Entry::Call(name) => write_named(out, "call ", name),
         Entry::Tick => write!(out, "tick"),
         Entry::Deliver(job) => write_number(out, "deliver ", u64::from(*job)),
+        Entry::Timeout(id) => write_id(out, "timeout ", *id),
         Entry::Loop(name, id) => write_named_and_id(out, "loop ", name, *id),
         Entry::Turn(name) => write_named(out, "turn ", name),
         Entry::Stop(name) => write_named(out, "stop ", name),

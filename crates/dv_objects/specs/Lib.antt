@@ -11,3 +11,4 @@ pub mod Looping
 pub mod Refusals
 pub mod Reached
 pub mod Trap
+pub mod Timed

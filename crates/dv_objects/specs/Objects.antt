@@ -3,7 +3,7 @@ use Rattle.std.specs.Prelude.{ℕ, List, [], ◌∷◌, ◌++◌, length, Option
 use Rattle.dv_clock.specs.Clock.{Clock, new_clock, with_call, ended}
 use Rattle.dv_clock.specs.declared.call.CallState.{CallState}
 use Rattle.dv_clock.specs.declared.call.CallState.TheVariants.{Dropped}
-use Rattle.dv_clock.specs.declared.due.Due.TheVariants.{Call, Tick, Delivery}
+use Rattle.dv_clock.specs.declared.due.Due.TheVariants.{Call, Tick, Delivery, Timeout}
 use Rattle.dv_prims.specs.DeferredList.{Gather, new_gather}
 use Rattle.dv_prims.specs.Queue.{Queue, new_queue}
 use Rattle.dv_prims.specs.Tokens.{Semaphore, new_semaphore}
@@ -95,6 +95,10 @@ with_new_call name due body objects =
 -- the delivery of a job's result to d is added, which is due at this time
 abbrev pub with_delivery : ℕ → ℕ → ℕ → Objects → Objects
 with_delivery job d due objects = record objects { clock = with_call due (Delivery job d) objects.clock }
+
+-- a timer of d is added, whose time comes then
+abbrev pub with_timer : ℕ → ℕ → Objects → Objects
+with_timer d due objects = record objects { clock = with_call due (Timeout d) objects.clock }
 
 -- a call waits no longer
 abbrev pub with_ended_call : ℕ → CallState → Objects → Objects

@@ -1,4 +1,4 @@
--- The pairs of a Deferred: what runs on its value (Twisted: `Deferred.addCallbacks`, `Deferred.chainDeferred`, `DeferredList`, `gatherResults`, `DeferredLock.run`, `LoopingCall`, `CooperativeTask`).
+-- The pairs of a Deferred: what runs on its value (Twisted: `Deferred.addCallbacks`, `Deferred.chainDeferred`, `Deferred.addTimeout`, `DeferredList`, `gatherResults`, `DeferredLock.run`, `LoopingCall`, `CooperativeTask`).
 use Rattle.std.specs.Prelude.{ℕ, Bool, Option, Some, None, is_none, if◌then◌else◌}
 use Rattle.dv_script.specs.declared.body.Body.{Body}
 use Rattle.dv_objects.specs.declared.inline_id.Inline.{Inline}
@@ -22,6 +22,14 @@ both on_value on_failure = record { callback = Some (side.Body on_value); errbac
 -- both fire another Deferred
 abbrev pub chain : ℕ → Pair
 chain to = record { callback = Some (side.Fire to); errback = Some (side.Fire to) }
+
+-- both turn a cancellation into TimeoutError where the time of a timer has come
+abbrev pub timing : ℕ → Pair
+timing t = record { callback = Some (side.Timed t); errback = Some (side.Timed t) }
+
+-- both end a timer
+abbrev pub ending : ℕ → Pair
+ending t = record { callback = Some (side.EndTimer t); errback = Some (side.EndTimer t) }
 
 -- both come to a DeferredList as its child
 abbrev pub coming : Child → Pair

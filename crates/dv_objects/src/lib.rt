@@ -15,6 +15,7 @@ pub mod reached;
 pub mod refusals;
 pub mod stopping;
 pub mod task;
+pub mod timed;
 pub mod trap;
 pub mod waiting;
 pub mod works;

@@ -1,6 +1,7 @@
 ghost use Rattle.std.specs.Prelude.{◌≡◌, Some, None};
 
 use crate::inline_id::Inline;
+use dv_clock::call_id::CallId;
 use dv_clock::loop_id::LoopId;
 use dv_clock::task_id::TaskId;
 use dv_journal::deferred_id::DeferredId;
@@ -28,6 +29,11 @@ pub enum Side<'s> {
     Body(BodyRef<'s>),
     /// This Deferred is fired with the value, and the side gives null (Twisted: what `Deferred.chainDeferred` adds).
     Fire(DeferredId),
+    /// The value is given on, but TimeoutError in place of a cancellation where the time of this timer has come (Twisted:
+    /// the first of the two that `Deferred.addTimeout` adds).
+    Timed(CallId),
+    /// This timer ends, where its time hasn't come, and the value is given on (Twisted: the second of the two).
+    EndTimer(CallId),
     /// It comes to a DeferredList as this child (Twisted: what `DeferredList` adds to each child).
     Come(Child),
     /// What the children of a DeferredList gave is taken out of its result (Twisted: what `gatherResults` adds).
@@ -62,7 +68,7 @@ pub struct Pair<'s> {
 }
 
 impl<'s> Pair<'s> {
-    ghost use Rattle.dv_objects.specs.Pair.{callback, errback, both, chain, coming, results, holding, releasing, turning, resuming, continuing, side_for};
+    ghost use Rattle.dv_objects.specs.Pair.{callback, errback, both, chain, timing, ending, coming, results, holding, releasing, turning, resuming, continuing, side_for};
 
     /// A callback alone (Twisted: `Deferred.addCallback`).
     pub fn callback(body: &'s Body) -> Pair<'s>
@@ -101,6 +107,26 @@ impl<'s> Pair<'s> {
         Pair {
             callback: Some(Side::Fire(to)),
             errback: Some(Side::Fire(to)),
+        }
+    }
+
+    /// Both turn a cancellation into TimeoutError where the time of a timer has come (Twisted: `Deferred.addTimeout`).
+    pub fn timing(timer: CallId) -> Pair<'s>
+        ensures { result ≡ timing timer }
+    {
+        Pair {
+            callback: Some(Side::Timed(timer)),
+            errback: Some(Side::Timed(timer)),
+        }
+    }
+
+    /// Both end a timer (Twisted: `Deferred.addTimeout`).
+    pub fn ending(timer: CallId) -> Pair<'s>
+        ensures { result ≡ ending timer }
+    {
+        Pair {
+            callback: Some(Side::EndTimer(timer)),
+            errback: Some(Side::EndTimer(timer)),
         }
     }
 

@@ -65,6 +65,7 @@ action_step wanted (Action-F.Chain name other) = suits_deferred wanted name && s
 action_step wanted (Action-F.Pause name) = suits_deferred wanted name
 action_step wanted (Action-F.Unpause name) = suits_deferred wanted name
 action_step wanted (Action-F.Cancel name) = suits_deferred wanted name
+action_step wanted (Action-F.AddTimeout name delay) = suits_deferred wanted name
 action_step wanted (Action-F.Note text) = true
 action_step wanted (Action-F.List name children flags) = suits_name wanted name && list_all (suits_deferred wanted) children
 action_step wanted (Action-F.Gather name children flags) = suits_name wanted name && list_all (suits_deferred wanted) children

@@ -24,8 +24,7 @@ pub enum ScriptFault {
     /// Deferred that is there is named.
     #[error("6 BadName")]
     BadName,
-    /// A declared class has a name that is taken or is `TimeoutError`; or a parent, or a class that is used, isn't in the
-    /// table.
+    /// A declared class has a name that is taken; or a parent, or a class that is used, isn't in the table.
     #[error("7 BadClass")]
     BadClass,
     /// Memory was refused: this may come in place of any other answer.

@@ -93,7 +93,8 @@ fn suits_action(wanted: Wanted, action: &Action) -> bool
         Action::Callback(name, _)
         | Action::Pause(name)
         | Action::Unpause(name)
-        | Action::Cancel(name) => suits_deferred(wanted, name),
+        | Action::Cancel(name)
+        | Action::AddTimeout(name, _) => suits_deferred(wanted, name),
         Action::AddCallback(name, body)
         | Action::AddErrback(name, body)
         | Action::AddBoth(name, body) => suits_deferred(wanted, name) && suits_body(wanted, body),

@@ -35,7 +35,7 @@ use Rattle.dv_actions.specs.Cooperating.{notices, task_over, notified_by, notifi
 use Rattle.dv_actions.specs.Cooperating as tasks
 use Rattle.dv_actions.specs.Deed.{deed_of}
 use Rattle.dv_actions.specs.Deed.{Deed}
-use Rattle.dv_actions.specs.Deed.{NoteOf, Make, FireWith, AddTo, ChainTo, PauseOf, UnpauseOf, CancelOf, MakeLock, MakeSemaphore, AcquireOf, ReleaseOf, RunOf, MaybeOf, MakeQueue, PutInto, GetFrom, ListOf, GatherOf, LaterOf, CancelCallOf, LoopOf, StopLoopOf, CooperateOf, WhenDoneOf, PauseTaskOf, StopTaskOf, ResumeTaskOf, InlineOf, ThreadOf}
+use Rattle.dv_actions.specs.Deed.{NoteOf, Make, FireWith, AddTo, ChainTo, PauseOf, UnpauseOf, CancelOf, TimeoutOf, MakeLock, MakeSemaphore, AcquireOf, ReleaseOf, RunOf, MaybeOf, MakeQueue, PutInto, GetFrom, ListOf, GatherOf, LaterOf, CancelCallOf, LoopOf, StopLoopOf, CooperateOf, WhenDoneOf, PauseTaskOf, StopTaskOf, ResumeTaskOf, InlineOf, ThreadOf}
 use Rattle.dv_actions.specs.Inlining.{inline_begun, going_where, resumed, await_ended, answer_of}
 use Rattle.dv_actions.specs.Listing.{with_children, added_to_children, has_all_at_once, fired_at_once, with_listed, listed, fired_by_child, come_by, results_given}
 use Rattle.dv_actions.specs.Locking.{granted, asked_of, acquired, released_of}
@@ -49,7 +49,7 @@ use Rattle.dv_actions.specs.Queueing.{handed_out, put_of, got, asked_for, get_of
 use Rattle.dv_turning.specs.Performing.{gone_on, rest_turned}
 use Rattle.dv_turning.specs.Settling.{place, side_begun, settled}
 use Rattle.dv_actions.specs.Threading.{threaded, delivered, job_result}
-use Rattle.dv_actions.specs.Timing.{body_called, come_due_with}
+use Rattle.dv_actions.specs.Timing.{timer_begun, body_called, come_due_with}
 use Rattle.dv_actions.specs.Wanting.{awaited_by, wanted, inline_turned}
 use Rattle.dv_actions.specs.Wanting as wanting
 use Rattle.dv_rules.specs.Turn.{Turned, ◌over◌, done, settling, settle_next}
@@ -68,8 +68,8 @@ use Rattle.dv_objects.specs.Performed.{failed_with}
 use Rattle.dv_journal.specs.Change.{change_of, Aside}
 use Rattle.dv_world.specs.Found.{deferreds_at}
 use Rattle.dv_objects.specs.Names.{number_of}
-use Rattle.dv_objects.specs.Pair.{chain, continuing}
-use Rattle.dv_world.specs.World.{World, state_of, deferred_at, step, append, fire, is_unfired, cancel, pause, unpause, make, aside, lock_told, ask, release_found, release, forget, unless_stopped, put_into_found, put_into, get_from_found, get_from, withdraw, value_of, arrange, came_to_found, came_to, come_due_found, waiting_cancelled, state_cancelled, call_cancelled, cancel_call, turn_scheduled, loop_stopped, stop_loop, end_loop, task_told, pause_task, resume_task, hold_task, task_ended, end_task, tick_dropped, keep_tick, end_tick, step_taken, turn_taken, add_inline, begin_await, come_to_inline, end_await, awaited_in, submit, deliver_later}
+use Rattle.dv_objects.specs.Pair.{chain, timing, continuing}
+use Rattle.dv_world.specs.World.{World, state_of, deferred_at, step, append, fire, is_unfired, cancel, pause, unpause, make, aside, lock_told, ask, release_found, release, forget, unless_stopped, put_into_found, put_into, get_from_found, get_from, withdraw, value_of, arrange, came_to_found, came_to, come_due_found, waiting_cancelled, state_cancelled, call_cancelled, cancel_call, start_timer, turn_scheduled, loop_stopped, stop_loop, end_loop, task_told, pause_task, resume_task, hold_task, task_ended, end_task, tick_dropped, keep_tick, end_tick, step_taken, turn_taken, add_inline, begin_await, come_to_inline, end_await, awaited_in, submit, deliver_later}
 use Rattle.dv_objects.specs.Refusals.{cancelled}
 use Rattle.dv_objects.specs.Works.{is_full}
 use Rattle.dv_script.specs.declared.work.Work.{Work}
@@ -482,6 +482,8 @@ side_comes : (d : ℕ) (s : Option Side) (input : Value) (w : World) → Comes w
 side_comes d None input w = same w
 side_comes d (Some (side.Body body)) input w = same w
 side_comes d (Some (side.Fire e)) input w = (next_fair 1 e (fire e input w).0 w (fire e input w).1 (omega arith) (by_fire e input w)).comes
+side_comes d (Some (side.Timed t)) input w = same w
+side_comes d (Some (side.EndTimer t)) input w = record { keeps = λ R l. l.by_arrange _ w }
 side_comes d (Some (side.Come child)) input w = come_comes child input w
 side_comes d (Some side.Results) input w = results_comes (seconds_of input) w
 side_comes d (Some (side.Hold l body)) input w = same w
@@ -554,6 +556,7 @@ waiting_comes number (what.Call name key) w = by_aside (entry.Uncall name) _ w r
 waiting_comes number (what.Turn name key) w = same w
 waiting_comes number what.Tick w = same w
 waiting_comes number (what.Delivery job key) w = same w
+waiting_comes number (what.Timeout d) w = same w
 
 state_comes : (number : ℕ) (state : CallState) (w : World) → Comes w (state_cancelled number state w).1
 state_comes number (call_state.Waiting due) w = waiting_comes number due w
@@ -609,6 +612,14 @@ delivered_comes : (d : ℕ) (o : Option Value) (w : World) → Comes w (delivere
 delivered_comes d None w = same w
 delivered_comes d (Some value) w = (next_fair 1 d (fire d value w).0 w (fire d value w).1 (omega arith) (by_fire d value w)).comes
 
+timer_fair : (m d delay : ℕ) (w : World) → 1 < m → Fair w m (timer_begun d delay w)
+timer_fair m d delay w q =
+    let t = length w.objects.clock.calls in
+    let started = start_timer d delay w in
+    over_fair m w (settling d (append d (timing t) started)) _ (q, tt)
+    (then_fair m w started _ (by_aside (entry.LaterTimeout d _) _ w refl)
+    (settling_fair m d started (append d (timing t) started) (omega (arith, q)) (record { keeps = λ R l. l.by_append d (timing t) started })))
+
 begun_fair : (m : ℕ) (itself : Option ℕ) (deed : Deed) (w : World) → deed_size deed < m → Fair w m (begun itself deed w)
 begun_fair m itself (NoteOf text) w q = done_fair m w _ (record { keeps = λ R l. l.by_aside (entry.Note text) _ w refl })
 begun_fair m itself (Make name canceller) w q = done_fair m w _ (record { keeps = λ R l. l.by_make (Some name) (option_map Body canceller) w })
@@ -618,6 +629,7 @@ begun_fair m itself (ChainTo name next) w q = with_fair m itself name w _ (λ d.
 begun_fair m itself (PauseOf name) w q = with_fair m itself name w _ (λ d. done_fair m w (pause d w) (record { keeps = λ R l. l.by_pause d w }))
 begun_fair m itself (UnpauseOf name) w q = with_fair m itself name w _ (λ d. next_fair m d (unpause d w).0 w (unpause d w).1 q (record { keeps = λ R l. l.by_unpause d w }))
 begun_fair m itself (CancelOf name) w q = with_fair m itself name w _ (λ d. cancel_fair m w (cancel d w).0 (cancel d w).1 (record { keeps = λ R l. l.by_cancel d w }) (cancel_took d w))
+begun_fair m itself (TimeoutOf name delay) w q = with_fair m itself name w _ (λ d. timer_fair m d delay w q)
 begun_fair m itself (MakeLock name) w q = done_fair m w _ (by_aside (entry.Lock name) _ w refl)
 begun_fair m itself (MakeSemaphore name tokens) w q = done_fair m w _ (by_aside (entry.Semaphore name tokens) _ w refl)
 begun_fair m itself (AcquireOf name lock) w q = lock_fair m lock w _ (λ l. acquired_fair m name l w (omega (arith, q)))
@@ -696,6 +708,7 @@ due_comes (Some (what.Call name key)) w = body_comes (slice_get w.objects.bodies
 due_comes (Some (what.Turn name key)) w = same w
 due_comes (Some what.Tick) w = record { keeps = λ R l. l.by_arrange _ w }
 due_comes (Some (what.Delivery job d)) w = delivered_comes d (job_result job w.works) w
+due_comes (Some (what.Timeout d)) w = same w
 
 -- what comes due is told, and tells of no Deferred
 due_aside : (due : Due) → change_of (coming_due due) ≡ Aside
@@ -703,6 +716,7 @@ due_aside (what.Call name key) = refl
 due_aside (what.Turn name key) = refl
 due_aside what.Tick = refl
 due_aside (what.Delivery job key) = refl
+due_aside (what.Timeout d) = refl
 
 -- it pays for what it does, unless the run stops by it
 unless_fair : (m : ℕ) (e : Entry) (change : Objects → Objects) (w : World) (due : Due) (b : Bool) → change_of e ≡ Aside → (aside e change w).stopped ≡ b → Fair w m (come_due_with (if b then None else Some due) (aside e change w))

@@ -9,7 +9,7 @@ use Rattle.dv_script.specs.declared.body.Body.{Body, out-Body}
 use Rattle.dv_script.specs.declared.body.Statement.{Statement, out-Statement, map-Statement}
 use Rattle.dv_actions.specs.Deed.{deed_of}
 use Rattle.dv_actions.specs.Deed.{Deed}
-use Rattle.dv_actions.specs.Deed.{NoteOf, Make, FireWith, AddTo, ChainTo, PauseOf, UnpauseOf, CancelOf, MakeLock, MakeSemaphore, AcquireOf, ReleaseOf, RunOf, MaybeOf, MakeQueue, PutInto, GetFrom, ListOf, GatherOf, LaterOf, CancelCallOf, LoopOf, StopLoopOf, CooperateOf, WhenDoneOf, PauseTaskOf, StopTaskOf, ResumeTaskOf, InlineOf, ThreadOf}
+use Rattle.dv_actions.specs.Deed.{NoteOf, Make, FireWith, AddTo, ChainTo, PauseOf, UnpauseOf, CancelOf, TimeoutOf, MakeLock, MakeSemaphore, AcquireOf, ReleaseOf, RunOf, MaybeOf, MakeQueue, PutInto, GetFrom, ListOf, GatherOf, LaterOf, CancelCallOf, LoopOf, StopLoopOf, CooperateOf, WhenDoneOf, PauseTaskOf, StopTaskOf, ResumeTaskOf, InlineOf, ThreadOf}
 
 -- an action counts one, or two where a pair is to be added by it, and what the bodies in it count
 abbrev action_step : Action-F ℕ ℕ ℕ → ℕ
@@ -24,6 +24,7 @@ action_step (Action-F.Chain name next) = 1
 action_step (Action-F.Pause name) = 1
 action_step (Action-F.Unpause name) = 1
 action_step (Action-F.Cancel name) = 1
+action_step (Action-F.AddTimeout name delay) = 2
 action_step (Action-F.Note text) = 1
 action_step (Action-F.List name children flags) = 2
 action_step (Action-F.Gather name children flags) = 2
@@ -96,6 +97,7 @@ deed_size (ChainTo name next) = 0
 deed_size (PauseOf name) = 0
 deed_size (UnpauseOf name) = 0
 deed_size (CancelOf name) = 0
+deed_size (TimeoutOf name delay) = 1
 deed_size (MakeLock name) = 0
 deed_size (MakeSemaphore name tokens) = 0
 deed_size (AcquireOf name lock) = 0
@@ -131,6 +133,7 @@ layer_fits (Action-F.Chain name next) = omega arith
 layer_fits (Action-F.Pause name) = omega arith
 layer_fits (Action-F.Unpause name) = omega arith
 layer_fits (Action-F.Cancel name) = omega arith
+layer_fits (Action-F.AddTimeout name delay) = omega arith
 layer_fits (Action-F.Note text) = omega arith
 layer_fits (Action-F.List name children flags) = omega arith
 layer_fits (Action-F.Gather name children flags) = omega arith

@@ -15,7 +15,8 @@ use Rattle.dv_rules.specs.Turn.{Turned, ◌over◌, done, settling, settle_next,
 use Rattle.dv_rules.specs.declared.frame.Frame.TheVariants.{Settle, Place, Rest, Give}
 use Rattle.dv_rules.specs.declared.frame.Purpose.TheVariants.{Holding}
 use Rattle.dv_objects.specs.Pair.{side_for}
-use Rattle.dv_world.specs.World.{World, put, put_deferred, fire, end_loop, value_of}
+use Rattle.dv_objects.specs.Timed.{timed}
+use Rattle.dv_world.specs.World.{World, put, put_deferred, fire, has_timed_out, end_timer, end_loop, value_of}
 use Rattle.dv_objects.specs.declared.pair.Pair.{Pair}
 use Rattle.dv_objects.specs.declared.pair.Side.{Side}
 use Rattle.dv_objects.specs.declared.pair.Side.TheVariants as side
@@ -29,11 +30,13 @@ place d (Gave value) w = put d value w
 place d (Raised failure) w = put d (Fault failure) w
 place d (Awaits e) w = put_deferred d e w
 
--- a side of d on its input: a body is performed on it, another Deferred is fired with it, it comes to a list, or what a list has is taken out of it; a body is performed with a token, or a token is given back and the input given on; a loop goes on, or ends, and so does a task; an inline body goes on; and a missing side gives it on
+-- a side of d on its input: a body is performed on it, another Deferred is fired with it, a timer turns a cancellation into TimeoutError, or ends and the input is given on, it comes to a list, or what a list has is taken out of it; a body is performed with a token, or a token is given back and the input given on; a loop goes on, or ends, and so does a task; an inline body goes on; and a missing side gives it on
 abbrev pub side_begun : ℕ → Option Side → Value → World → Turned
 side_begun d None input w = ([], Gave input, w)
 side_begun d (Some (side.Body body)) input w = (Rest (rest_of (Some d) body input) ∷ [], Done, w)
 side_begun d (Some (side.Fire e)) input w = settle_next e (fire e input w).0 (fire e input w).1
+side_begun d (Some (side.Timed t)) input w = ([], Gave (timed w.classes (has_timed_out t w) input), w)
+side_begun d (Some (side.EndTimer t)) input w = ([], Gave input, end_timer t w)
 side_begun d (Some (side.Come child)) input w = come_by child input w
 side_begun d (Some side.Results) input w = results_given (seconds_of input) w
 side_begun d (Some (side.Hold l body)) input w = (body_for (Holding l) body, Done, w)

@@ -15,6 +15,7 @@ use dv_journal::deferred_id::DeferredId;
 use dv_objects::given::Given;
 use dv_objects::pair::{Pair, Side};
 use dv_objects::performed::Performed;
+use dv_objects::timed::timed;
 use dv_rules::following::{done, fire_and_settle, settle_after, settle_both, whole};
 use dv_rules::frame::{Frame, Purpose};
 use dv_rules::maybe::perform_for;
@@ -97,6 +98,15 @@ fn begin<'s>(
     match side {
         Side::Body(body) => done(stack.push(Frame::Rest(whole(Some(id), body, input)))),
         Side::Fire(to) => fire_and_settle(world, stack, to, input),
+        Side::Timed(timer) => {
+            let over = world.has_timed_out(timer);
+            let given = timed(alloc, world.classes(), over, input)?;
+            Ok(Performed::Gave(given))
+        }
+        Side::EndTimer(timer) => {
+            world.end_timer(timer);
+            Ok(Performed::Gave(Given::own(input)))
+        }
         Side::Come(child) => come(world, stack, child, input),
         Side::Results => results(alloc, input),
         Side::Hold(lock, body) => {

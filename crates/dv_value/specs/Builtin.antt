@@ -67,13 +67,16 @@ task_stopped = 18
 abbrev pub task_failed : ℕ
 task_failed = 19
 
+abbrev pub timeout_error : ℕ
+timeout_error = 20
+
 -- the names of those right below the root
 abbrev pub of_exception : List (List ℕ)
 of_exception =
     codes "ValueError" ∷ codes "TypeError" ∷ codes "NameError" ∷ codes "AssertionError" ∷ codes "OverflowError" ∷ codes "RuntimeError"
     ∷ codes "AlreadyCalledError" ∷ codes "CancelledError" ∷ codes "FirstError" ∷ codes "QueueOverflow" ∷ codes "QueueUnderflow" ∷ codes "SchedulerError" ∷ []
 
--- the root, and below it a line for each class that has children
+-- the root, and below it a line for each class that has children; of those right below the root `TimeoutError` stands last of all
 unfoldable pub builtin : List Class
 builtin =
     children_of None (codes "Exception" ∷ [])
@@ -81,3 +84,4 @@ builtin =
     ++ children_of (Some value_error) (codes "AlreadyCalled" ∷ codes "AlreadyCancelled" ∷ [])
     ++ children_of (Some scheduler_error) (codes "TaskFinished" ∷ codes "NotPaused" ∷ [])
     ++ children_of (Some task_finished) (codes "TaskDone" ∷ codes "TaskStopped" ∷ codes "TaskFailed" ∷ [])
+    ++ children_of (Some exception) (codes "TimeoutError" ∷ [])

@@ -4,7 +4,7 @@ use Rattle.std.specs.Option.{option_map_or}
 use Rattle.dv_value.specs.declared.classes.Class.{Class}
 use Rattle.dv_value.specs.Classes.{parent_of, path, find_class, name_of}
 use Rattle.dv_value.specs.Declaring.{with_class}
-use Rattle.dv_value.specs.Builtin.{builtin, type_error, name_error, assertion_error, overflow_error, already_called_error, cancelled_error, first_error, queue_overflow, queue_underflow}
+use Rattle.dv_value.specs.Builtin.{builtin, type_error, name_error, assertion_error, overflow_error, already_called_error, cancelled_error, first_error, queue_overflow, queue_underflow, timeout_error}
 
 -- each class's parent stands before it
 abbrev pub ParentsStandBefore : List Class → Type 0
@@ -33,6 +33,7 @@ pub record BuiltinsHaveTheirPlaces : Type 0 where
   pub first_error : find_class (codes "FirstError") builtin ≡ Some first_error
   pub queue_overflow : find_class (codes "QueueOverflow") builtin ≡ Some queue_overflow
   pub queue_underflow : find_class (codes "QueueUnderflow") builtin ≡ Some queue_underflow
+  pub timeout_error : find_class (codes "TimeoutError") builtin ≡ Some timeout_error
 
 -- the place of the first class of this name
 pub record IsFirstOf (name : List ℕ) (table : List Class) (c : ℕ) : Type 0 where

@@ -59,6 +59,8 @@ impl ClassId {
     pub const TASK_STOPPED: ClassId = ClassId { place: 18 };
     /// For a cooperative task that has failed (Twisted: `task.TaskFailed`).
     pub const TASK_FAILED: ClassId = ClassId { place: 19 };
+    /// What comes of a cancel by a timer in place of `CANCELLED_ERROR` (Twisted: `error.TimeoutError`).
+    pub const TIMEOUT_ERROR: ClassId = ClassId { place: 20 };
 
     /// The class at this place, which need not be in any table.
     pub fn new(place: u32) -> ClassId

@@ -84,6 +84,12 @@ impl Classes {
             Some(ClassId::TASK_FINISHED),
             &["TaskDone", "TaskStopped", "TaskFailed"],
         )?;
+        add_children(
+            alloc,
+            &mut classes,
+            Some(ClassId::EXCEPTION),
+            &["TimeoutError"],
+        )?;
         Ok(Classes { alloc, classes })
     }
 

@@ -10,7 +10,7 @@ use Rattle.dv_journal.specs.Journal.{Written, empty, fits, with_entry}
 use Rattle.dv_journal.specs.declared.entry.Entry.{Entry}
 use Rattle.dv_journal.specs.declared.entry.Entry.TheVariants as entry
 use Rattle.dv_journal.specs.declared.error.Stop.{Stop}
-use Rattle.dv_clock.specs.Clock.{Upcoming, next_call}
+use Rattle.dv_clock.specs.Clock.{Upcoming, next_call, has_run}
 use Rattle.dv_clock.specs.Due.{coming_due}
 use Rattle.dv_clock.specs.Turns.{turn_of}
 use Rattle.dv_clock.specs.declared.call.Call.{Call}
@@ -47,7 +47,7 @@ use Rattle.dv_inline.specs.Position.{Position}
 use Rattle.dv_objects.specs.Inlines.{come_to, end_adding, now_waiting, awaited_by}
 use Rattle.dv_objects.specs.Looping.{next_due, with_turn, with_stopped, with_ended}
 use Rattle.dv_objects.specs.Names.{number_of}
-use Rattle.dv_objects.specs.Objects.{Objects, no_objects, naming_where, with_list, with_new_call, with_delivery, with_ended_call, with_time, with_lock, lock_changed, with_queue, queue_changed, cooperating, with_tick, without_tick, inlining, with_new_inline}
+use Rattle.dv_objects.specs.Objects.{Objects, no_objects, naming_where, with_list, with_new_call, with_delivery, with_timer, with_ended_call, with_time, with_lock, lock_changed, with_queue, queue_changed, cooperating, with_tick, without_tick, inlining, with_new_inline}
 use Rattle.dv_objects.specs.Pair.{passes}
 use Rattle.dv_objects.specs.Reached.{reached_at}
 use Rattle.dv_objects.specs.Refusals.{cancelled}
@@ -314,6 +314,18 @@ deliver_later job d delay w = let due = w.objects.clock.time + min delay MOST_DE
 abbrev pub call_later : List ℕ → ℕ → Body → World → World
 call_later name delay body w = let due = w.objects.clock.time + min delay MOST_DELAY in aside (entry.LaterCall name due) (with_new_call name due body) w
 
+-- a timer of d is started, whose time comes so much later than now, and no later than calls are delayed by
+abbrev pub start_timer : ℕ → ℕ → World → World
+start_timer d delay w = let due = w.objects.clock.time + min delay MOST_DELAY in aside (entry.LaterTimeout d due) (with_timer d due) w
+
+-- whether the time of a timer has come
+abbrev pub has_timed_out : ℕ → World → Bool
+has_timed_out t w = has_run t w.objects.clock.calls
+
+-- a timer ends, where its time hasn't come, which isn't told
+abbrev pub end_timer : ℕ → World → World
+end_timer t w = arrange (with_ended_call t call_state.Dropped) w
+
 -- time goes on by so much, and no further than clocks go
 abbrev pub advance : ℕ → World → World
 advance ticks w = let time = min (w.objects.clock.time + ticks) MOST_TICKS in aside (entry.Advance time) (with_time time) w
@@ -340,6 +352,7 @@ waiting_cancelled number (what.Call name key) w = aside (entry.Uncall name) (wit
 waiting_cancelled number (what.Turn name key) w = w
 waiting_cancelled number what.Tick w = w
 waiting_cancelled number (what.Delivery job key) w = w
+waiting_cancelled number (what.Timeout d) w = w
 
 -- a call is cancelled while it waits; else that is refused
 abbrev pub state_cancelled : ℕ → CallState → World → Performed × World

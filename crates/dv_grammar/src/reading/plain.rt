@@ -6,7 +6,7 @@ ghost use Rattle.dv_grammar.specs.Shape.{with_name, with_names, plain_of};
 use crate::reading::work::named_work;
 use crate::words::{NameWord, NamesWord, PlainWord};
 use dv_forms::arguments::{
-    named_bounds, named_failure, named_gathering, named_list, named_places, named_value, one_text,
+    named_bounds, named_delay, named_failure, named_gathering, named_list, named_places, named_value, one_text,
     two_texts,
 };
 use dv_forms::stop::Stop;
@@ -90,6 +90,10 @@ pub fn plain_of(
         PlainWord::Thread => {
             let (name, delay, work) = named_work(alloc, classes, arguments)?;
             Ok(Action::Thread(name, delay, work))
+        }
+        PlainWord::AddTimeout => {
+            let (name, delay) = named_delay(alloc, arguments)?;
+            Ok(Action::AddTimeout(name, delay))
         }
     }
 }

@@ -1,4 +1,4 @@
-ghost use Rattle.std.specs.Prelude.{◌≡◌, [], ◌∷◌, ◌++◌, slice_get, IfOk, OnOk};
+ghost use Rattle.std.specs.Prelude.{◌≡◌, [], ◌∷◌, ◌++◌, length, slice_get, IfOk, OnOk};
 ghost use Rattle.dv_clock.specs.declared.due.Due.TheVariants.{Call as CallOf};
 ghost use Rattle.dv_world.specs.World.{was_called, was_cancelled};
 ghost use Rattle.dv_objects.specs.declared.performed.Performed.TheVariants.{Raised};
@@ -8,6 +8,7 @@ use dv_clock::call_id::CallId;
 use dv_clock::due::Due;
 use dv_clock::error::CancelFault;
 use dv_clock::limits::{MOST_DELAY, MOST_TICKS};
+use dv_journal::deferred_id::DeferredId;
 use dv_objects::performed::Performed;
 use dv_script::lent::{BodyRef, TextRef};
 use dv_value::class_id::ClassId;
@@ -16,7 +17,7 @@ use dv_value::text::Text;
 use std::alloc::{AllocError, Global};
 
 impl<'s> World<'s> {
-    ghost use Rattle.dv_world.specs.World.{call_later, advance, come_due, cancel_call};
+    ghost use Rattle.dv_world.specs.World.{call_later, start_timer, has_timed_out, end_timer, advance, come_due, cancel_call};
     ghost use Rattle.dv_objects.specs.Names.{number_of, with_name};
 
     /// Schedules a delayed call of a body, which is due so many ticks later than now, and no later than calls are delayed
@@ -93,6 +94,45 @@ impl<'s> World<'s> {
             }
             Err(CancelFault::OutOfMemory) => Err(AllocError),
         }
+    }
+
+    /// Starts a timer of a Deferred, whose time comes so many ticks later than now, and no later than calls are delayed by,
+    /// as none does that a script which is read starts (Twisted: `Deferred.addTimeout`).
+    #[tactic(auto, unfolding(crate::specs::World::aside))]
+    pub fn start_timer(&mut self, id: DeferredId, delay: u64) -> Result<CallId, AllocError>
+        ensures started { OnOk result (self.new ≡ start_timer id delay self.old) }
+        ensures timer { IfOk result (λ timer. timer ≡ length self.old.objects.clock.calls) }
+    {
+        let timer = self.clock.next_id();
+        if self.stopped {
+            return Ok(timer);
+        }
+        let what = Due::Timeout(id);
+        match self
+            .clock
+            .later(&mut self.journal, what, delay.min(MOST_DELAY))
+        {
+            Ok(_) => Ok(timer),
+            Err(stop) => self.stopped_by(stop, timer),
+        }
+    }
+
+    /// Whether the time of a timer has come.
+    pub fn has_timed_out(&self, timer: CallId) -> bool
+        ensures { result ≡ has_timed_out timer self.now }
+    {
+        self.clock.has_run(timer)
+    }
+
+    /// A timer ends, where its time hasn't come. That isn't told.
+    #[tactic(auto, unfolding(crate::specs::World::arrange))]
+    pub fn end_timer(&mut self, timer: CallId)
+        ensures { self.new ≡ end_timer timer self.old }
+    {
+        if self.stopped {
+            return;
+        }
+        let _ = self.clock.drop_call(timer);
     }
 
     /// Time goes on by so many ticks, and no further than clocks go, to which no script gets that is read (Twisted:

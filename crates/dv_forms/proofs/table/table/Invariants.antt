@@ -7,4 +7,4 @@ abbrev pub invariant-loop-declaration : goal.invariant-loop-declaration
 invariant-loop-declaration l =
     (table_after l.classes (drop l.declaration-index l.declared) ≡ table_after builtin l.declared)
     × ((l.all && are_declared l.classes (drop l.declaration-index l.declared)) ≡ are_declared builtin l.declared)
-    × (length l.classes ≤ 20 + l.declaration-index)
+    × (length l.classes ≤ 21 + l.declaration-index)
