@@ -17,9 +17,10 @@ use Rattle.dv_objects.specs.Looping.{is_scheduled, with_new_loop}
 use Rattle.dv_objects.specs.Names.{Names, number_of}
 use Rattle.dv_objects.specs.Objects.{naming, cooperating, with_new_list, with_new_lock, with_new_queue}
 use Rattle.dv_objects.specs.Pair.{callback, errback, both, chain, coming, results, holding, releasing, turning, resuming, continuing}
-use Rattle.dv_objects.specs.Pair.{side_for}
+use Rattle.dv_objects.specs.Pair.{timing, ending, side_for}
 use Rattle.dv_objects.specs.Performed.{failed_with}
 use Rattle.dv_objects.specs.Refusals.{cancelled, unbound, not_held, overflow, underflow, not_gathered}
+use Rattle.dv_objects.specs.Timed.{timed}
 use Rattle.dv_objects.specs.Works.{is_full}
 use Rattle.dv_objects.specs.declared.canceller.Canceller.TheVariants as canceller
 use Rattle.dv_objects.specs.declared.inline_id.Inline.{Inline}
@@ -68,7 +69,7 @@ use Rattle.dv_world.specs.declared.found.Found.TheVariants.{All, Unbound}
 
 -- 1. What doing something comes to.
 
--- one after the other, on what the first came to; nothing, where more lies in one another than the bound of section 20 allows
+-- one after the other, on what the first came to; nothing, where more lies in one another than the bound of section 21 allows
 infixl 10 ◌and_then◌
 abbrev pub ◌and_then◌ : {A B : Type 0} → Option A → (A → Option B) → Option B
 None and_then next = None
@@ -110,9 +111,9 @@ unless_raised (Awaits e) w next = next
 abbrev pub told : Performed → World → World
 told p w = found (failed_with p) w λ failure. tell (entry.Unhandled failure) w
 
--- 2. What may be done inside something, each of which may lie in itself without end: a Deferred is settled (section 16), what is left of a
--- body is performed (18), a Deferred is cancelled (6), an inline body goes on (19), so many steps of a tick are taken (13), and what is due
--- is run (19).
+-- 2. What may be done inside something, each of which may lie in itself without end: a Deferred is settled (section 17), what is left of a
+-- body is performed (19), a Deferred is cancelled (6), an inline body goes on (20), so many steps of a tick are taken (14), and what is due
+-- is run (20).
 pub record Inside : Type 0 where
   pub settle : ℕ → World → Option World
   pub perform : Option ℕ → List Action → End → Value → World → Answer
@@ -140,7 +141,7 @@ abbrev pub on_all : Found → World → (List ℕ → Answer) → Answer
 on_all (All children) w next = next children
 on_all (Unbound name) w next = Some (unbound name, w)
 
--- 4. Bodies. A body is performed on an input; `@` stands for the Deferred that is given (section 18).
+-- 4. Bodies. A body is performed on an input; `@` stands for the Deferred that is given (section 19).
 abbrev pub perform : Inside → Option ℕ → Body → Value → World → Answer
 perform inside itself body input w = inside.perform itself (out-Body body).actions (out-Body body).end input w
 
@@ -341,7 +342,17 @@ come_to inside child input w =
     (found came.0.fire (finished came.1) λ v. if is_unfired child.of came.1 then fire inside child.of v came.1 else finished came.1)
     and_then λ (p, w). unless_raised p w (give came.0.pass w)
 
--- 12. Loops (Twisted: `LoopingCall`).
+-- 12. Time-outs (Twisted: `Deferred.addTimeout`).
+
+-- d is cancelled so many ticks later, unless it has come to something by then: a timer is started, and d gets two pairs, one that turns a
+-- cancellation by the timer into TimeoutError, and one that ends the timer
+abbrev pub add_timeout : Inside → ℕ → ℕ → World → Answer
+add_timeout inside d delay w =
+    let t = length w.objects.clock.calls in
+    add inside d (timing t) (world.start_timer d delay w) and_then λ w.
+    add inside d (ending t) w and_then finished
+
+-- 13. Loops (Twisted: `LoopingCall`).
 
 -- a turn: the body is performed, and the loop goes on or ends once the Deferred of what it came to is fired
 abbrev pub turn : Inside → ℕ → Body → World → Option World
@@ -380,7 +391,7 @@ stop_loop inside l w =
     if not x.running then raise world.not_running w else
     if is_scheduled x w.objects.clock then fire inside x.of (Text x.name) stopped else finished stopped
 
--- 13. Tasks of the Cooperator (Twisted: `Cooperator`, `CooperativeTask`).
+-- 14. Tasks of the Cooperator (Twisted: `Cooperator`, `CooperativeTask`).
 
 -- d is fired with what a task has come to, if it has ended
 abbrev pub notify : Inside → ℕ → ℕ → World → Answer
@@ -462,7 +473,7 @@ tick inside units w =
     found taken.0 (Some (tick_ended taken.1)) λ now.
     take_step inside now.0 now.1 taken.1 and_then inside.tick (units - 1)
 
--- 14. Inline bodies (Twisted: `inlineCallbacks`).
+-- 15. Inline bodies (Twisted: `inlineCallbacks`).
 
 -- the Deferred of an inline body is made, and the body begins
 abbrev pub inline : Inside → List ℕ → List Statement → World → Answer
@@ -498,7 +509,7 @@ answer_of (Gave v) = Null
 answer_of (Raised failure) = Fault failure
 answer_of (Awaits e) = Null
 
--- 15. Jobs of threads (Twisted: `deferToThread`).
+-- 16. Jobs of threads (Twisted: `deferToThread`).
 
 -- a Deferred is made, and a job submitted for it, whose result is delivered so many ticks later; one more than a run has is refused
 abbrev pub thread : List ℕ → ℕ → Work → World → Answer
@@ -512,13 +523,15 @@ thread name delay work w =
 abbrev pub deliver : Inside → ℕ → ℕ → World → Answer
 deliver inside job d w = found (slice_get w.works job) (finished w) λ work. fire inside d (work_value work) w
 
--- 16. Settling: the pairs of a Deferred are used in order, each on what the one before left (Twisted: `Deferred._runCallbacks`).
+-- 17. Settling: the pairs of a Deferred are used in order, each on what the one before left (Twisted: `Deferred._runCallbacks`).
 
 -- a side of d on its input; a missing one gives it on
 abbrev pub run_side : Inside → ℕ → Option Side → Value → World → Answer
 run_side inside d None input w = give input w
 run_side inside d (Some (side.Body body)) input w = perform inside (Some d) body input w
 run_side inside d (Some (side.Fire e)) input w = fire inside e input w
+run_side inside d (Some (side.Timed t)) input w = give (timed w.classes (world.has_timed_out t w) input) w
+run_side inside d (Some (side.EndTimer t)) input w = give input (world.end_timer t w)
 run_side inside d (Some (side.Come child)) input w = come_to inside child input w
 run_side inside d (Some side.Results) input w = found (seconds_of input) (raise not_gathered w) λ seconds. give seconds w
 run_side inside d (Some (side.Hold l body)) input w = hold inside l body w
@@ -551,7 +564,7 @@ settle_by inside d (Handed c) w = inside.settle c w and_then inside.settle d
 abbrev pub settle : Inside → ℕ → World → Option World
 settle inside d w = let used = world.step d w in settle_by inside d used.0 used.1
 
--- 17. Actions.
+-- 18. Actions.
 
 -- each action by its rule
 abbrev pub carry_out : Inside → Option ℕ → Action-F Action Statement Body → World → Answer
@@ -571,6 +584,7 @@ carry_out inside itself (Action-F.Chain name next) w =
 carry_out inside itself (Action-F.Pause name) w = on_deferred itself name w λ d. finished (world.pause d w)
 carry_out inside itself (Action-F.Unpause name) w = on_deferred itself name w λ d. unpause inside d w
 carry_out inside itself (Action-F.Cancel name) w = on_deferred itself name w λ d. cancel inside d w
+carry_out inside itself (Action-F.AddTimeout name delay) w = on_deferred itself name w λ d. add_timeout inside d delay w
 carry_out inside itself (Action-F.Note text) w = finished (tell (entry.Note text) w)
 carry_out inside itself (Action-F.Lock name) w = finished (aside (entry.Lock name) (with_new_lock name 1) w)
 carry_out inside itself (Action-F.Semaphore name tokens) w = finished (aside (entry.Semaphore name tokens) (with_new_lock name tokens) w)
@@ -605,14 +619,14 @@ carry_out inside itself (Action-F.Thread name delay work) w = thread name delay 
 abbrev pub act : Inside → Option ℕ → Action → World → Answer
 act inside itself action w = carry_out inside itself (out-Action action) w
 
--- 18. What is left of a body: its actions in order, the first of which that raises ends it; and then what its end gives for the input.
+-- 19. What is left of a body: its actions in order, the first of which that raises ends it; and then what its end gives for the input.
 abbrev pub perform_rest : Inside → Option ℕ → List Action → End → Value → World → Answer
 perform_rest inside itself [] end input w = Some (ended itself end input w, w)
 perform_rest inside itself (action ∷ rest) end input w =
     act inside itself action w and_then λ (p, w).
     unless_raised p w (inside.perform itself rest end input w)
 
--- 19. What goes on.
+-- 20. What goes on.
 
 -- an inline body goes on by what it wants: nothing, an action, whose answer it goes on with, or the value of a Deferred
 abbrev pub do_wanted : Inside → Inline → Option Want → Position → World → Answer
@@ -627,7 +641,8 @@ go_on inside i p w =
     found now.result (do_wanted inside i (want_at now) now w) λ result.
     fire inside i.of result w
 
--- what is due next is run, and then what is due after it; a failure that leaves a call or a delivery is told (Twisted: `Clock.advance`)
+-- what is due next is run, and then what is due after it; a failure that leaves a call, a delivery or a time-out is told
+-- (Twisted: `Clock.advance`)
 abbrev pub run_next : Inside → Option Due → World → Option World
 run_next inside None w = Some w
 run_next inside (Some (what.Call name key)) w =
@@ -638,12 +653,13 @@ run_next inside (Some (what.Turn name key)) w =
     inside.run_due
 run_next inside (Some what.Tick) w = inside.tick w.objects.cooperator.units (world.begin_tick w) and_then inside.run_due
 run_next inside (Some (what.Delivery job d)) w = deliver inside job d w and_then λ (p, w). inside.run_due (told p w)
+run_next inside (Some (what.Timeout d)) w = inside.cancel d w and_then λ (p, w). inside.run_due (told p w)
 
 -- what is due is run, until nothing is
 abbrev pub run_due : Inside → World → Option World
 run_due inside w = let next = world.come_due w in run_next inside next.0 next.1
 
--- 20. The rules tied together, where things lie no deeper in one another than this. That some depth suffices for every script is a law.
+-- 21. The rules tied together, where things lie no deeper in one another than this. That some depth suffices for every script is a law.
 unfoldable pub within : ℕ → Inside
 within zero = record {
   settle = λ d w. None;
@@ -669,7 +685,7 @@ pub record ComesTo {A : Type 0} (something : Inside → Option A) (a : A) : Type
   pub depth : ℕ
   pub ends : something (within depth) ≡ Some a
 
--- 21. Callers and their posts (Twisted: `reactor.callFromThread`).
+-- 22. Callers and their posts (Twisted: `reactor.callFromThread`).
 
 -- a post comes with its body, where there is such a post, and a failure that leaves it is told
 abbrev pub post_comes : Inside → Callers → Posted → World → Option World
@@ -693,7 +709,7 @@ abbrev pub later_batches : List Batch → List Batch
 later_batches [] = []
 later_batches (batch ∷ batches) = batches
 
--- 22. Scripts.
+-- 23. Scripts.
 
 -- the events in order. An action is performed, in which `@` isn't bound, and a failure that leaves it is told. Time goes on, and what is
 -- due is run. A drain is told, and the next batch comes. The batch after the last event comes at the end

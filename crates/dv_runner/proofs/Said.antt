@@ -24,7 +24,7 @@ use Rattle.dv_journal.specs.declared.entry.Entry.TheVariants as entry
 use Rattle.dv_objects.specs.Cooperator.{result_of, how_ended}
 use Rattle.dv_objects.specs.Looping.{is_scheduled}
 use Rattle.dv_objects.specs.Names.{number_of}
-use Rattle.dv_objects.specs.Pair.{coming, results, holding, releasing, turning, continuing, side_for}
+use Rattle.dv_objects.specs.Pair.{timing as times, ending, coming, results, holding, releasing, turning, continuing, side_for}
 use Rattle.dv_objects.specs.Performed.{failed_with}
 use Rattle.dv_objects.specs.Refusals.{cancelled, not_held, overflow, underflow, not_gathered}
 use Rattle.dv_objects.specs.Works.{is_full}
@@ -468,6 +468,12 @@ module _ (inside : Inside) where
   cancel_begun (reached.Children children) w = children_cancelled children w
   cancel_begun (reached.Inline i) w = awaited_cancelled (world.awaited_in i w) w
 
+  -- time-outs
+  timer_begun : (d delay : ℕ) (w : World) → says (timing.timer_begun d delay w) ≡ rule.add_timeout inside d delay w
+  timer_begun d delay w =
+      let t = length w.objects.clock.calls in
+      then_then (inside.settle d (world.append d (times t) (world.start_timer d delay w))) finished (λ r. rule.add inside d (ending t) r.1 and_then finished)
+
   -- actions
   bound : (o : Option ℕ) (name : List ℕ) (w : World) (t : ℕ → Turned) (a : ℕ → Answer) → ((d : ℕ) → says (t d) ≡ a d) → says (with_object o name w t) ≡ rule.with_bound o name w a
   bound None name w t a h = refl
@@ -489,6 +495,7 @@ module _ (inside : Inside) where
   begun_said itself (Action-F.Pause name) w = bound (deferred_at itself name w) name w _ _ (λ d. refl)
   begun_said itself (Action-F.Unpause name) w = bound (deferred_at itself name w) name w _ _ (λ d. unpause d w)
   begun_said itself (Action-F.Cancel name) w = bound (deferred_at itself name w) name w _ _ (λ d. cancel_begun (world.cancel d w).0 (world.cancel d w).1)
+  begun_said itself (Action-F.AddTimeout name delay) w = bound (deferred_at itself name w) name w _ _ (λ d. timer_begun d delay w)
   begun_said itself (Action-F.Note text) w = refl
   begun_said itself (Action-F.Lock name) w = refl
   begun_said itself (Action-F.Semaphore name tokens) w = refl
@@ -520,6 +527,8 @@ module _ (inside : Inside) where
   side_begun d None input w = refl
   side_begun d (Some (side.Body body)) input w = refl
   side_begun d (Some (side.Fire e)) input w = fire e input w
+  side_begun d (Some (side.Timed t)) input w = refl
+  side_begun d (Some (side.EndTimer t)) input w = refl
   side_begun d (Some (side.Come child)) input w = come_by child input w
   side_begun d (Some side.Results) input w = results_given (seconds_of input) w
   side_begun d (Some (side.Hold l body)) input w = refl
@@ -592,6 +601,7 @@ module _ (inside : Inside) where
   come_due (Some (what.Delivery job d)) w =
       over_first (said inside) (threading.delivered d (threading.job_result job w.works) w) frame.Tell (frame.Due ∷ []) _ (delivered d (slice_get w.works job) w)
       ∙ sym (then_then (rule.deliver inside job d w) (λ r. inside.run_due (told r.0 r.1)) finished)
+  come_due (Some (what.Timeout d)) w = sym (then_then (inside.cancel d w) (λ r. inside.run_due (told r.0 r.1)) finished)
 
   place_said : (d : ℕ) (p : Performed) (w : World) → says (turned (frame.Place d) p w) ≡ (inside.settle d (rule.put_in_place d p w) and_then finished)
   place_said d Done w = refl
