@@ -6,8 +6,8 @@ ghost use Rattle.dv_grammar.specs.Shape.{with_name, with_names, plain_of};
 use crate::reading::work::named_work;
 use crate::words::{NameWord, NamesWord, PlainWord};
 use dv_forms::arguments::{
-    named_bounds, named_delay, named_failure, named_gathering, named_list, named_places, named_value, one_text,
-    two_texts,
+    named_bounds, named_delay, named_failure, named_gathering, named_list, named_places,
+    named_value, one_text, two_texts,
 };
 use dv_forms::stop::Stop;
 use dv_script::action::Action;
