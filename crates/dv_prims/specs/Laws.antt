@@ -1,8 +1,5 @@
 -- What holds of every lock, semaphore, queue and DeferredList.
-use Rattle.std.specs.Prelude.{◌≡◌, ◌≤◌, ◌<◌, ◌++◌, ◌⊎◌, ℕ, true, List, [], ◌∷◌, length, None, Some}
-use Rattle.std.specs.BTreeSet.{insert_key}
-use Rattle.std.specs.List.{All}
-use Rattle.std.specs.Ordering.{nat_cmp}
+use Rattle.std.specs.Prelude.{◌≡◌, ◌≤◌, ◌<◌, ◌⊎◌, ℕ, true, [], length, None, Some}
 use Rattle.dv_prims.specs.Tokens.{Semaphore}
 use Rattle.dv_prims.specs.Queue.{Queue}
 use Rattle.dv_prims.specs.DeferredList.{Gather, due}
@@ -15,10 +12,6 @@ GivesAllBeforeAnyWaits s = (s.given ≤ s.tokens) × (0 < length s.waiting → s
 -- values are stored, or Deferreds wait, or neither
 abbrev pub StoresOrIsWaitedFor : Queue → Type 0
 StoresOrIsWaitedFor q = (q.stored ≡ []) ⊎ (q.waiting ≡ [])
-
--- whoever was made after all that wait, waits last
-abbrev pub TheLastMadeWaitsLast : Type 0
-TheLastMadeWaitsLast = (d : ℕ) (waiting : List ℕ) → All (λ e. e < d) waiting → insert_key nat_cmp waiting d ≡ waiting ++ d ∷ []
 
 -- a child that fires a list is the last that does: the list is fired then, and a fired one stays so and fires nothing
 pub record FiresOnceAtMost (i : ℕ) (v : Value) (g : Gather) : Type 0 where

@@ -1,3 +1,4 @@
+pub mod Tickets
 pub mod Tokens
 pub mod Queue
 pub mod DeferredList

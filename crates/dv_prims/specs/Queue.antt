@@ -1,7 +1,5 @@
 -- Queues (Twisted: `DeferredQueue`).
 use Rattle.std.specs.Prelude.{◌≡◌, ◌≢◌, ℕ, Bool, true, nat_lt, if◌then◌else◌, List, [], ◌∷◌, ◌++◌, length, Option, None, Some, Result, Ok, Err, slice_get}
-use Rattle.std.specs.BTreeSet.{insert_key}
-use Rattle.std.specs.Ordering.{nat_cmp}
 use Rattle.dv_value.specs.declared.value.Value.{Value}
 use Rattle.dv_journal.specs.Journal.{Written, fits, with_entry}
 use Rattle.dv_journal.specs.declared.entry.Entry.TheVariants as entry
@@ -12,7 +10,7 @@ use Rattle.dv_prims.specs.Tokens.{without}
 use Rattle.dv_prims.specs.declared.error.PutFault.{PutFault}
 use Rattle.dv_prims.specs.declared.error.PutFault.TheVariants.{Overflow, Limit, OutOfMemory}
 
--- its name, how many values it stores at most and how many wait at most, none where there is no bound; the values that are stored, from the one that was put first; and who waits for one, in order of making, in which they came
+-- its name, how many values it stores at most and how many wait at most, none where there is no bound; the values that are stored, from the one that was put first; and who waits for one, in order of asking
 pub record Queue : Type 0 where
   pub name : List ℕ
   pub size : Option ℕ
@@ -59,16 +57,16 @@ abbrev pub receiver : List ℕ → Value → Option (ℕ × Value)
 receiver [] value = None
 receiver (first ∷ rest) value = Some (first, value)
 
--- d gets the first value that is stored; with none stored it waits: last, since whoever asks is made to ask
+-- d gets the first value that is stored; with none stored it waits, last: one that waits already waits once more
 abbrev pub got_from : List Value → ℕ → Queue → Queue
-got_from [] d q = record q { waiting = insert_key nat_cmp q.waiting d }
+got_from [] d q = record q { waiting = q.waiting ++ d ∷ [] }
 got_from (first ∷ rest) d q = record q { stored = rest }
 
 -- d asks for a value, and is told which it has, if it doesn't wait
 abbrev pub get : ℕ → State Queue → Told (Option Value) Queue
 get d s = telling (entry.Get s.0.name d) (slice_get s.0.stored 0) (got_from s.0.stored d s.0) s
 
--- d waits no longer
+-- d waits no longer, or once less where it waits more than once
 abbrev pub withdrawn : ℕ → Queue → Queue
 withdrawn d q = record q { waiting = without d q.waiting }
 

@@ -1,9 +1,6 @@
 -- Locks and semaphores (Twisted: `DeferredSemaphore`, and `DeferredLock`, which is one of one token).
-use Rattle.std.specs.Prelude.{◌≡◌, ◌≢◌, ℕ, ◌+◌, ◌-◌, Bool, nat_eq, nat_lt, if◌then◌else◌, List, [], ◌∷◌, Option, Result, Ok, Err, slice_get}
-use Rattle.std.specs.BTreeMap.{is_at}
-use Rattle.std.specs.BTreeSet.{insert_key}
+use Rattle.std.specs.Prelude.{◌≡◌, ◌≢◌, ℕ, ◌+◌, ◌-◌, Bool, nat_eq, nat_lt, if◌then◌else◌, List, [], ◌∷◌, ◌++◌, Option, Result, Ok, Err, slice_get}
 use Rattle.std.specs.List.{list_any}
-use Rattle.std.specs.Ordering.{nat_cmp}
 use Rattle.std.specs.Set.{remove_key}
 use Rattle.dv_journal.specs.Journal.{Written, fits, with_entry}
 use Rattle.dv_journal.specs.declared.entry.Entry.TheVariants as entry
@@ -15,7 +12,7 @@ use Rattle.dv_prims.specs.declared.error.ReleaseFault.TheVariants.{NotHeld, Limi
 use Rattle.dv_prims.specs.declared.semaphore.Grant.{Grant}
 use Rattle.dv_prims.specs.declared.semaphore.Grant.TheVariants.{Now, Waits}
 
--- its name, how many tokens it has and how many of them are given, and who waits for one, in order of making, in which they came
+-- its name, how many tokens it has and how many of them are given, and who waits for one, in order of asking
 pub record Semaphore : Type 0 where
   pub name : List ℕ
   pub tokens : ℕ
@@ -50,9 +47,9 @@ first_waiting s = slice_get s.waiting 0
 abbrev pub grant_of : Semaphore → Grant
 grant_of s = if has_free s then Now else Waits
 
--- d is given a free token, or waits: last, since whoever asks is made to ask
+-- d is given a free token, or waits, last: one that waits already waits once more
 abbrev pub asked : ℕ → Semaphore → Semaphore
-asked d s = if has_free s then record s { given = s.given + 1 } else record s { waiting = insert_key nat_cmp s.waiting d }
+asked d s = if has_free s then record s { given = s.given + 1 } else record s { waiting = s.waiting ++ d ∷ [] }
 
 -- a token that is given back goes to the first that waits, who waits no longer; with nobody waiting it is free
 abbrev pub released_to : List ℕ → Semaphore → Semaphore
@@ -65,13 +62,13 @@ released s = released_to s.waiting s
 
 -- whether d waits
 abbrev pub is_waiting : ℕ → List ℕ → Bool
-is_waiting d waiting = list_any (is_at (nat_cmp d)) waiting
+is_waiting d waiting = list_any (nat_eq d) waiting
 
--- those that wait without d, wherever it stands
+-- those that wait without d; where it waits more than once, without its first place
 abbrev pub without : ℕ → List ℕ → List ℕ
-without d waiting = remove_key (is_at (nat_cmp d)) waiting
+without d waiting = remove_key (nat_eq d) waiting
 
--- d waits no longer
+-- d waits no longer, or once less where it waits more than once
 abbrev pub forgotten : ℕ → Semaphore → Semaphore
 forgotten d s = record s { waiting = without d s.waiting }
 

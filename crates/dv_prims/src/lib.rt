@@ -9,4 +9,4 @@ pub mod lock_id;
 pub mod queue;
 pub mod queue_id;
 pub mod semaphore;
-mod waiting;
+mod waiting_list;

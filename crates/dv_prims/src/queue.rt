@@ -1,7 +1,7 @@
 ghost use Rattle.std.specs.Prelude.{◌≡◌, IfOk};
 
 use crate::error::PutFault;
-use crate::waiting::join;
+use crate::waiting_list::{WaitingList, join};
 use dv_journal::deferred_id::DeferredId;
 use dv_journal::entry::Entry;
 use dv_journal::error::Stop;
@@ -10,11 +10,10 @@ use dv_value::deque::Deque;
 use dv_value::text::Text;
 use dv_value::value::Value;
 use std::alloc::{AllocError, Global};
-use std::collections::BTreeSet;
 use std::marker::Model;
 
-/// A queue of values (Twisted: `DeferredQueue`). Those that wait for a value are kept by their numbers: each of them is
-/// made to ask, so that is the order in which they came.
+/// A queue of values (Twisted: `DeferredQueue`). Those that wait for a value get it in the order in which they asked; one
+/// that asks twice waits twice.
 #[derive(Drop)]
 pub struct Queue {
     alloc: Global,
@@ -22,7 +21,7 @@ pub struct Queue {
     size: Option<u32>,
     backlog: Option<u32>,
     stored: Deque<Value>,
-    waiting: BTreeSet<u32>,
+    waiting: WaitingList,
 }
 
 impl Model for Queue {
@@ -35,9 +34,9 @@ impl Model for Queue {
 
     ghost coded = { Prim.hlevel (codes, value_contract.the_row.coded) };
 
-    ghost view = { λ q. record { name = q.name; size = q.size; backlog = q.backlog; stored = q.stored; waiting = q.waiting.keys } };
+    ghost view = { λ q. record { name = q.name; size = q.size; backlog = q.backlog; stored = q.stored; waiting = q.waiting } };
 
-    ghost invariant = { λ q. (q.stored ≡ []) ⊎ (q.waiting.keys ≡ []) };
+    ghost invariant = { λ q. (q.stored ≡ []) ⊎ (q.waiting ≡ []) };
 }
 
 impl Queue {
@@ -115,7 +114,7 @@ impl Queue {
             drop(value);
             return Err(PutFault::OutOfMemory);
         };
-        if self.waiting.first().is_none() {
+        if self.waiting.is_empty() {
             store(journal, entry, &mut self.stored, value)?;
             return Ok(None);
         }
@@ -123,8 +122,8 @@ impl Queue {
             drop(value);
             return Err(stop.into());
         }
-        match self.waiting.pop_first() {
-            Some(number) => Ok(Some((DeferredId::new(number), value))),
+        match self.waiting.pop_front() {
+            Some(id) => Ok(Some((id, value))),
             None => unreachable!(),
         }
     }
@@ -155,12 +154,13 @@ impl Queue {
         Ok(self.stored.pop_front())
     }
 
-    /// A Deferred waits no longer, and whether it did is answered (Twisted: `DeferredQueue._cancelGet`).
+    /// A Deferred waits no longer, or once less where it asked more than once, and whether it waited is answered (Twisted:
+    /// `DeferredQueue._cancelGet`).
     pub fn forget(&mut self, id: DeferredId) -> bool
         ensures waited { result ≡ is_waiting id self.old.waiting }
         ensures rest { self.new ≡ withdrawn id self.old }
     {
-        self.waiting.remove(&id.number())
+        self.waiting.remove(id)
     }
 
     /// Values are stored, or Deferreds wait, or neither.
@@ -185,7 +185,7 @@ fn empty(alloc: Global, name: Text, size: Option<u32>, backlog: Option<u32>) -> 
         size,
         backlog,
         stored: Deque::new(alloc),
-        waiting: BTreeSet::new(alloc),
+        waiting: WaitingList::new(alloc),
     }
 }
 

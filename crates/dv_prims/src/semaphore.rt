@@ -1,14 +1,13 @@
 ghost use Rattle.std.specs.Prelude.{◌≡◌};
 
 use crate::error::ReleaseFault;
-use crate::waiting::join;
+use crate::waiting_list::{WaitingList, join};
 use dv_journal::deferred_id::DeferredId;
 use dv_journal::entry::Entry;
 use dv_journal::error::Stop;
 use dv_journal::journal::Journal;
 use dv_value::text::Text;
 use std::alloc::Global;
-use std::collections::BTreeSet;
 use std::marker::Model;
 
 /// Whether a Deferred that asks for a token gets one.
@@ -21,14 +20,14 @@ pub enum Grant {
 }
 
 /// A semaphore, or a lock, which is one of one token (Twisted: `DeferredSemaphore`, `DeferredLock`). Those that wait for a
-/// token are kept by their numbers: each of them is made to ask, so that is the order in which they came.
+/// token get it in the order in which they asked; one that asks twice waits twice.
 #[derive(Drop)]
 pub struct Semaphore {
     alloc: Global,
     name: Text,
     tokens: u32,
     given: u32,
-    waiting: BTreeSet<u32>,
+    waiting: WaitingList,
 }
 
 impl Model for Semaphore {
@@ -40,9 +39,9 @@ impl Model for Semaphore {
 
     ghost coded = { Prim.hlevel codes };
 
-    ghost view = { λ s. record { name = s.name; tokens = s.tokens; given = s.given; waiting = s.waiting.keys } };
+    ghost view = { λ s. record { name = s.name; tokens = s.tokens; given = s.given; waiting = s.waiting } };
 
-    ghost invariant = { λ s. (s.given ≤ s.tokens) × (0 < length s.waiting.keys → s.given ≡ s.tokens) };
+    ghost invariant = { λ s. (s.given ≤ s.tokens) × (0 < length s.waiting → s.given ≡ s.tokens) };
 }
 
 impl Semaphore {
@@ -106,10 +105,7 @@ impl Semaphore {
     pub fn first_waiting(&self) -> Option<DeferredId>
         ensures { result ≡ first_waiting self.now }
     {
-        match self.waiting.first() {
-            None => None,
-            Some(number) => Some(DeferredId::new(*number)),
-        }
+        self.waiting.first()
     }
 
     /// No more tokens are given than there are, and somebody waits only where all of them are.
@@ -150,8 +146,8 @@ impl Semaphore {
         }
         let shown = self.name.copy(self.alloc)?;
         journal.write(Entry::Release(shown))?;
-        match self.waiting.pop_first() {
-            Some(number) => Ok(Some(DeferredId::new(number))),
+        match self.waiting.pop_front() {
+            Some(id) => Ok(Some(id)),
             None => {
                 self.given -= 1;
                 Ok(None)
@@ -159,12 +155,14 @@ impl Semaphore {
         }
     }
 
-    /// A Deferred waits no longer, and whether it did is answered (Twisted: `DeferredSemaphore._cancelAcquire`).
+    /// A Deferred waits no longer, or once less where it asked more than once, and whether it waited is answered (Twisted:
+    /// `DeferredSemaphore._cancelAcquire`).
+    #[tactic(auto, using(crate::proofs::WaitingLemmas::no_more_left))]
     pub fn forget(&mut self, id: DeferredId) -> bool
         ensures waited { result ≡ is_waiting id self.old.waiting }
         ensures rest { self.new ≡ forgotten id self.old }
     {
-        self.waiting.remove(&id.number())
+        self.waiting.remove(id)
     }
 }
 
@@ -179,6 +177,6 @@ fn all_free(alloc: Global, name: Text, tokens: u32) -> Semaphore
         name,
         tokens,
         given: 0,
-        waiting: BTreeSet::new(alloc),
+        waiting: WaitingList::new(alloc),
     }
 }
