@@ -1,18 +1,17 @@
 -- Those that wait, by their tickets, and what is taken back.
-use Rattle.std.proofs.Common.{◌≡◌, ◌≢◌, ◌⊎◌, ℕ, suc, ◌+◌, ◌-◌, ◌<◌, ◌≤◌, ◌++◌, Bool, true, false, ◌&&◌, ◌||◌, cond, nat_eq, eqb, List, [], ◌∷◌, length, take, drop, Option, None, Some, slice_get, refl, sym, ap, ◌∙◌, subst, arith, ⊎_elim, length-append}
+use Rattle.std.proofs.Common.{◌≡◌, ◌≢◌, ℕ, suc, ◌+◌, ◌-◌, ◌<◌, ◌≤◌, ◌++◌, Bool, true, false, ◌&&◌, ◌||◌, cond, nat_eq, List, [], ◌∷◌, length, take, Option, None, Some, refl, sym, ap, ◌∙◌, subst, arith, length-append}
 use Rattle.std.proofs.Math.Seq.{take-append_seam}
-use Rattle.std.proofs.lemmas.Bool.Decides.{nat_tests, eqb_tells}
+use Rattle.std.proofs.lemmas.Bool.Decides.{nat_tests}
 use Rattle.std.proofs.lemmas.List.{map-append}
 use Rattle.std.proofs.lemmas.Map.Keys.{sorted_head, sorted_tail}
 use Rattle.std.proofs.lemmas.Map.Lookups.{exact_unsigned, exact_pairs}
 use Rattle.std.specs.BTreeMap.{BTreeMap, IsOrdered, get, insert_entry, is_at}
 use Rattle.std.specs.BTreeSet.{BTreeSet, contains, IsKeyRangeOf}
 use Rattle.std.specs.Cmp.{nat_cmp_is}
-use Rattle.std.specs.List.{AllByRecursion, list_any}
+use Rattle.std.specs.List.{AllByRecursion}
 use Rattle.std.specs.List.Sorted.{IsStrictlySortedBy}
 use Rattle.std.specs.Map.{keys_of, lookup, remove_entry}
 use Rattle.std.specs.Ordering.{nat_cmp, is_eq, is_gt, ordering_then}
-use Rattle.std.specs.Set.{remove_key}
 use Rattle.std.specs.declared.cmp.Ordering.{Ordering}
 use Rattle.std.specs.declared.cmp.Ordering.TheVariants.{Less, Equal, Greater}
 use Rattle.std.specs.declared.ops.Bound.TheVariants.{Included, Unbounded}
@@ -185,7 +184,7 @@ without_first d ticket [] s first h = let h' : None ≡ Some d = h in absurd cc
 without_first d ticket (t ∷ tickets) s first h =
     ap (λ (b : Bool). waiting_of (cond b tickets (t ∷ remove_entry (is_at (nat_cmp ticket)) tickets))) (at_is ticket t.0) ∙
     without_by d ticket t tickets (nat_eq t.0 ticket) (nat_eq d t.1) refl refl s first (ap (λ (b : Bool). cond b (Some t.1) (holder ticket tickets)) (sym (at_is ticket t.0)) ∙ h)
-        (λ g. without_first d ticket tickets (later t tickets s) (λ u w. first u (held_later u d t tickets s w)) g)
+    (λ g. without_first d ticket tickets (later t tickets s) (λ u w. first u (held_later u d t tickets s w)) g)
 
 -- whoever holds a ticket waits
 waits_by : (d ticket : ℕ) (t : Ticket) (rest : Option ℕ) (others : Bool) (here : Bool) → cond here (Some t.1) rest ≡ Some d → (rest ≡ Some d → others ≡ true) → (nat_eq d t.1 || others) ≡ true

@@ -77,12 +77,7 @@ impl WaitingList {
         let Some(given) = self.given.checked_add(1) else {
             return Err(AllocError);
         };
-        keep(
-            &mut self.order,
-            &mut self.tickets,
-            self.given,
-            id.number(),
-        )?;
+        keep(&mut self.order, &mut self.tickets, self.given, id.number())?;
         self.given = given;
         Ok(())
     }
