@@ -1,18 +1,17 @@
 -- Those that wait, by their tickets, and what is taken back.
-use Rattle.std.proofs.Common.{◌≡◌, ◌≢◌, ◌⊎◌, ℕ, suc, ◌+◌, ◌-◌, ◌<◌, ◌≤◌, ◌++◌, Bool, true, false, ◌&&◌, ◌||◌, cond, nat_eq, eqb, List, [], ◌∷◌, length, take, drop, Option, None, Some, slice_get, refl, sym, ap, ◌∙◌, subst, arith, ⊎_elim, length-append}
+use Rattle.std.proofs.Common.{◌≡◌, ◌≢◌, ℕ, suc, ◌+◌, ◌-◌, ◌<◌, ◌≤◌, ◌++◌, Bool, true, false, ◌&&◌, ◌||◌, cond, nat_eq, List, [], ◌∷◌, length, take, Option, None, Some, refl, sym, ap, ◌∙◌, subst, arith, length-append}
 use Rattle.std.proofs.Math.Seq.{take-append_seam}
-use Rattle.std.proofs.lemmas.Bool.Decides.{nat_tests, eqb_tells}
+use Rattle.std.proofs.lemmas.Bool.Decides.{nat_tests}
 use Rattle.std.proofs.lemmas.List.{map-append}
 use Rattle.std.proofs.lemmas.Map.Keys.{sorted_head, sorted_tail}
 use Rattle.std.proofs.lemmas.Map.Lookups.{exact_unsigned, exact_pairs}
 use Rattle.std.specs.BTreeMap.{BTreeMap, IsOrdered, get, insert_entry, is_at}
 use Rattle.std.specs.BTreeSet.{BTreeSet, contains, IsKeyRangeOf}
 use Rattle.std.specs.Cmp.{nat_cmp_is}
-use Rattle.std.specs.List.{AllByRecursion, list_any}
+use Rattle.std.specs.List.{AllByRecursion}
 use Rattle.std.specs.List.Sorted.{IsStrictlySortedBy}
 use Rattle.std.specs.Map.{keys_of, lookup, remove_entry}
 use Rattle.std.specs.Ordering.{nat_cmp, is_eq, is_gt, ordering_then}
-use Rattle.std.specs.Set.{remove_key}
 use Rattle.std.specs.declared.cmp.Ordering.{Ordering}
 use Rattle.std.specs.declared.cmp.Ordering.TheVariants.{Less, Equal, Greater}
 use Rattle.std.specs.declared.ops.Bound.TheVariants.{Included, Unbounded}
@@ -113,11 +112,6 @@ still_below given n tickets b = subst (AreBelow (given + 1)) (sym (stands_last g
 pub below_front : (given : ℕ) (tickets : List Ticket) (t : Ticket) → AreBelow given (tickets ++ t ∷ []) → AreBelow given tickets
 below_front given [] t b = tt
 below_front given (u ∷ tickets) t b = (b.0, below_front given tickets t b.1)
-
-pub front_waits : (tickets front : List Ticket) (t : Ticket) → tickets ≡ front ++ t ∷ [] → waiting_of front ≡ take (length (waiting_of tickets) - 1) (waiting_of tickets)
-front_waits tickets front t h =
-    let waits : waiting_of tickets ≡ waiting_of front ++ t.1 ∷ [] = ap waiting_of h ∙ map-append (λ (u : Ticket). u.1) front (t ∷ []) in
-    rw waits (sym (item_taken_back (waiting_of front) t.1))
 
 -- one that leaves by its ticket leaves the others
 below_by : (given : ℕ) (t : Ticket) (tickets rest : List Ticket) (here : Bool) → AreBelow given (t ∷ tickets) → AreBelow given rest → AreBelow given (cond here tickets (t ∷ rest))
@@ -289,11 +283,6 @@ leaving_is order tickets given d ticket k h =
       waits = holder_waits d ticket order.entries held;
       left = without_first d ticket order.entries k.ascends (λ t g. h.1 t (is_indexed order tickets given d t k g)) held;
     }
-
--- nobody is left where there is no first
-pub nobody : (order : List Ticket) → (0 < length order → ⊥) → waiting_of order ≡ []
-nobody [] h = refl
-nobody (t ∷ order) h = absurd (h (omega arith))
 
 -- whoever is taken out leaves no more than there were
 left_more_by : (n : ℕ) (waiting rest : List ℕ) (here : Bool) → length rest ≤ length waiting → length (cond here waiting (n ∷ rest)) ≤ suc (length waiting)

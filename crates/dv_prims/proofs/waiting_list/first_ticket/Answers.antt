@@ -1,5 +1,4 @@
 use Rattle.dv_prims.proofs.WaitingLemmas.{no_ticket, is_first_ticket, no_first_ticket}
-use Rattle.std.proofs.Common.{sym, ◌∙◌}
 use Rattle.dv_prims.proofs.waiting_list.first_ticket.Goals as goal
 
 pub returns-in_err-holder : goal.returns-in_err-holder
