@@ -42,6 +42,7 @@ def all_scripts() -> list[Script]:
         script("jobs"),
         script("posts"),
         script("own_class"),
+        script("whole_language"),
         script("cancelled_again", status=1),
         script("unknown_action", status=2, errors=b"script refused: 4 BadShape\n"),
     ]

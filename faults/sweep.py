@@ -113,10 +113,12 @@ class Row:
 
 
 def rows(scripts: list[Script]) -> Iterator[Row]:
-    """Each row of runs of these scripts. A text that is long is not written a byte a call."""
-    for script, workers, kind, piece in product(scripts, WORKERS, Kind, (0, 1)):
-        if not piece or not kind.is_of_memory and len(script.text) < LONG_TEXT:
-            yield Row(script, workers, kind, piece)
+    """Each row of runs of these scripts. Bytes are moved one by one where the text is short, and with no workers, which neither
+    read nor write."""
+    for script, workers, kind in product(scripts, WORKERS, Kind):
+        yield Row(script, workers, kind, 0)
+        if not kind.is_of_memory and workers == 0 and len(script.text) < LONG_TEXT:
+            yield Row(script, workers, kind, 1)
 
 
 def sweep_row(program: Program, row: Row, findings: Findings) -> None:
