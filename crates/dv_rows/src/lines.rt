@@ -1,4 +1,5 @@
 use std::alloc::{AllocError, Global};
+use std::str::Lines;
 
 /// A text in which each line `*3 LINE` stands for three lines.
 pub fn unfolded(alloc: Global, text: &str) -> Result<String, AllocError> {
@@ -31,7 +32,11 @@ fn push_line(lines: &mut String, times: u64, line: &str) -> Result<(), AllocErro
     Ok(())
 }
 
-/// Tells the first line in which what was printed isn't what is expected, if it isn't.
+/// The line of an expected text that stands for any lines.
+const ANY_LINES: &str = "...";
+
+/// Tells the first line in which what was printed isn't what is expected, if it isn't; after a line that stands for any lines,
+/// the first from the end.
 pub fn first_difference(
     alloc: Global,
     printed: &str,
@@ -40,16 +45,50 @@ pub fn first_difference(
     if printed == expected {
         return Ok(None);
     }
-    let mut printed = printed.lines();
-    let mut expected = expected.lines();
+    let mut lines = printed.lines();
+    let mut wanted = expected.lines();
     for number in 1..u64::MAX {
-        match (printed.next(), expected.next()) {
+        let next = wanted.next();
+        if next == Some(ANY_LINES) {
+            if let Some(last) = last_difference(alloc, lines, wanted)? {
+                return Ok(Some(last));
+            }
+            if is_ended(printed) == is_ended(expected) {
+                return Ok(None);
+            }
+            break;
+        }
+        match (lines.next(), next) {
             (None, None) => break,
             (line, wanted) if line == wanted => {}
             (line, wanted) => return Ok(Some(difference(alloc, number, line, wanted)?)),
         }
     }
     Ok(Some(String::from_str(alloc, "only the ends of lines differ")?))
+}
+
+/// Whether the last line of a text has its end.
+fn is_ended(text: &str) -> bool {
+    text.is_empty() || text.ends_with('\n')
+}
+
+/// Tells the first line from the end in which what was printed isn't what is expected, as far as that goes.
+fn last_difference(
+    alloc: Global,
+    printed: Lines<'_>,
+    expected: Lines<'_>,
+) -> Result<Option<String>, AllocError> {
+    let mut printed = printed.rev();
+    for (number, line) in (1..u64::MAX).zip(expected.rev()) {
+        let found = printed.next();
+        if found != Some(line) {
+            let found = found.unwrap_or("nothing");
+            return Ok(Some(format!(in alloc;
+                "line {number} from the end is `{found}`, not `{line}`"
+            )?));
+        }
+    }
+    Ok(None)
 }
 
 /// Tells in which way the lines of this number differ.

@@ -1,0 +1,175 @@
+#!/usr/bin/env python3
+"""Runs the built program on each script of `scripts/` with each growth of memory refused, and each read and write failed, in turn.
+
+    faults/sweep.py [--cmd PROGRAM] [--cc COMPILER]
+
+Each run is given one fault by a shim that is preloaded, and the next one the next number, until three in a row have met none.
+A run that wants memory ends by status 3 with a prefix of its text, or has done without. A run whose reader or writer failed
+ends by status 4, with nothing or a prefix written. Anything else is wrong, a run of more than 20 seconds too. The last line
+says how many runs there were, how many growths were refused in them, and how many were wrong; the status is 0 where none was.
+"""
+from __future__ import annotations
+
+import argparse
+import os
+import subprocess
+import sys
+import tempfile
+from collections.abc import Iterator
+from concurrent.futures import ThreadPoolExecutor
+from dataclasses import dataclass, field
+from itertools import count, product
+from pathlib import Path
+from threading import Lock
+
+from faults import End, Fault, Kind, is_right
+from scripts import Script, all_scripts
+
+HERE = Path(__file__).resolve().parent
+PROGRAM = HERE.parent / "crates" / "deferreds" / "out" / "deferreds"
+WORKERS = (0, 2)
+IN_VAIN = 3
+MOST_WRONG = 20
+LONG_TEXT = 1_000
+
+
+@dataclass
+class Findings:
+    """What the runs came to."""
+
+    runs: int = 0
+    refused: int = 0
+    wrong: int = 0
+    lock: Lock = field(default_factory=Lock)
+
+    def add(self, fault: Fault, end: End) -> None:
+        with self.lock:
+            self.runs += 1
+            self.refused += end.met if fault.kind.is_of_memory else 0
+
+    def add_wrong(self, line: str) -> None:
+        with self.lock:
+            self.wrong += 1
+            print(line, flush=True)
+
+    def __str__(self) -> str:
+        return f"{self.runs} runs, {self.refused} refused growths, {self.wrong} wrong"
+
+
+@dataclass(frozen=True)
+class Program:
+    """A program under the shim."""
+
+    path: Path
+    shim: Path
+    seconds: float
+
+    def run(self, script: Script, workers: int, fault: Fault) -> End:
+        """Runs a script under a fault."""
+        told, tells = os.pipe()
+        with open(told, "rb") as reports:
+            try:
+                status, output, errors = self.run_with(script, workers, fault, tells)
+            finally:
+                os.close(tells)
+            return End(status, output, errors, len(reports.read()))
+
+    def run_with(self, script: Script, workers: int, fault: Fault, tells: int) -> tuple[int | None, bytes, bytes]:
+        environment = {"LD_PRELOAD": str(self.shim), "FAULT_REPORT": str(tells), **fault.environment()}
+        words = [str(self.path), str(workers)]
+        try:
+            ran = subprocess.run(
+                words,
+                input=script.source,
+                capture_output=True,
+                env=environment,
+                pass_fds=[tells],
+                timeout=self.seconds,
+                check=False,
+            )
+        except subprocess.TimeoutExpired as late:
+            return None, late.stdout or b"", late.stderr or b""
+        return ran.returncode, ran.stdout, ran.stderr
+
+
+@dataclass(frozen=True)
+class Row:
+    """A row of runs: a script, the number of workers, and the kind of fault, at each number in turn."""
+
+    script: Script
+    workers: int
+    kind: Kind
+    piece: int
+
+    def faults(self) -> Iterator[Fault]:
+        return (Fault(self.kind, number, self.piece) for number in count(1))
+
+    def must_meet(self) -> bool:
+        """Whether a run meets the first fault: each reads and grows, and one that prints something writes."""
+        return self.kind not in (Kind.WRITE_FAILS, Kind.WRITE_TAKES_NOTHING) or bool(self.script.text)
+
+    def __str__(self) -> str:
+        return f"{self.script.name} with {self.workers} workers"
+
+
+def rows(scripts: list[Script]) -> Iterator[Row]:
+    """Each row of runs of these scripts. Bytes are moved one by one where the text is short, and with no workers, which neither
+    read nor write."""
+    for script, workers, kind in product(scripts, WORKERS, Kind):
+        yield Row(script, workers, kind, 0)
+        if not kind.is_of_memory and workers == 0 and len(script.text) < LONG_TEXT:
+            yield Row(script, workers, kind, 1)
+
+
+def sweep_row(program: Program, row: Row, findings: Findings) -> None:
+    """Makes the runs of a row until three in a row have met no fault, or too many runs are wrong."""
+    in_vain = 0
+    for fault in row.faults():
+        end = program.run(row.script, row.workers, fault)
+        findings.add(fault, end)
+        if not is_right(row.script, fault, end):
+            findings.add_wrong(f"{row}: {fault}: {end}")
+        if fault.number == 1 and not end.met and row.must_meet():
+            findings.add_wrong(f"{row}: {fault}: the shim isn't asked")
+        in_vain = 0 if end.met else in_vain + 1
+        if in_vain == IN_VAIN or findings.wrong >= MOST_WRONG:
+            return
+
+
+def sweep(program: Program, scripts: list[Script]) -> Findings:
+    """Makes all runs, side by side."""
+    findings = Findings()
+    with ThreadPoolExecutor(2 * (os.cpu_count() or 1)) as pool:
+        for done in [pool.submit(sweep_row, program, row, findings) for row in rows(scripts)]:
+            done.result()
+    return findings
+
+
+def compiled(compiler: str, source: Path, target: Path, *words: str) -> Path:
+    """Compiles a C file."""
+    subprocess.run([compiler, "-O2", "-Wall", "-fno-builtin", *words, "-o", str(target), str(source)], check=True)
+    return target
+
+
+def compiled_shim(compiler: str, folder: Path) -> Path:
+    """Compiles the shim into this folder."""
+    return compiled(compiler, HERE / "shim.c", folder / "shim.so", "-fPIC", "-shared")
+
+
+def main() -> int:
+    parser = argparse.ArgumentParser(description=__doc__, formatter_class=argparse.RawDescriptionHelpFormatter)
+    parser.add_argument("--cmd", type=Path, default=PROGRAM, metavar="PROGRAM", help="the program that is run")
+    parser.add_argument("--cc", default=os.environ.get("CC", "cc"), metavar="COMPILER", help="the C compiler for the shim")
+    asked = parser.parse_args()
+    if not os.access(asked.cmd, os.X_OK):
+        print(f"{asked.cmd} isn't there: rt ci or ./deferreds --build builds it", file=sys.stderr)
+        return 2
+    with tempfile.TemporaryDirectory() as folder:
+        shim = compiled_shim(asked.cc, Path(folder))
+        findings = sweep(Program(asked.cmd.resolve(), shim, 20), all_scripts())
+    print(findings)
+    return 0 if findings.wrong == 0 else 1
+
+
+if __name__ == "__main__":
+    sys.exit(main())
