@@ -1,6 +1,6 @@
 ghost use Rattle.std.specs.Prelude.{◌≡◌, [], None, IfOk};
 ghost use Rattle.dv_actions.specs.Acting.{begun};
-ghost use Rattle.dv_actions.specs.Timing.{timer_begun, body_called, come_due_with};
+ghost use Rattle.dv_actions.specs.Timing.{timer_begun, body_called, timed_out, come_due_with};
 ghost use Rattle.dv_rules.specs.Turn.{◌over◌};
 ghost use Rattle.dv_actions.specs.Deed.{CancelCallOf, TimeoutOf};
 ghost use Rattle.dv_world.specs.World.{World as Seen, come_due};
@@ -126,11 +126,7 @@ where
             stack.push(Frame::Due)?;
             deliver(rt, alloc, jobs, world, stack, job, DeferredId::new(key))
         }
-        Some(Due::Timeout(id)) => {
-            stack.push(Frame::Due)?;
-            stack.push(Frame::Tell)?;
-            done(stack.push(Frame::Cancel(id)))
-        }
+        Some(Due::Timeout(id)) => time_out(stack, id),
     }
 }
 
@@ -149,4 +145,13 @@ fn call_body<'s>(
             done(stack.push(Frame::Rest(whole(None, body, Value::Null))))
         }
     }
+}
+
+/// A Deferred whose time is over is cancelled, what that raises is told, and then what is due next follows.
+fn time_out<'s>(stack: &mut Stack<Frame<'s>>, id: DeferredId) -> Result<Performed<'s>, AllocError>
+    ensures { IfOk result (λ performed. (w : Seen) → (stack.new, performed, w) ≡ timed_out id w over stack.old) }
+{
+    stack.push(Frame::Due)?;
+    stack.push(Frame::Tell)?;
+    done(stack.push(Frame::Cancel(id)))
 }
