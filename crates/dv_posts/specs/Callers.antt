@@ -6,11 +6,12 @@ use Rattle.dv_posts.specs.Posts as inbox
 use Rattle.dv_posts.specs.Ring.{Ring}
 use Rattle.dv_posts.specs.declared.callers.Caller.{Caller}
 use Rattle.dv_posts.specs.declared.callers.Caller.TheVariants.{Running, Here}
+use Rattle.dv_posts.specs.declared.limits.TheConstants.{MOST_CALLERS, MOST_POSTS}
 
 -- no more callers, and no more posts of each, than an inbox has room for
 pub record AreFew (callers : Callers) : Type 0 where
-  pub callers_few : length callers ≤ 8
-  pub posts_few : (c : ℕ) → length (bodies_of callers c) ≤ 256
+  pub callers_few : length callers ≤ MOST_CALLERS
+  pub posts_few : (c : ℕ) → length (bodies_of callers c) ≤ MOST_POSTS
 
 -- from this poster on, so many first posts of its caller were posted
 pub record HasPosted (first : inbox.Poster) (count : ℕ) (p : inbox.Poster) : Type 0 where

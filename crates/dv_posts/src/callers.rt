@@ -3,6 +3,7 @@ ghost use Rattle.dv_posts.specs.Batches.{AreNext, Batch, posts_of};
 ghost use Rattle.dv_posts.specs.Callers.{AllServe, AreFew, HasAll, HasPosted, HavePosted, Serves, TookBatches};
 ghost use Rattle.dv_posts.specs.Posts.{AreOf, IsFresh, SameInbox, of};
 ghost use Rattle.dv_posts.specs.Ring.{Ring};
+ghost use Rattle.dv_posts.specs.declared.limits.TheConstants.{MOST_POSTS};
 
 use crate::inbox::Inbox;
 use crate::posted::Posted;
@@ -34,8 +35,8 @@ pub enum Caller {
 /// Posts the first posts of a caller. Each is accepted, since there is room for all.
 #[tactic(auto, using(crate::proofs::CallerLemmas::posted_none, crate::proofs::CallerLemmas::posted_more, crate::proofs::CallerLemmas::posted_length))]
 fn post_all(poster: Poster, count: u32) -> Poster
-    requires fresh { IsFresh 256 poster }
-    requires room { count ≤ 256 }
+    requires fresh { IsFresh MOST_POSTS poster }
+    requires room { count ≤ MOST_POSTS }
     ensures { HasPosted poster count result }
 {
     let mut poster = poster;
@@ -51,8 +52,8 @@ fn post_all(poster: Poster, count: u32) -> Poster
 
 /// Starts the thread of a caller. Where none can be started, the posts are posted here.
 fn start<'s, E>(scope: &'s Scope<'s, E>, poster: Poster, count: u32) -> Caller
-    requires fresh { IsFresh 256 poster }
-    requires room { count ≤ 256 }
+    requires fresh { IsFresh MOST_POSTS poster }
+    requires room { count ≤ MOST_POSTS }
     ensures { Serves poster.ring poster.caller count result }
 {
     let promise = AllPosted {
@@ -75,7 +76,7 @@ pub fn start_all<'s, E>(
 ) -> Result<Vec<Caller>, AllocError>
     requires few { AreFew bodies.now }
     requires len { length posters.items ≡ length bodies.now }
-    requires fresh { All (IsFresh 256) posters.items }
+    requires fresh { All (IsFresh MOST_POSTS) posters.items }
     ensures { IfOk result (λ callers. (box : _) → AreOf box posters.items → AllServe bodies.now box callers.items) }
 {
     let mut callers = Vec::with_capacity(alloc, posters.len())?;

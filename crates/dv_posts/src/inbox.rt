@@ -1,5 +1,6 @@
 ghost use Rattle.std.specs.Prelude.{◌≡◌, ◌<◌, ◌≤◌, length, All, IfNone, IfOk, IfSome};
 ghost use Rattle.dv_posts.specs.Receiving.{ArePassed, AreRead, TakesAt, inbox_of};
+ghost use Rattle.dv_posts.specs.declared.limits.TheConstants.{MOST_CALLERS, MOST_POSTS};
 
 use crate::posted::Posted;
 use crate::poster::Poster;
@@ -10,8 +11,8 @@ use rtrb::RingBuffer;
 use std::alloc::{AllocError, Global};
 use std::marker::Model;
 
-/// Where the posts of up to 8 callers are taken, each posting over a ring of its own (Twisted: the reactor's queue of what
-/// `callFromThread` is given).
+/// Where the posts of up to `MOST_CALLERS` callers are taken, each posting over a ring of its own (Twisted: the reactor's
+/// queue of what `callFromThread` is given).
 #[derive(Drop)]
 pub struct Inbox {
     receivers: Vec<Receiver>,
@@ -22,6 +23,7 @@ impl Model for Inbox {
     ghost use Rattle.std.specs.Prelude.{◌≤◌, length};
     ghost use Rattle.std.specs.Coded.{codes};
     ghost use Rattle.dv_posts.specs.Posts.{Inbox as Seen};
+    ghost use Rattle.dv_posts.specs.declared.limits.TheConstants.{MOST_CALLERS};
 
     ghost Value = { Seen };
 
@@ -29,7 +31,7 @@ impl Model for Inbox {
 
     ghost view = { λ i. record { receivers = i.receivers.items; next = i.next } };
 
-    ghost invariant = { λ i. (i.next ≤ length i.receivers.items) × (length i.receivers.items ≤ 8) };
+    ghost invariant = { λ i. (i.next ≤ length i.receivers.items) × (length i.receivers.items ≤ MOST_CALLERS) };
 }
 
 impl Inbox {
@@ -42,8 +44,8 @@ impl Inbox {
         callers: u32,
         capacity: u32,
     ) -> Result<(Inbox, Vec<Poster>), AllocError>
-        requires few { callers ≤ 8 }
-        requires capacity { (1 ≤ capacity) × (capacity ≤ 256) }
+        requires few { callers ≤ MOST_CALLERS }
+        requires capacity { (1 ≤ capacity) × (capacity ≤ MOST_POSTS) }
         ensures new { IfOk result (λ opened. IsNew callers opened.0) }
         ensures posters { IfOk result (λ opened. AreOf opened.0 opened.1.items) }
         ensures fresh { IfOk result (λ opened. All (IsFresh capacity) opened.1.items) }
@@ -99,7 +101,7 @@ impl Inbox {
 
 /// Takes the next post of the receivers, from one on and then from the first.
 fn take_round(receivers: &mut Vec<Receiver>, next: usize) -> Option<Posted>
-    requires { (next ≤ length receivers.old.items) × (length receivers.old.items ≤ 8) }
+    requires { (next ≤ length receivers.old.items) × (length receivers.old.items ≤ MOST_CALLERS) }
     ensures some { IfSome result (TakesAt receivers.old.items receivers.new.items) }
     ensures passed { IfSome result (λ posted. ArePassed next posted.caller receivers.old.items) }
     ensures none { IfNone result (AreRead 0 (length receivers.old.items) receivers.old.items) }
@@ -114,7 +116,7 @@ fn take_round(receivers: &mut Vec<Receiver>, next: usize) -> Option<Posted>
 
 /// Takes the next post of these receivers.
 fn take_between(receivers: &mut Vec<Receiver>, from: usize, to: usize) -> Option<Posted>
-    requires { (to ≤ length receivers.old.items) × (length receivers.old.items ≤ 8) }
+    requires { (to ≤ length receivers.old.items) × (length receivers.old.items ≤ MOST_CALLERS) }
     ensures some { IfSome result (TakesAt receivers.old.items receivers.new.items) }
     ensures within { IfSome result (λ posted. (from ≤ posted.caller) × (posted.caller < to)) }
     ensures passed { IfSome result (λ posted. AreRead from posted.caller receivers.old.items) }

@@ -11,6 +11,7 @@ use dv_jobs::one_thread::OneThread;
 use dv_jobs::source::JobSource;
 use dv_posts::callers::{Caller, start_all};
 use dv_posts::inbox::Inbox;
+use dv_posts::limits::MOST_POSTS;
 use dv_script::script::Script;
 use dv_threads::pool::Pool;
 use std::alloc::{AllocError, AllocGlobal, Global};
@@ -18,9 +19,6 @@ use std::random::RandomSource;
 use std::sync::Wait;
 use std::thread;
 use std::thread::Threads;
-
-/// For how many posts of a caller its ring has room: as many as a caller of a script has.
-const MOST_POSTS: u32 = 256;
 
 /// Performs a script, with a thread for each caller and so many for jobs. A poller for inline bodies that can't be made counts as
 /// want of memory.

@@ -22,18 +22,25 @@ impl Holding {
             alone: AtomicU32::new(0),
         }
     }
+
+    /// Whether two jobs have come, which is looked for as long as a job is held.
+    pub fn have_two_come(&self) -> bool {
+        for _ in 0..MOST_LOOKS {
+            if self.came.load(Ordering::SeqCst) >= 2 {
+                return true;
+            }
+            thread::yield_now();
+        }
+        false
+    }
 }
 
 impl Gate for Holding {
     fn answer(&self, alloc: Global, _worker: u32, job: Job) -> Answer {
         self.came.fetch_add(1, Ordering::SeqCst);
-        for _ in 0..MOST_LOOKS {
-            if self.came.load(Ordering::SeqCst) >= 2 {
-                return job.done(alloc);
-            }
-            thread::yield_now();
+        if !self.have_two_come() {
+            self.alone.fetch_add(1, Ordering::SeqCst);
         }
-        self.alone.fetch_add(1, Ordering::SeqCst);
         job.done(alloc)
     }
 }

@@ -15,8 +15,14 @@ use std::test::Fail;
 use std::thread;
 use std::thread::Threads;
 
-/// Two sums, through a source: their values, and how many were done.
-fn two_sums<R, J>(rt: &R, alloc: Global, source: J) -> Result<(Value, Value, usize), Fail>
+/// Two sums, through a source whose gate is given too: their values, and how many were done. Their outcomes aren't asked for
+/// before both have come to the gate, so that the owner of a pool doesn't help; a job that doesn't come is a failure.
+fn two_sums<R, J>(
+    rt: &R,
+    alloc: Global,
+    source: J,
+    gate: &Holding,
+) -> Result<(Value, Value, usize), Fail>
 where
     R: Threads + Wait + RandomSource + AllocGlobal,
     J: JobSource,
@@ -25,6 +31,9 @@ where
     let mut source = source;
     let first = source.submit(alloc, Work::Sum(4))?;
     let second = source.submit(alloc, Work::Sum(9))?;
+    if !gate.have_two_come() {
+        return Err("no two workers answer side by side".into());
+    }
     let one = source.outcome(rt, alloc, first)?;
     let two = source.outcome(rt, alloc, second)?;
     let ran = source.close(rt, alloc)?;
@@ -39,7 +48,7 @@ fn two_workers_answer_side_by_side(rt: HostRuntime) -> Result<(), Fail> {
         &rt,
         |scope| -> Result<(Value, Value, usize), Fail> {
             let pool = Pool::open(&rt, rt.alloc(), scope, 2, &gate)?;
-            two_sums(&rt, rt.alloc(), pool)
+            two_sums(&rt, rt.alloc(), pool, &gate)
         },
     )?;
     assert!(rt; matches!(one, Value::Int(10)));

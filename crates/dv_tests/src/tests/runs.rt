@@ -236,13 +236,12 @@ fn many_drains(alloc: Global) -> Result<String, AllocError> {
     Ok(text)
 }
 
-/// In which batch of a run its only post was taken.
-fn batch_of_the_post<S>(rt: &S, text: &str, workers: u32) -> Result<Option<usize>, Fail>
+/// In which batch of a run its only post was taken. With a worker each job comes to the gate, where others are let run.
+fn batch_of_the_post<S>(rt: &S, text: &str) -> Result<Option<usize>, Fail>
 where
     S: Threads + Wait + RandomSource + AllocGlobal + Sync,
-    requires { workers ≤ 16 }
 {
-    let (_, report) = run_text(rt, text, workers, &Yielding)?;
+    let (_, report) = run_text(rt, text, 1, &Yielding)?;
     let batches = report.batches.as_slice();
     let place = batches
         .iter()
@@ -254,9 +253,8 @@ where
 #[test]
 fn a_post_is_taken_while_events_are_performed(rt: HostRuntime) -> Result<(), Fail> {
     let text = many_drains(rt.alloc())?;
-    for run in 0..1_000u32 {
-        let workers = run % 2;
-        match batch_of_the_post(&rt, text.as_str(), workers)? {
+    for _ in 0..1_000u32 {
+        match batch_of_the_post(&rt, text.as_str())? {
             Some(place) if 0 < place && place < 1_000 => return Ok(()),
             Some(_) | None => {}
         }
