@@ -18,6 +18,9 @@ SCRIPT = Script("three_lines", LINES, LINES)
 class SweepOfStandIns(unittest.TestCase):
     """Sweeps of small programs that print what they read."""
 
+    folder: Path
+    shim: Path
+
     @classmethod
     def setUpClass(cls) -> None:
         folder = tempfile.TemporaryDirectory()

@@ -1,3 +1,4 @@
+mod changed;
 mod engine;
 mod errors;
 mod exit;
@@ -6,6 +7,7 @@ mod gates;
 mod jobs;
 mod journal;
 mod lines;
+mod long;
 mod pieces;
 mod posts;
 mod runs;

@@ -263,7 +263,7 @@ fn a_post_is_taken_while_events_are_performed(rt: HostRuntime) -> Result<(), Fai
 }
 
 /// One job more than a run has.
-fn too_many_jobs(alloc: Global) -> Result<String, AllocError> {
+pub fn too_many_jobs(alloc: Global) -> Result<String, AllocError> {
     let mut text = String::from_str(alloc, r#"{"version":1,"limit":200000,"events":["#)?;
     for _ in 0..4_096u32 {
         text.push_str(r#"["thread","d",0,["value",0]],"#)?;
