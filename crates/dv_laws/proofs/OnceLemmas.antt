@@ -20,6 +20,7 @@ use Rattle.dv_posts.specs.Batches.{Batch}
 use Rattle.dv_runner.specs.Meaning.{Means}
 use Rattle.dv_runner.proofs.Kept.{Both, Kind, Kept, telling_of, every_step}
 use Rattle.dv_laws.proofs.ReadBackLemmas.{get_set}
+use Rattle.dv_runner.proofs.ScriptsSaid.{scripts_mean_what_is_defined}
 use Rattle.dv_runner.proofs.Total.{means_keeps}
 use Rattle.dv_world.specs.World.{World, Records, state_of}
 use Rattle.dv_objects.specs.Refusals.{cancelled}
@@ -313,4 +314,4 @@ world_fired_once script batches w m n =
 
 -- and so its report tells
 pub fired_once : EachDeferredIsFiredOnce
-fired_once script report r n = subst (λ (j : Written). FiredOnce n j.entries) (sym r.tells.journal) (world_fired_once script report.batches r.world r.means n)
+fired_once script report r n = subst (λ (j : Written). FiredOnce n j.entries) (sym r.tells.journal) (world_fired_once script report.batches r.world ((scripts_mean_what_is_defined script report.batches r.world).1 r.means) n)

@@ -19,6 +19,7 @@ use Rattle.dv_runner.specs.Meaning.{Means}
 use Rattle.dv_store.specs.Outcome.{outcome_of}
 use Rattle.dv_store.specs.declared.outcome.Outcome.{Outcome}
 use Rattle.dv_runner.proofs.Kept.{Both, Kind, Kept, telling_of, every_step}
+use Rattle.dv_runner.proofs.ScriptsSaid.{scripts_mean_what_is_defined}
 use Rattle.dv_runner.proofs.Total.{means_keeps}
 use Rattle.dv_world.specs.World.{World, Records, state_of}
 use Rattle.dv_objects.specs.Refusals.{cancelled}
@@ -142,6 +143,6 @@ world_told script batches w m n =
 pub journal_tells : OutcomesAreToldByTheJournal
 journal_tells script report r n =
     ap (λ (j : Written). read_back n j.entries) r.tells.journal
-    ∙ world_told script report.batches r.world r.means n
+    ∙ world_told script report.batches r.world ((scripts_mean_what_is_defined script report.batches r.world).1 r.means) n
     ∙ sym (slice_get-map outcome_of r.world.records n)
     ∙ ap (λ (os : List Outcome). slice_get os n) (sym r.tells.outcomes)

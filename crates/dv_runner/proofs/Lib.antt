@@ -14,3 +14,9 @@ pub mod Total
 pub mod Stopped
 pub mod Turns
 pub mod JobsKept
+pub mod Chained
+pub mod Fires
+pub mod Said
+pub mod Deeper
+pub mod ScriptsSaid
+pub mod PartsSaid

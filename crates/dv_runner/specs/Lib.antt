@@ -1,3 +1,4 @@
 pub mod Occurrences
 pub mod Meaning
 pub mod Laws
+pub mod Defined
