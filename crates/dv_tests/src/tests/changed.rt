@@ -60,7 +60,9 @@ const WHOLE: &str =
 ["drain",0],
 ["advance",5],
 ["stopLoop","u"],
-["advance",3]
+["advance",3],
+["deferred","o"],["addTimeout","o",1],
+["advance",1]
 ]}"#;
 
 /// Whether a run of these bytes performs them; otherwise why they are refused. What is refused has to have written nothing, and
