@@ -1,0 +1,131 @@
+"""The table of classes of failures: names, parents, and the Python classes that bear them."""
+
+from __future__ import annotations
+
+from typing import Any, Callable, Dict, List, Optional, Tuple, Type
+
+from twisted.internet import defer, error, task
+
+PyClass = Type[BaseException]
+
+#: the class that each name of the table is in Python, parents first
+BUILT_IN: Dict[str, PyClass] = {
+    "Exception": Exception,
+    "ValueError": ValueError,
+    "TypeError": TypeError,
+    "NameError": NameError,
+    "AssertionError": AssertionError,
+    "OverflowError": OverflowError,
+    "RuntimeError": RuntimeError,
+    "AlreadyCalledError": defer.AlreadyCalledError,
+    "CancelledError": defer.CancelledError,
+    "FirstError": defer.FirstError,
+    "QueueOverflow": defer.QueueOverflow,
+    "QueueUnderflow": defer.QueueUnderflow,
+    "SchedulerError": task.SchedulerError,
+    "AlreadyCalled": error.AlreadyCalled,
+    "AlreadyCancelled": error.AlreadyCancelled,
+    "TaskFinished": task.TaskFinished,
+    "NotPaused": task.NotPaused,
+    "TaskDone": task.TaskDone,
+    "TaskStopped": task.TaskStopped,
+    "TaskFailed": task.TaskFailed,
+}
+
+#: a name that no script may declare, though no class of the table has it
+RESERVED = "TimeoutError"
+
+_LONGEST = 32
+
+
+class Classes:
+    """The classes that one run knows, by their names in a script and by their classes in Python."""
+
+    def __init__(self) -> None:
+        self._by_name: Dict[str, PyClass] = dict(BUILT_IN)
+        self._names: Dict[PyClass, str] = {cls: name for name, cls in BUILT_IN.items()}
+        #: the pairs of name and parent that a script has to declare, in order
+        self.declared: List[Tuple[str, str]] = []
+
+    def declare(self, name: str, parent: str) -> None:
+        """Makes a class of this name below another."""
+        self._add(name, type(name, (self._by_name[parent],), {"__init__": Exception.__init__}), parent)
+
+    def get(self, name: str) -> Optional[PyClass]:
+        """The class that has this name."""
+        return self._by_name.get(name)
+
+    def name_of(self, cls: PyClass) -> str:
+        """The name of a class, which is declared below its nearest parent where it has none yet."""
+        known = self._names.get(cls)
+        if known is not None:
+            return known
+        parent = self._parent_of(cls)
+        name = self._free_name(cls.__name__)
+        self._add(name, cls, parent)
+        return name
+
+    def _parent_of(self, cls: PyClass) -> str:
+        base = cls.__base__
+        if base in (object, BaseException, None) or not issubclass(base, BaseException):
+            return "Exception"
+        return self.name_of(base)
+
+    def _free_name(self, wanted: str) -> str:
+        """A name in the form of names that nothing has yet, as near to this one as can be."""
+        letters = [c if c.isascii() and (c.isalnum() or c == "_") else "_" for c in wanted]
+        name = "".join(letters)[: _LONGEST - 4] or "Error"
+        if name == RESERVED:
+            name = "TimedOut"
+        free, number = name, 2
+        while free in self._by_name:
+            free, number = f"{name}_{number}", number + 1
+        return free
+
+    def _add(self, name: str, cls: PyClass, parent: str) -> None:
+        self._by_name[name] = cls
+        self._names[cls] = name
+        self.declared.append((name, parent))
+
+    def make(self, name: str, message: str) -> BaseException:
+        """A failure of this class with this message, as a script says it."""
+        cls = self._by_name[name]
+        make: Callable[..., BaseException] = cls.__new__
+        failure = make(cls, message)
+        failure.args = (message,)
+        set_message(failure, message)
+        return failure
+
+
+def set_message(failure: BaseException, message: str) -> None:
+    """Has a failure that Twisted made show this message, where it shows none of its own yet."""
+    if not hasattr(failure, "_dv_message"):
+        vars(failure)["_dv_message"] = message
+
+
+def message_of(failure: BaseException) -> str:
+    """The message that the journal shows for a failure."""
+    own: Any = vars(failure).get("_dv_message")
+    if own is not None:
+        return str(own)
+    if isinstance(failure, RecursionError):
+        return ""  # Python says where the stack ended, which is another place in each run
+    if _is_twisteds(type(failure)):
+        first = failure.args[0] if failure.args else ""
+        return clean(first) if isinstance(first, str) else ""
+    try:
+        return clean(str(failure))
+    except Exception:
+        return "<unprintable>"
+
+
+def _is_twisteds(cls: PyClass) -> bool:
+    """Whether it is a class of Twisted's in the table, whose texts aren't shown where Twisted made it."""
+    return cls.__module__ != "builtins" and cls in BUILT_IN.values()
+
+
+def clean(text: str) -> str:
+    """The text, with a question mark in place of what UTF-8 can't say."""
+    if text.isascii():
+        return text
+    return text.encode("utf-8", "replace").decode("utf-8")

@@ -1,0 +1,1 @@
+"""The commands at the top of the repository."""

@@ -1,0 +1,79 @@
+"""`on_twisted < SCRIPT`: runs the script on real Twisted, and prints journal and outcomes as `deferreds` does.
+
+Status 0: all events were performed; 1: the run stopped at the limit of its journal; 2: the script is refused, which
+standard error tells; 4: standard input or output failed; 64: words that aren't known; 70: Twisted isn't there.
+"""
+
+from __future__ import annotations
+
+import argparse
+import json
+import sys
+from typing import BinaryIO, List, Optional, Tuple
+
+from .. import grammar
+from ..running import Batches, be_quiet, run, with_room
+from ..script import Refused
+
+Answer = Tuple[int, bytes, bytes]
+
+
+def answer(data: bytes, batches: Optional[Batches] = None) -> Answer:
+    """The exit status for a script, and what is written to standard output and standard error."""
+    try:
+        ran = run(data, batches)
+    except Refused as refused:
+        return 2, b"", f"{refused}\n".encode()
+    return int(ran.stopped), ran.output.encode(), b""
+
+
+def serve(reader: BinaryIO, writer: BinaryIO) -> int:
+    """Answers script after script: `LENGTH [BATCHES]` and the script; `STATUS LENGTH LENGTH`, output and errors."""
+    for line in iter(reader.readline, b""):
+        length, _, batches = line.strip().partition(b" ")
+        data = reader.read(int(length))
+        status, output, errors = answer(data, json.loads(batches) if batches else None)
+        writer.write(b"%d %d %d\n" % (status, len(output), len(errors)) + output + errors)
+        writer.flush()
+    return 0
+
+
+def _arguments(words: List[str]) -> argparse.Namespace:
+    parser = argparse.ArgumentParser(prog="on_twisted", description=__doc__.split("\n", 1)[0])
+    parser.add_argument(
+        "--batches",
+        type=json.loads,
+        help="the posts that each drain takes, and those at the end: a JSON array of arrays of [CALLER,POST]",
+    )
+    parser.add_argument(
+        "--many", action="store_true", help="answer script after script, as docs/PORTING.md says"
+    )
+    try:
+        return parser.parse_args(words)
+    except SystemExit as exit_:
+        raise SystemExit(64 if exit_.code else 0) from None
+
+
+def main(words: List[str]) -> int:
+    """The command."""
+    arguments = _arguments(words)
+    be_quiet()
+    if arguments.many:
+        return with_room(lambda: serve(sys.stdin.buffer, sys.stdout.buffer))
+
+    def once() -> int:
+        try:
+            data = sys.stdin.buffer.read(grammar.MOST_BYTES + 1)
+            status, output, errors = answer(data, arguments.batches)
+            sys.stdout.buffer.write(output)
+            sys.stdout.buffer.flush()
+            sys.stderr.buffer.write(errors)
+        except OSError:
+            return 4
+        return status
+
+    return with_room(once)
+
+
+if __name__ == "__main__":
+    sys.exit(main(sys.argv[1:]))

@@ -1,0 +1,153 @@
+"""Compares an implementation with ours: line by line, and by which entry of the profile they differ."""
+
+from __future__ import annotations
+
+import json
+from typing import List, NamedTuple, Optional, Sequence, Set, Tuple
+
+from . import grammar
+from .classes import BUILT_IN
+from .cutting import cut_down
+from .posts import Batch, batches_of, has_posts
+from .profile import Entry
+from .programs import Answer, Program
+from .running import Run, run
+from .script import Refused, read
+
+
+class Difference(NamedTuple):
+    """The first line in which two answers differ."""
+
+    line: int
+    ours: str
+    theirs: str
+    entry: Optional[Entry]
+
+
+def compared(ours: Answer, theirs: Answer) -> Optional[Tuple[int, str, str]]:
+    """The first line in which they differ, from 1, and that line of each."""
+    mine, other = ours.output.splitlines(), theirs.output.splitlines()
+    for place, (line, another) in enumerate(zip(mine, other)):
+        if line != another:
+            return place + 1, line, another
+    if len(mine) != len(other):
+        place = min(len(mine), len(other))
+        return place + 1, _line(mine, place), _line(other, place)
+    if ours.status != theirs.status or (ours.status == 2 and ours.errors != theirs.errors):
+        return len(mine) + 1, _ending(ours), _ending(theirs)
+    return None
+
+
+def _line(lines: List[str], place: int) -> str:
+    return lines[place] if place < len(lines) else "(the end)"
+
+
+def _ending(answer: Answer) -> str:
+    return f"status {answer.status} {answer.errors.strip()}".strip()
+
+
+def difference(
+    script: str, ours: Answer, theirs: Answer, batches: Optional[List[Batch]] = None
+) -> Optional[Difference]:
+    """In what the answers differ, and by which entry of the profile, if by one."""
+    first = compared(ours, theirs)
+    if first is None:
+        return None
+    line, mine, other = first
+    return Difference(line, mine, other, _entry(script, line, theirs, batches))
+
+
+def _entry(
+    script: str, line: int, theirs: Answer, batches: Optional[List[Batch]]
+) -> Optional[Entry]:
+    """The entry by which real Twisted has parted from ours at this line, where theirs goes with Twisted."""
+    try:
+        twisted = run(script.encode(), batches)
+    except Refused:
+        return None
+    if not _go_together(twisted, theirs, line):
+        return None
+    before = [(place, entry) for place, entry in twisted.quirks if place < line]
+    return before[-1][1] if before else None
+
+
+def _go_together(twisted: Run, theirs: Answer, line: int) -> bool:
+    """Whether they print the same up to this line."""
+    return twisted.output.splitlines()[:line] == theirs.output.splitlines()[:line]
+
+
+class Comparison:
+    """Compares one program with ours, script by script."""
+
+    def __init__(self, ours: Program, theirs: Program, trials: int) -> None:
+        self._ours = ours
+        self._theirs = theirs
+        self._trials = trials
+
+    def of_script(self, script: str) -> Optional[Difference]:
+        """In what the programs differ on a script."""
+        return self.of_row(script, self._ours.answer(script))
+
+    def of_row(self, script: str, expected: Answer) -> Optional[Difference]:
+        """In what the program differs from what a row expects.
+
+        Where the batches of that can't be told apart, the program has to agree for some of them.
+        """
+        found: Optional[Difference] = None
+        for batches in _batches(script, expected):
+            answer = self._theirs.answer(script, batches)
+            other = difference(script, expected, answer, batches)
+            if other is None:
+                return None
+            if found is None or (found.entry is None and other.entry is not None):
+                found = other
+        return found
+
+    def cut_down(self, script: str, found: Difference) -> str:
+        """The smallest script on which the programs differ by the same entry, or by none, as on this one."""
+
+        def shows(smaller: str) -> bool:
+            try:
+                read(smaller.encode(), list(BUILT_IN))
+            except Refused:
+                return False
+            other = self.of_script(smaller)
+            return other is not None and other.entry is found.entry
+
+        return cut_down(script, shows, self._trials)
+
+
+def _batches(script: str, answer: Answer) -> Sequence[Optional[List[Batch]]]:
+    """In which batches the posts may have been taken; none, of a script that has no posts."""
+    if answer.status > 1 or '"callers"' not in script or not has_posts(json.loads(script)):
+        return [None]
+    return batches_of(script, answer.output)
+
+
+def is_of_level(script: str, level: str) -> bool:
+    """Whether a script has nothing but what this level and those before it have."""
+    try:
+        root = json.loads(script)
+    except ValueError:
+        return True
+    known = grammar.actions_up_to(level)
+    words = _words(root)
+    beyond = {word for word in words if word in grammar.ACTIONS and word not in known}
+    if level != "posts" and ("drain" in words or (isinstance(root, dict) and "callers" in root)):
+        return False
+    return not beyond and ("advance" not in words or grammar.has_clock(level))
+
+
+def _words(value: object) -> Set[str]:
+    """The texts with which arrays begin."""
+    words: Set[str] = set()
+    stack = [value]
+    while stack:
+        value = stack.pop()
+        if isinstance(value, list):
+            if value and isinstance(value[0], str):
+                words.add(value[0])
+            stack.extend(value)
+        elif isinstance(value, dict):
+            stack.extend(value.values())
+    return words

@@ -1,0 +1,126 @@
+"""The instrument of `inlineCallbacks` and of coroutines: made, and what their bodies await."""
+
+from __future__ import annotations
+
+from typing import Any, Callable, List
+
+from twisted.internet import defer
+from twisted.internet.defer import Deferred
+
+from ..telling import Frame, Observer, Record, observer, observer_of
+from .deferreds import add_silently, named_as, special_pairs
+
+_cancellable = defer._cancellableInlineCallbacks
+_inline_callbacks = defer._inlineCallbacks
+
+#: the frames of bodies that are made, until Twisted begins to run them
+_begun: List[Frame] = []
+
+
+def _instrumented_cancellable(gen: Any) -> Any:
+    watcher = observer_of("inline")
+    if watcher is None:
+        return _cancellable(gen)
+    if watcher.quiet:
+        watcher.problem("an inline body that Twisted makes", "inline")
+        return _cancellable(gen)
+    return _act(watcher, gen)
+
+
+def _act(watcher: Observer, gen: Any) -> Any:
+    body = watcher.new_body("inline")
+    frame = watcher.begin_body(body, "inline", None)
+    action: List[Any] = ["inline", None, body]
+
+    def made(deferred: Deferred[Any], record: Record) -> None:
+        action[1] = record
+        frame.record = record
+        record.body = frame
+
+    def make() -> Any:
+        watcher.maker = getattr(gen, "__name__", None)
+        watcher.expect(made)
+        _begun.append(frame)
+        return _cancellable(gen)
+
+    return watcher.act(action, make)
+
+
+def _instrumented_inline(result: object, gen: Any, status: Any) -> None:
+    watcher = observer_of("inline")
+    if watcher is None:
+        _inline_callbacks(result, gen, status)
+        return
+    kept = status.__dict__.get("_dv_frame")
+    if kept is None and _begun:
+        kept = status.__dict__["_dv_frame"] = (watcher, _begun.pop())
+    if kept is None or kept[0] is not watcher:
+        _inline_callbacks(result, gen, status)
+        return
+    before = watcher.quiet, watcher.frame, watcher.anonymous
+    watcher.quiet, watcher.frame, watcher.anonymous = False, kept[1], False
+    try:
+        _inline_callbacks(result, gen, status)
+    finally:
+        watcher.quiet, watcher.frame, watcher.anonymous = before
+
+
+def _add_await(
+    watcher: Observer,
+    deferred: Deferred[Any],
+    record: Record,
+    callback: Callable[..., Any],
+    errback: Callable[..., Any],
+) -> bool:
+    """The pair by which an inline body awaits."""
+    frame = watcher.frame
+    if "inline" not in watcher.kinds or frame.kind != "inline" or watcher.quiet:
+        return False
+    awaited = watcher.begin_await(frame, record)
+    if frame.record is not None:
+        watcher.tell("await ", frame.record, " ", record)
+    watcher.tell("add ", record)
+    came = []
+
+    def got(value: object) -> object:
+        if observer() is not watcher:
+            return callback(value)
+        came.append(True)
+        watcher.tell("run ", record)
+        frame.awaits, frame.present = None, record.outcome
+        watcher.end_await(awaited, value, record.outcome)
+        try:
+            return callback(value)
+        finally:
+            record.ran = True
+
+    watcher.quiet = True
+    try:
+        add_silently(deferred, named_as(callback, got), got)
+    finally:
+        watcher.quiet, watcher.frame = False, frame
+    if not came:
+        frame.awaits = deferred
+    return True
+
+
+def _add_hidden(
+    watcher: Observer,
+    deferred: Deferred[Any],
+    record: Record,
+    callback: Callable[..., Any],
+    errback: Callable[..., Any],
+) -> bool:
+    """The pair by which Twisted has the Deferred of a cancelled inline body wait for a hidden one."""
+    if "inline" not in watcher.kinds:
+        return False
+    add_silently(deferred, callback, errback)
+    return True
+
+
+def install() -> None:
+    """Puts the instrument into twisted.internet.defer."""
+    setattr(defer, "_cancellableInlineCallbacks", _instrumented_cancellable)
+    setattr(defer, "_inlineCallbacks", _instrumented_inline)
+    special_pairs["_inlineCallbacks.<locals>.gotResult"] = _add_await
+    special_pairs["_cancellableInlineCallbacks.<locals>.handleCancel"] = _add_hidden

@@ -1,0 +1,157 @@
+"""The instrument of LoopingCall."""
+
+from __future__ import annotations
+
+from typing import Any, Callable, List, Optional, Tuple
+
+from twisted.internet import task
+from twisted.internet.defer import Deferred
+
+from ..classes import set_message
+from ..profile import Entry
+from ..telling import Observer, Record, Thing, Time, observer_of
+from .clock import due_time, own_calls
+from .deferreds import add_silently, special_pairs
+
+_start = task.LoopingCall.start
+_stop = task.LoopingCall.stop
+_call = task.LoopingCall.__call__
+_reset = task.LoopingCall.reset
+
+#: the loop, and the body of its turns
+Known = Tuple[Thing, Any]
+
+
+def _known(watcher: Optional[Observer], loop: object) -> Optional[Known]:
+    """What is known of a LoopingCall, if it is told as a loop."""
+    found = getattr(loop, "__dict__", {}).get("_dv_loop")
+    return found[1] if found is not None and found[0] is watcher else None
+
+
+def _instrumented_start(self: task.LoopingCall, interval: float, now: bool = True) -> Any:
+    watcher = observer_of("loop")
+    if watcher is None or watcher.quiet or not _can_be_told(watcher, self, interval):
+        if watcher is not None and not watcher.quiet:
+            self.__dict__.pop("_dv_loop", None)
+        return _start(self, interval, now)
+    return _act_start(watcher, self, interval, now)
+
+
+def _act_start(
+    watcher: Observer, loop: task.LoopingCall, interval: float, now: bool
+) -> Any:
+    thing, body = watcher.thing("loop"), watcher.new_body("turn")
+    loop.__dict__["_dv_loop"] = (watcher, (thing, body))
+    watcher.texts.bind(loop, thing)
+    action: List[Any] = ["loop", thing, None, Time(interval), bool(now), body]
+
+    def made(deferred: Deferred[Any], record: Record) -> None:
+        action[2] = record
+        watcher.tell("loop ", thing, " ", record)
+
+    def start() -> Any:
+        watcher.expect(made)
+        return _start(loop, interval, now)
+
+    return watcher.act(action, start)
+
+
+def _can_be_told(watcher: Observer, loop: task.LoopingCall, interval: float) -> bool:
+    """Whether the language has such a loop."""
+    return (
+        not loop.running
+        and bool(interval)
+        and interval > 0
+        and isinstance(loop.clock, task.Clock)
+        and "clock" in watcher.kinds
+        and watcher.has_clock(loop.clock)
+    )
+
+
+def _instrumented_stop(self: task.LoopingCall) -> None:
+    watcher = observer_of("loop")
+    known = _known(watcher, self)
+    if watcher is None or known is None or watcher.quiet:
+        _stop(self)
+        return
+    watcher.act(["stopLoop", known[0]], _tell_stop, watcher, self, known[0])
+
+
+def _tell_stop(watcher: Observer, loop: task.LoopingCall, thing: Thing) -> None:
+    was_running = loop.running
+    if was_running:
+        watcher.tell("stop ", thing)
+    try:
+        _stop(loop)
+    except AssertionError as error:
+        if not was_running:
+            set_message(error, "not running")
+        raise
+
+
+def _instrumented_call(self: task.LoopingCall) -> None:
+    watcher = observer_of("loop")
+    known = _known(watcher, self)
+    if watcher is None or known is None:
+        _call(self)
+        return
+    if not watcher.quiet:
+        watcher.problem("a turn that the program itself runs", "loop")
+        _call(self)
+        return
+    thing, body = known
+    watcher.tell("turn ", thing)
+    watcher.turn = body
+    _call(self)
+
+
+def _instrumented_reset(self: task.LoopingCall) -> None:
+    watcher = observer_of("loop")
+    if watcher is not None and not watcher.quiet and _known(watcher, self) is not None:
+        watcher.problem("LoopingCall.reset", "loop")
+    _reset(self)
+
+
+def _tell_turn_scheduled(watcher: Observer, call: Callable[..., Any], delay: float) -> bool:
+    known = _known(watcher, call)
+    if known is None:
+        return False
+    watcher.tell("later loop ", known[0], " ", due_time(watcher, delay))
+    return True
+
+
+def _add_second(
+    watcher: Observer,
+    deferred: Deferred[Any],
+    record: Record,
+    callback: Callable[..., Any],
+    errback: Callable[..., Any],
+) -> bool:
+    """The second pair of a turn, which the language tells as one with the first."""
+    if not watcher.quiet or errback.__closure__ is None:
+        return False
+    loop = errback.__closure__[0].cell_contents
+
+    def failed(failure: object) -> object:
+        if observer_of("loop") is not watcher:
+            return errback(failure)
+        if getattr(loop, "_deferred", None) is None:
+            watcher.quirk(Entry.LOOP_FIRED_BY_HAND)
+        watcher.tell("run ", record)
+        try:
+            return errback(failure)
+        finally:
+            record.ran = True
+
+    add_silently(deferred, callback, failed)
+    return True
+
+
+def install() -> None:
+    """Puts the instrument into the class."""
+    setattr(task.LoopingCall, "start", _instrumented_start)
+    setattr(task.LoopingCall, "stop", _instrumented_stop)
+    setattr(task.LoopingCall, "reset", _instrumented_reset)
+    setattr(task.LoopingCall, "__call__", _instrumented_call)
+    own_calls.append(_tell_turn_scheduled)
+    special_pairs["LoopingCall.__call__.<locals>.eb"] = _add_second

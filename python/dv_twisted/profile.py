@@ -1,0 +1,27 @@
+"""The entries of docs/PROFILE.md that a run can come to, by the names that they have there."""
+
+from __future__ import annotations
+
+import enum
+
+
+class Entry(enum.Enum):
+    """A place where Twisted does otherwise than `deferreds`: its name in docs/PROFILE.md."""
+
+    PAUSED_RECEIVER = "paused-receiver"
+    ABANDONED_CHAIN = "abandoned-chain"
+    UNPAUSE_AT_ZERO = "unpause-at-zero"
+    PAUSE_IN_OWN_SIDE = "pause-in-own-side"
+    CIRCLE_OF_WAITS = "circle-of-waits"
+    CANCEL_OF_A_FIRED_LIST = "cancel-of-a-fired-list"
+    CANCELLED_INLINE = "cancelled-inline"
+    CANCELLED_RUNNING_INLINE = "cancelled-running-inline"
+    GATHER_FIRED_BY_HAND = "gather-fired-by-hand"
+    ERROR_LEAVES_ADVANCE = "error-leaves-advance"
+    LOOP_FIRED_BY_HAND = "loop-fired-by-hand"
+    SKIPPED_TURN = "skipped-turn"
+    TICK_SCHEDULED_IN_A_TICK = "tick-scheduled-in-a-tick"
+    REFUSED_WHEN_DONE = "refused-when-done"
+    TASK_ENDED_TWICE = "task-ended-twice"
+    HOLD_ON_AN_ENDED_TASK = "hold-on-an-ended-task"
+    PYTHON_STACK = "python-stack"

@@ -1,0 +1,209 @@
+"""Random scripts, by a seed and a level: each is the same on every machine."""
+
+from __future__ import annotations
+
+import json
+import random
+from typing import Any, Callable, Dict, List, Optional
+
+from . import grammar
+from .grammar import Kind
+
+#: how often each action is taken, where it isn't once
+_WEIGHTS: Dict[str, int] = {
+    "deferred": 5,
+    "callback": 8,
+    "errback": 4,
+    "addCallback": 8,
+    "addErrback": 3,
+    "addBoth": 6,
+    "addCallbacks": 2,
+    "cancel": 4,
+    "chain": 2,
+    "pause": 2,
+    "unpause": 2,
+    "acquire": 3,
+    "release": 3,
+    "put": 3,
+    "get": 3,
+    "later": 3,
+    "loop": 2,
+    "cooperate": 4,
+    "resumeTask": 2,
+    "inline": 6,
+    "thread": 3,
+}
+
+_NAMES: Dict[str, str] = {
+    "DEFERRED": "abcde",
+    "LOCK": "lm",
+    "QUEUE": "qr",
+    "CALL": "cd",
+    "LOOP": "pq",
+    "TASK": "tuv",
+}
+
+_CLASSES = ("ValueError", "TypeError", "CancelledError", "Exception", "Mine", "AlreadyCalledError")
+_TEXTS = ("x", "", "no")
+_DEEPEST = 3
+
+
+class Scripts:
+    """Makes random scripts of a level."""
+
+    def __init__(self, seed: int, level: str) -> None:
+        self._seed = seed
+        self._level = level
+        self._random = random.Random()
+        known = [word for word in grammar.ACTIONS if word in grammar.actions_up_to(level)]
+        self._words = known
+        self._weights = [_WEIGHTS.get(word, 1) for word in known]
+        self._shallow = [word for word in known if not _holds_bodies(word)]
+        self._has_clock = grammar.has_clock(level)
+        self._paused: List[str] = []
+        self._makers: Dict[Kind, Callable[[int], Any]] = self._kinds()
+
+    def script(self, number: int) -> str:
+        """The script of this number."""
+        self._random.seed(f"{self._seed} {self._level} {number}")
+        self._paused = []
+        root: Dict[str, Any] = {"version": 1, "classes": [["Mine", "ValueError"]]}
+        if self._one_in(5):
+            root["limit"] = self._random.randint(0, 60)
+        if "cooperate" in self._words:
+            units, delay = self._random.randint(1, 4), self._random.randint(1, 3)
+            root["cooperator"] = {"units": units, "delay": delay}
+        if self._level == "posts":
+            posts = [self._bodies(0) for _ in range(self._random.randint(1, 3))]
+            root["callers"] = posts
+        events = self._beginning()
+        events += [self._event() for _ in range(self._random.randint(3, 16))]
+        root["events"] = events
+        return json.dumps(root, separators=(",", ":"))
+
+    def _beginning(self) -> List[List[Any]]:
+        """Deferreds, and some of what else the level has, so that names are bound."""
+        events: List[List[Any]] = [
+            ["deferred", name] for name in self._random.sample("abcde", self._random.randint(2, 5))
+        ]
+        for word in ("lock", "semaphore", "queue", "cooperate", "cooperate", "later", "loop"):
+            if word in self._words and self._one_in(3):
+                events.append([word, *self._arguments(grammar.ACTIONS[word], 0)])
+        return events
+
+    def _one_in(self, number: int) -> bool:
+        return self._random.randrange(number) == 0
+
+    def _event(self) -> List[Any]:
+        if self._has_clock and self._one_in(3):
+            return ["advance", self._random.randint(0, 5)]
+        if self._level == "posts" and self._one_in(5):
+            return ["drain", self._random.randint(0, 4)]
+        return self._action(0)
+
+    def _action(self, depth: int) -> List[Any]:
+        if depth >= _DEEPEST:
+            word = self._random.choice(self._shallow)
+        else:
+            word = self._random.choices(self._words, self._weights)[0]
+        if word == "unpause" and not self._one_in(12):
+            return self._unpause(depth)
+        action = [word, *self._arguments(grammar.ACTIONS[word], depth)]
+        if word == "pause":
+            self._paused.append(action[1])
+        return action
+
+    def _unpause(self, depth: int) -> List[Any]:
+        """An `unpause` of what was paused before, or else a `pause`."""
+        if self._paused:
+            return ["unpause", self._paused.pop()]
+        self._paused.append(self._name("DEFERRED", depth))
+        return ["pause", self._paused[-1]]
+
+    def _arguments(self, choices: List[grammar.Arguments], depth: int) -> List[Any]:
+        return [self._makers[kind](depth) for kind in self._random.choice(choices)]
+
+    # arguments
+
+    def _kinds(self) -> Dict[Kind, Callable[[int], Any]]:
+        makers: Dict[Kind, Callable[[int], Any]] = {
+            Kind.DEFERREDS: lambda depth: self._several(lambda: self._name("DEFERRED", depth)),
+            Kind.VALUE: lambda depth: self._value(depth),
+            Kind.BODY: self._body,
+            Kind.BODIES: self._bodies,
+            Kind.STATEMENTS: self._statements,
+            Kind.CLASS: lambda depth: self._random.choice(_CLASSES),
+            Kind.CLASSES: lambda depth: self._several(lambda: self._random.choice(_CLASSES)),
+            Kind.TEXT: lambda depth: self._random.choice(_TEXTS),
+            Kind.FLAG: lambda depth: self._one_in(2),
+            Kind.TOKENS: lambda depth: self._random.randint(1, 3),
+            Kind.BOUND: lambda depth: self._random.choice((None, 0, 1, 2)),
+            Kind.DELAY: lambda depth: self._random.randint(0, 4),
+            Kind.INTERVAL: lambda depth: self._random.randint(1, 4),
+            Kind.INTEGER: lambda depth: self._random.randint(-1, 3),
+            Kind.SUM: lambda depth: self._random.randint(0, 9),
+            Kind.ACTION: self._action,
+            Kind.END: lambda depth: self._end(grammar.INLINE_ENDS, depth),
+            Kind.WORK: lambda depth: self._end(grammar.WORKS, depth),
+        }
+        for kind in (*grammar.MADE, *grammar.FOUND):
+            makers[kind] = self._naming(kind)
+        for kind, flags in grammar.FLAGS.items():
+            makers[kind] = self._flagging(sorted(flags))
+        return makers
+
+    def _naming(self, kind: Kind) -> Callable[[int], str]:
+        made = kind in grammar.MADE
+        name = kind.name.removeprefix("NEW_")
+        return lambda depth: self._name(name, 0 if made else depth)
+
+    def _name(self, kind: str, depth: int) -> str:
+        if kind == "DEFERRED" and depth > 0 and self._one_in(5):
+            return "@"
+        return self._random.choice(_NAMES[kind])
+
+    def _flagging(self, flags: List[str]) -> Callable[[int], List[str]]:
+        return lambda depth: [flag for flag in flags if self._one_in(2)]
+
+    def _several(self, make: Callable[[], Any]) -> List[Any]:
+        return [make() for _ in range(self._random.randint(0, 3))]
+
+    def _value(self, depth: int) -> Any:
+        if self._one_in(8):
+            return [self._value(depth), 1]
+        return self._random.choice((None, True, 0, 1, 7, "x", [], 2**63 - 1))
+
+    def _body(self, depth: int) -> Dict[str, Any]:
+        body: Dict[str, Any] = {}
+        if not self._one_in(3):
+            body["do"] = [self._action(depth + 1) for _ in range(self._random.randint(0, 3))]
+        if not self._one_in(4):
+            body["end"] = self._end(grammar.ENDS, depth + 1)
+        return body
+
+    def _bodies(self, depth: int) -> List[Dict[str, Any]]:
+        return [self._body(depth) for _ in range(self._random.randint(0, 4))]
+
+    def _end(self, table: Dict[str, List[grammar.Arguments]], depth: int) -> List[Any]:
+        words = list(table)
+        if "wait" in words and self._one_in(3):
+            return ["wait", self._name("DEFERRED", depth)]
+        word = self._random.choice(words)
+        return [word, *self._arguments(table[word], depth)]
+
+    def _statements(self, depth: int) -> List[Any]:
+        return [self._statement(depth + 1) for _ in range(self._random.randint(0, 4))]
+
+    def _statement(self, depth: int) -> List[Any]:
+        words: List[str] = ["do", "await", "await", "end"]
+        if depth <= _DEEPEST:
+            words.append("try")
+        word: Optional[str] = self._random.choice(words)
+        assert word is not None
+        return [word, *self._arguments(grammar.STATEMENTS[word], depth)]
+
+
+def _holds_bodies(word: str) -> bool:
+    """Whether an action of this word always holds bodies, so that they could nest without end."""
+    inner = {Kind.BODY, Kind.BODIES, Kind.STATEMENTS}
+    return all(inner & set(arguments) for arguments in grammar.ACTIONS[word])

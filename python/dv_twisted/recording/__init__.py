@@ -1,0 +1,1 @@
+"""Records a run of a program that uses Twisted as a script and a journal."""

@@ -1,0 +1,166 @@
+"""Runs what is recorded: a program, a module, or one test."""
+
+from __future__ import annotations
+
+import builtins
+import contextlib
+import io
+import runpy
+import sys
+import traceback
+import unittest
+from types import ModuleType
+from typing import Any, Callable, Iterator, List, Optional, Tuple
+
+from twisted.internet.defer import Deferred
+
+from ..instruments import install
+from ..telling import KINDS, observer
+from .reactor import VirtualReactor, in_place_of_the_real
+from .recorder import Recorder
+
+#: the kinds that are told as such, tried one after the other until a run can be said
+LADDER: Tuple[frozenset[str], ...] = tuple(
+    KINDS - frozenset(without)
+    for without in (
+        (),
+        ("cooperator",),
+        ("loop",),
+        ("loop", "cooperator"),
+        ("inline",),
+        ("list",),
+        ("lock", "queue", "maybe"),
+        ("clock", "loop"),
+        ("clock", "loop", "cooperator"),
+        tuple(KINDS - {"list", "inline"}),
+        tuple(KINDS - {"list"}),
+        tuple(KINDS - {"inline"}),
+        tuple(KINDS),
+    )
+)
+
+
+@contextlib.contextmanager
+def printing_notes(recorder: Recorder) -> Iterator[None]:
+    """Has what the program prints be notes of the journal."""
+    real: Callable[..., Any] = getattr(builtins, "print")
+
+    def noting(*values: Any, **kwargs: Any) -> None:
+        real(*values, **kwargs)
+        if kwargs.get("file") is None and observer() is recorder and not recorder.quiet:
+            said = io.StringIO()
+            real(*values, file=said, sep=kwargs.get("sep", " "), end="")
+            recorder.note(said.getvalue())
+
+    setattr(builtins, "print", noting)
+    try:
+        yield
+    finally:
+        setattr(builtins, "print", real)
+
+
+def record_program(
+    recorder: Recorder, target: str, words: List[str], is_module: bool, virtual: bool
+) -> int:
+    """Runs a file or a module as `__main__`, and gives its exit status."""
+    install()
+    reactor = VirtualReactor() if virtual else None
+    before, sys.argv = sys.argv, [target, *words]
+    try:
+        place = contextlib.nullcontext() if reactor is None else in_place_of_the_real(reactor)
+        with place, printing_notes(recorder):
+            status = _run(recorder, target, is_module)
+        return status
+    finally:
+        sys.argv = before
+
+
+def _run(recorder: Recorder, target: str, is_module: bool) -> int:
+    run: Callable[..., Any] = runpy.run_module if is_module else runpy.run_path
+    try:
+        with recorder.watching():
+            run(target, run_name="__main__")
+    except SystemExit as exit_:
+        code = exit_.code
+        return code if isinstance(code, int) else 0 if code is None else 1
+    except BaseException:
+        traceback.print_exc()
+        return 1
+    return 0
+
+
+class TestRun:
+    """How a test went under the recorder."""
+
+    def __init__(self) -> None:
+        self.recorder = Recorder()
+        self.passed = False
+        self.skipped = False
+        self.why = ""
+        #: whether it waits for a reactor
+        self.waits = False
+
+
+def record_test(
+    cls: type[unittest.TestCase], method: str, kinds: frozenset[str], virtual: bool
+) -> TestRun:
+    """Runs one test: its `setUp` and its method are the program."""
+    install()
+    run = TestRun()
+    run.recorder = Recorder(kinds)
+    reactor = VirtualReactor() if virtual else None
+    case = cls(method)
+    module = sys.modules[cls.__module__]
+    setattr(case, "setUp", _recorded(run, case.setUp, reactor, module))
+    setattr(case, "_recorded", _recorded(run, getattr(case, method), reactor, module))
+    setattr(case, "_testMethodName", "_recorded")
+    result = unittest.TestResult()
+    case.run(result)
+    bad = result.failures + result.errors
+    run.passed, run.skipped = not bad, bool(result.skipped)
+    run.why = bad[0][1].strip().splitlines()[-1][:200] if bad else ""
+    return run
+
+
+def _recorded(
+    run: TestRun,
+    call: Callable[[], Any],
+    reactor: Optional[VirtualReactor],
+    module: ModuleType,
+) -> Callable[[], Any]:
+    """A method of a test, which runs under the recorder."""
+
+    def perform() -> Any:
+        with run.recorder.watching():
+            result = call() if reactor is None else _driven(reactor, call, module)
+        waiting = isinstance(result, Deferred) and not result.called
+        run.waits = run.waits or waiting or hasattr(result, "send") and not isinstance(result, Deferred)
+        return result
+
+    perform.__name__ = str(getattr(call, "__name__", "test"))
+    perform.__dict__.update(getattr(call, "__dict__", {}))
+    return perform
+
+
+def _driven(reactor: VirtualReactor, call: Callable[[], Any], module: ModuleType) -> Any:
+    """Calls with a virtual reactor, and runs that until what it gives has fired."""
+    import twisted.internet.reactor  # noqa: F401  (the real one is put back afterwards)
+
+    with in_place_of_the_real(reactor, module):
+        result = call()
+        if isinstance(result, Deferred):
+            reactor.run_until(lambda: bool(result.called))
+        return result
+
+
+def tests_of(name: str) -> List[Tuple[type[unittest.TestCase], str]]:
+    """The tests of a module, or of what has this name in one, each by its class and its method."""
+    found: List[Tuple[type[unittest.TestCase], str]] = []
+    suites: List[Any] = [unittest.TestLoader().loadTestsFromName(name)]
+    while suites:
+        suite = suites.pop(0)
+        if isinstance(suite, unittest.TestSuite):
+            suites[:0] = list(suite)
+        else:
+            found.append((type(suite), suite._testMethodName))
+    return found

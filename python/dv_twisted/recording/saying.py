@@ -1,0 +1,368 @@
+"""Says a recorded run: its script, and the journal and outcomes that real Twisted gave."""
+
+from __future__ import annotations
+
+import json
+import math
+from fractions import Fraction
+from typing import Any, Dict, Iterator, List, Optional, Set, Tuple
+
+from .. import grammar
+from ..instruments.tasks import Cooperating
+from ..profile import Entry
+from ..script import nodes
+from ..telling import Line, Named, Part, Record, Thing, Time
+from ..texts import Outcome, Text
+from .bodies import Action, Body, Helped, Run, Unsayable
+from .recorder import Problem, Recorder
+
+_FINEST = 10**9
+_LARGEST_SCALE = 10**10
+_MOST_LIMIT = grammar.LIMITS[-1]
+
+
+class CannotSay(Exception):
+    """The language has no words for it."""
+
+
+class Said:
+    """A recorded run, said."""
+
+    def __init__(self, recorder: Recorder) -> None:
+        self._recorder = recorder
+        self._scale = 1
+        self.problems: List[Problem] = list(recorder.problems)
+        self.records: List[Record] = []
+        self.rebinds = False
+        self._number()
+        self._find_scale()
+        self.script = self._script()
+        self.journal, places = self._journal()
+        self.outcomes = [f"#{r.number} {_first(r).name} {r.state()}" for r in self.records]
+        self.quirks: List[Tuple[int, Entry]] = [
+            (places[line], entry) for line, entry in recorder.quirks
+        ]
+        if self.script is not None:
+            self._set_limit(self.script)
+            self._refuse_size(self.script)
+
+    @property
+    def text(self) -> str:
+        """The script, as JSON."""
+        return json.dumps(self.script, ensure_ascii=False, separators=(",", ":"))
+
+    @property
+    def output(self) -> str:
+        """The journal and the outcomes."""
+        return "".join(line + "\n" for line in self.journal + self.outcomes)
+
+    def _problem(self, reason: str, kind: Optional[str] = None, place: str = "") -> None:
+        self.problems.append(Problem(reason, place, kind))
+
+    # numbers and times
+
+    def _number(self) -> None:
+        """Numbers the Deferreds in the order of their lines, with the helpers of caught actions among them."""
+        for line in self._recorder.lines:
+            part = line[0]
+            if part == "new " and isinstance(line[1], Record):
+                self._add_record(line[1])
+            elif isinstance(part, Helped) and part.action.caught and not part.fired:
+                helper = Record(f"caught_{len(self.records)}")
+                helper.fired = helper.helper = True
+                part.action.helper = helper
+                self._add_record(helper)
+
+    def _add_record(self, record: Record) -> None:
+        record.number = len(self.records)
+        self.records.append(record)
+
+    def _find_scale(self) -> None:
+        """How many units of the clock a second has, so that all times are whole."""
+        times = [part.seconds for line in self._recorder.lines for part in line if isinstance(part, Time)]
+        times += _times(self._recorder.top, set())
+        for seconds in times:
+            denominator = _exact(seconds).denominator
+            self._scale = self._scale * denominator // math.gcd(self._scale, denominator)
+        if self._scale > _LARGEST_SCALE:
+            self._problem("times that have no unit in common", "clock")
+            self._scale = _FINEST
+
+    def _units(self, time: Time) -> int:
+        return int(_exact(time.seconds) * self._scale)
+
+    # the journal
+
+    def _journal(self) -> Tuple[List[str], List[int]]:
+        """The lines, and for each line of the recorder how many come before it."""
+        journal: List[str] = []
+        places: List[int] = []
+        for line in self._recorder.lines:
+            places.append(len(journal))
+            said = self._line(line)
+            if said is not None:
+                journal.append(said)
+        places.append(len(journal))
+        return journal, places
+
+    def _line(self, line: Line) -> Optional[str]:
+        part = line[0]
+        if not isinstance(part, Helped):
+            return "".join(map(self._part, line))
+        helper = part.action.helper
+        if helper is None:
+            return None
+        return f"fire #{helper.number} ok null" if part.fired else f"new #{helper.number} {helper.name}"
+
+    def _part(self, part: Part) -> str:
+        if isinstance(part, Record):
+            return f"#{part.number}"
+        if isinstance(part, Named):
+            return str(_first(part.record).name)
+        if isinstance(part, Time):
+            return str(self._units(part))
+        return part.text if isinstance(part, (Text, Outcome)) else str(part)
+
+    # the script
+
+    def _script(self) -> Optional[Dict[str, Any]]:
+        top = self._recorder.top
+        assert isinstance(top, Run)
+        script: Dict[str, Any] = {"version": 1, "limit": _MOST_LIMIT}
+        try:
+            events = [self._action(action) for action in top.actions]
+            if isinstance(self._recorder.cooperator, Cooperating):
+                script["cooperator"] = self._cooperator(self._recorder.cooperator)
+        except CannotSay:
+            return None
+        except RecursionError:
+            self._problem("bodies are nested too deep", "clock")
+            return None
+        if self._recorder.classes.declared:
+            script["classes"] = [list(pair) for pair in self._recorder.classes.declared]
+        script["events"] = events
+        return script
+
+    def _cannot(self, reason: str, kind: Optional[str] = None, place: str = "") -> CannotSay:
+        self._problem(reason, kind, place)
+        return CannotSay(reason)
+
+    def _action(self, action: Action) -> List[Any]:
+        said = action.said
+        chained = self._as_chain(said)
+        if chained is not None:
+            return chained
+        if said[0] == "errback" and isinstance(said[2], list):
+            said = [said[0], said[1], *said[2][1:]]
+        return [self._say(part) for part in said]
+
+    def _say(self, part: Any) -> Any:
+        """A part of an action, in the words of the language."""
+        if isinstance(part, Record):
+            return self._deferred(part)
+        if isinstance(part, Thing):
+            return part.name
+        if isinstance(part, Time):
+            return self._units(part)
+        if isinstance(part, Unsayable):
+            raise self._cannot(part.reason, None, part.place)
+        if isinstance(part, Body):
+            return self._body(part)
+        if isinstance(part, list):
+            return [self._say(item) for item in part]
+        return part
+
+    def _deferred(self, record: Record) -> str:
+        if record.hidden_of is not None:
+            raise self._cannot("the hidden Deferred of a cancelled inline body is used", "inline")
+        name = _first(record).name
+        if name is None or name == "-":
+            raise self._cannot("a Deferred without a name is used by the program")
+        return name
+
+    def _as_chain(self, said: List[Any]) -> Optional[List[Any]]:
+        """A pair that only fires another Deferred with what it was given, which may be no value of the language."""
+        if said[0] not in ("addCallback", "addErrback", "addBoth", "addCallbacks"):
+            return None
+        ran = [run for body in said[2:] for run in body.runs]
+        if len(ran) != 1 or len(ran[0].actions) != 1 or ran[0].end not in (None, ["return", None]):
+            return None
+        fired = ran[0].actions[0].said
+        given = ran[0].given
+        if fired[0] not in ("callback", "errback") or not isinstance(fired[2], Unsayable):
+            return None
+        if given is None or fired[2].outcome != given.text:
+            return None
+        return ["chain", self._say(said[1]), self._say(fired[1])]
+
+    def _body(self, body: Body) -> Any:
+        if body.kind == "steps":
+            return [self._body(step) for step in body.steps]
+        if body.kind == "inline":
+            return self._statements(body)
+        if not body.runs:
+            return {}
+        first = body.runs[0]
+        for other in body.runs[1:]:
+            if not self._same_run(first, other):
+                kind = "loop" if body.kind == "turn" else None
+                raise self._cannot(f"a {body.kind} ran more than once, and did something else", kind)
+        said: Dict[str, Any] = {}
+        actions = [self._helped(action) for action in first.actions]
+        if actions:
+            said["do"] = actions
+        if first.end is not None:
+            said["end"] = self._say(first.end)
+        return said
+
+    def _helped(self, action: Action) -> List[Any]:
+        """An action; one whose failure its body caught stands in the `try` of an inline body."""
+        said = self._action(action)
+        if not action.caught or action.helper is None:
+            return said
+        return ["inline", action.helper.name, [["try", [["do", said]], ["Exception"], []]]]
+
+    def _statements(self, body: Body) -> List[Any]:
+        if not body.runs:
+            return []
+        statements: List[Any] = []
+        for action in body.runs[0].actions:
+            said = self._action(action)
+            statement = said if said[0] == "await" else ["do", said]
+            caught = action.raised is not None and action.caught
+            statements.append(["try", [statement], ["Exception"], []] if caught else statement)
+        if body.runs[0].end is not None:
+            statements.append(["end", self._say(body.runs[0].end)])
+        return statements
+
+    def _cooperator(self, cooperating: Cooperating) -> Dict[str, int]:
+        full = {steps for steps, left in cooperating.ticks if left}
+        units = full.pop() if full else grammar.UNITS[-1]
+        if full or units not in grammar.UNITS or any(n > units for n, _ in cooperating.ticks):
+            raise self._cannot("ticks of different numbers of steps", "cooperator")
+        delays = {_exact(delay) for delay in cooperating.delays} or {Fraction(1)}
+        delay = int(delays.pop() * self._scale)
+        if delays or delay < 1:
+            raise self._cannot("ticks that are due after different times, or at once", "cooperator")
+        return {"units": units, "delay": delay}
+
+    # runs of one body, which have to be the same but for what they make
+
+    def _same_run(self, first: Run, other: Run) -> bool:
+        if len(first.actions) != len(other.actions) or not self._same(first.end, other.end):
+            return False
+        return all(
+            one.caught == two.caught and self._same(one.said, two.said)
+            for one, two in zip(first.actions, other.actions)
+        )
+
+    def _same(self, one: Any, two: Any) -> bool:
+        if isinstance(one, Record) and isinstance(two, Record):
+            return self._same_record(one, two)
+        if isinstance(one, Thing) and isinstance(two, Thing):
+            return self._same_thing(one, two)
+        if isinstance(one, Time) and isinstance(two, Time):
+            return _exact(one.seconds) == _exact(two.seconds)
+        if isinstance(one, Body) and isinstance(two, Body):
+            return self._same_body(one, two)
+        if isinstance(one, list) and isinstance(two, list):
+            return len(one) == len(two) and all(map(self._same, one, two))
+        if isinstance(one, Unsayable) and isinstance(two, Unsayable):
+            return True
+        return type(one) is type(two) and bool(one == two)
+
+    def _same_record(self, one: Record, two: Record) -> bool:
+        one, two = _first(one), _first(two)
+        if one is two:
+            return True
+        if one.made_in is None or two.made_in is None or one.made_in is two.made_in:
+            return False
+        if one.made_in.kind == "event" or two.made_in.kind == "event":
+            return False
+        self.rebinds = True
+        two.alias = one
+        return True
+
+    def _same_thing(self, one: Thing, two: Thing) -> bool:
+        while one.alias is not None:
+            one = one.alias
+        while two.alias is not None:
+            two = two.alias
+        if one is not two:
+            self.rebinds = True
+            two.alias = one
+        return True
+
+    def _same_body(self, one: Body, two: Body) -> bool:
+        if one.kind == "steps":
+            return len(one.steps) == len(two.steps) and all(map(self._same_body, one.steps, two.steps))
+        if not two.runs:
+            return True
+        if not one.runs:
+            one.runs = two.runs
+            return True
+        return self._same_run(one.runs[0], two.runs[0])
+
+    # limits of scripts
+
+    def _set_limit(self, script: Dict[str, Any]) -> None:
+        weight = sum(1 + len(line.encode()) for line in self.journal)
+        script["limit"] = min(_MOST_LIMIT, max(grammar.DEFAULT_LIMIT, weight))
+        if weight > _MOST_LIMIT and not self._fits():
+            self._problem("the journal weighs more than a script's may")
+
+    def _fits(self) -> bool:
+        """Whether a journal of many bytes is one of few lines and short values after all."""
+        return sum(_weight(line) for line in self._recorder.lines) <= _MOST_LIMIT
+
+    def _refuse_size(self, script: Dict[str, Any]) -> None:
+        if _depth(script) > grammar.DEEPEST:
+            self._problem("bodies are nested too deep", "clock")
+        if len(self.text.encode()) > grammar.MOST_BYTES:
+            self._problem("the script is longer than one may be")
+        elif nodes(script) > grammar.MOST_NODES:
+            self._problem("the script has more nodes than one may have")
+        if len(script.get("classes", [])) > grammar.MOST_CLASSES:
+            self._problem("the script has more classes than one may have")
+
+
+def _weight(line: Line) -> int:
+    return 1 + sum(part.weight for part in line if isinstance(part, (Text, Outcome)))
+
+
+def _exact(seconds: float) -> Fraction:
+    return Fraction(seconds).limit_denominator(_FINEST)
+
+
+def _first(record: Record) -> Record:
+    """The Deferred that an earlier run of the same body made in its place."""
+    while record.alias is not None:
+        record = record.alias
+    return record
+
+
+def _depth(value: Any) -> int:
+    items = value.values() if isinstance(value, dict) else value if isinstance(value, list) else None
+    return 0 if items is None else 1 + max(map(_depth, items), default=0)
+
+
+def _times(run: Any, seen: Set[int]) -> Iterator[float]:
+    """The times that the actions of a run have."""
+    if id(run) in seen:
+        return
+    seen.add(id(run))
+    for action in run.actions:
+        yield from _times_of(action.said, seen)
+
+
+def _times_of(part: Any, seen: Set[int]) -> Iterator[float]:
+    if isinstance(part, Time):
+        yield part.seconds
+    elif isinstance(part, list):
+        for item in part:
+            yield from _times_of(item, seen)
+    elif isinstance(part, Body):
+        for run in part.runs:
+            yield from _times(run, seen)
+        for step in part.steps:
+            yield from _times_of(step, seen)

@@ -1,0 +1,76 @@
+"""Reads files of rows: scripts, how their runs end, and what they print (the format is in CONTRIBUTING.md)."""
+
+from __future__ import annotations
+
+import re
+from pathlib import Path
+from typing import Iterator, List, NamedTuple
+
+_ENDING = re.compile(r"-- (\d+) ?(.*)")
+_COUNTED = re.compile(r"\*(\d+) (.*)", re.DOTALL)
+
+#: rows that are wrong on purpose
+WRONG = "wrong.rows"
+
+
+class Expected(NamedTuple):
+    """A script of a row, and what is expected of its run."""
+
+    file: str
+    name: str
+    script: str
+    status: int
+    errors: str
+    output: str
+
+
+def unfolded(lines: List[str]) -> List[str]:
+    """The lines, where `*3 LINE` stands for three."""
+    result: List[str] = []
+    for line in lines:
+        counted = _COUNTED.fullmatch(line)
+        if counted is None:
+            result.append(line)
+        else:
+            result.extend([counted.group(2)] * int(counted.group(1)))
+    return result
+
+
+def read_rows(path: Path) -> Iterator[Expected]:
+    """Each script of the rows of a file."""
+    text = path.read_text(encoding="utf-8")
+    for part in text.removeprefix("== ").split("\n== "):
+        name, *lines = part.rstrip("\n").split("\n")
+        place = next(i for i, line in enumerate(lines) if _ENDING.fullmatch(line))
+        ending = _ENDING.fullmatch(lines[place])
+        assert ending is not None
+        errors = f"{ending.group(2)}\n" if ending.group(2) else ""
+        output = "".join(line + "\n" for line in unfolded(lines[place + 1 :]))
+        for script in _scripts(lines[:place]):
+            yield Expected(path.name, name, script, int(ending.group(1)), errors, output)
+
+
+def _scripts(lines: List[str]) -> Iterator[str]:
+    """The script that the lines say, or where the first ones are frames, each of the others in each frame."""
+    frames = [line[3:] for line in lines if line.startswith(":: ")]
+    if not frames:
+        yield "\n".join(unfolded(lines))
+        return
+    for frame in frames:
+        for line in lines:
+            if not line.startswith(":: "):
+                yield frame.replace("%", line)
+
+
+def row_files(top: Path) -> List[Path]:
+    """The files of rows of the repository, but for that of the wrong ones."""
+    folder = top / "crates" / "dv_rows" / "data"
+    return [path for path in sorted(folder.glob("*.rows")) if path.name != WRONG]
+
+
+def written(rows: List[Expected]) -> str:
+    """A file of these rows."""
+    return "\n".join(
+        f"== {row.name}\n{row.script}\n-- {row.status}{' ' + row.errors.strip() if row.errors else ''}\n{row.output}"
+        for row in rows
+    )

@@ -1,0 +1,653 @@
+"""Runs a script on real Twisted: the script is the program, and what Twisted does is told by the instruments."""
+
+from __future__ import annotations
+
+import contextlib
+import sys
+import threading
+import warnings
+from typing import Any, Callable, Dict, Generator, Iterator, List, Optional, Sequence, Tuple
+
+from twisted.internet import defer, task, threads
+from twisted.internet.defer import Deferred
+from twisted.logger import globalLogBeginner
+from twisted.python.failure import Failure
+
+from . import grammar
+from .classes import BUILT_IN
+from .instruments import install, locks, queues
+from .instruments.clock import run_due
+from .profile import Entry
+from .script import Script, read
+from .telling import Line, Named, Observer, Part, Record, Thing, Time, weight
+from .texts import Outcome, Text, compact, weight_of
+
+#: a caller's post, by the numbers of the caller and of the post
+Post = Tuple[int, int]
+Batches = Sequence[Sequence[Post]]
+
+_Failure: Callable[..., Failure] = Failure
+
+RECURSION = 40_000
+STACK = 512 * 1024 * 1024
+
+
+class Stopped(BaseException):
+    """The journal's limit is reached: nothing happens any more."""
+
+
+class Run:
+    """What a run printed, and where Twisted did in it what an entry of the profile names."""
+
+    def __init__(self, lines: List[str], outcomes: List[str], stopped: bool) -> None:
+        self.journal = lines
+        self.outcomes = outcomes
+        self.stopped = stopped
+        self.quirks: List[Tuple[int, Entry]] = []
+
+    @property
+    def output(self) -> str:
+        """The whole text."""
+        return "".join(line + "\n" for line in self.journal + self.outcomes)
+
+
+class Teller(Observer):
+    """Tells a run up to the limit of its journal."""
+
+    def __init__(self, limit: int) -> None:
+        super().__init__()
+        self.room = limit
+        self.goes_on_after_errors = True
+        self.outcomes: Optional[List[str]] = None
+        self._names: List[str] = []
+
+    def tell(self, *parts: Part) -> None:
+        """Tells a line, or stops the run where it doesn't fit."""
+        cost = weight(parts)
+        if self.outcomes is not None or cost > self.room:
+            self.end()
+            raise Stopped
+        self.room -= cost
+        super().tell(*parts)
+
+    @property
+    def stopped(self) -> bool:
+        """Whether the run is over."""
+        return self.outcomes is not None
+
+    def end(self) -> None:
+        """What each Deferred has now is what its line shows."""
+        if self.outcomes is None:
+            self.outcomes = [f"#{r.number} {r.name} {r.state()}" for r in self.records]
+
+    @contextlib.contextmanager
+    def undoing(self, record: Record) -> Iterator[None]:
+        """A Deferred whose value can't be told to be taken keeps it."""
+        left, record.outcome = record.outcome, record.before
+        yield
+        record.outcome = left
+
+    def name_next(self, name: str) -> None:
+        """Has the next lock, queue, delayed call, loop or task be known by this name."""
+        self._names.append(name)
+
+    def thing(self, kind: str) -> Thing:
+        """The object that was named before it is made."""
+        return Thing(self._names.pop())
+
+
+def rendered(line: Line) -> str:
+    """A line as it is printed."""
+    return "".join(map(_part, line))
+
+
+def _part(part: Part) -> str:
+    if isinstance(part, Record):
+        return f"#{part.number}"
+    if isinstance(part, Named):
+        return str(part.record.name)
+    if isinstance(part, Time):
+        return str(int(part.seconds))
+    return part.text if isinstance(part, (Text, Outcome)) else str(part)
+
+
+class Job:
+    """A job of a thread pool whose result comes at a time of the clock: Twisted's `deferToThreadPool` without a thread."""
+
+    def __init__(self) -> None:
+        self.done: Callable[[bool, object], None] = lambda success, result: None
+        self.result: Tuple[bool, object] = (True, None)
+
+    def callInThreadWithCallback(self, done: Callable[[bool, object], None], f: Any) -> None:
+        """Does the job, and keeps what it comes to."""
+        self.done = done
+        try:
+            self.result = (True, f())
+        except Exception:
+            self.result = (False, _Failure())
+
+    def callFromThread(self, f: Callable[..., object], *args: object) -> None:
+        """Calls at once, since this is the reactor's thread."""
+        f(*args)
+
+
+class Steps:
+    """The iterator of a task: a body a step."""
+
+    def __init__(self, bodies: List[Dict[str, Any]], perform: Callable[..., Any]) -> None:
+        self._bodies = iter(bodies)
+        self._perform = perform
+
+    def __iter__(self) -> "Steps":
+        return self
+
+    def __next__(self) -> Any:
+        return self._perform(next(self._bodies), None, None)
+
+
+class _Left(Exception):
+    """An inline body was left by an `end`."""
+
+    def __init__(self, end: List[Any]) -> None:
+        super().__init__()
+        self.end = end
+
+
+class Player:
+    """Performs a script on real Twisted. `batches` are the posts that each drain takes, and those at the end."""
+
+    def __init__(self, script: Script, batches: Optional[Batches] = None) -> None:
+        self.script = script
+        self.teller = Teller(script.limit)
+        for name, parent in script.classes:
+            self.teller.classes.declare(name, parent)
+        self.clock = task.Clock()
+        self.cooperator = task.Cooperator(
+            terminationPredicateFactory=self._terminator,
+            scheduler=lambda tick: self.clock.callLater(script.delay, tick),
+        )
+        self.deferreds: Dict[str, Deferred[Any]] = {}
+        self.things: Dict[Tuple[str, str], Any] = {}
+        self.jobs = 0
+        self.batches: Optional[Iterator[Sequence[Post]]] = None if batches is None else iter(batches)
+        self.taken = [0] * len(script.callers)
+
+    def run(self) -> Run:
+        """Performs all events, and tells what came of them."""
+        with self.teller.watching():
+            try:
+                for event in self.script.events:
+                    self._event(event)
+                self._posts(None)
+            except Stopped:
+                pass
+        teller = self.teller
+        stopped = teller.stopped
+        teller.end()
+        run = Run([rendered(line) for line in teller.lines], teller.outcomes or [], stopped)
+        run.quirks = teller.quirks
+        return run
+
+    def _terminator(self) -> Callable[[], bool]:
+        left = [self.script.units]
+
+        def is_over() -> bool:
+            left[0] -= 1
+            return left[0] <= 0
+
+        return is_over
+
+    # events
+
+    def _event(self, event: List[Any]) -> None:
+        if event[0] == "drain":
+            self.teller.tell("drain")
+            self._posts(event[1])
+        else:
+            self._telling(lambda: self._action(event, None))
+
+    def _telling(self, happen: Callable[[], object]) -> None:
+        """What fails here is told, and the run goes on."""
+        self.teller.begin_event()
+        try:
+            happen()
+        except Stopped:
+            raise
+        except BaseException as failure:
+            self._go_on()
+            if isinstance(failure, RecursionError):
+                self.teller.quirk(Entry.PYTHON_STACK)
+            self.teller.tell_unhandled(failure)
+
+    def _go_on(self) -> None:
+        """Where Twisted has swallowed the end of the run, it is over all the same."""
+        if self.teller.stopped:
+            raise Stopped
+
+    def _posts(self, most: Optional[int]) -> None:
+        """Performs the posts of a drain, or those that are left."""
+        batch: Sequence[Post] = ()
+        if self.batches is None:
+            batch = self._batch(most)
+        else:
+            batch = next(self.batches, batch)
+        for caller, index in batch:
+            self._go_on()
+            self.teller.tell(f"post {caller} {index}")
+            body = self.script.callers[caller][index]
+            self._telling(lambda: self.teller.perform(None, "post", None, self._body, body))
+
+    def _batch(self, most: Optional[int]) -> List[Post]:
+        """As many posts as may be taken, caller by caller in turn."""
+        batch: List[Post] = []
+        left = sum(map(len, self.script.callers)) - sum(self.taken)
+        while left and (most is None or len(batch) < most):
+            for caller, posts in enumerate(self.script.callers):
+                if self.taken[caller] < len(posts) and (most is None or len(batch) < most):
+                    batch.append((caller, self.taken[caller]))
+                    self.taken[caller] += 1
+                    left -= 1
+        return batch
+
+    # bodies
+
+    def _body(
+        self,
+        body: Dict[str, Any],
+        given: object = None,
+        here: Optional[Deferred[Any]] = None,
+    ) -> Any:
+        """Performs a body on what it is given."""
+        for action in body.get("do", ()):
+            self._action(action, here)
+        return self._end(body.get("end", ("pass",)), given, here)
+
+    def _end(self, end: Sequence[Any], given: object, here: Optional[Deferred[Any]]) -> Any:
+        word = end[0]
+        if word == "return":
+            return end[1]
+        if word == "pass":
+            return given
+        if word == "plus":
+            return self._plus(given, end[1])
+        if word == "raise":
+            raise self.teller.classes.make(end[1], end[2])
+        if word == "trap":
+            return self._trap(given, end[1], end[2])
+        return self._deferred(end[1], here)
+
+    def _plus(self, given: object, number: int) -> int:
+        if type(given) is not int:
+            raise self.teller.classes.make("TypeError", "plus")
+        if given + number not in grammar.NUMBERS[grammar.Kind.INTEGER]:
+            raise self.teller.classes.make("OverflowError", "plus")
+        return given + number
+
+    def _trap(self, given: object, classes: List[str], value: object) -> object:
+        if not isinstance(given, Failure):
+            raise self.teller.classes.make("TypeError", "trap")
+        if not classes:
+            return given
+        trap: Callable[..., object] = given.trap
+        trap(*[self.teller.classes.get(name) for name in classes])
+        return value
+
+    def _side(self, body: Dict[str, Any], here: Deferred[Any]) -> Callable[[object], Any]:
+        return lambda given: self._body(body, given, here)
+
+    # names
+
+    def _deferred(self, name: str, here: Optional[Deferred[Any]]) -> Deferred[Any]:
+        found = here if name == "@" else self.deferreds.get(name)
+        if found is None:
+            raise self.teller.classes.make("NameError", name)
+        return found
+
+    def _thing(self, kind: str, name: str) -> Any:
+        found = self.things.get((kind, name))
+        if found is None:
+            raise self.teller.classes.make("NameError", name)
+        return found
+
+    def _naming(self, name: str) -> None:
+        """The next Deferred that is made has this name."""
+
+        def bind(deferred: Deferred[Any], record: Record) -> None:
+            self.deferreds[name] = deferred
+
+        self.teller.expect_name(name, bind)
+
+    def _making(self, kind: str, name: str, made: Any) -> Any:
+        """Binds a name to an object that is made."""
+        self.things[kind, name] = made
+        return made
+
+    # actions
+
+    def _action(self, action: List[Any], here: Optional[Deferred[Any]]) -> None:
+        self._go_on()
+        if action[0] in _ON_DEFERREDS:
+            deferreds = [self._deferred(name, here) for name in _deferreds_of(action)]
+            _ON_DEFERREDS[action[0]](self, action, *deferreds)
+        else:
+            _OTHERS[action[0]](self, action, here)
+        self._go_on()
+
+    def _make_deferred(self, action: List[Any], here: Optional[Deferred[Any]]) -> None:
+        self._naming(action[1])
+        if len(action) == 2:
+            Deferred()
+            return
+
+        def canceller(deferred: Deferred[Any]) -> None:
+            self._body(action[2], None, deferred)
+
+        Deferred(canceller)
+
+    def _callback(self, action: List[Any], deferred: Deferred[Any]) -> None:
+        deferred.callback(action[2])
+
+    def _errback(self, action: List[Any], deferred: Deferred[Any]) -> None:
+        deferred.errback(_Failure(self.teller.classes.make(action[2], action[3])))
+
+    def _add_callback(self, action: List[Any], deferred: Deferred[Any]) -> None:
+        deferred.addCallback(self._side(action[2], deferred))
+
+    def _add_errback(self, action: List[Any], deferred: Deferred[Any]) -> None:
+        deferred.addErrback(self._side(action[2], deferred))
+
+    def _add_both(self, action: List[Any], deferred: Deferred[Any]) -> None:
+        deferred.addBoth(self._side(action[2], deferred))
+
+    def _add_callbacks(self, action: List[Any], deferred: Deferred[Any]) -> None:
+        deferred.addCallbacks(
+            self._side(action[2], deferred), self._side(action[3], deferred)
+        )
+
+    def _chain(self, action: List[Any], first: Deferred[Any], second: Deferred[Any]) -> None:
+        first.chainDeferred(second)
+
+    def _pause(self, action: List[Any], deferred: Deferred[Any]) -> None:
+        deferred.pause()
+
+    def _unpause(self, action: List[Any], deferred: Deferred[Any]) -> None:
+        deferred.unpause()
+
+    def _cancel(self, action: List[Any], deferred: Deferred[Any]) -> None:
+        deferred.cancel()
+
+    def _list(self, action: List[Any], *children: Deferred[Any]) -> None:
+        self._naming(action[1])
+        make: Callable[..., Any] = defer.DeferredList
+        make(children, **{flag: True for flag in action[3]})
+
+    def _gather(self, action: List[Any], *children: Deferred[Any]) -> None:
+        self._naming(action[1])
+        defer.gatherResults(children, **{flag: True for flag in action[3]})
+
+    def _note(self, action: List[Any], here: Optional[Deferred[Any]]) -> None:
+        text = action[1]
+        self.teller.tell("note ", Text(compact(text), weight_of(text)))
+
+    def _maybe(self, action: List[Any], here: Optional[Deferred[Any]]) -> None:
+        self._naming(action[1])
+        defer.maybeDeferred(self._body, action[2])
+
+    def _lock(self, action: List[Any], here: Optional[Deferred[Any]]) -> None:
+        self.teller.name_next(action[1])
+        locks.thing_of(self.teller, self._making("lock", action[1], defer.DeferredLock()))
+
+    def _semaphore(self, action: List[Any], here: Optional[Deferred[Any]]) -> None:
+        self.teller.name_next(action[1])
+        made = self._making("lock", action[1], defer.DeferredSemaphore(action[2]))
+        locks.thing_of(self.teller, made)
+
+    def _acquire(self, action: List[Any], here: Optional[Deferred[Any]]) -> None:
+        lock = self._thing("lock", action[2])
+        self._naming(action[1])
+        lock.acquire()
+
+    def _release(self, action: List[Any], here: Optional[Deferred[Any]]) -> None:
+        self._thing("lock", action[1]).release()
+
+    def _run_with(self, action: List[Any], here: Optional[Deferred[Any]]) -> None:
+        lock = self._thing("lock", action[2])
+        self._naming(action[1])
+        lock.run(self._body, action[3])
+
+    def _queue(self, action: List[Any], here: Optional[Deferred[Any]]) -> None:
+        self.teller.name_next(action[1])
+        made = self._making("queue", action[1], defer.DeferredQueue(action[2], action[3]))
+        queues.thing_of(self.teller, made)
+
+    def _put(self, action: List[Any], here: Optional[Deferred[Any]]) -> None:
+        self._thing("queue", action[1]).put(action[2])
+
+    def _get(self, action: List[Any], here: Optional[Deferred[Any]]) -> None:
+        queue = self._thing("queue", action[2])
+        self._naming(action[1])
+        queue.get()
+
+    def _later(self, action: List[Any], here: Optional[Deferred[Any]]) -> None:
+        self.teller.name_next(action[1])
+        made = self.clock.callLater(action[2], self._body, action[3])
+        self._making("call", action[1], made)
+
+    def _cancel_call(self, action: List[Any], here: Optional[Deferred[Any]]) -> None:
+        self._thing("call", action[1]).cancel()
+
+    def _advance(self, action: List[Any], here: Optional[Deferred[Any]]) -> None:
+        """Time goes on. As a reactor does, this goes on after an error that leaves a delayed call."""
+        advance: Callable[[], object] = lambda: self.clock.advance(action[1])
+        while True:
+            try:
+                advance()
+                return
+            except Stopped:
+                raise
+            except BaseException as failure:
+                self._go_on()
+                self.teller.tell_unhandled(failure)
+            advance = lambda: self.teller.act([], run_due, self.clock)
+
+    def _loop(self, action: List[Any], here: Optional[Deferred[Any]]) -> None:
+        _, name, deferred, interval, now, body = action
+        loop = task.LoopingCall(self._body, body)
+        setattr(loop, "clock", self.clock)
+        self.teller.name_next(name)
+        self._naming(deferred)
+        self._making("loop", name, loop)
+        loop.start(interval, now)
+
+    def _stop_loop(self, action: List[Any], here: Optional[Deferred[Any]]) -> None:
+        self._thing("loop", action[1]).stop()
+
+    def _cooperate(self, action: List[Any], here: Optional[Deferred[Any]]) -> None:
+        self.teller.name_next(action[1])
+        made = self.cooperator.cooperate(Steps(action[2], self._body))
+        self._making("task", action[1], made)
+
+    def _when_done(self, action: List[Any], here: Optional[Deferred[Any]]) -> None:
+        made = self._thing("task", action[2])
+        self._naming(action[1])
+        made.whenDone()
+
+    def _pause_task(self, action: List[Any], here: Optional[Deferred[Any]]) -> None:
+        self._thing("task", action[1]).pause()
+
+    def _resume_task(self, action: List[Any], here: Optional[Deferred[Any]]) -> None:
+        self._thing("task", action[1]).resume()
+
+    def _stop_task(self, action: List[Any], here: Optional[Deferred[Any]]) -> None:
+        self._thing("task", action[1]).stop()
+
+    # inline bodies
+
+    def _inline(self, action: List[Any], here: Optional[Deferred[Any]]) -> None:
+        name, statements = action[1], action[2]
+        mine: List[Deferred[Any]] = []
+
+        def bind(deferred: Deferred[Any], record: Record) -> None:
+            self.deferreds[name] = deferred
+            mine.append(deferred)
+
+        self.teller.expect_name(name, bind)
+        defer.inlineCallbacks(self._inline_body)(statements, mine)
+
+    def _inline_body(
+        self, statements: List[Any], mine: List[Deferred[Any]]
+    ) -> Generator[Deferred[Any], Any, Any]:
+        """The generator of an inline body; what its END gives is made outside of all its tries."""
+        present: List[object] = [None]
+        end: Optional[List[Any]] = None
+        try:
+            yield from self._statements(statements, mine, present)
+        except _Left as left:
+            end = left.end
+        return None if end is None else self._end(end, present[0], mine[0])
+
+    def _statements(
+        self, statements: List[Any], mine: List[Deferred[Any]], present: List[object]
+    ) -> Generator[Deferred[Any], Any, None]:
+        for statement in statements:
+            word = statement[0]
+            if word == "do":
+                self._action(statement[1], mine[0])
+            elif word == "await":
+                present[0] = yield self._deferred(statement[1], mine[0])
+                self._go_on()
+            elif word == "try":
+                yield from self._try(statement, mine, present)
+            else:
+                raise _Left(statement[1])
+
+    def _try(
+        self, statement: List[Any], mine: List[Deferred[Any]], present: List[object]
+    ) -> Generator[Deferred[Any], Any, None]:
+        classes = tuple(self.teller.classes.get(name) for name in statement[2])
+        caught = False
+        try:
+            yield from self._statements(statement[1], mine, present)
+        except _Left:
+            raise
+        except classes:  # type: ignore[misc]
+            caught = True
+        if caught:
+            self._go_on()
+            present[0] = None
+            yield from self._statements(statement[3], mine, present)
+
+    # threads
+
+    def _thread(self, action: List[Any], here: Optional[Deferred[Any]]) -> None:
+        if self.jobs == grammar.MOST_JOBS:
+            raise self.teller.classes.make("RuntimeError", "too many jobs")
+        _, name, delay, work = action
+        number, job = self.jobs, Job()
+
+        def made(deferred: Deferred[Any], record: Record) -> None:
+            self.deferreds[name] = deferred
+            self.teller.tell(f"job {number} ", record)
+
+        self.teller.expect_name(name, made)
+        self.teller.act([], threads.deferToThreadPool, job, job, lambda: self._work(work))
+        self.jobs += 1
+        self._deliver_later(number, delay, job)
+
+    def _deliver_later(self, number: int, delay: int, job: Job) -> None:
+        self.teller.tell(f"later job {number} ", Time(self.clock.seconds() + delay))
+
+        def deliver() -> None:
+            self.teller.tell(f"deliver {number}")
+            self._telling(lambda: job.done(*job.result))
+
+        self.teller.act([], self.clock.callLater, delay, deliver)
+
+    def _work(self, work: List[Any]) -> Any:
+        word = work[0]
+        if word == "value":
+            return work[1]
+        if word == "raise":
+            raise self.teller.classes.make(work[1], work[2])
+        return work[1] * (work[1] + 1) // 2
+
+
+def _deferreds_of(action: List[Any]) -> List[str]:
+    """The names of the Deferreds that an action looks up before anything else, in order."""
+    word = action[0]
+    if word in ("list", "gather"):
+        return list(action[2])
+    return list(action[1:3]) if word == "chain" else [action[1]]
+
+
+#: actions on Deferreds that exist
+_ON_DEFERREDS: Dict[str, Callable[..., None]] = {
+    "callback": Player._callback,
+    "errback": Player._errback,
+    "addCallback": Player._add_callback,
+    "addErrback": Player._add_errback,
+    "addBoth": Player._add_both,
+    "addCallbacks": Player._add_callbacks,
+    "chain": Player._chain,
+    "pause": Player._pause,
+    "unpause": Player._unpause,
+    "cancel": Player._cancel,
+    "list": Player._list,
+    "gather": Player._gather,
+}
+
+#: the other actions, and the event `advance`
+_OTHERS: Dict[str, Callable[[Player, List[Any], Optional[Deferred[Any]]], None]] = {
+    "deferred": Player._make_deferred,
+    "note": Player._note,
+    "maybe": Player._maybe,
+    "lock": Player._lock,
+    "semaphore": Player._semaphore,
+    "acquire": Player._acquire,
+    "release": Player._release,
+    "runWith": Player._run_with,
+    "queue": Player._queue,
+    "put": Player._put,
+    "get": Player._get,
+    "later": Player._later,
+    "cancelCall": Player._cancel_call,
+    "advance": Player._advance,
+    "loop": Player._loop,
+    "stopLoop": Player._stop_loop,
+    "cooperate": Player._cooperate,
+    "whenDone": Player._when_done,
+    "pauseTask": Player._pause_task,
+    "resumeTask": Player._resume_task,
+    "stopTask": Player._stop_task,
+    "inline": Player._inline,
+    "thread": Player._thread,
+}
+
+
+def run(data: bytes, batches: Optional[Batches] = None) -> Run:
+    """Reads a script, and runs it on real Twisted."""
+    script = read(data, list(BUILT_IN))
+    install()
+    return Player(script, batches).run()
+
+
+def be_quiet() -> None:
+    """Has Twisted log and warn of nothing, since what happens is told."""
+    warnings.simplefilter("ignore")
+    globalLogBeginner.beginLoggingTo([], redirectStandardIO=False, discardBuffer=True)
+
+
+def with_room(call: Callable[[], int]) -> int:
+    """Calls on a stack on which long rows of nested firings have room."""
+    result: List[int] = []
+    before = sys.getrecursionlimit()
+    sys.setrecursionlimit(RECURSION)
+    threading.stack_size(STACK)
+    try:
+        thread = threading.Thread(target=lambda: result.append(call()))
+        thread.start()
+        thread.join()
+    finally:
+        threading.stack_size(0)
+        sys.setrecursionlimit(before)
+    return result[0] if result else 70

@@ -1,0 +1,337 @@
+"""Reads scripts, and refuses with the least reason that holds, as the program does."""
+
+from __future__ import annotations
+
+import json
+import math
+import re
+from typing import Any, Dict, List, Mapping, NoReturn, Optional, Sequence, Set, Tuple
+
+from . import grammar
+from .classes import RESERVED
+from .grammar import Kind
+
+_NAME = re.compile(r"[A-Za-z0-9_]{1,32}", re.ASCII)
+
+TOO_LONG = (1, "TooLong")
+NOT_JSON = (2, "NotJson")
+BAD_VERSION = (3, "BadVersion")
+BAD_SHAPE = (4, "BadShape")
+TOO_MANY = (5, "TooMany")
+BAD_NAME = (6, "BadName")
+BAD_CLASS = (7, "BadClass")
+
+
+class Refused(Exception):
+    """A script that isn't accepted, with the number and the name of the least reason."""
+
+    def __init__(self, reason: Tuple[int, str], where: str = "") -> None:
+        super().__init__(f"script refused: {reason[0]} {reason[1]}")
+        self.reason = reason
+        #: what of the script it is, where that is known
+        self.where = where
+
+
+class Script:
+    """A script that is accepted: its keys, with what stands where one is left out."""
+
+    def __init__(self, root: Mapping[str, Any]) -> None:
+        cooperator = root.get("cooperator", {"units": 1, "delay": 1})
+        self.root = root
+        self.events: List[List[Any]] = root["events"]
+        self.limit: int = root.get("limit", grammar.DEFAULT_LIMIT)
+        self.classes: List[List[str]] = root.get("classes", [])
+        self.units: int = cooperator["units"]
+        self.delay: int = cooperator["delay"]
+        self.callers: List[List[Dict[str, Any]]] = root.get("callers", [])
+
+
+def read(data: bytes, names_of_classes: Sequence[str]) -> Script:
+    """The script that these bytes say, where these are the classes that need no declaring."""
+    if len(data) > grammar.MOST_BYTES:
+        raise Refused(TOO_LONG)
+    root = _json(data)
+    if not isinstance(root, dict) or not _is_integer(root.get("version")) or root["version"] != 1:
+        raise Refused(BAD_VERSION)
+    found = _Shape().root(root)
+    _refuse_counts(root, found)
+    _refuse_names(root, found)
+    _refuse_classes(root, found, names_of_classes)
+    return Script(root)
+
+
+# JSON
+
+
+def _json(data: bytes) -> Any:
+    """What the bytes say in JSON, where a number that isn't an integer of 64 bits is a float."""
+    try:
+        text = data.decode("utf-8", "strict")
+        if _depth(text) > grammar.DEEPEST:
+            raise Refused(NOT_JSON)
+        value = json.loads(
+            text,
+            parse_int=_integer,
+            parse_float=_float,
+            parse_constant=_not_json,
+            object_pairs_hook=_pairs,
+        )
+        _refuse_halves(value)
+    except (ValueError, RecursionError):
+        raise Refused(NOT_JSON) from None
+    return value
+
+
+def _not_json(text: str) -> NoReturn:
+    raise Refused(NOT_JSON)
+
+
+def _float(text: str) -> float:
+    number = float(text)
+    if math.isinf(number):
+        raise Refused(NOT_JSON)
+    return number
+
+
+def _integer(text: str) -> Any:
+    if text == "-0" or len(text) > 20 or int(text) not in grammar.NUMBERS[Kind.INTEGER]:
+        return _float(text)
+    return int(text)
+
+
+def _depth(text: str) -> int:
+    """How deep arrays and objects are nested in a text, up to where that is too deep."""
+    deepest = depth = 0
+    for part in re.finditer(r'"(?:[^"\\]|\\.)*"|[\[{]|[\]}]', text, re.DOTALL):
+        mark = part.group()[0]
+        depth += (mark in "[{") - (mark in "]}")
+        deepest = max(deepest, depth)
+    return deepest
+
+
+def _pairs(pairs: List[Tuple[str, Any]]) -> Dict[str, Any]:
+    """An object, in which a key that is given twice has its last value; each value has to be readable."""
+    for key, value in pairs:
+        _refuse_halves([key, value])
+    return dict(pairs)
+
+
+def _refuse_halves(value: Any) -> None:
+    """Half a pair of surrogates is no character, and raises here."""
+    if isinstance(value, str):
+        value.encode("utf-8")
+    elif isinstance(value, list):
+        for item in value:
+            _refuse_halves(item)
+
+
+def _is_integer(value: Any) -> bool:
+    return type(value) is int
+
+
+# shape
+
+
+class _Found:
+    """What is looked at once the shape is good."""
+
+    def __init__(self) -> None:
+        #: names of objects that are made or can't be `@`
+        self.names: List[str] = []
+        #: names of Deferreds that exist
+        self.deferreds: List[str] = []
+        self.classes: List[str] = []
+        self.advanced = 0
+
+
+class _Shape:
+    """Refuses what hasn't the shape of a script, and finds its names and classes."""
+
+    def __init__(self) -> None:
+        self.found = _Found()
+
+    def root(self, root: Dict[str, Any]) -> _Found:
+        """What a whole script has."""
+        self._keys(root, {"version", "events"}, {"limit", "classes", "cooperator", "callers"})
+        self._number(root.get("limit", 0), grammar.LIMITS)
+        for pair in self._array(root.get("classes", [])):
+            self._texts(pair, 2)
+        if "cooperator" in root:
+            self._cooperator(root["cooperator"])
+        for posts in self._array(root.get("callers", [])):
+            self._bodies(posts)
+        for event in self._array(root["events"]):
+            self._event(event)
+        return self.found
+
+    def _cooperator(self, value: Any) -> None:
+        self._keys(value, {"units", "delay"}, set())
+        self._number(value["units"], grammar.UNITS)
+        self._number(value["delay"], grammar.INTERVALS)
+
+    def _event(self, event: Any) -> None:
+        word = self._word(event)
+        if word in ("advance", "drain"):
+            if len(event) != 2:
+                self._refuse(event)
+            self._number(event[1], grammar.ADVANCES if word == "advance" else grammar.DRAINS)
+            self.found.advanced += event[1] if word == "advance" else 0
+        else:
+            self._said(event, grammar.ACTIONS)
+
+    def _said(self, said: Any, table: Dict[str, List[grammar.Arguments]]) -> None:
+        """An array of a word of the table and what it takes."""
+        word = self._word(said)
+        for arguments in table.get(word, []):
+            if len(arguments) == len(said) - 1:
+                for kind, value in zip(arguments, said[1:]):
+                    self._argument(kind, value)
+                return
+        self._refuse(said)
+
+    def _argument(self, kind: Kind, value: Any) -> None:
+        if kind in grammar.NUMBERS:
+            self._number(value, grammar.NUMBERS[kind])
+        elif kind in grammar.FLAGS:
+            self._flags(value, grammar.FLAGS[kind])
+        elif kind in grammar.MADE or kind in grammar.FOUND:
+            names = self.found.deferreds if kind is Kind.DEFERRED else self.found.names
+            names.append(self._text(value))
+        else:
+            self._other(kind, value)
+
+    def _other(self, kind: Kind, value: Any) -> None:
+        if kind is Kind.DEFERREDS:
+            self.found.deferreds.extend(self._texts(value))
+        elif kind is Kind.VALUE:
+            self._value(value)
+        elif kind is Kind.BODY:
+            self._body(value)
+        elif kind is Kind.BODIES:
+            self._bodies(value)
+        elif kind is Kind.STATEMENTS:
+            for statement in self._array(value):
+                self._said(statement, grammar.STATEMENTS)
+        elif kind is Kind.CLASS:
+            self.found.classes.append(self._text(value))
+        elif kind is Kind.CLASSES:
+            self.found.classes.extend(self._texts(value))
+        elif kind is Kind.TEXT:
+            self._text(value)
+        elif kind is Kind.FLAG:
+            if not isinstance(value, bool):
+                self._refuse(value)
+        elif kind is Kind.BOUND:
+            if value is not None:
+                self._number(value, grammar.BOUNDS)
+        elif kind is Kind.ACTION:
+            self._said(value, grammar.ACTIONS)
+        elif kind is Kind.END:
+            self._said(value, grammar.INLINE_ENDS)
+        elif kind is Kind.WORK:
+            self._said(value, grammar.WORKS)
+        else:
+            raise AssertionError(kind)
+
+    def _bodies(self, value: Any) -> None:
+        for body in self._array(value):
+            self._body(body)
+
+    def _body(self, body: Any) -> None:
+        self._keys(body, set(), {"do", "end"})
+        for action in self._array(body.get("do", [])):
+            self._said(action, grammar.ACTIONS)
+        if "end" in body:
+            self._said(body["end"], grammar.ENDS)
+
+    def _value(self, value: Any) -> None:
+        if isinstance(value, list):
+            for item in value:
+                self._value(item)
+        elif value is not None and not isinstance(value, (bool, str)):
+            self._number(value, grammar.NUMBERS[Kind.INTEGER])
+
+    def _flags(self, value: Any, known: frozenset[str]) -> None:
+        for flag in self._texts(value):
+            if flag not in known:
+                self._refuse(value)
+
+    def _keys(self, value: Any, needed: Set[str], known: Set[str]) -> None:
+        if not isinstance(value, dict) or not needed <= value.keys() <= needed | known:
+            self._refuse(value)
+
+    def _number(self, value: Any, numbers: range) -> None:
+        if not _is_integer(value) or value not in numbers:
+            self._refuse(value)
+
+    def _array(self, value: Any) -> List[Any]:
+        if not isinstance(value, list):
+            self._refuse(value)
+        return value
+
+    def _text(self, value: Any) -> str:
+        if not isinstance(value, str):
+            self._refuse(value)
+        return value
+
+    def _texts(self, value: Any, count: Optional[int] = None) -> List[str]:
+        texts = [self._text(item) for item in self._array(value)]
+        if count is not None and len(texts) != count:
+            self._refuse(value)
+        return texts
+
+    def _word(self, said: Any) -> str:
+        if not isinstance(said, list) or not said:
+            self._refuse(said)
+        return self._text(said[0])
+
+    def _refuse(self, value: Any) -> NoReturn:
+        raise Refused(BAD_SHAPE, json.dumps(value)[:200])
+
+
+# counts, names, classes
+
+
+def _refuse_counts(root: Mapping[str, Any], found: _Found) -> None:
+    callers = root.get("callers", [])
+    if (
+        nodes(root) > grammar.MOST_NODES
+        or len(root.get("classes", [])) > grammar.MOST_CLASSES
+        or len(callers) > grammar.MOST_CALLERS
+        or any(len(posts) > grammar.MOST_POSTS for posts in callers)
+        or found.advanced > grammar.LONGEST_TIME
+    ):
+        raise Refused(TOO_MANY)
+
+
+def nodes(value: Any) -> int:
+    """How many arrays, objects and scalars a JSON value has."""
+    if isinstance(value, dict):
+        return 1 + sum(map(nodes, value.values()))
+    if isinstance(value, list):
+        return 1 + sum(map(nodes, value))
+    return 1
+
+
+def is_name(text: str) -> bool:
+    """Whether a text has the form of names."""
+    return _NAME.fullmatch(text) is not None
+
+
+def _refuse_names(root: Mapping[str, Any], found: _Found) -> None:
+    declared = [name for name, _ in root.get("classes", [])]
+    existing = [name for name in found.deferreds if name != "@"]
+    for name in found.names + existing + declared:
+        if not is_name(name):
+            raise Refused(BAD_NAME, name)
+
+
+def _refuse_classes(root: Mapping[str, Any], found: _Found, built_in: Sequence[str]) -> None:
+    known = set(built_in)
+    for name, parent in root.get("classes", []):
+        if name in known or name == RESERVED or parent not in known:
+            raise Refused(BAD_CLASS, name)
+        known.add(name)
+    for name in found.classes:
+        if name not in known:
+            raise Refused(BAD_CLASS, name)

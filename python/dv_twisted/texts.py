@@ -1,0 +1,171 @@
+"""Values and failures as the journal shows them, and what they weigh there."""
+
+from __future__ import annotations
+
+import json
+import weakref
+from typing import Any, Dict, Tuple, Union, cast
+
+from twisted.internet.defer import FirstError
+from twisted.python.failure import Failure
+
+from .classes import Classes, clean, message_of
+
+INTEGERS = range(-(2**63), 2**63)
+
+#: a VALUE of the language, in which a failure is an object with the key "fail"
+Shown = Any
+
+_DEEPEST = 40
+
+
+def compact(value: Shown) -> str:
+    """The compact JSON of a value."""
+    return _ENCODER.encode(value)
+
+
+_ENCODER = json.JSONEncoder(ensure_ascii=False, separators=(",", ":"))
+
+
+def weight_of(value: Shown) -> int:
+    """What a value weighs in a line."""
+    if isinstance(value, str):
+        return 1 + len(value.encode("utf-8"))
+    if isinstance(value, list):
+        return 1 + sum(map(weight_of, value))
+    if isinstance(value, dict):
+        own = 1 + len(value["message"].encode("utf-8"))
+        return own + (weight_of(value["sub"]) if "sub" in value else 0)
+    return 1
+
+
+def failure_text(failure: Dict[str, Any]) -> str:
+    """A failure as `CLASS "MESSAGE"`, and what a FirstError holds."""
+    text = f"{failure['fail']} {compact(failure['message'])}"
+    if "sub" in failure:
+        text += f" at {failure['index']} of {failure_text(failure['sub'])}"
+    return text
+
+
+def error_of(failure: Failure) -> BaseException:
+    """The error that a failure holds."""
+    error = failure.value
+    assert isinstance(error, BaseException)
+    return error
+
+
+class Outcome:
+    """What a Deferred has, as `ok JSON` or `fail CLASS "MESSAGE"`, and what that weighs.
+
+    Both are worked out where they are asked for, of the value as it was when it was set.
+    """
+
+    __slots__ = ("value",)
+
+    def __init__(self, value: Shown) -> None:
+        self.value = value
+
+    @property
+    def text(self) -> str:
+        """How a line shows it."""
+        if isinstance(self.value, dict):
+            return f"fail {failure_text(self.value)}"
+        return f"ok {compact(self.value)}"
+
+    @property
+    def weight(self) -> int:
+        """What it weighs in a line."""
+        return weight_of(self.value)
+
+    def is_same(self, other: "Outcome") -> bool:
+        """Whether both show the same."""
+        mine, its = self.value, other.value
+        if mine is its:
+            return True
+        return type(mine) is type(its) and mine == its and self.text == other.text
+
+
+NULL = Outcome(None)
+
+
+class Text:
+    """A part of a line that weighs: a value, a text or a failure."""
+
+    __slots__ = ("text", "weight")
+
+    def __init__(self, text: str, weight: int) -> None:
+        self.text = text
+        self.weight = weight
+
+
+class Texts:
+    """Says the values of a run in the words of the language: what it has no value for becomes a text.
+
+    One object has one text, as long as it lives; nothing is kept alive for that.
+    """
+
+    def __init__(self, classes: Classes) -> None:
+        self.classes = classes
+        self._named: Dict[int, Tuple[Any, Any]] = {}
+        self._counts: Dict[str, int] = {}
+
+    def outcome(self, value: object) -> Outcome:
+        """What a Deferred that has this value shows."""
+        return Outcome(self.shown(value))
+
+    def failure(self, error: BaseException) -> Text:
+        """An error, as the journal shows it."""
+        shown = self._error(error)
+        return Text(failure_text(shown), weight_of(shown))
+
+    def value(self, value: object) -> Text:
+        """A value, as JSON."""
+        shown = self.shown(value)
+        return Text(compact(shown), weight_of(shown))
+
+    def shown(self, value: object, depth: int = 0) -> Shown:
+        """A value in the language."""
+        kind = type(value)
+        if value is None or kind is bool:
+            return value
+        if kind is str:
+            return clean(cast(str, value))
+        if isinstance(value, int):
+            return int(value) if value in INTEGERS else f"<int {value}>"
+        if isinstance(value, str):
+            return clean("".join(value))
+        if isinstance(value, (list, tuple)) and depth < _DEEPEST:
+            items = list.__iter__(value) if isinstance(value, list) else tuple.__iter__(value)
+            return [self.shown(item, depth + 1) for item in items]
+        if isinstance(value, Failure):
+            return self._error(error_of(value), depth)
+        if isinstance(value, (float, complex, bytes)):
+            return clean(f"<{type(value).__name__} {value!r}>")
+        return self._object(value)
+
+    def _error(self, error: BaseException, depth: int = 0) -> Dict[str, Any]:
+        name = self.classes.name_of(type(error))
+        message = message_of(error)
+        sub: Union[Failure, None] = getattr(error, "subFailure", None)
+        if not isinstance(error, FirstError) or sub is None or depth > _DEEPEST:
+            return {"fail": name, "message": message}
+        below = self._error(error_of(sub), depth + 1)
+        return {"fail": name, "index": error.index, "message": message, "sub": below}
+
+    def bind(self, thing: object, text: Any) -> None:
+        """Has an object shown as this text, or as the text of this object's name."""
+        key = id(thing)
+        try:
+            kept: Any = weakref.ref(thing, lambda _: self._named.pop(key, None))
+        except TypeError:
+            kept = thing
+        self._named[key] = (kept, text)
+
+    def _object(self, thing: object) -> str:
+        known = self._named.get(id(thing))
+        if known is None:
+            kind = type(thing).__name__
+            number = self._counts[kind] = self._counts.get(kind, 0) + 1
+            self.bind(thing, clean(f"<{kind} {number}>"))
+            known = self._named[id(thing)]
+        return str(known[1])

@@ -1,0 +1,172 @@
+"""Comparing, naming, cutting down, random scripts and batches."""
+
+from __future__ import annotations
+
+import json
+import unittest
+from typing import Callable, List, Optional
+
+from dv_twisted import grammar
+from dv_twisted.classes import BUILT_IN
+from dv_twisted.comparing import Comparison, compared, difference, is_of_level
+from dv_twisted.cutting import cut_down
+from dv_twisted.posts import batches_of
+from dv_twisted.profile import Entry
+from dv_twisted.programs import Answer, Batches
+from dv_twisted.randoms import Scripts
+from dv_twisted.running import be_quiet, run
+from dv_twisted.script import read
+
+
+class Twisted:
+    """Real Twisted, asked in this process; what it prints may be changed."""
+
+    def __init__(self, change: Callable[[str], str] = lambda output: output) -> None:
+        self._change = change
+
+    def answer(self, script: str, batches: Optional[Batches] = None) -> Answer:
+        """What Twisted prints, changed."""
+        ran = run(script.encode(), batches)
+        return Answer(int(ran.stopped), self._change(ran.output), "")
+
+    def close(self) -> None:
+        """Nothing is left to do."""
+
+
+def script(*events: object, **keys: object) -> str:
+    """A script of these events."""
+    return json.dumps({"version": 1, "events": list(events), **keys})
+
+
+class Comparing(unittest.TestCase):
+    """Which differences are found, and named."""
+
+    def setUp(self) -> None:
+        be_quiet()
+
+    def test_the_first_line_that_differs(self) -> None:
+        ours = Answer(0, "a\nb\nc\n", "")
+        self.assertIsNone(compared(ours, ours))
+        self.assertEqual(compared(ours, Answer(0, "a\nx\nc\n", "")), (2, "b", "x"))
+        self.assertEqual(compared(ours, Answer(0, "a\nb\n", "")), (3, "c", "(the end)"))
+        self.assertEqual(compared(ours, Answer(1, "a\nb\nc\n", "")), (4, "status 0", "status 1"))
+
+    def test_another_reason_to_refuse_differs_and_another_text_of_a_run_does_not(self) -> None:
+        refused = Answer(2, "", "script refused: 4 BadShape\n")
+        self.assertIsNotNone(compared(refused, refused._replace(errors="script refused: 6 BadName\n")))
+        self.assertIsNone(compared(Answer(0, "", ""), Answer(0, "", "a warning\n")))
+
+    def test_a_difference_is_named_where_theirs_goes_with_twisted(self) -> None:
+        text = script(["deferred", "d"], ["unpause", "d"])
+        ours = Answer(0, 'new #0 d\nunhandled AssertionError "not paused"\n#0 d unfired\n', "")
+        found = difference(text, ours, Twisted().answer(text))
+        self.assertEqual(found and found.entry, Entry.UNPAUSE_AT_ZERO)
+
+    def test_a_mistake_after_an_entry_that_twisted_does_not_make_has_no_name(self) -> None:
+        text = script(["deferred", "d"], ["unpause", "d"])
+        ours = Answer(0, 'new #0 d\nunhandled AssertionError "not paused"\n#0 d unfired\n', "")
+        found = difference(text, ours, Answer(0, "new #0 d\nnew #1 e\n", ""))
+        self.assertTrue(found is not None and found.entry is None)
+
+    def test_a_program_that_loses_a_line_is_found_and_cut_down(self) -> None:
+        loses = Twisted(lambda output: output.replace('note "b"\n', ""))
+        comparison = Comparison(Twisted(), loses, 500)
+        text = script(
+            ["deferred", "d"],
+            ["addCallback", "d", {"do": [["note", "a"], ["note", "b"]], "end": ["return", 5]}],
+            ["callback", "d", 7],
+        )
+        found = comparison.of_script(text)
+        assert found is not None
+        self.assertIsNone(found.entry)
+        smaller = json.loads(comparison.cut_down(text, found))
+        self.assertEqual(smaller["events"], [["note", "b"]])
+
+    def test_levels_leave_out_what_is_above(self) -> None:
+        self.assertTrue(is_of_level(script(["note", "cancel"]), "core"))
+        self.assertFalse(is_of_level(script(["cancel", "d"]), "core"))
+        self.assertTrue(is_of_level(script(["cancel", "d"]), "cancelling"))
+        self.assertFalse(is_of_level(script(["advance", 1]), "lists"))
+        self.assertFalse(is_of_level(script(["drain", 1]), "threads"))
+        self.assertFalse(is_of_level(script(["maybe", "d", {"do": [["lock", "l"]]}]), "lists"))
+
+
+class Cutting(unittest.TestCase):
+    """Smallest scripts."""
+
+    def test_nothing_can_be_taken_from_what_is_left(self) -> None:
+        def shows(text: str) -> bool:
+            return '"x"' in text and '"y"' in text
+
+        text = json.dumps([[1, ["x", 2], {"a": "z", "b": ["y"]}], 5])
+        self.assertEqual(json.loads(cut_down(text, shows, 1_000)), [[["x"], {"b": ["y"]}]])
+
+    def test_it_asks_as_often_as_it_may(self) -> None:
+        asked: List[str] = []
+
+        def shows(text: str) -> bool:
+            asked.append(text)
+            return False
+
+        cut_down(json.dumps([[1] * 50]), shows, 3)
+        self.assertEqual(len(asked), 3)
+
+
+class Random(unittest.TestCase):
+    """Random scripts."""
+
+    def test_each_level_makes_scripts_that_are_accepted_and_are_of_it(self) -> None:
+        for level in grammar.LEVELS:
+            scripts = Scripts(5, level)
+            for number in range(60):
+                text = scripts.script(number)
+                read(text.encode(), list(BUILT_IN))
+                self.assertTrue(is_of_level(text, level), text)
+
+    def test_a_number_of_a_seed_is_one_script(self) -> None:
+        self.assertEqual(Scripts(1, "posts").script(9), Scripts(1, "posts").script(9))
+        self.assertNotEqual(Scripts(1, "posts").script(9), Scripts(2, "posts").script(9))
+
+    def test_all_actions_come_up(self) -> None:
+        scripts = Scripts(1, "posts")
+        text = "".join(scripts.script(number) for number in range(300))
+        self.assertEqual([word for word in grammar.ACTIONS if f'["{word}"' not in text], [])
+
+
+class Batching(unittest.TestCase):
+    """Batches, read off an output."""
+
+    def setUp(self) -> None:
+        be_quiet()
+        self.text = script(
+            ["drain", 2],
+            ["note", "between"],
+            callers=[[{"do": [["note", "a"]]}, {}], [{}]],
+        )
+
+    def assert_found(self, *batches: List[List[int]]) -> None:
+        """These batches are read off what a run with them prints."""
+        given = [[(caller, index) for caller, index in batch] for batch in batches]
+        output = run(self.text.encode(), given).output
+        self.assertEqual(batches_of(self.text, output)[0], given)
+
+    def test_posts_before_and_after_what_follows_a_drain(self) -> None:
+        self.assert_found([[1, 0]], [[0, 0], [0, 1]])
+        self.assert_found([[0, 0], [0, 1]], [[1, 0]])
+        self.assert_found([], [[0, 0], [1, 0], [0, 1]])
+
+    def test_what_comes_between_a_drain_and_a_post_was_no_part_of_it(self) -> None:
+        text = script(["deferred", "d"], ["drain", 1], ["unpause", "d"], callers=[[{}]])
+        output = 'new #0 d\ndrain\nunhandled AssertionError "not paused"\npost 0 0\n'
+        self.assertEqual(batches_of(text, output), [[[], [(0, 0)]]])
+
+    def test_a_run_that_stopped_at_a_post(self) -> None:
+        stopped = json.loads(self.text)
+        stopped["limit"] = 1
+        self.assertEqual(
+            batches_of(json.dumps(stopped), "drain\n")[0], [[], [(0, 0), (0, 1), (1, 0)]]
+        )
+
+
+if __name__ == "__main__":
+    unittest.main()

@@ -1,0 +1,254 @@
+"""What is recorded of programs: the script, its journal, and what is refused."""
+
+from __future__ import annotations
+
+import json
+import unittest
+from typing import Any, Callable, List
+
+from twisted.internet import defer, task
+
+from dv_twisted.instruments import install
+from dv_twisted.recording.recorder import Recorder
+from dv_twisted.recording.saying import Said
+from dv_twisted.running import be_quiet, run
+from dv_twisted.telling import KINDS
+
+
+def recorded(program: Callable[[], object], kinds: frozenset[str] = KINDS) -> Said:
+    """A run of the program, said."""
+    be_quiet()
+    install()
+    recorder = Recorder(kinds)
+    with recorder.watching():
+        program()
+    return Said(recorder)
+
+
+class Recorded(unittest.TestCase):
+    """Programs that a script can say."""
+
+    def assert_said(self, program: Callable[[], object]) -> List[Any]:
+        """It is said whole, and the script prints the journal of the program on Twisted; gives the events."""
+        said = recorded(program)
+        self.assertEqual(said.problems, [])
+        self.assertEqual(run(said.text.encode()).output, said.output)
+        events: List[Any] = json.loads(said.text)["events"]
+        return events
+
+    def test_a_callback_is_a_body_that_was_filled_by_its_run(self) -> None:
+        def program() -> None:
+            first: defer.Deferred[int] = defer.Deferred()
+            second: defer.Deferred[int] = defer.Deferred()
+
+            def fire(value: int) -> str:
+                second.callback(value + 1)
+                return "done"
+
+            first.addCallback(fire)
+            first.callback(3)
+
+        events = self.assert_said(program)
+        first, second = events[0][1], events[1][1]
+        self.assertRegex(first, r"^program_\d+$")
+        self.assertEqual(int(second.split("_")[1]), int(first.split("_")[1]) + 1)
+        body = {"do": [["callback", second, 4]], "end": ["return", "done"]}
+        self.assertEqual(events[2:], [["addCallback", first, body], ["callback", first, 3]])
+
+    def test_a_failure_that_a_body_catches_is_told_by_a_helper(self) -> None:
+        def program() -> None:
+            fired = defer.succeed(1)
+
+            def twice(value: int) -> int:
+                try:
+                    fired.callback(2)
+                except defer.AlreadyCalledError:
+                    pass
+                return value
+
+            defer.succeed(5).addCallback(twice)
+
+        said = recorded(program)
+        self.assertEqual(said.problems, [])
+        self.assertIn("refuse #0", said.journal)
+        self.assertIn("fire #2 ok null", said.journal)
+        self.assertEqual(run(said.text.encode()).output, said.output)
+
+    def test_an_exception_becomes_a_class_below_its_nearest_parent(self) -> None:
+        class Lost(KeyError):
+            """An error of the program's."""
+
+        def program() -> None:
+            defer.fail(Lost("key")).addErrback(lambda failure: failure.trap(LookupError))
+
+        said = recorded(program)
+        self.assertEqual(
+            json.loads(said.text)["classes"],
+            [["LookupError", "Exception"], ["KeyError", "LookupError"], ["Lost", "KeyError"]],
+        )
+
+    def test_one_object_is_one_text(self) -> None:
+        class Request:
+            """Something that no script has."""
+
+        def program() -> None:
+            request = Request()
+            defer.succeed([request, request, Request()])
+
+        events = self.assert_said(program)
+        self.assertEqual(events[-1][2], ["<Request 1>", "<Request 1>", "<Request 2>"])
+
+    def test_a_value_is_told_as_it_was_when_it_was_set(self) -> None:
+        def program() -> None:
+            items = [1]
+            deferred = defer.succeed(items)
+            items.append(2)
+            deferred.addCallback(lambda value: None)
+
+        self.assertEqual(recorded(program).journal[1], "fire #0 ok [1]")
+
+    def test_an_inline_body_with_a_try(self) -> None:
+        @defer.inlineCallbacks
+        def body(awaited: defer.Deferred[int]) -> Any:
+            try:
+                yield awaited
+            except ValueError:
+                pass
+            return "caught"
+
+        def program() -> None:
+            awaited: defer.Deferred[int] = defer.Deferred()
+            body(awaited)
+            awaited.errback(ValueError("no"))
+
+        events = self.assert_said(program)
+        statements = events[1][2]
+        self.assertEqual(statements[0], ["try", [["await", events[0][1]]], ["Exception"], []])
+        self.assertEqual(statements[1], ["end", ["return", "caught"]])
+
+    def test_times_are_whole_in_the_unit_that_they_have_in_common(self) -> None:
+        def program() -> None:
+            clock = task.Clock()
+            clock.callLater(0.5, lambda: None)
+            clock.callLater(0.25, lambda: None)
+            clock.advance(1)
+
+        events = self.assert_said(program)
+        self.assertEqual([event[1:][-2:][0] for event in events[:2]], [2, 1])
+        self.assertEqual(events[2], ["advance", 4])
+
+    def test_turns_that_do_the_same_are_one_body(self) -> None:
+        def program() -> None:
+            clock = task.Clock()
+            loop = task.LoopingCall(lambda: defer.succeed("turn"))
+            loop.clock = clock  # type: ignore[assignment]
+            loop.start(2)
+            clock.advance(2)
+            clock.advance(2)
+            loop.stop()
+
+        events = self.assert_said(program)
+        self.assertEqual([event[0] for event in events], ["loop", "advance", "advance", "stopLoop"])
+
+    def test_a_delayed_call_that_is_moved_is_cancelled_and_made_anew(self) -> None:
+        def program() -> None:
+            clock = task.Clock()
+            call = clock.callLater(2, lambda: None)
+            clock.advance(1)
+            call.reset(2)
+            clock.advance(2)
+
+        events = self.assert_said(program)
+        words = [event[0] for event in events]
+        self.assertEqual(words, ["later", "advance", "cancelCall", "later", "advance"])
+
+    def test_what_is_not_told_as_such_is_told_as_what_it_is_made_of(self) -> None:
+        def program() -> None:
+            child: defer.Deferred[int] = defer.Deferred()
+            defer.gatherResults([child])
+            child.callback(1)
+
+        natively = [event[0] for event in json.loads(recorded(program).text)["events"]]
+        self.assertEqual(natively, ["deferred", "gather", "callback"])
+        plainly = recorded(program, KINDS - {"list"})
+        words = [event[0] for event in json.loads(plainly.text)["events"]]
+        self.assertEqual(words, ["deferred", "deferred", "addCallbacks", "addCallback", "callback"])
+        self.assertEqual(run(plainly.text.encode()).output, plainly.output)
+
+
+class Refused(unittest.TestCase):
+    """What no script can say."""
+
+    def assert_refused(self, program: Callable[[], object], reason: str) -> None:
+        """It is refused with this reason, and with the place in this file."""
+        problems = recorded(program).problems
+        self.assertIn(reason, [problem.reason for problem in problems])
+        places = [problem.place for problem in problems if problem.place]
+        self.assertTrue(all("test_recording.py:" in place for place in places), places)
+
+    def test_a_value_that_holds_a_failure(self) -> None:
+        def program() -> None:
+            failed = defer.fail(ValueError("no"))
+            failed.addErrback(lambda failure: [failure])
+
+        self.assert_refused(program, "a value that holds a Failure is made by the program")
+
+    def test_turns_that_do_something_else_each_time(self) -> None:
+        def program() -> None:
+            clock = task.Clock()
+            deferreds = [defer.Deferred(), defer.Deferred()]
+            loop = task.LoopingCall(lambda: deferreds.pop().callback(None))
+            loop.clock = clock  # type: ignore[assignment]
+            loop.start(1)
+            clock.advance(1)
+
+        said = recorded(program)
+        self.assertIsNone(said.script)
+        self.assertEqual(said.problems[0].kind, "loop")
+
+    def test_time_that_goes_on_inside_a_body(self) -> None:
+        def program() -> None:
+            clock = task.Clock()
+            defer.succeed(None).addCallback(lambda _: clock.advance(1))
+
+        self.assert_refused(program, "time is advanced inside a body")
+
+    def test_a_result_that_is_set_by_hand(self) -> None:
+        def program() -> None:
+            defer.succeed(1).result = 2
+
+        self.assert_refused(program, "the result of a Deferred is set by hand")
+
+
+class Transparent(unittest.TestCase):
+    """Where nobody watches, Twisted is as it was."""
+
+    def test_a_deferred_has_no_result_until_it_is_fired(self) -> None:
+        install()
+        deferred: defer.Deferred[int] = defer.Deferred()
+        self.assertFalse(hasattr(deferred, "result"))
+        deferred.callback(1)
+        self.assertEqual(deferred.result, 1)
+        del deferred.result
+        self.assertFalse(hasattr(deferred, "result"))
+
+    def test_nothing_is_told_where_nobody_watches(self) -> None:
+        install()
+        recorder = Recorder()
+        with recorder.watching():
+            pass
+        defer.succeed(1).addCallback(lambda value: value)
+        self.assertEqual(recorder.lines, [])
+
+    def test_arguments_of_callbacks_arrive(self) -> None:
+        came: List[Any] = []
+
+        def callback(value: int, *args: int, **kwargs: int) -> None:
+            came.append((value, args, kwargs))
+
+        recorded(lambda: defer.succeed(1).addCallback(callback, 2, key=3))
+        self.assertEqual(came, [(1, (2,), {"key": 3})])
+
+
+if __name__ == "__main__":
+    unittest.main()

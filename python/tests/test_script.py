@@ -1,0 +1,100 @@
+"""Which scripts are refused, and with which reason."""
+
+from __future__ import annotations
+
+import json
+import unittest
+
+from dv_twisted.classes import BUILT_IN
+from dv_twisted.script import Refused, nodes, read
+
+
+def refusal(text: str | bytes) -> int:
+    """The number of the reason, or 0."""
+    data = text if isinstance(text, bytes) else text.encode()
+    try:
+        read(data, list(BUILT_IN))
+    except Refused as refused:
+        return refused.reason[0]
+    return 0
+
+
+def with_events(*events: object) -> str:
+    """A script of these events."""
+    return json.dumps({"version": 1, "events": list(events)})
+
+
+class Refusals(unittest.TestCase):
+    """Each reason at its edge."""
+
+    def test_the_least_reason_is_told(self) -> None:
+        self.assertEqual(refusal('{"version":7,"events":[["nope"]]}'), 3)
+        self.assertEqual(refusal(with_events(["callback", "a b", 1], ["nope"])), 4)
+        self.assertEqual(refusal(with_events(["errback", "a b", "Zed", ""])), 6)
+
+    def test_a_script_has_1048576_bytes_at_most(self) -> None:
+        script = with_events()
+        self.assertEqual(refusal(script + " " * (1_048_576 - len(script))), 0)
+        self.assertEqual(refusal(script + " " * (1_048_577 - len(script))), 1)
+
+    def test_what_is_no_json(self) -> None:
+        for text in ("", "{", "[1e400]", "[NaN]", b'["\xff"]', '["\\ud800"]', '["\\ud800x"]'):
+            with self.subTest(text):
+                self.assertEqual(refusal(text), 2)
+
+    def test_a_lost_value_has_to_be_readable_too(self) -> None:
+        self.assertEqual(refusal('{"version":["\\ud800"],"version":1,"events":[]}'), 2)
+        self.assertEqual(refusal('{"version":["x"],"version":1,"events":[]}'), 0)
+
+    def test_nesting_ends_at_127(self) -> None:
+        self.assertEqual(refusal("[" * 127 + "]" * 127), 3)
+        self.assertEqual(refusal("[" * 128 + "]" * 128), 2)
+        self.assertEqual(refusal('["' + "[" * 200 + '"]'), 3)
+
+    def test_a_version_is_the_integer_1(self) -> None:
+        for version in ("1.0", "true", "-0", '"1"', "2"):
+            with self.subTest(version):
+                self.assertEqual(refusal(f'{{"version":{version},"events":[]}}'), 3)
+
+    def test_numbers_outside_their_ranges(self) -> None:
+        for event in (
+            ["semaphore", "s", 0],
+            ["semaphore", "s", 65_537],
+            ["queue", "q", None, -1],
+            ["later", "c", 10**12 + 1, {}],
+            ["loop", "p", "d", 0, True, {}],
+            ["callback", "d", 2**63],
+            ["callback", "d", 1.5],
+            ["drain", 2_049],
+        ):
+            with self.subTest(event):
+                self.assertEqual(refusal(with_events(event)), 4)
+
+    def test_an_inline_body_ends_by_no_wait(self) -> None:
+        self.assertEqual(refusal(with_events(["inline", "d", [["end", ["wait", "e"]]]])), 4)
+        self.assertEqual(refusal(with_events(["inline", "d", [["end", ["pass"]]]])), 0)
+
+    def test_advances_sum_to_10_to_the_15_at_most(self) -> None:
+        self.assertEqual(refusal(with_events(["advance", 10**15])), 0)
+        self.assertEqual(refusal(with_events(["advance", 10**15], ["advance", 1])), 5)
+
+    def test_names(self) -> None:
+        self.assertEqual(refusal(with_events(["deferred", "@"])), 6)
+        self.assertEqual(refusal(with_events(["callback", "@", 1])), 0)
+        self.assertEqual(refusal(with_events(["deferred", "n" * 32])), 0)
+        self.assertEqual(refusal(with_events(["deferred", "n" * 33])), 6)
+        self.assertEqual(refusal(with_events(["deferred", "\u0661"])), 6)
+
+    def test_classes(self) -> None:
+        self.assertEqual(refusal(with_events(["errback", "d", "Zed", ""])), 7)
+        script = '{"version":1,"classes":[%s],"events":[]}'
+        self.assertEqual(refusal(script % '["A","ValueError"],["B","A"]'), 0)
+        self.assertEqual(refusal(script % '["A","B"],["B","Exception"]'), 7)
+        self.assertEqual(refusal(script % '["TimeoutError","Exception"]'), 7)
+
+    def test_keys_are_no_nodes(self) -> None:
+        self.assertEqual(nodes({"a": [1, None], "b": {}}), 5)
+
+
+if __name__ == "__main__":
+    unittest.main()
