@@ -23,9 +23,19 @@ abbrev pub body_called : Option Body → World → Turned
 body_called None w = (frame.Due ∷ [], Done, w)
 body_called (Some body) w = (frame.Rest (rest_of None body Null) ∷ frame.Tell ∷ frame.Due ∷ [], Done, w)
 
--- a Deferred whose time is over is cancelled, a failure that leaves the cancel is told, and what is due next follows
-abbrev pub timed_out : ℕ → World → Turned
-timed_out d w = (frame.Cancel d ∷ frame.Tell ∷ frame.Due ∷ [], Done, w)
+-- the Deferred whose time is over, where what is due is that
+abbrev pub timed_of : Option Due → Option ℕ
+timed_of None = None
+timed_of (Some (what.Call name key)) = None
+timed_of (Some (what.Turn name key)) = None
+timed_of (Some what.Tick) = None
+timed_of (Some (what.Delivery job d)) = None
+timed_of (Some (what.Timeout d)) = Some d
+
+-- it is cancelled, a failure that leaves the cancel is told, and what is due next follows
+abbrev pub timed_out : Option ℕ → World → Turned
+timed_out None w = done w
+timed_out (Some d) w = (frame.Cancel d ∷ frame.Tell ∷ frame.Due ∷ [], Done, w)
 
 -- what is due is run, and then what is due next; a refusal by the Deferred of a job, and what a canceller raises, is told
 abbrev pub come_due_with : Option Due → World → Turned
@@ -34,4 +44,4 @@ come_due_with (Some (what.Call name key)) w = body_called (slice_get w.objects.b
 come_due_with (Some (what.Turn name key)) w = (turn_taken key (slice_get w.objects.loops key) ++ frame.Due ∷ [], Done, w)
 come_due_with (Some what.Tick) w = (frame.Tick w.objects.cooperator.units ∷ frame.Due ∷ [], Done, begin_tick w)
 come_due_with (Some (what.Delivery job d)) w = delivered d (job_result job w.works) w over (frame.Tell ∷ frame.Due ∷ [])
-come_due_with (Some (what.Timeout d)) w = timed_out d w
+come_due_with (Some (what.Timeout d)) w = timed_out (Some d) w

@@ -1,6 +1,6 @@
 ghost use Rattle.std.specs.Prelude.{◌≡◌, [], None, IfOk};
 ghost use Rattle.dv_actions.specs.Acting.{begun};
-ghost use Rattle.dv_actions.specs.Timing.{timer_begun, body_called, timed_out, come_due_with};
+ghost use Rattle.dv_actions.specs.Timing.{timer_begun, body_called, timed_of, timed_out, come_due_with};
 ghost use Rattle.dv_rules.specs.Turn.{◌over◌};
 ghost use Rattle.dv_actions.specs.Deed.{CancelCallOf, TimeoutOf};
 ghost use Rattle.dv_world.specs.World.{World as Seen, come_due};
@@ -107,6 +107,7 @@ where
     ensures performed { IfOk result (λ performed. (stack.new, performed, world.new) ≡ come_due_with what world.old over stack.old) }
     ensures jobs { jobs.new ≡ jobs.old }
 {
+    let timed = timed_of(&what);
     match what {
         None => Ok(Performed::Done),
         Some(Due::Call(name, key)) => {
@@ -126,7 +127,7 @@ where
             stack.push(Frame::Due)?;
             deliver(rt, alloc, jobs, world, stack, job, DeferredId::new(key))
         }
-        Some(Due::Timeout(id)) => time_out(stack, id),
+        Some(Due::Timeout(_)) => time_out(stack, timed),
     }
 }
 
@@ -147,11 +148,29 @@ fn call_body<'s>(
     }
 }
 
-/// A Deferred whose time is over is cancelled, what that raises is told, and then what is due next follows.
-fn time_out<'s>(stack: &mut Stack<Frame<'s>>, id: DeferredId) -> Result<Performed<'s>, AllocError>
-    ensures { IfOk result (λ performed. (w : Seen) → (stack.new, performed, w) ≡ timed_out id w over stack.old) }
+/// The Deferred whose time is over.
+fn timed_of(what: &Option<Due>) -> Option<DeferredId>
+    ensures { result ≡ timed_of what.now }
 {
-    stack.push(Frame::Due)?;
-    stack.push(Frame::Tell)?;
-    done(stack.push(Frame::Cancel(id)))
+    match what {
+        Some(Due::Timeout(id)) => Some(*id),
+        Some(Due::Call(..) | Due::Turn(..) | Due::Tick | Due::Delivery(..)) | None => None,
+    }
+}
+
+/// A Deferred whose time is over is cancelled, what that raises is told, and then what is due next follows.
+fn time_out<'s>(
+    stack: &mut Stack<Frame<'s>>,
+    timed: Option<DeferredId>,
+) -> Result<Performed<'s>, AllocError>
+    ensures { IfOk result (λ performed. (w : Seen) → (stack.new, performed, w) ≡ timed_out timed w over stack.old) }
+{
+    match timed {
+        None => Ok(Performed::Done),
+        Some(id) => {
+            stack.push(Frame::Due)?;
+            stack.push(Frame::Tell)?;
+            done(stack.push(Frame::Cancel(id)))
+        }
+    }
 }
