@@ -93,7 +93,7 @@ def _tell_each(measured: List[Measured]) -> None:
     virtual = [one for one in measured if one.virtual]
     print(f"{len(down)} of the same are told one level down, {len(virtual)} run with a virtual reactor")
     for one in measured:
-        if one.state in (NAMED, DIFFERS, CANNOT, WAITS):
+        if one.state in (NAMED, DIFFERS, CANNOT):
             print(f"{one.test} {one.state}{': ' + one.why if one.why else ''}")
 
 

@@ -70,12 +70,12 @@ def measure_test(cls: type[unittest.TestCase], method: str, ours: Program) -> Me
     """Records one test, as such or one level down, and compares it with ours."""
     name = f"{cls.__name__}.{method}"
     first = record_test(cls, method, LADDER[0], False)
-    virtual = first.waits
+    virtual, passed = first.waits, first.passed
     if virtual:
         first = record_test(cls, method, LADDER[0], True)
-    simple = _simple(first)
+    simple = _simple(first, virtual)
     if simple is not None:
-        return Measured(name, simple, first.why, True, virtual, first.passed)
+        return Measured(name, simple, "", True, virtual, passed)
     best = _attempt(first, ours)
     natively = best.is_same
     for kinds in LADDER[1:]:
@@ -85,8 +85,8 @@ def measure_test(cls: type[unittest.TestCase], method: str, ours: Program) -> Me
         if attempt.is_same or (attempt.whole and not best.whole):
             best = attempt
     if best.is_same:
-        return Measured(name, SAME, "", natively, virtual, first.passed)
-    return _left(name, best, virtual, first.passed)
+        return Measured(name, SAME, "", natively, virtual, passed)
+    return _left(name, best, virtual, passed)
 
 
 def _may_help(attempt: Attempt, kinds: frozenset[str]) -> bool:
@@ -97,11 +97,11 @@ def _may_help(attempt: Attempt, kinds: frozenset[str]) -> bool:
     return None not in reasons and not any(kind in kinds for kind in reasons)
 
 
-def _simple(run: TestRun) -> Optional[str]:
-    """What a test came to of which there is nothing to say."""
+def _simple(run: TestRun, virtual: bool) -> Optional[str]:
+    """What a test came to of which there is nothing to say. One that fails without sockets waits for a real reactor."""
     if run.skipped:
         return SKIPPED
-    if run.waits:
+    if run.waits or (virtual and not run.passed):
         return WAITS
     return None if run.recorder.lines else NOTHING
 

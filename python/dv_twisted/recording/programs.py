@@ -43,7 +43,7 @@ LADDER: Tuple[frozenset[str], ...] = tuple(
 @contextlib.contextmanager
 def printing_notes(recorder: Recorder) -> Iterator[None]:
     """Has what the program prints be notes of the journal."""
-    real: Callable[..., Any] = getattr(builtins, "print")
+    real = getattr(builtins, "print")
 
     def noting(*values: Any, **kwargs: Any) -> None:
         real(*values, **kwargs)
@@ -76,7 +76,9 @@ def record_program(
 
 
 def _run(recorder: Recorder, target: str, is_module: bool) -> int:
-    run: Callable[..., Any] = runpy.run_module if is_module else runpy.run_path
+    run: Callable[..., Any] = runpy.run_path
+    if is_module:
+        run = runpy.run_module
     try:
         with recorder.watching():
             run(target, run_name="__main__")
