@@ -47,11 +47,14 @@ def failure_text(failure: Dict[str, Any]) -> str:
     return text
 
 
+class Copied(Exception):
+    """An error of which a failure holds a text, since it was copied from another program."""
+
+
 def error_of(failure: Failure) -> BaseException:
     """The error that a failure holds."""
-    error = failure.value
-    assert isinstance(error, BaseException)
-    return error
+    error: object = failure.value
+    return error if isinstance(error, BaseException) else Copied(str(error))
 
 
 class Outcome:

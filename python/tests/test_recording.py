@@ -7,6 +7,7 @@ import unittest
 from typing import Any, Callable, List
 
 from twisted.internet import defer, task
+from twisted.python.failure import Failure
 
 from dv_twisted.instruments import install
 from dv_twisted.recording.recorder import Recorder
@@ -86,6 +87,15 @@ class Recorded(unittest.TestCase):
             json.loads(said.text)["classes"],
             [["LookupError", "Exception"], ["KeyError", "LookupError"], ["Lost", "KeyError"]],
         )
+
+    def test_a_failure_that_holds_a_text_is_an_error_of_its_own(self) -> None:
+        def program() -> None:
+            failure = Failure(ValueError("x"))
+            failure.value = "copied"  # type: ignore[assignment]
+            defer.fail(failure).addErrback(lambda _: None)
+
+        events = self.assert_said(program)
+        self.assertEqual(events[1][2:], ["Copied", "copied"])
 
     def test_one_object_is_one_text(self) -> None:
         class Request:
