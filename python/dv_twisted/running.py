@@ -377,7 +377,8 @@ class Player:
         deferred.cancel()
 
     def _add_timeout(self, action: List[Any], deferred: Deferred[Any]) -> None:
-        deferred.addTimeout(action[2], self.clock)
+        clock: Any = self.clock
+        deferred.addTimeout(action[2], clock)
 
     def _list(self, action: List[Any], *children: Deferred[Any]) -> None:
         self._naming(action[1])
