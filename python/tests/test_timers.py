@@ -195,7 +195,7 @@ class Recorded(unittest.TestCase):
 
         self.assertEqual([entry for _, entry in recorded(program).quirks], [Entry.ERROR_LEAVES_ADVANCE])
 
-    def test_a_timer_that_the_program_ends_by_the_clock_is_refused(self) -> None:
+    def test_a_timer_that_the_program_ends_by_the_clock_is_told_one_level_down(self) -> None:
         def program() -> None:
             clock = task.Clock()
             late: defer.Deferred[int] = defer.Deferred()
@@ -204,7 +204,9 @@ class Recorded(unittest.TestCase):
 
         problems = recorded(program).problems
         reasons = [(problem.reason, problem.kind) for problem in problems]
-        self.assertEqual(reasons, [("the cancel of a timer that addTimeout has set", "clock")])
+        self.assertEqual(reasons, [("the cancel of a timer that addTimeout has set", "timer")])
+        words = ["deferred", "later", "addBoth", "addBoth", "cancelCall"]
+        self.assertEqual(self.words(program, KINDS - {"timer"}), words)
 
     def test_another_class_of_that_name_gets_another_name(self) -> None:
         said = recorded(lambda: defer.fail(builtins.TimeoutError("x")).addErrback(lambda _: None))

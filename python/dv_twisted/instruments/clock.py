@@ -51,7 +51,7 @@ def keep_timer(watcher: Observer, call: Any) -> None:
 def _refuse_timer(watcher: Optional[Observer], call: Any, name: str) -> None:
     """A call on a timer, which the language hasn't."""
     if watcher is not None and not watcher.quiet and call.__dict__.get("_dv_timer") is watcher:
-        watcher.problem(f"the {name} of a timer that addTimeout has set", "clock")
+        watcher.problem(f"the {name} of a timer that addTimeout has set", "timer")
 
 
 def delayed_of(watcher: Observer, call: Any) -> Optional[Delayed]:

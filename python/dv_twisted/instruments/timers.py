@@ -50,7 +50,7 @@ def _run_due(
         f()
         return
     if not watcher.quiet:
-        watcher.problem("a timer that the program itself runs", "clock")
+        watcher.problem("a timer that the program itself runs", "timer")
         f()
         return
     tell_due(watcher, clock, ("timeout ", record), f)
@@ -62,7 +62,7 @@ def _instrumented_add_timeout(
     clock: Any,
     onTimeoutCancel: Optional[OnCancel] = None,
 ) -> Deferred[Any]:
-    watcher = observer_of("clock")
+    watcher = observer_of("timer")
     if watcher is None or watcher.quiet or not _can_be_told(watcher, timeout, clock, onTimeoutCancel):
         return _add_timeout(self, timeout, clock, onTimeoutCancel)
     record = watcher.record(self)
@@ -80,6 +80,7 @@ def _can_be_told(
     """Whether the language has such a timer."""
     return (
         on_cancel is None
+        and "clock" in watcher.kinds
         and is_delay(timeout)
         and isinstance(clock, task.Clock)
         and watcher.has_clock(clock)
