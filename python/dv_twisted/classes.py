@@ -30,10 +30,8 @@ BUILT_IN: Dict[str, PyClass] = {
     "TaskDone": task.TaskDone,
     "TaskStopped": task.TaskStopped,
     "TaskFailed": task.TaskFailed,
+    "TimeoutError": defer.TimeoutError,
 }
-
-#: a name that no script may declare, though no class of the table has it
-RESERVED = "TimeoutError"
 
 _LONGEST = 32
 
@@ -75,8 +73,6 @@ class Classes:
         """A name in the form of names that nothing has yet, as near to this one as can be."""
         letters = [c if c.isascii() and (c.isalnum() or c == "_") else "_" for c in wanted]
         name = "".join(letters)[: _LONGEST - 4] or "Error"
-        if name == RESERVED:
-            name = "TimedOut"
         free, number = name, 2
         while free in self._by_name:
             free, number = f"{name}_{number}", number + 1

@@ -11,6 +11,7 @@ from .cutting import cut_down
 from .posts import Batch, batches_of, has_posts
 from .profile import Entry
 from .programs import Answer, Program
+from .rows import filled
 from .running import Run, run
 from .script import Refused, read
 
@@ -26,7 +27,8 @@ class Difference(NamedTuple):
 
 def compared(ours: Answer, theirs: Answer) -> Optional[Tuple[int, str, str]]:
     """The first line in which they differ, from 1, and that line of each."""
-    mine, other = ours.output.splitlines(), theirs.output.splitlines()
+    other = theirs.output.splitlines()
+    mine = filled(ours.output.splitlines(), other)
     for place, (line, another) in enumerate(zip(mine, other)):
         if line != another:
             return place + 1, line, another

@@ -27,6 +27,7 @@ _WEIGHTS: Dict[str, int] = {
     "put": 3,
     "get": 3,
     "later": 3,
+    "addTimeout": 3,
     "loop": 2,
     "cooperate": 4,
     "resumeTask": 2,

@@ -9,6 +9,9 @@ from typing import Iterator, List, NamedTuple
 _ENDING = re.compile(r"-- (\d+) ?(.*)")
 _COUNTED = re.compile(r"\*(\d+) (.*)", re.DOTALL)
 
+#: the line that stands for any lines, or none
+ANY_LINES = "..."
+
 #: rows that are wrong on purpose
 WRONG = "wrong.rows"
 
@@ -34,6 +37,15 @@ def unfolded(lines: List[str]) -> List[str]:
         else:
             result.extend([counted.group(2)] * int(counted.group(1)))
     return result
+
+
+def filled(expected: List[str], printed: List[str]) -> List[str]:
+    """The expected lines, where that which stands for any lines is what was printed in its place."""
+    if ANY_LINES not in expected:
+        return expected
+    place = expected.index(ANY_LINES)
+    first, last = expected[:place], expected[place + 1 :]
+    return first + printed[place : max(place, len(printed) - len(last))] + last
 
 
 def read_rows(path: Path) -> Iterator[Expected]:

@@ -376,6 +376,10 @@ class Player:
     def _cancel(self, action: List[Any], deferred: Deferred[Any]) -> None:
         deferred.cancel()
 
+    def _add_timeout(self, action: List[Any], deferred: Deferred[Any]) -> None:
+        clock: Any = self.clock
+        deferred.addTimeout(action[2], clock)
+
     def _list(self, action: List[Any], *children: Deferred[Any]) -> None:
         self._naming(action[1])
         make: Callable[..., Any] = defer.DeferredList
@@ -592,6 +596,7 @@ _ON_DEFERREDS: Dict[str, Callable[..., None]] = {
     "pause": Player._pause,
     "unpause": Player._unpause,
     "cancel": Player._cancel,
+    "addTimeout": Player._add_timeout,
     "list": Player._list,
     "gather": Player._gather,
 }

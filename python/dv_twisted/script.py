@@ -8,7 +8,6 @@ import re
 from typing import Any, Dict, List, Mapping, NoReturn, Optional, Sequence, Set, Tuple
 
 from . import grammar
-from .classes import RESERVED
 from .grammar import Kind
 
 _NAME = re.compile(r"[A-Za-z0-9_]{1,32}", re.ASCII)
@@ -329,7 +328,7 @@ def _refuse_names(root: Mapping[str, Any], found: _Found) -> None:
 def _refuse_classes(root: Mapping[str, Any], found: _Found, built_in: Sequence[str]) -> None:
     known = set(built_in)
     for name, parent in root.get("classes", []):
-        if name in known or name == RESERVED or parent not in known:
+        if name in known or parent not in known:
             raise Refused(BAD_CLASS, name)
         known.add(name)
     for name in found.classes:

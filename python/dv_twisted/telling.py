@@ -19,7 +19,9 @@ from .profile import Entry
 from .texts import NULL, Outcome, Text, Texts
 
 #: the kinds of objects that the language has, each of which can be told as such or as the Python that it is made of
-KINDS = frozenset({"maybe", "list", "lock", "queue", "clock", "loop", "cooperator", "inline"})
+KINDS = frozenset(
+    {"maybe", "list", "lock", "queue", "clock", "timer", "loop", "cooperator", "inline"}
+)
 
 _on: List["Observer"] = []
 

@@ -51,6 +51,13 @@ class Comparing(unittest.TestCase):
         self.assertEqual(compared(ours, Answer(0, "a\nb\n", "")), (3, "c", "(the end)"))
         self.assertEqual(compared(ours, Answer(1, "a\nb\nc\n", "")), (4, "status 0", "status 1"))
 
+    def test_lines_that_a_row_leaves_out_may_be_any_and_the_others_have_to_be_there(self) -> None:
+        row = Answer(0, "a\n...\nz\n", "")
+        self.assertIsNone(compared(row, Answer(0, "a\nx\ny\nz\n", "")))
+        self.assertIsNone(compared(row, Answer(0, "a\nz\n", "")))
+        self.assertEqual(compared(row, Answer(0, "a\nx\ny\n", "")), (3, "z", "y"))
+        self.assertEqual(compared(row, Answer(0, "a\n", "")), (2, "z", "(the end)"))
+
     def test_another_reason_to_refuse_differs_and_another_text_of_a_run_does_not(self) -> None:
         refused = Answer(2, "", "script refused: 4 BadShape\n")
         self.assertIsNotNone(compared(refused, refused._replace(errors="script refused: 6 BadName\n")))

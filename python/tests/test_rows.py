@@ -6,7 +6,7 @@ import tempfile
 import unittest
 from pathlib import Path
 
-from dv_twisted.rows import Expected, read_rows, written
+from dv_twisted.rows import Expected, filled, read_rows, written
 
 ROWS = """== two lines
 {"version":1,"events":[
@@ -39,6 +39,14 @@ class Rows(unittest.TestCase):
         self.assertEqual(
             {(row.status, row.errors) for row in rows[1:]}, {(2, "script refused: 2 NotJson\n")}
         )
+
+    def test_a_line_stands_for_any_lines_or_none(self) -> None:
+        expected = ["a", "b", "...", "z"]
+        self.assertEqual(filled(expected, ["a", "b", "x", "y", "z"]), ["a", "b", "x", "y", "z"])
+        self.assertEqual(filled(expected, ["a", "b", "z"]), ["a", "b", "z"])
+        self.assertEqual(filled(expected, ["a", "x", "y", "z"]), ["a", "b", "y", "z"])
+        self.assertEqual(filled(expected, ["a"]), ["a", "b", "z"])
+        self.assertEqual(filled(["..."], []), [])
 
     def test_what_is_written_is_read_again(self) -> None:
         row = Expected("some.rows", "a row", '{"version":1}', 3, "", "")

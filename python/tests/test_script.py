@@ -62,6 +62,9 @@ class Refusals(unittest.TestCase):
             ["semaphore", "s", 65_537],
             ["queue", "q", None, -1],
             ["later", "c", 10**12 + 1, {}],
+            ["addTimeout", "d", -1],
+            ["addTimeout", "d", 10**12 + 1],
+            ["addTimeout", "d"],
             ["loop", "p", "d", 0, True, {}],
             ["callback", "d", 2**63],
             ["callback", "d", 1.5],
@@ -91,6 +94,12 @@ class Refusals(unittest.TestCase):
         self.assertEqual(refusal(script % '["A","ValueError"],["B","A"]'), 0)
         self.assertEqual(refusal(script % '["A","B"],["B","Exception"]'), 7)
         self.assertEqual(refusal(script % '["TimeoutError","Exception"]'), 7)
+        self.assertEqual(refusal(script % '["Mine","TimeoutError"]'), 0)
+        self.assertEqual(refusal(with_events(["errback", "d", "TimeoutError", ""])), 0)
+
+    def test_a_timer_has_a_time_from_0_to_10_to_the_12(self) -> None:
+        self.assertEqual(refusal(with_events(["addTimeout", "d", 0], ["addTimeout", "d", 10**12])), 0)
+        self.assertEqual(refusal(with_events(["addTimeout", "a b", 0])), 6)
 
     def test_keys_are_no_nodes(self) -> None:
         self.assertEqual(nodes({"a": [1, None], "b": {}}), 5)

@@ -11,7 +11,7 @@ def install() -> None:
     if _installed:
         return
     _installed = True
-    from . import clock, deferreds, inline, lists, locks, loops, maybe, queues, tasks
+    from . import clock, deferreds, inline, lists, locks, loops, maybe, queues, tasks, timers
 
-    for instrument in (deferreds, lists, maybe, locks, queues, clock, loops, inline, tasks):
+    for instrument in (deferreds, lists, maybe, locks, queues, clock, timers, loops, inline, tasks):
         instrument.install()

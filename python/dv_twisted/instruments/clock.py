@@ -2,12 +2,13 @@
 
 from __future__ import annotations
 
+import functools
 from typing import Any, Callable, Dict, List, Optional
 
 from twisted.internet import base, task
 
 from ..profile import Entry
-from ..telling import Observer, Thing, Time, observer, observer_of
+from ..telling import Line, Observer, Thing, Time, observer, observer_of
 
 _later = task.Clock.callLater
 _advance = task.Clock.advance
@@ -32,6 +33,27 @@ def due_time(watcher: Observer, delay: float) -> Time:
     return Time(watcher.now() + delay)
 
 
+def is_delay(delay: object) -> bool:
+    """Whether the language has such a delay."""
+    return isinstance(delay, (int, float)) and delay >= 0
+
+
+def schedule(clock: task.Clock, delay: float, f: Callable[[], object]) -> Any:
+    """Schedules a call, of which nothing is told."""
+    return _later(clock, delay, f)
+
+
+def keep_timer(watcher: Observer, call: Any) -> None:
+    """Has a call be known as a timer, which no action of the language moves or ends."""
+    call.__dict__["_dv_timer"] = watcher
+
+
+def _refuse_timer(watcher: Optional[Observer], call: Any, name: str) -> None:
+    """A call on a timer, which the language hasn't."""
+    if watcher is not None and not watcher.quiet and call.__dict__.get("_dv_timer") is watcher:
+        watcher.problem(f"the {name} of a timer that addTimeout has set", "timer")
+
+
 def delayed_of(watcher: Observer, call: Any) -> Optional[Delayed]:
     """What is known of a delayed call."""
     known = call.__dict__.get("_dv_delayed")
@@ -44,7 +66,7 @@ def _instrumented_later(
     watcher = observer_of("clock")
     if watcher is None or not watcher.has_clock(self):
         return _later(self, delay, f, *args, **kwargs)
-    if not isinstance(delay, (int, float)) or delay < 0:
+    if not is_delay(delay):
         watcher.problem("a delay that is no number from 0", "clock")
         return _later(self, delay, f, *args, **kwargs)
     if watcher.quiet:
@@ -92,10 +114,18 @@ def _run_due(
     if not watcher.quiet:
         watcher.problem("a delayed call that the program itself runs", "clock")
         return f(*args, **kwargs)
+    perform = functools.partial(watcher.perform, delayed.body, "call", None, f, *args, **kwargs)
+    return tell_due(watcher, clock, ("call ", delayed.thing), perform)
+
+
+def tell_due(
+    watcher: Observer, clock: task.Clock, line: Line, happen: Callable[[], object]
+) -> object:
+    """Tells that something is due, and has it happen. An error that leaves it is told."""
     watcher.begin_event()
-    watcher.tell("call ", delayed.thing)
+    watcher.tell(*line)
     try:
-        return watcher.perform(delayed.body, "call", None, f, *args, **kwargs)
+        return happen()
     except BaseException as error:
         watcher.tell_unhandled(error)
         left = clock.calls and clock.calls[0].getTime() <= clock.seconds()
@@ -130,6 +160,7 @@ def run_due(clock: task.Clock) -> None:
 def _instrumented_cancel(self: base.DelayedCall) -> None:
     watcher = observer_of("clock")
     delayed = None if watcher is None else delayed_of(watcher, self)
+    _refuse_timer(watcher, self, "cancel")
     if watcher is None or watcher.quiet or delayed is None:
         _cancel(self)
         return
@@ -150,6 +181,7 @@ def _instrument_moving(name: str) -> None:
     def moved(self: Any, seconds: float) -> None:
         watcher = observer_of("clock")
         delayed = None if watcher is None else delayed_of(watcher, self)
+        _refuse_timer(watcher, self, name)
         if watcher is None or watcher.quiet or delayed is None or not self.active():
             move(self, seconds)
             return

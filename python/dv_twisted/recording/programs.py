@@ -24,14 +24,15 @@ LADDER: Tuple[frozenset[str], ...] = tuple(
     KINDS - frozenset(without)
     for without in (
         (),
+        ("timer",),
         ("cooperator",),
         ("loop",),
         ("loop", "cooperator"),
         ("inline",),
         ("list",),
         ("lock", "queue", "maybe"),
-        ("clock", "loop"),
-        ("clock", "loop", "cooperator"),
+        ("clock", "timer", "loop"),
+        ("clock", "timer", "loop", "cooperator"),
         tuple(KINDS - {"list", "inline"}),
         tuple(KINDS - {"list"}),
         tuple(KINDS - {"inline"}),

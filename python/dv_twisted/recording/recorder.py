@@ -31,7 +31,7 @@ class Recorder(Observer):
     """Records a run of a program. It is on where the program's code runs."""
 
     def __init__(self, kinds: frozenset[str] = KINDS) -> None:
-        super().__init__(kinds if "clock" in kinds else kinds - {"loop"})
+        super().__init__(kinds if "clock" in kinds else kinds - {"timer", "loop"})
         self.top: Frame = Run("event")
         self.frame = self.top
         self.problems: List[Problem] = []

@@ -1,0 +1,92 @@
+"""The instrument of timers, which `Deferred.addTimeout` sets.
+
+Twisted's own function is given a clock of which it asks for one call. That is the timer, and the two pairs that come
+after it are told as pairs of Twisted's own. A timer that the language hasn't is told as a delayed call and two pairs
+of the program's.
+"""
+
+from __future__ import annotations
+
+import functools
+from typing import Any, Callable, Optional
+
+from twisted.internet import task
+from twisted.internet.defer import Deferred
+
+from ..telling import Observer, Record, Time, observer, observer_of
+from .clock import due_time, is_delay, keep_timer, schedule, tell_due
+
+_add_timeout = Deferred.addTimeout
+
+OnCancel = Callable[[object, float], object]
+
+
+class _Timing:
+    """The clock as one call of `addTimeout` sees it: what that schedules is the timer."""
+
+    def __init__(self, watcher: Observer, record: Record, clock: task.Clock) -> None:
+        self._watcher = watcher
+        self._record = record
+        self._clock = clock
+
+    def callLater(self, delay: float, f: Callable[[], None]) -> Any:
+        """Tells that the timer is set, and sets it."""
+        watcher, record, clock = self._watcher, self._record, self._clock
+
+        def due() -> None:
+            _run_due(watcher, record, clock, f)
+
+        watcher.tell("later timeout ", record, " ", due_time(watcher, delay))
+        call = schedule(clock, delay, due)
+        keep_timer(watcher, call)
+        return call
+
+
+def _run_due(
+    watcher: Observer, record: Record, clock: task.Clock, f: Callable[[], None]
+) -> None:
+    """The time of a timer has come."""
+    if observer() is not watcher:
+        f()
+        return
+    if not watcher.quiet:
+        watcher.problem("a timer that the program itself runs", "timer")
+        f()
+        return
+    tell_due(watcher, clock, ("timeout ", record), f)
+
+
+def _instrumented_add_timeout(
+    self: Deferred[Any],
+    timeout: float,
+    clock: Any,
+    onTimeoutCancel: Optional[OnCancel] = None,
+) -> Deferred[Any]:
+    watcher = observer_of("timer")
+    if watcher is None or watcher.quiet or not _can_be_told(watcher, timeout, clock, onTimeoutCancel):
+        return _add_timeout(self, timeout, clock, onTimeoutCancel)
+    record = watcher.record(self)
+    if record.hidden_of is not None:
+        return _add_timeout(self, timeout, clock)
+    timing: Any = _Timing(watcher, record, clock)
+    action = ["addTimeout", record, Time(timeout)]
+    given: Deferred[Any] = watcher.act(action, _add_timeout, self, timeout, timing)
+    return given
+
+
+def _can_be_told(
+    watcher: Observer, timeout: object, clock: object, on_cancel: Optional[OnCancel]
+) -> bool:
+    """Whether the language has such a timer."""
+    return (
+        on_cancel is None
+        and "clock" in watcher.kinds
+        and is_delay(timeout)
+        and isinstance(clock, task.Clock)
+        and watcher.has_clock(clock)
+    )
+
+
+def install() -> None:
+    """Puts the instrument into Deferred."""
+    setattr(Deferred, "addTimeout", functools.wraps(_add_timeout)(_instrumented_add_timeout))
