@@ -70,7 +70,8 @@ class Conforming:
         theirs: Program = Once(arguments.command)
         if arguments.many:
             theirs = Many(arguments.command)
-        mine = ours(arguments.ours.split()) if arguments.ours or arguments.random else theirs
+        named = arguments.ours.split() if arguments.ours else None
+        mine = ours(named) if named or arguments.random else theirs
         self._theirs = theirs
         self._comparison = Comparison(mine, theirs, arguments.trials)
         self._tally = Tally(arguments.random)
