@@ -4,7 +4,10 @@ use Rattle.dv_journal.specs.Journal.{fits}
 use Rattle.dv_journal.specs.declared.entry.Entry.{Entry}
 use Rattle.dv_script.specs.declared.work.Work.{Work}
 use Rattle.dv_actions.specs.Threading.{GoesOn, job_result}
-use Rattle.dv_jobs.specs.Sources.{IsValueAt}
+use Rattle.dv_jobs.specs.declared.job.Job.{Job}
+use Rattle.dv_jobs.specs.Jobs.{works_of}
+use Rattle.dv_jobs.specs.Sources.{AreInRow, IsValueUnder}
+use Rattle.dv_jobs.proofs.JobLemmas.{at_row}
 use Rattle.dv_jobs.specs.Works.{value_of}
 use Rattle.dv_value.specs.declared.value.Value.{Value}
 use Rattle.std.specs.Option.{option_map}
@@ -44,8 +47,8 @@ pub all_goes_on : (s works : List Work) → GoesOn s works → length works ≤ 
 all_goes_on s works g h = all_after s g.more (subst (λ (x : List Work). length x ≤ length s) g.same h) ∙ sym g.same
 
 -- the value of the work under a number is what that job has come to
-pub result_at : (job : ℕ) (works : List Work) (value : Value) → IsValueAt works job value → Some value ≡ job_result job works
-result_at job works value h = ap Some h.2 ∙ ap (λ (o : Option Work). option_map value_of o) (sym h.1)
+pub result_at : (job : ℕ) (jobs : List Job) (value : Value) → AreInRow jobs → IsValueUnder job jobs value → Some value ≡ job_result job (works_of jobs)
+result_at job jobs value row h = ap Some h.2 ∙ ap (λ (o : Option Work). option_map value_of o) (sym h.1 ∙ at_row jobs job row)
 
 -- a number past them is of no job
 none_past : (job : ℕ) (works : List Work) → length works ≤ job → slice_get works job ≡ None

@@ -7,6 +7,7 @@ mod jobs;
 mod journal;
 mod lines;
 mod pieces;
+mod pools;
 mod posts;
 mod runs;
 mod scripts;

@@ -2,3 +2,4 @@
 #![tactic(auto)]
 
 pub mod pool;
+pub mod pools;
