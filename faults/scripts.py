@@ -40,6 +40,7 @@ def all_scripts() -> list[Script]:
         script("inline_goes_on"),
         script("inline_is_cancelled"),
         script("jobs"),
+        script("pools"),
         script("posts"),
         script("own_class"),
         script("whole_language"),

@@ -1,10 +1,13 @@
 -- What is told submits nothing, and the works that are submitted are the first of those that a run has made.
-use Rattle.std.proofs.Common.{◌≡◌, ℕ, zero, suc, Bool, true, false, cond, List, [], ◌∷◌, ◌++◌, Option, None, Some, refl, sym, subst, ap, ◌∙◌, length, ◌≤◌, slice_get, arith}
+use Rattle.std.proofs.Common.{◌≡◌, ℕ, zero, suc, Bool, true, false, cond, List, [], ◌∷◌, ◌++◌, Option, None, Some, refl, sym, subst, ap, ◌∙◌, length, length-append, ◌+◌, ◌<◌, ◌≤◌, slice_get, arith}
 use Rattle.dv_journal.specs.Journal.{fits}
 use Rattle.dv_journal.specs.declared.entry.Entry.{Entry}
 use Rattle.dv_script.specs.declared.work.Work.{Work}
 use Rattle.dv_actions.specs.Threading.{GoesOn, job_result}
-use Rattle.dv_jobs.specs.Sources.{IsValueAt}
+use Rattle.dv_jobs.specs.declared.job.Job.{Job}
+use Rattle.dv_jobs.specs.Jobs.{numbered, works_of}
+use Rattle.dv_jobs.specs.Sources.{AreInRow, IsSubmitted, IsValueUnder}
+use Rattle.dv_jobs.proofs.JobLemmas.{at_row, length-works, row-snoc}
 use Rattle.dv_jobs.specs.Works.{value_of}
 use Rattle.dv_value.specs.declared.value.Value.{Value}
 use Rattle.std.specs.Option.{option_map}
@@ -43,9 +46,25 @@ all_after (y ∷ s) more h = ap (λ (z : List Work). y ∷ z) (all_after s more 
 pub all_goes_on : (s works : List Work) → GoesOn s works → length works ≤ length s → s ≡ works
 all_goes_on s works g h = all_after s g.more (subst (λ (x : List Work). length x ≤ length s) g.same h) ∙ sym g.same
 
+-- one more job stands in the row
+pub one_more_row : (old new : List Job) (count : ℕ) (work : Work) → count ≡ length old → AreInRow old → new ≡ old ++ numbered (length old) work ∷ [] → (count + 1 ≡ length new) × AreInRow new
+one_more_row old new count work so_many row grown =
+    (omega (arith, so_many, ap length grown, length-append old (numbered (length old) work ∷ [])), subst AreInRow (sym grown) (row-snoc old work row))
+
+there : (works : List Work) (job : ℕ) → job < length works → (work : Work) × (slice_get works job ≡ Some work)
+there [] job low = absurd (omega (arith, low))
+there (x ∷ works) zero low = (x, refl)
+there (x ∷ works) (suc job) low = there works job (omega (arith, low))
+
+-- a number below their count is that of a job
+pub low_submitted : (jobs : List Job) (count job : ℕ) → count ≡ length jobs → AreInRow jobs → job < count → IsSubmitted job jobs
+low_submitted jobs count job so_many row low =
+    let found = there (works_of jobs) job (omega (arith, low, so_many, length-works jobs)) in
+    (found.0, at_row jobs job row ∙ found.1)
+
 -- the value of the work under a number is what that job has come to
-pub result_at : (job : ℕ) (works : List Work) (value : Value) → IsValueAt works job value → Some value ≡ job_result job works
-result_at job works value h = ap Some h.2 ∙ ap (λ (o : Option Work). option_map value_of o) (sym h.1)
+pub result_at : (job : ℕ) (jobs : List Job) (value : Value) → AreInRow jobs → IsValueUnder job jobs value → Some value ≡ job_result job (works_of jobs)
+result_at job jobs value row h = ap Some h.2 ∙ ap (λ (o : Option Work). option_map value_of o) (sym h.1 ∙ at_row jobs job row)
 
 -- a number past them is of no job
 none_past : (job : ℕ) (works : List Work) → length works ≤ job → slice_get works job ≡ None

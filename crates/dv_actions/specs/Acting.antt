@@ -84,4 +84,4 @@ begun itself (PauseTaskOf name) w = with_task name w (λ t. paused_of t (slice_g
 begun itself (StopTaskOf name) w = with_task name w (λ t. cooperating.stopped_of t (slice_get w.objects.cooperator.tasks t) w)
 begun itself (ResumeTaskOf name) w = with_task name w (λ t. resumed_of t (slice_get w.objects.cooperator.tasks t) w)
 begun itself (InlineOf name statements) w = inline_begun name statements w
-begun itself (ThreadOf name delay work) w = threaded name delay work w
+begun itself (ThreadOf name pool delay work) w = threaded name pool delay work w

@@ -1,5 +1,5 @@
 -- What each action comes to (Twisted: the methods of `Deferred`).
-use Rattle.std.specs.Prelude.{ℕ, Bool, true, false, List, Option}
+use Rattle.std.specs.Prelude.{ℕ, Bool, true, false, List, Option, None, Some}
 use Rattle.std.specs.List.{list_any}
 use Rattle.dv_prims.specs.declared.gather.Flags.{Flags}
 use Rattle.dv_script.specs.declared.action.Action.{Action}
@@ -68,8 +68,8 @@ pub data Deed : Type 0 where
   ResumeTaskOf : (name : List ℕ) → Deed
   -- an inline body of these statements is made with its Deferred, and begins
   InlineOf : (name : List ℕ) (statements : List Statement) → Deed
-  -- a Deferred is made, and a job of this work submitted whose result it is fired with, so many ticks later
-  ThreadOf : (name : List ℕ) (delay : ℕ) (work : Work) → Deed
+  -- a Deferred is made, and a job of this work submitted to a pool, whose result it is fired with, so many ticks later
+  ThreadOf : (name : List ℕ) (pool : Option (List ℕ)) (delay : ℕ) (work : Work) → Deed
 
 -- which flag one is
 abbrev pub fires_on_one_callback : ListFlag → Bool
@@ -134,4 +134,5 @@ deed_of (Action-F.PauseTask name) = PauseTaskOf name
 deed_of (Action-F.StopTask name) = StopTaskOf name
 deed_of (Action-F.ResumeTask name) = ResumeTaskOf name
 deed_of (Action-F.Inline name statements) = InlineOf name statements
-deed_of (Action-F.Thread name delay work) = ThreadOf name delay work
+deed_of (Action-F.Thread name delay work) = ThreadOf name None delay work
+deed_of (Action-F.ThreadIn name pool delay work) = ThreadOf name (Some pool) delay work

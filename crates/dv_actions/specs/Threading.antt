@@ -1,4 +1,4 @@
--- Jobs that threads do (Twisted: `deferToThread`).
+-- Jobs that threads do (Twisted: `deferToThread`, `deferToThreadPool`).
 use Rattle.std.specs.Prelude.{ℕ, if◌then◌else◌, List, ◌≡◌, ◌++◌, length, Option, None, Some, slice_get}
 use Rattle.std.specs.Option.{option_map}
 use Rattle.dv_script.specs.declared.work.Work.{Work}
@@ -8,13 +8,13 @@ use Rattle.dv_rules.specs.Turn.{Turned, done, raised, settle_next}
 use Rattle.dv_objects.specs.Works.{is_full}
 use Rattle.dv_world.specs.World.{World, make, fire, submit, deliver_later, too_many_jobs}
 
--- a job is submitted whose result is for d, and the delivery of that is scheduled
-abbrev pub job_begun : ℕ → ℕ → Work → World → Turned
-job_begun d delay work w = done (deliver_later (length w.works) d delay (submit d work w))
+-- a job is submitted to a pool, whose result is for d, and the delivery of that is scheduled
+abbrev pub job_begun : ℕ → Option (List ℕ) → ℕ → Work → World → Turned
+job_begun d pool delay work w = done (deliver_later (length w.works) d delay (submit d pool work w))
 
 -- the Deferred of a job is made, and the job begun; one more than a run has is refused
-abbrev pub threaded : List ℕ → ℕ → Work → World → Turned
-threaded name delay work w = if is_full w.works then raised too_many_jobs w else job_begun (length w.records) delay work (make (Some name) None w)
+abbrev pub threaded : List ℕ → Option (List ℕ) → ℕ → Work → World → Turned
+threaded name pool delay work w = if is_full w.works then raised too_many_jobs w else job_begun (length w.records) pool delay work (make (Some name) None w)
 
 -- what a job comes to: the value of the work that was submitted under its number
 abbrev pub job_result : ℕ → List Work → Option Value

@@ -185,8 +185,23 @@ pub fn begin<'s>(
             begin_inline(alloc, world, stack, TextRef::new(name), statements)
         }
         Action::Thread(name, delay, work) => {
-            thread(alloc, world, TextRef::new(name), *delay, WorkRef::new(work))
+            thread(
+                alloc,
+                world,
+                TextRef::new(name),
+                None,
+                *delay,
+                WorkRef::new(work),
+            )
         }
+        Action::ThreadIn(name, pool, delay, work) => thread(
+            alloc,
+            world,
+            TextRef::new(name),
+            Some(TextRef::new(pool)),
+            *delay,
+            WorkRef::new(work),
+        ),
     }
 }
 

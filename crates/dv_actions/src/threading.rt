@@ -20,37 +20,40 @@ use std::alloc::{AllocError, AllocGlobal, Global};
 use std::random::RandomSource;
 use std::sync::Wait;
 
-/// Makes a Deferred and submits the job that it is for (Twisted: `deferToThread`).
+/// Makes a Deferred and submits the job that it is for, to the pool of this name or to the default one (Twisted:
+/// `deferToThreadPool`, `deferToThread`).
 #[tactic(auto, using(dv_rules::proofs::BoundsLemmas::records_within))]
 pub fn thread<'s>(
     alloc: Global,
     world: &mut World<'s>,
     name: TextRef<'s>,
+    pool: Option<TextRef<'s>>,
     delay: u64,
     work: WorkRef<'s>,
 ) -> Result<Performed<'s>, AllocError>
     requires bounded { Bounded world.old }
-    ensures { IfOk result (λ performed. ([], performed, world.new) ≡ begun None (ThreadOf name.entry delay work.entry) world.old) }
+    ensures { IfOk result (λ performed. ([], performed, world.new) ≡ begun None (ThreadOf name.entry pool.entry delay work.entry) world.old) }
 {
     if world.works().is_full() {
         return too_many_jobs(alloc);
     }
     let id = world.next_id();
     world.make(Some(name), None)?;
-    begin_job(world, id, delay, work)
+    begin_job(world, id, pool, delay, work)
 }
 
 /// Submits a job, and schedules the delivery of its result.
 fn begin_job<'s>(
     world: &mut World<'s>,
     id: DeferredId,
+    pool: Option<TextRef<'s>>,
     delay: u64,
     work: WorkRef<'s>,
 ) -> Result<Performed<'s>, AllocError>
-    ensures { IfOk result (λ performed. ([], performed, world.new) ≡ job_begun id delay work.entry world.old) }
+    ensures { IfOk result (λ performed. ([], performed, world.new) ≡ job_begun id pool.entry delay work.entry world.old) }
 {
     let job = world.works().len() as u32;
-    world.submit(id, work)?;
+    world.submit(id, pool, work)?;
     done(world.deliver_later(job, id, delay))
 }
 
@@ -59,7 +62,7 @@ fn begin_job<'s>(
 pub fn deliver<'s, R, J>(
     rt: &R,
     alloc: Global,
-    jobs: &mut Submissions<J>,
+    jobs: &mut Submissions<'s, J>,
     world: &mut World<'s>,
     stack: &mut Stack<Frame<'s>>,
     job: u32,

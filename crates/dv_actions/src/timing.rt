@@ -76,7 +76,7 @@ fn begin_timer<'s>(
 pub fn run_due<'s, R, J>(
     rt: &R,
     alloc: Global,
-    jobs: &mut Submissions<J>,
+    jobs: &mut Submissions<'s, J>,
     world: &mut World<'s>,
     stack: &mut Stack<Frame<'s>>,
 ) -> Result<Performed<'s>, AllocError>
@@ -95,7 +95,7 @@ where
 fn run_what<'s, R, J>(
     rt: &R,
     alloc: Global,
-    jobs: &mut Submissions<J>,
+    jobs: &mut Submissions<'s, J>,
     world: &mut World<'s>,
     stack: &mut Stack<Frame<'s>>,
     what: Option<Due>,

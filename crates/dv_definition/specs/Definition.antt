@@ -509,15 +509,15 @@ answer_of (Gave v) = Null
 answer_of (Raised failure) = Fault failure
 answer_of (Awaits e) = Null
 
--- 16. Jobs of threads (Twisted: `deferToThread`).
+-- 16. Jobs of threads (Twisted: `deferToThread`, `deferToThreadPool`).
 
--- a Deferred is made, and a job submitted for it, whose result is delivered so many ticks later; one more than a run has is refused
-abbrev pub thread : List ℕ → ℕ → Work → World → Answer
-thread name delay work w =
+-- a Deferred is made, and a job submitted for it to a pool, whose result is delivered so many ticks later; one more than a run has is refused
+abbrev pub thread : List ℕ → Option (List ℕ) → ℕ → Work → World → Answer
+thread name pool delay work w =
     let d = length w.records in
     let made = make (Some name) None w in
     if is_full w.works then raise world.too_many_jobs w else
-    finished (world.deliver_later (length made.works) d delay (world.submit d work made))
+    finished (world.deliver_later (length made.works) d delay (world.submit d pool work made))
 
 -- d is fired with the value of the work that was submitted for it
 abbrev pub deliver : Inside → ℕ → ℕ → World → Answer
@@ -613,7 +613,8 @@ carry_out inside itself (Action-F.PauseTask name) w = on w.objects.cooperator.ta
 carry_out inside itself (Action-F.StopTask name) w = on w.objects.cooperator.task_names name w λ t. stop_task inside t w
 carry_out inside itself (Action-F.ResumeTask name) w = on w.objects.cooperator.task_names name w λ t. resume_task t w
 carry_out inside itself (Action-F.Inline name statements) w = inline inside name statements w
-carry_out inside itself (Action-F.Thread name delay work) w = thread name delay work w
+carry_out inside itself (Action-F.Thread name delay work) w = thread name None delay work w
+carry_out inside itself (Action-F.ThreadIn name pool delay work) w = thread name (Some pool) delay work w
 
 -- an action; in it `@` stands for the Deferred that is given
 abbrev pub act : Inside → Option ℕ → Action → World → Answer

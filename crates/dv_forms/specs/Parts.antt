@@ -135,6 +135,13 @@ three ds = do
   b ← two a.1
   Some (a.0, b.0, b.1)
 
+-- four items
+unfoldable pub four : Items → Option (Data × Data × Data × Data)
+four ds = do
+  a ← first ds
+  b ← three a.1
+  Some (a.0, b.0, b.1, b.2)
+
 -- five items
 unfoldable pub five : Items → Option (Data × Data × Data × Data × Data)
 five ds = do

@@ -4,7 +4,7 @@ ghost use Rattle.serde_json.specs.View.{view, items_view, members_view};
 ghost use Rattle.serde_json.specs.Find.{as_array, as_bool};
 ghost use Rattle.dv_forms.specs.Forms.{has_only};
 ghost use Rattle.dv_forms.specs.Answer.{Reads, Gives};
-ghost use Rattle.dv_forms.specs.Parts.{text_at, integer_at, number_at, bound_at, class_at, list_flag, list_flag_at, gather_flag_named, gather_flag_at, list_at, call_at, none, first, if_any, one, one_or_two, two, three, five, fields_at};
+ghost use Rattle.dv_forms.specs.Parts.{text_at, integer_at, number_at, bound_at, class_at, list_flag, list_flag_at, gather_flag_named, gather_flag_at, list_at, call_at, none, first, if_any, one, one_or_two, two, three, four, five, fields_at};
 
 use crate::ranges::MOST_PLACES;
 use crate::stop::Stop;
@@ -269,6 +269,16 @@ pub fn three(items: &[Json]) -> Result<(&Json, &Json, &Json), Stop>
     let (json, rest) = first(items)?;
     let (next, last) = two(rest)?;
     Ok((json, next, last))
+}
+
+/// Four arguments.
+#[tactic(auto, unfolding(crate::specs::Parts::four))]
+pub fn four(items: &[Json]) -> Result<(&Json, &Json, &Json, &Json), Stop>
+    ensures { Gives (λ p. (view p.0.now, view p.1.now, view p.2.now, view p.3.now)) result (four (items_view items.now)) }
+{
+    let (json, rest) = first(items)?;
+    let (second, third, last) = three(rest)?;
+    Ok((json, second, third, last))
 }
 
 /// Five arguments.

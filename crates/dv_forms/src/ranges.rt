@@ -12,6 +12,9 @@ pub const MOST_DELAY: u64 = 1_000_000_000_000;
 /// The most tokens of a semaphore, and the most that a queue's size or backlog may be.
 pub const MOST_PLACES: u32 = 65_536;
 
+/// The most workers of a pool.
+pub const MOST_WORKERS: u32 = 16;
+
 /// To how many levels bodies and statements may nest: as many as JSON may, so that no script is refused for it.
 pub const MOST_LEVELS: u32 = 127;
 

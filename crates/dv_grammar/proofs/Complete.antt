@@ -17,13 +17,14 @@ use Rattle.dv_script.specs.declared.action.GatherFlag.{GatherFlag}
 use Rattle.dv_script.specs.declared.action.Action.{Action}
 use Rattle.dv_script.specs.declared.event.Event.{Event}
 use Rattle.dv_script.specs.declared.script.Cooperator.{Cooperator}
+use Rattle.dv_script.specs.declared.script.NamedPool.{NamedPool}
 use Rattle.dv_forms.specs.declared.declaration.Declaration.{Declaration}
 use Rattle.dv_grammar.specs.declared.draft.Draft.{Draft}
 use Rattle.dv_forms.specs.Forms.{Each, IsList, Field, Key, IsText, IsNumber, IsClass, IsValue, a_null, a_bool, an_int, a_text, a_list, AreValues, no_values, more_values}
 use Rattle.dv_forms.specs.Table.{table_of}
-use Rattle.dv_grammar.specs.Grammar.{plain_cooperator, IsEnd, returns, passes, adds, raises, traps, waits, IsWork, gives, fails, sums, IsListFlag, fires_on_callback, fires_on_errback, consumes_errors, IsGatherFlag, gathers_errors, IsBound, no_bound, a_bound, IsAction, deferred, deferred_with, callback, errback, add_callback, add_errback, add_both, add_callbacks, chain, pause, unpause, cancel, add_timeout, note, list, gather, maybe, lock, semaphore, acquire, release, run_with, queue, put, get, later, cancel_call, loop, stop_loop, cooperate, when_done, pause_task, stop_task, resume_task, inline, thread, AreActions, no_actions, more_actions, IsDo, does_nothing, does, IsBody, body, AreBodies, no_bodies, more_bodies, IsStatement, performs, awaits, tries, leaves, AreStatements, no_statements, more_statements, IsEvent, acts, advances, drains, IsDeclaration, declares, IsCooperator, IsScript}
-use Rattle.dv_forms.specs.Parts.{value_at, values_at, each, list_at, text_at, number_at, within, bound_at, class_at, list_flag_at, gather_flag_at, call_at, none, first, if_any, one, one_or_two, two, three, five, sole, pair, triple, fields_at, field, declaration_at, table_for}
-use Rattle.dv_grammar.specs.Shape.{end_at, end_of, leave_at, work_at, work_of, action_by, action_of, new_deferred_of, plain_of, loop_of, nesting_of, body_by, statement_by, statement_of, readers, body_at, statement_at, action_at, event_at, event_of, other_event, cooperator_at, caller_at, script_at}
+use Rattle.dv_grammar.specs.Grammar.{plain_cooperator, IsEnd, returns, passes, adds, raises, traps, waits, IsWork, gives, fails, sums, IsListFlag, fires_on_callback, fires_on_errback, consumes_errors, IsGatherFlag, gathers_errors, IsBound, no_bound, a_bound, IsAction, deferred, deferred_with, callback, errback, add_callback, add_errback, add_both, add_callbacks, chain, pause, unpause, cancel, add_timeout, note, list, gather, maybe, lock, semaphore, acquire, release, run_with, queue, put, get, later, cancel_call, loop, stop_loop, cooperate, when_done, pause_task, stop_task, resume_task, inline, thread, thread_in, AreActions, no_actions, more_actions, IsDo, does_nothing, does, IsBody, body, AreBodies, no_bodies, more_bodies, IsStatement, performs, awaits, tries, leaves, AreStatements, no_statements, more_statements, IsEvent, acts, advances, drains, IsDeclaration, declares, IsPool, pools, IsCooperator, IsScript}
+use Rattle.dv_forms.specs.Parts.{value_at, values_at, each, list_at, text_at, number_at, within, bound_at, class_at, list_flag_at, gather_flag_at, call_at, none, first, if_any, one, one_or_two, two, three, four, five, sole, pair, triple, fields_at, field, declaration_at, table_for}
+use Rattle.dv_grammar.specs.Shape.{end_at, end_of, leave_at, work_at, work_of, action_by, action_of, new_deferred_of, thread_in_of, plain_of, loop_of, nesting_of, body_by, statement_by, statement_of, readers, body_at, statement_at, action_at, event_at, event_of, other_event, cooperator_at, pool_at, caller_at, script_at}
 use Rattle.dv_grammar.proofs.Steps.{picked}
 
 -- ---- values, lists, leaves
@@ -116,7 +117,7 @@ depth-get_member key (member k c ms) d e = elim (picked (slice_cmp nat_cmp key k
 -- ---- actions, bodies, statements
 
 mutual
-  unfolding action_by action_of new_deferred_of plain_of loop_of nesting_of call_at none first if_any one one_or_two two three five sole pair triple readers body_by fields_at statement_by statement_of leave_at
+  unfolding action_by action_of new_deferred_of thread_in_of plain_of loop_of nesting_of call_at none first if_any one one_or_two two three four five sole pair triple readers body_by fields_at statement_by statement_of leave_at
 
   complete_action : (table : List Class) {d : Data} {a : Action} (n : ℕ) → IsAction table d a → depth d ≤ n → action_at table n d ≡ Some a
   complete_action table n (deferred name) h = refl
@@ -155,6 +156,7 @@ mutual
   complete_action table n (resume_task name) h = refl
   complete_action table n (inline name ds statements g) h = rw (complete_statements table n g (omega (arith, h))) refl
   complete_action table n (thread name c d delay job g k) h = rw (complete_number 0 (10 ^ 12) c delay g, complete_work table d job k) refl
+  complete_action table n (thread_in name pool c d delay job g k) h = rw (complete_number 0 (10 ^ 12) c delay g, complete_work table d job k) refl
 
   complete_actions : (table : List Class) {ds : Items} {xs : List Action} (n : ℕ) → AreActions table ds xs → items_depth ds ≤ n → each (action_at table n) ds ≡ Some xs
   complete_actions table n no_actions h = refl
@@ -220,6 +222,10 @@ complete_declaration : (d : Data) (c : Declaration) → IsDeclaration d c → de
 unfolding declaration_at none first one two pair
 complete_declaration _ _ (declares name parent) = refl
 
+complete_pool : (d : Data) (p : NamedPool) → IsPool d p → pool_at d ≡ Some p
+unfolding pool_at none first one two pair
+complete_pool _ _ (pools name d workers h) = rw (complete_number 0 16 d workers h) refl
+
 complete_cooperator : (d : Data) (c : Cooperator) → IsCooperator d c → cooperator_at d ≡ Some c
 unfolding cooperator_at fields_at
 complete_cooperator d c h =
@@ -244,7 +250,7 @@ complete_events table events (Some d) within h =
 
 -- a draft of which the table and what is said of it are written out
 same_draft : (draft : Draft) (table : List Class) (all : Bool) → draft.script.classes ≡ table → draft.all_declared ≡ all
-    → record { declared = draft.declared; all_declared = all; script = record { classes = table; limit = draft.script.limit; cooperator = draft.script.cooperator; callers = draft.script.callers; events = draft.script.events } } ≡ draft
+    → record { version = draft.version; declared = draft.declared; all_declared = all; script = record { classes = table; limit = draft.script.limit; cooperator = draft.script.cooperator; pools = draft.script.pools; callers = draft.script.callers; events = draft.script.events } } ≡ draft
 same_draft draft table all e f = rw (← e, ← f) refl
 
 -- a value of a script's shape is read as that script
@@ -258,10 +264,12 @@ complete_script d draft deep h =
     complete_callers (table_of draft.declared) h.members draft.script.callers (omega (arith, inside)) (get_member (codes "callers") h.members) (within (codes "callers")) (rw h.table at h.callers) in
     let events : option_and_then (list_at (event_at (table_of draft.declared))) (get_member (codes "events") h.members) ≡ Some draft.script.events =
     complete_events (table_of draft.declared) draft.script.events (get_member (codes "events") h.members) (within (codes "events")) (rw h.table at h.events) in
-    rw h.whole (rw h.only (rw (
+    let version = complete_key draft.version (IsNumber 1 2) (number_at 1 2) (complete_number 1 2) (get_member (codes "version") h.members) h.version in
+    rw h.whole (rw version (rw h.only (rw (
       complete_field 2000 draft.script.limit (IsNumber 0 200000) (number_at 0 200000) (complete_number 0 200000) (get_member (codes "limit") h.members) h.limit,
       complete_field plain_cooperator draft.script.cooperator IsCooperator cooperator_at complete_cooperator (get_member (codes "cooperator") h.members) h.cooperator,
+      complete_field [] draft.script.pools (IsList IsPool) (list_at pool_at) (complete_list IsPool pool_at complete_pool) (get_member (codes "pools") h.members) h.pools,
       complete_field [] draft.declared (IsList IsDeclaration) (list_at declaration_at) (complete_list IsDeclaration declaration_at complete_declaration) (get_member (codes "classes") h.members) h.declared,
       callers,
       events,
-    ) (ap Some (same_draft draft _ _ h.table h.all_declared))))
+    ) (ap Some (same_draft draft _ _ h.table h.all_declared)))))

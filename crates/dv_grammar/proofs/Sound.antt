@@ -18,10 +18,11 @@ use Rattle.dv_script.specs.declared.action.ListFlag.{ListFlag}
 use Rattle.dv_script.specs.declared.action.ListFlag.TheVariants as flag
 use Rattle.dv_script.specs.declared.action.GatherFlag.{GatherFlag}
 use Rattle.dv_script.specs.declared.action.GatherFlag.TheVariants as gather_flag
-use Rattle.dv_script.specs.declared.action.Action.{Action, Deferred, Callback, Errback, AddCallback, AddErrback, AddBoth, AddCallbacks, Chain, Pause, Unpause, Cancel, AddTimeout, Note, List as ListOf, Gather, Maybe, Lock, Semaphore, Acquire, Release, RunWith, Queue, Put, Get, Later, CancelCall, StopLoop, Cooperate, WhenDone, PauseTask, StopTask, ResumeTask, Inline, Thread}
+use Rattle.dv_script.specs.declared.action.Action.{Action, Deferred, Callback, Errback, AddCallback, AddErrback, AddBoth, AddCallbacks, Chain, Pause, Unpause, Cancel, AddTimeout, Note, List as ListOf, Gather, Maybe, Lock, Semaphore, Acquire, Release, RunWith, Queue, Put, Get, Later, CancelCall, StopLoop, Cooperate, WhenDone, PauseTask, StopTask, ResumeTask, Inline, Thread, ThreadIn}
 use Rattle.dv_script.specs.declared.event.Event.{Event}
 use Rattle.dv_script.specs.declared.event.Event.TheVariants as happens
 use Rattle.dv_script.specs.declared.script.Cooperator.{Cooperator}
+use Rattle.dv_script.specs.declared.script.NamedPool.{NamedPool}
 use Rattle.dv_forms.specs.declared.declaration.Declaration.{Declaration}
 use Rattle.dv_grammar.specs.declared.draft.Draft.{Draft}
 use Rattle.dv_grammar.specs.declared.words.NameWord.{NameWord}
@@ -48,9 +49,9 @@ use Rattle.dv_grammar.specs.Words.{action_word, event_word, end_word, statement_
 use Rattle.dv_forms.specs.Forms.{call, Each, IsList, Field, Key, has_only, IsText, IsInteger, IsNumber, IsClass, IsValue, a_null, a_bool, an_int, a_text, a_list, AreValues, no_values, more_values}
 use Rattle.dv_forms.specs.Table.{table_of}
 use Rattle.dv_forms.specs.Leaving.{may_leave}
-use Rattle.dv_grammar.specs.Grammar.{body_keys, cooperator_keys, script_keys, plain_cooperator, IsEnd, returns, passes, adds, raises, traps, waits, IsWork, gives, fails, sums, IsListFlag, fires_on_callback, fires_on_errback, consumes_errors, IsGatherFlag, gathers_errors, IsBound, no_bound, a_bound, IsAction, deferred, deferred_with, callback, errback, add_callback, add_errback, add_both, add_callbacks, chain, pause, unpause, cancel, add_timeout, note, list, gather, maybe, lock, semaphore, acquire, release, run_with, queue, put, get, later, cancel_call, loop, stop_loop, cooperate, when_done, pause_task, stop_task, resume_task, inline, thread, AreActions, no_actions, more_actions, IsDo, does_nothing, does, IsBody, body, AreBodies, no_bodies, more_bodies, IsStatement, performs, awaits, tries, leaves, AreStatements, no_statements, more_statements, IsEvent, acts, advances, drains, IsDeclaration, declares, IsCooperator, IsScript}
-use Rattle.dv_forms.specs.Parts.{value_at, values_at, each, list_at, text_at, integer_at, number_at, within, bound_at, class_at, list_flag_at, gather_flag_at, call_at, none, first, if_any, one, one_or_two, two, three, five, sole, pair, triple, one_of, two_of, three_of, fields_at, field, if_there, declaration_at, table_for}
-use Rattle.dv_grammar.specs.Shape.{end_at, end_of, leave_at, work_at, work_of, Readers, action_with, action_by, action_of, with_name, with_names, with_body, new_deferred_of, plain_of, loop_of, nesting_of, body_by, statement_by, statement_of, readers, body_at, action_at, event_by, event_at, event_of, other_event, cooperator_at, caller_at, script_at}
+use Rattle.dv_grammar.specs.Grammar.{body_keys, cooperator_keys, keys_of, plain_cooperator, IsEnd, returns, passes, adds, raises, traps, waits, IsWork, gives, fails, sums, IsListFlag, fires_on_callback, fires_on_errback, consumes_errors, IsGatherFlag, gathers_errors, IsBound, no_bound, a_bound, IsAction, deferred, deferred_with, callback, errback, add_callback, add_errback, add_both, add_callbacks, chain, pause, unpause, cancel, add_timeout, note, list, gather, maybe, lock, semaphore, acquire, release, run_with, queue, put, get, later, cancel_call, loop, stop_loop, cooperate, when_done, pause_task, stop_task, resume_task, inline, thread, thread_in, AreActions, no_actions, more_actions, IsDo, does_nothing, does, IsBody, body, AreBodies, no_bodies, more_bodies, IsStatement, performs, awaits, tries, leaves, AreStatements, no_statements, more_statements, IsEvent, acts, advances, drains, IsDeclaration, declares, IsPool, pools, IsCooperator, IsScript}
+use Rattle.dv_forms.specs.Parts.{value_at, values_at, each, list_at, text_at, integer_at, number_at, within, bound_at, class_at, list_flag_at, gather_flag_at, call_at, none, first, if_any, one, one_or_two, two, three, four, five, sole, pair, triple, one_of, two_of, three_of, fields_at, field, if_there, declaration_at, table_for}
+use Rattle.dv_grammar.specs.Shape.{end_at, end_of, leave_at, work_at, work_of, Readers, action_with, action_by, action_of, with_name, with_names, with_body, new_deferred_of, thread_in_of, plain_of, loop_of, nesting_of, body_by, statement_by, statement_of, readers, body_at, action_at, event_by, event_at, event_of, other_event, cooperator_at, pool_at, caller_at, script_at}
 use Rattle.dv_grammar.proofs.Steps.{some_injective, bind, mapped, chosen}
 use Rattle.dv_grammar.proofs.WordsLemmas.{name_text, names_text, body_text, plain_text, nesting_text, action_text, action_word_is, event_text, event_word_is, end_text, end_word_is, statement_text, statement_word_is, work_text, work_word_is}
 
@@ -86,6 +87,13 @@ three_is ds p e =
     bind (first ds) _ p e (λ a a_is a_then.
     bind (two a.1) _ p a_then (λ b b_is b_then.
     first_is ds a a_is ∙ rw (two_is a.1 b b_is, ← some_injective b_then) refl))
+
+four_is : (ds : Items) (p : Data × Data × Data × Data) → four ds ≡ Some p → ds ≡ item p.0 (item p.1 (item p.2 (item p.3 no_items)))
+unfolding four
+four_is ds p e =
+    bind (first ds) _ p e (λ a a_is a_then.
+    bind (three a.1) _ p a_then (λ b b_is b_then.
+    first_is ds a a_is ∙ rw (three_is a.1 b b_is, ← some_injective b_then) refl))
 
 five_is : (ds : Items) (p : Data × Data × Data × Data × Data) → five ds ≡ Some p
     → ds ≡ item p.0 (item p.1 (item p.2 (item p.3 (item p.4 no_items))))
@@ -416,6 +424,18 @@ module _ (table : List Class) (r : Readers) (sound : AreSound table r) where
   sound_with_body of_body.Maybe ds x e =
       named_with table r.body (IsBody table) sound.body Maybe (codes "maybe") maybe ds x e
 
+  thread_in_read : (ds : Items) (x : Action) → thread_in_of table ds ≡ Some x
+      → IsAction table (array (item (string (codes "threadIn")) ds)) x
+  unfolding thread_in_of
+  thread_in_read ds x e =
+      bind (four ds) _ x e (λ p p_is p_then.
+      bind (text_at p.0) _ x p_then (λ n n_is n_then.
+      bind (text_at p.1) _ x n_then (λ m m_is m_then.
+      bind (number_at 0 (10 ^ 12) p.2) _ x m_then (λ k k_is k_then.
+      bind (work_at table p.3) _ x k_then (λ b b_is b_then.
+      rw (four_is ds p p_is, text_is p.0 n n_is, text_is p.1 m m_is, ← some_injective b_then)
+      (thread_in n m p.2 p.3 k b (number_is 0 (10 ^ 12) p.2 k k_is) (sound_work table p.3 b b_is)))))))
+
   sound_plain_of : (word : PlainWord) (ds : Items) (x : Action) → plain_of table word ds ≡ Some x
       → IsAction table (array (item (string (plain_text word)) ds)) x
   unfolding plain_of
@@ -435,6 +455,7 @@ module _ (table : List Class) (r : Readers) (sound : AreSound table r) where
       named_with_two table bound_at IsBound bound_is bound_at IsBound bound_is Queue (codes "queue") queue ds x e
   sound_plain_of plain.Thread ds x e =
       named_with_two table (number_at 0 (10 ^ 12)) (IsNumber 0 (10 ^ 12)) (number_is 0 (10 ^ 12)) (work_at table) (IsWork table) (sound_work table) Thread (codes "thread") thread ds x e
+  sound_plain_of plain.ThreadIn ds x e = thread_in_read ds x e
   sound_plain_of plain.AddTimeout ds x e =
       named_with table (number_at 0 (10 ^ 12)) (IsNumber 0 (10 ^ 12)) (number_is 0 (10 ^ 12)) AddTimeout (codes "addTimeout") add_timeout ds x e
 
@@ -589,6 +610,13 @@ sound_cooperator (object ms) x e =
     }))))
 sound_cooperator _ x e = cc
 
+sound_pool : (d : Data) (x : NamedPool) → pool_at d ≡ Some x → IsPool d x
+unfolding pool_at
+sound_pool d x e =
+    bind (as_array d) _ x e (λ ds ds_is ds_then.
+    two_read text_at (number_at 0 16) _ ds x ds_then (λ c f n k items_are n_is k_is made.
+    rw (array_is d ds ds_is, items_are, text_is c n n_is, ← made) (pools n f k (number_is 0 16 f k k_is))))
+
 sound_caller : (table : List Class) (d : Data) (posts : List Body) → caller_at table d ≡ Some posts → IsList (IsBody table) d posts
 sound_caller table = sound_list (IsBody table) (body_at table max_depth) (sound_readers table max_depth).body
 
@@ -596,22 +624,26 @@ sound_caller table = sound_list (IsBody table) (body_at table max_depth) (sound_
 pub sound_script : (d : Data) (draft : Draft) → script_at d ≡ Some draft → IsScript d draft
 unfolding script_at fields_at table_for
 sound_script (object ms) draft e =
-    bind (fields_at script_keys (object ms)) _ draft e (λ t t_is t_then.
+    bind (option_and_then (number_at 1 2) (get_member (codes "version") ms)) _ draft e (λ v v_is v_then.
+    bind (fields_at (keys_of v) (object ms)) _ draft v_then (λ t t_is t_then.
     bind (field 2000 (number_at 0 200000) (get_member (codes "limit") ms)) _ draft t_then (λ l l_is l_then.
     bind (field plain_cooperator cooperator_at (get_member (codes "cooperator") ms)) _ draft l_then (λ o o_is o_then.
-    bind (field [] (list_at declaration_at) (get_member (codes "classes") ms)) _ draft o_then (λ c c_is c_then.
+    bind (field [] (list_at pool_at) (get_member (codes "pools") ms)) _ draft o_then (λ q q_is q_then.
+    bind (field [] (list_at declaration_at) (get_member (codes "classes") ms)) _ draft q_then (λ c c_is c_then.
     bind (field [] (list_at (caller_at (table_of c))) (get_member (codes "callers") ms)) _ draft c_then (λ p p_is p_then.
     bind (option_and_then (list_at (event_at (table_of c))) (get_member (codes "events") ms)) _ draft p_then (λ y y_is y_then.
     rw (← some_injective y_then) (record {
       members = ms;
       whole = refl;
-      only = fields_is script_keys ms t t_is;
+      version = sound_key v (IsNumber 1 2) (number_at 1 2) (number_is 1 2) (get_member (codes "version") ms) v_is;
+      only = fields_is (keys_of v) ms t t_is;
       declared = sound_field [] c (IsList IsDeclaration) (list_at declaration_at) (sound_list IsDeclaration declaration_at sound_declaration) (get_member (codes "classes") ms) c_is;
       all_declared = refl;
       table = refl;
       limit = sound_field 2000 l (IsNumber 0 200000) (number_at 0 200000) (number_is 0 200000) (get_member (codes "limit") ms) l_is;
       cooperator = sound_field plain_cooperator o IsCooperator cooperator_at sound_cooperator (get_member (codes "cooperator") ms) o_is;
+      pools = sound_field [] q (IsList IsPool) (list_at pool_at) (sound_list IsPool pool_at sound_pool) (get_member (codes "pools") ms) q_is;
       callers = sound_field [] p (IsList (IsList (IsBody (table_of c)))) (list_at (caller_at (table_of c))) (sound_list (IsList (IsBody (table_of c))) (caller_at (table_of c)) (sound_caller (table_of c))) (get_member (codes "callers") ms) p_is;
       events = sound_key y (IsList (IsEvent (table_of c))) (list_at (event_at (table_of c))) (sound_list (IsEvent (table_of c)) (event_at (table_of c)) (sound_event (table_of c))) (get_member (codes "events") ms) y_is;
-    })))))))
+    })))))))))
 sound_script _ draft e = cc

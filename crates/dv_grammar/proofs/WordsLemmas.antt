@@ -93,6 +93,7 @@ plain_text plain.Gather = codes "gather"
 plain_text plain.Semaphore = codes "semaphore"
 plain_text plain.Queue = codes "queue"
 plain_text plain.Thread = codes "thread"
+plain_text plain.ThreadIn = codes "threadIn"
 plain_text plain.AddTimeout = codes "addTimeout"
 
 pub plain_word_is : (text : List ℕ) (word : PlainWord) → plain_word text ≡ Some word → text ≡ plain_text word
@@ -105,7 +106,8 @@ plain_word_is text word =
     word_step plain_text text (codes "semaphore") plain.Semaphore word _ refl (
     word_step plain_text text (codes "queue") plain.Queue word _ refl (
     word_step plain_text text (codes "thread") plain.Thread word _ refl (
-    word_step plain_text text (codes "addTimeout") plain.AddTimeout word _ refl (λ e. cc)))))))))
+    word_step plain_text text (codes "threadIn") plain.ThreadIn word _ refl (
+    word_step plain_text text (codes "addTimeout") plain.AddTimeout word _ refl (λ e. cc))))))))))
 
 abbrev pub nesting_text : NestingWord → List ℕ
 nesting_text nesting.Deferred = codes "deferred"

@@ -1,5 +1,5 @@
 -- The grammar of scripts: which JSON stands for what, a rule a line (Twisted: the methods of `Deferred`, and of the objects round it).
-use Rattle.std.specs.Prelude.{◌≡◌, ◌^◌, ℕ, ℤ, Bool, true, List, [], ◌∷◌, Option, Some, None, codes}
+use Rattle.std.specs.Prelude.{◌≡◌, ◌^◌, ℕ, nat_eq, if◌then◌else◌, ℤ, Bool, true, List, [], ◌∷◌, Option, Some, None, codes}
 use Rattle.serde_json.specs.Data.{Data, null, boolean, string, array, object, Items, no_items, item, Members}
 use Rattle.serde_json.specs.Find.{get_member}
 use Rattle.dv_value.specs.declared.value.Value.{Value}
@@ -14,10 +14,11 @@ use Rattle.dv_script.specs.declared.action.ListFlag.{ListFlag}
 use Rattle.dv_script.specs.declared.action.ListFlag.TheVariants as flag
 use Rattle.dv_script.specs.declared.action.GatherFlag.{GatherFlag}
 use Rattle.dv_script.specs.declared.action.GatherFlag.TheVariants as gather_flag
-use Rattle.dv_script.specs.declared.action.Action.{Action, Deferred, Callback, Errback, AddCallback, AddErrback, AddBoth, AddCallbacks, Chain, Pause, Unpause, Cancel, AddTimeout, Note, List as ListOf, Gather, Maybe, Lock, Semaphore, Acquire, Release, RunWith, Queue, Put, Get, Later, CancelCall, Loop, StopLoop, Cooperate, WhenDone, PauseTask, StopTask, ResumeTask, Inline, Thread}
+use Rattle.dv_script.specs.declared.action.Action.{Action, Deferred, Callback, Errback, AddCallback, AddErrback, AddBoth, AddCallbacks, Chain, Pause, Unpause, Cancel, AddTimeout, Note, List as ListOf, Gather, Maybe, Lock, Semaphore, Acquire, Release, RunWith, Queue, Put, Get, Later, CancelCall, Loop, StopLoop, Cooperate, WhenDone, PauseTask, StopTask, ResumeTask, Inline, Thread, ThreadIn}
 use Rattle.dv_script.specs.declared.event.Event.{Event}
 use Rattle.dv_script.specs.declared.event.Event.TheVariants as event
 use Rattle.dv_script.specs.declared.script.Cooperator.{Cooperator}
+use Rattle.dv_script.specs.declared.script.NamedPool.{NamedPool}
 use Rattle.dv_forms.specs.declared.declaration.Declaration.{Declaration}
 use Rattle.dv_grammar.specs.declared.draft.Draft.{Draft}
 use Rattle.dv_forms.specs.Leaving.{may_leave}
@@ -32,9 +33,13 @@ body_keys = codes "do" ∷ codes "end" ∷ []
 abbrev pub cooperator_keys : List (List ℕ)
 cooperator_keys = codes "units" ∷ codes "delay" ∷ []
 
--- the keys of a script
+-- the keys of a script of version 1
 abbrev pub script_keys : List (List ℕ)
 script_keys = codes "version" ∷ codes "events" ∷ codes "limit" ∷ codes "classes" ∷ codes "cooperator" ∷ codes "callers" ∷ []
+
+-- the keys of a script of this version: the second has one more
+abbrev pub keys_of : ℕ → List (List ℕ)
+keys_of version = if nat_eq version 1 then script_keys else codes "pools" ∷ script_keys
 
 -- END: how a body gives its result
 pub data IsEnd (table : List Class) : Data → End → Type 0 where
@@ -176,6 +181,9 @@ mutual
     -- ["thread",D,N,WORK]
     thread : (name : List ℕ) (c d : Data) (delay : ℕ) (job : Work) → IsNumber 0 (10 ^ 12) c delay → IsWork table d job
         → IsAction table (call (codes "thread") (string name ∷ c ∷ d ∷ [])) (Thread name delay job)
+    -- ["threadIn",D,POOL,N,WORK]
+    thread_in : (name pool : List ℕ) (c d : Data) (delay : ℕ) (job : Work) → IsNumber 0 (10 ^ 12) c delay → IsWork table d job
+        → IsAction table (call (codes "threadIn") (string name ∷ string pool ∷ c ∷ d ∷ [])) (ThreadIn name pool delay job)
 
   -- the items of an array of actions
   pub data AreActions (table : List Class) : Items → List Action → Type 0 where
@@ -232,6 +240,11 @@ pub data IsEvent (table : List Class) : Data → Event → Type 0 where
 pub data IsDeclaration : Data → Declaration → Type 0 where
   declares : (name parent : List ℕ) → IsDeclaration (array (item (string name) (item (string parent) no_items))) (record { name = name; parent = parent })
 
+-- a pool: [NAME,WORKERS]
+pub data IsPool : Data → NamedPool → Type 0 where
+  pools : (name : List ℕ) (d : Data) (workers : ℕ) → IsNumber 0 16 d workers
+      → IsPool (array (item (string name) (item d no_items))) (record { name = name; workers = workers })
+
 -- an object with exactly the keys `units` and `delay`
 pub record IsCooperator (d : Data) (c : Cooperator) : Type 0 where
   pub members : Members
@@ -244,15 +257,17 @@ pub record IsCooperator (d : Data) (c : Cooperator) : Type 0 where
 abbrev pub plain_cooperator : Cooperator
 plain_cooperator = record { units = 1; delay = 1 }
 
--- a script by its shape, with the classes that it declares: an object of these keys, of which `version` and `events` have to be there
+-- a script by its shape, with its version and the classes that it declares: an object of the keys of its version, of which `version` and `events` have to be there
 pub record IsScript (d : Data) (draft : Draft) : Type 0 where
   pub members : Members
   pub whole : d ≡ object members
-  pub only : has_only script_keys members ≡ true
+  pub version : Key (IsNumber 1 2) (get_member (codes "version") members) draft.version
+  pub only : has_only (keys_of draft.version) members ≡ true
   pub declared : Field [] (IsList IsDeclaration) (get_member (codes "classes") members) draft.declared
   pub all_declared : draft.all_declared ≡ all_declared draft.declared
   pub table : draft.script.classes ≡ table_of draft.declared
   pub limit : Field 2000 (IsNumber 0 200000) (get_member (codes "limit") members) draft.script.limit
   pub cooperator : Field plain_cooperator IsCooperator (get_member (codes "cooperator") members) draft.script.cooperator
+  pub pools : Field [] (IsList IsPool) (get_member (codes "pools") members) draft.script.pools
   pub callers : Field [] (IsList (IsList (IsBody draft.script.classes))) (get_member (codes "callers") members) draft.script.callers
   pub events : Key (IsList (IsEvent draft.script.classes)) (get_member (codes "events") members) draft.script.events

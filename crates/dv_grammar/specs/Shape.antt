@@ -1,7 +1,7 @@
 -- What a JSON value reads as by its shape, step by step: the reader that the code follows.
 use Rattle.std.specs.Prelude.{ℕ, zero, suc, ◌^◌, List, [], Option, Some, None, if◌then◌else◌, codes}
 use Rattle.serde_json.specs.Data.{Data, Items}
-use Rattle.serde_json.specs.Find.{as_bool, get}
+use Rattle.serde_json.specs.Find.{as_array, as_bool, get}
 use Rattle.serde_json.specs.Read.{max_depth}
 use Rattle.dv_value.specs.declared.value.Value.{Value}
 use Rattle.dv_value.specs.declared.classes.Class.{Class}
@@ -11,10 +11,11 @@ use Rattle.dv_script.specs.declared.body.Body.{Body}
 use Rattle.dv_script.specs.declared.body.Statement.{Statement, Do, Await, Try, End as Leave}
 use Rattle.dv_script.specs.declared.work.Work.{Work}
 use Rattle.dv_script.specs.declared.work.Work.TheVariants as job
-use Rattle.dv_script.specs.declared.action.Action.{Action, Deferred, Callback, Errback, AddCallback, AddErrback, AddBoth, AddCallbacks, Chain, Pause, Unpause, Cancel, AddTimeout, Note, List as ListOf, Gather, Maybe, Lock, Semaphore, Acquire, Release, RunWith, Queue, Put, Get, Later, CancelCall, Loop, StopLoop, Cooperate, WhenDone, PauseTask, StopTask, ResumeTask, Inline, Thread}
+use Rattle.dv_script.specs.declared.action.Action.{Action, Deferred, Callback, Errback, AddCallback, AddErrback, AddBoth, AddCallbacks, Chain, Pause, Unpause, Cancel, AddTimeout, Note, List as ListOf, Gather, Maybe, Lock, Semaphore, Acquire, Release, RunWith, Queue, Put, Get, Later, CancelCall, Loop, StopLoop, Cooperate, WhenDone, PauseTask, StopTask, ResumeTask, Inline, Thread, ThreadIn}
 use Rattle.dv_script.specs.declared.event.Event.{Event}
 use Rattle.dv_script.specs.declared.event.Event.TheVariants as happens
 use Rattle.dv_script.specs.declared.script.Cooperator.{Cooperator}
+use Rattle.dv_script.specs.declared.script.NamedPool.{NamedPool}
 use Rattle.dv_grammar.specs.declared.draft.Draft.{Draft}
 use Rattle.dv_grammar.specs.declared.words.NameWord.{NameWord}
 use Rattle.dv_grammar.specs.declared.words.NameWord.TheVariants as of_name
@@ -37,8 +38,8 @@ use Rattle.dv_grammar.specs.declared.words.StatementWord.TheVariants as statemen
 use Rattle.dv_grammar.specs.declared.words.WorkWord.{WorkWord}
 use Rattle.dv_grammar.specs.declared.words.WorkWord.TheVariants as work
 use Rattle.dv_forms.specs.Leaving.{may_leave}
-use Rattle.dv_forms.specs.Parts.{◌>>=◌, bound_at, call_at, class_at, declaration_at, field, fields_at, five, gather_flag_at, if_there, integer_at, list_at, list_flag_at, none, number_at, one, one_of, one_or_two, table_for, text_at, three_of, two, two_of, value_at}
-use Rattle.dv_grammar.specs.Grammar.{body_keys, cooperator_keys, script_keys, plain_cooperator}
+use Rattle.dv_forms.specs.Parts.{◌>>=◌, bound_at, call_at, class_at, declaration_at, field, fields_at, five, four, gather_flag_at, if_there, integer_at, list_at, list_flag_at, none, number_at, one, one_of, one_or_two, table_for, text_at, three_of, two, two_of, value_at}
+use Rattle.dv_grammar.specs.Grammar.{body_keys, cooperator_keys, keys_of, plain_cooperator}
 use Rattle.dv_grammar.specs.Words.{action_word, event_word, end_word, statement_word, work_word}
 
 -- an end, by its word
@@ -114,6 +115,16 @@ with_body of_body.AddErrback name body = AddErrback name body
 with_body of_body.AddBoth name body = AddBoth name body
 with_body of_body.Maybe name body = Maybe name body
 
+-- a work that a thread of a pool does
+unfoldable pub thread_in_of : List Class → Items → Option Action
+thread_in_of table ds = do
+  p ← four ds
+  name ← text_at p.0
+  pool ← text_at p.1
+  delay ← number_at 0 (10 ^ 12) p.2
+  given ← work_at table p.3
+  Some (ThreadIn name pool delay given)
+
 -- another action, in which there is no body
 unfoldable pub plain_of : List Class → PlainWord → Items → Option Action
 plain_of table plain.Callback ds = two_of text_at value_at Callback ds
@@ -124,6 +135,7 @@ plain_of table plain.Gather ds = three_of text_at (list_at text_at) (list_at gat
 plain_of table plain.Semaphore ds = two_of text_at (number_at 1 65536) Semaphore ds
 plain_of table plain.Queue ds = three_of text_at bound_at bound_at Queue ds
 plain_of table plain.Thread ds = three_of text_at (number_at 0 (10 ^ 12)) (work_at table) Thread ds
+plain_of table plain.ThreadIn ds = thread_in_of table ds
 plain_of table plain.AddTimeout ds = two_of text_at (number_at 0 (10 ^ 12)) AddTimeout ds
 
 -- a loop, whose body is read so
@@ -242,6 +254,12 @@ cooperator_at d = do
   delay ← get (codes "delay") d >>= number_at 1 (10 ^ 12)
   Some (record { units = units; delay = delay })
 
+-- a pool
+unfoldable pub pool_at : Data → Option NamedPool
+pool_at d = do
+  ds ← as_array d
+  two_of text_at (number_at 0 16) (λ name workers. record { name = name; workers = workers }) ds
+
 -- the posts of a caller
 abbrev pub caller_at : List Class → Data → Option (List Body)
 caller_at table = list_at (body_at table max_depth)
@@ -249,15 +267,18 @@ caller_at table = list_at (body_at table max_depth)
 -- a script, with the classes that it declares
 unfoldable pub script_at : Data → Option Draft
 script_at d = do
-  _ ← fields_at script_keys d
+  version ← get (codes "version") d >>= number_at 1 2
+  _ ← fields_at (keys_of version) d
   limit ← field 2000 (number_at 0 200000) (get (codes "limit") d)
   cooperator ← field plain_cooperator cooperator_at (get (codes "cooperator") d)
+  pools ← field [] (list_at pool_at) (get (codes "pools") d)
   declared ← field [] (list_at declaration_at) (get (codes "classes") d)
   table ← table_for declared
   callers ← field [] (list_at (caller_at table.0)) (get (codes "callers") d)
   events ← get (codes "events") d >>= list_at (event_at table.0)
   Some (record {
+    version = version;
     declared = declared;
     all_declared = table.1;
-    script = record { classes = table.0; limit = limit; cooperator = cooperator; callers = callers; events = events };
+    script = record { classes = table.0; limit = limit; cooperator = cooperator; pools = pools; callers = callers; events = events };
   })

@@ -63,6 +63,7 @@ plain_word text =
     if bytes_eq text (codes "semaphore") then Some plain.Semaphore else
     if bytes_eq text (codes "queue") then Some plain.Queue else
     if bytes_eq text (codes "thread") then Some plain.Thread else
+    if bytes_eq text (codes "threadIn") then Some plain.ThreadIn else
     if bytes_eq text (codes "addTimeout") then Some plain.AddTimeout else None
 
 -- the word of another action, in which there are bodies or statements

@@ -7,6 +7,8 @@ use dv_value::items::Items;
 /// What a document says by its shape alone.
 #[derive(Drop)]
 pub struct Draft {
+    /// The version of the grammar that it is in, 1 or 2.
+    pub version: u32,
     /// The classes that it declares, whether they may be declared or not.
     pub declared: Items<Declaration>,
     /// Whether each of them may be declared.

@@ -46,6 +46,7 @@ pub enum PlainWord {
     Semaphore,
     Queue,
     Thread,
+    ThreadIn,
     AddTimeout,
 }
 
@@ -172,6 +173,7 @@ impl PlainWord {
             "semaphore" => Some(PlainWord::Semaphore),
             "queue" => Some(PlainWord::Queue),
             "thread" => Some(PlainWord::Thread),
+            "threadIn" => Some(PlainWord::ThreadIn),
             "addTimeout" => Some(PlainWord::AddTimeout),
             _ => None,
         }

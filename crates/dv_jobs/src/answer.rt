@@ -1,4 +1,4 @@
-ghost use Rattle.std.specs.Prelude.{◌≡◌, IfOk};
+ghost use Rattle.std.specs.Prelude.{◌≡◌, ◌↔◌, IfOk, IsTrue};
 ghost use Rattle.dv_jobs.specs.Jobs.{job_of};
 ghost use Rattle.dv_jobs.specs.Works.{value_of};
 
@@ -28,14 +28,9 @@ pub fn value_in(alloc: Global, answer: &Answer) -> Result<Value, AllocError>
     }
 }
 
-/// The value of a work that an answer may be of, in memory of its own. AllocError where the job was given back, where memory is
-/// refused, and where the answer is of another work, which none is.
-pub fn value_if_of(alloc: Global, answer: &Answer, work: &Work) -> Result<Value, AllocError>
-    ensures { IfOk result (λ value. value ≡ value_of work.now) }
+/// Whether an answer is of this work.
+pub fn is_of(answer: &Answer, work: &Work) -> bool
+    ensures { IsTrue result ↔ ((job_of answer.now).work ≡ work.now) }
 {
-    if is_same_work(&job_in(answer).work, work) {
-        value_in(alloc, answer)
-    } else {
-        Err(AllocError)
-    }
+    is_same_work(&job_in(answer).work, work)
 }

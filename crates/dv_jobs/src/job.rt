@@ -1,8 +1,7 @@
-ghost use Rattle.std.specs.Prelude.{◌≡◌, ◌<◌, ◌+◌, ◌*◌, ◌/◌, pos, IfOk, IfErr};
-ghost use Rattle.dv_script.specs.declared.work.TheConstants.{MOST_JOBS};
+ghost use Rattle.std.specs.Prelude.{◌≡◌, ◌+◌, ◌*◌, ◌/◌, pos, IfOk, IfErr};
 ghost use Rattle.dv_jobs.specs.Works.{value_of};
 
-use dv_script::work::{MOST_JOBS, Work};
+use dv_script::work::Work;
 use dv_value::fault::fault;
 use dv_value::value::Value;
 use std::alloc::{AllocError, Global};
@@ -10,7 +9,7 @@ use std::alloc::{AllocError, Global};
 /// A work under its number. It is neither `Copy` nor `Clone`, so that a job is answered once.
 #[derive(Debug, Drop)]
 pub struct Job {
-    /// How many works were submitted before it.
+    /// How many works were submitted before it, to whichever pool.
     pub number: u32,
     pub work: Work,
 }
@@ -27,15 +26,11 @@ pub struct Done {
 pub type Answer = Result<Done, Job>;
 
 impl Job {
-    /// The job of a work, before which so many were submitted.
-    pub fn new(before: usize, work: Work) -> Job
-        requires { before < MOST_JOBS }
-        ensures { result ≡ record { number = before; work = work } }
+    /// The job of a work under its number.
+    pub fn new(number: u32, work: Work) -> Job
+        ensures { result ≡ record { number = number; work = work } }
     {
-        Job {
-            number: before as u32,
-            work,
-        }
+        Job { number, work }
     }
 
     /// The job with the value of its work. The job itself comes back for want of memory alone.

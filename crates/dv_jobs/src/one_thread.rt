@@ -1,8 +1,8 @@
-ghost use Rattle.std.specs.Prelude.{◌≡◌, []};
-ghost use Rattle.dv_script.specs.declared.work.Work.{Work as SpecWork};
+ghost use Rattle.std.specs.Prelude.{◌≡◌, [], false};
 
 use crate::answer::value_in;
 use crate::error::JobFault;
+use crate::gate::{Gate, OWNER};
 use crate::job::{Answer, Job};
 use crate::ran::Ran;
 use crate::source::JobSource;
@@ -14,44 +14,51 @@ use std::random::RandomSource;
 use std::sync::Wait;
 use std::thread::Threads;
 
-/// A source without threads: each job is answered at its submission. A job that was given back for want of memory counts as
-/// answered, and then its `outcome`, and `close`, want memory too. Contracts see it as the works submitted.
+/// A source without threads: each job is answered at its submission, at the gate, by the owner, whichever its pool. A job that
+/// was given back for want of memory counts as answered, and then its `outcome`, and `close`, want memory too.
 #[derive(Drop)]
-pub struct OneThread {
+pub struct OneThread<'g, G> {
+    pools: u32,
     answers: Vec<Answer>,
+    gate: &'g G,
 }
 
-impl Model for OneThread {
-    ghost use Rattle.std.specs.Prelude.{◌≡◌, ◌≤◌, List, length, map};
-    ghost use Rattle.std.specs.Coded.{coded_list};
-    ghost use Rattle.dv_script.specs.contracts.work.Work as work_contract;
-    ghost use Rattle.dv_script.specs.declared.work.Work.{Work as SpecWork};
-
-    ghost Value = { List SpecWork };
-
-    ghost coded = { coded_list work_contract.the_row.coded };
-
-    ghost use Rattle.dv_jobs.specs.Jobs.{job_of, jobs_from, works_of};
+impl<'g, G> Model for OneThread<'g, G> {
+    ghost use Rattle.std.specs.Prelude.{◌≡◌, ◌≤◌, false, length, map};
+    ghost use Rattle.std.specs.Coded.{codes};
+    ghost use Rattle.dv_jobs.specs.contracts.job.Job as job_contract;
+    ghost use Rattle.dv_jobs.specs.Jobs.{job_of};
+    ghost use Rattle.dv_jobs.specs.Sources.{Source, AreInRow};
     ghost use Rattle.dv_script.specs.declared.work.TheConstants.{MOST_JOBS};
 
-    ghost view = { λ s. works_of (map job_of s.answers.items) };
+    ghost Value = { Source };
 
-    ghost invariant = { λ s. (map job_of s.answers.items ≡ jobs_from 0 (works_of (map job_of s.answers.items))) × (length s.answers.items ≤ MOST_JOBS) };
+    ghost coded = { Prim.hlevel (codes, job_contract.the_row.coded) };
+
+    ghost view = { λ s. record { pools = s.pools; jobs = map job_of s.answers.items; failed = false } };
+
+    ghost invariant = { λ s. AreInRow (map job_of s.answers.items) × (length s.answers.items ≤ MOST_JOBS) };
 }
 
-impl OneThread {
-    /// A source to which nothing was submitted. It takes no memory before that.
-    pub fn new(alloc: Global) -> OneThread
-        ensures { result ≡ [] }
+impl<'g, G: Gate> OneThread<'g, G> {
+    /// A source to which nothing was submitted, with so many pools beside the default one. It takes no memory before that.
+    pub fn new(alloc: Global, pools: u32, gate: &'g G) -> OneThread<'g, G>
+        ensures { result ≡ record { pools = pools; jobs = []; failed = false } }
     {
         OneThread {
+            pools,
             answers: Vec::new(alloc),
+            gate,
         }
     }
 }
 
-impl JobSource for OneThread {
-    ghost works = { λ s. s };
+impl<'g, G: Gate> JobSource for OneThread<'g, G> {
+    ghost jobs = { λ s. s.jobs };
+
+    ghost pools = { λ s. s.pools };
+
+    ghost failed = { λ s. s.failed };
 
     fn may_submit(&self) -> Result<(), JobFault> {
         if self.answers.len() < MOST_JOBS {
@@ -61,12 +68,12 @@ impl JobSource for OneThread {
         }
     }
 
-    fn submit(&mut self, alloc: Global, work: Work) -> Result<u32, JobFault> {
-        let job = Job::new(self.answers.len(), work);
+    fn submit(&mut self, alloc: Global, _pool: u32, work: Work) -> Result<u32, JobFault> {
+        let job = Job::new(self.answers.len() as u32, work);
         let number = job.number;
+        self.answers.try_reserve(1).map_err(AllocError::from)?;
         self.answers
-            .push(job.done(alloc))
-            .map_err(AllocError::from)?;
+            .push_reserved(self.gate.answer(alloc, OWNER, job));
         Ok(number)
     }
 
@@ -80,7 +87,11 @@ impl JobSource for OneThread {
     }
 
     fn close<R: Threads + Wait>(self, _rt: &R, alloc: Global) -> Result<Ran, AllocError> {
-        let OneThread { answers } = self;
+        let OneThread {
+            pools: _,
+            answers,
+            gate: _,
+        } = self;
         let mut ran = Ran::new(alloc);
         for answer in answers {
             match answer {

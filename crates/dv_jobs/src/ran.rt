@@ -1,6 +1,7 @@
 ghost use Rattle.std.specs.Prelude.{◌≡◌, [], ◌∷◌, ◌++◌, OnOk};
 
 use crate::job::Done;
+use dv_value::deque::Deque;
 use dv_value::items::Items;
 use std::alloc::{AllocError, Global};
 
@@ -25,6 +26,13 @@ impl Ran {
         ensures { OnOk result (self.new.dones ≡ self.old.dones ++ done ∷ []) }
     {
         self.dones.push(done)
+    }
+
+    /// What was done, to be taken from the front.
+    pub fn into_dones(self) -> Deque<Done>
+        ensures { result ≡ self.dones }
+    {
+        Deque::of(self.dones.into_vec())
     }
 
     /// Each job with the value of its work, in the order of their numbers.

@@ -1,8 +1,8 @@
-ghost use Rattle.std.specs.Prelude.{◌≡◌, ◌<◌, ◌++◌, ◌∷◌, [], List, length, IfOk, OnOk, OnErr, IfErr};
-ghost use Rattle.dv_script.specs.declared.work.Work.{Work as SpecWork};
-ghost use Rattle.dv_jobs.specs.Jobs.{jobs_from};
+ghost use Rattle.std.specs.Prelude.{◌≡◌, ◌<◌, ◌≤◌, ◌++◌, ◌∷◌, [], ℕ, Bool, true, false, List, length, IfOk, OnOk, OnErr, IfErr};
+ghost use Rattle.dv_jobs.specs.declared.job.Job.{Job};
 ghost use Rattle.dv_script.specs.declared.work.TheConstants.{MOST_JOBS};
-ghost use Rattle.dv_jobs.specs.Sources.{room_after, IsValueAt, jobs_of};
+ghost use Rattle.dv_jobs.specs.Jobs.{numbered};
+ghost use Rattle.dv_jobs.specs.Sources.{room_after, AreInRow, IsSubmitted, IsValueUnder, jobs_of};
 
 use crate::error::JobFault;
 use crate::ran::Ran;
@@ -13,37 +13,53 @@ use std::random::RandomSource;
 use std::sync::Wait;
 use std::thread::Threads;
 
-/// Takes works, answers each, and gives what was done (Twisted: a thread pool behind `deferToThread`).
+/// Takes works, answers each, and gives what was done (Twisted: thread pools behind `deferToThreadPool`).
+///
+/// A source by which is waited with an executor may fail: where the executor does, it wants memory from then on.
 pub trait JobSource: Drop {
-    /// The works submitted, in order. A work is known by its number, its place in this list.
-    ghost works: { Self → List SpecWork };
+    /// The jobs submitted, in order: each a work under its number.
+    ghost jobs: { Self → List Job };
+
+    /// How many pools there are beside the default one. That is number 0, and these are 1, 2 and so on.
+    ghost pools: { Self → ℕ };
+
+    /// Whether it has failed.
+    ghost failed: { Self → Bool };
 
     /// Whether another work may be submitted: Full where `MOST_JOBS` were.
     fn may_submit(&self) -> Result<(), JobFault>
-        ensures { result ≡ room_after (works self.now) };
+        ensures { result ≡ room_after (jobs self.now) };
 
-    /// Submits a work, and gives its number. It never waits. OutOfMemory, and nothing else, where memory is refused.
-    fn submit(&mut self, alloc: Global, work: Work) -> Result<u32, JobFault>
-        requires { length (works self.old) < MOST_JOBS }
-        ensures number { IfOk result (λ number. number ≡ length (works self.old)) }
-        ensures ok { OnOk result (works self.new ≡ works self.old ++ work ∷ []) }
+    /// Submits a work to a pool, and gives its number, where all numbers so far were given so. It never waits. OutOfMemory, and
+    /// nothing else, where memory is refused, or the source has failed.
+    fn submit(&mut self, alloc: Global, pool: u32, work: Work) -> Result<u32, JobFault>
+        requires row { AreInRow (jobs self.old) }
+        requires room { length (jobs self.old) < MOST_JOBS }
+        requires declared { pool ≤ pools self.old }
+        ensures number { IfOk result (λ number. number ≡ length (jobs self.old)) }
+        ensures ok { OnOk result (jobs self.new ≡ jobs self.old ++ numbered (length (jobs self.old)) work ∷ []) }
+        ensures working { OnOk result (failed self.old ≡ false) }
         ensures err { IfErr result (λ fault. fault ≡ JobFault.OutOfMemory) }
-        ensures kept { OnErr result (works self.new ≡ works self.old) };
+        ensures kept { OnErr result (jobs self.new ≡ jobs self.old) }
+        ensures same { (pools self.new ≡ pools self.old) × (failed self.new ≡ failed self.old) };
 
     /// The value of the work of this number. It may wait for the worker that has it. AllocError where memory is refused, or
-    /// was refused to the job, or where the executor failed by which it is waited for.
+    /// was refused to the job, where the executor fails by which it is waited for, and where one has failed before.
     fn outcome<R: Wait + RandomSource + AllocGlobal>(
         &mut self,
         rt: &R,
         alloc: Global,
         number: u32,
     ) -> Result<Value, AllocError>
-        requires { number < length (works self.old) }
-        ensures value { IfOk result (IsValueAt (works self.old) number) }
-        ensures same { works self.new ≡ works self.old };
+        requires { IsSubmitted number (jobs self.old) }
+        ensures value { IfOk result (IsValueUnder number (jobs self.old)) }
+        ensures working { OnOk result ((failed self.old ≡ false) × (failed self.new ≡ false)) }
+        ensures stays { failed self.old ≡ true → failed self.new ≡ true }
+        ensures same { (jobs self.new ≡ jobs self.old) × (pools self.new ≡ pools self.old) };
 
-    /// Waits until all is answered, and gives each work submitted once, under its number and in that order. AllocError where
-    /// memory is refused, or was refused to a job.
+    /// Waits until all is answered, and gives each job submitted once, in order. AllocError where memory is refused, or was
+    /// refused to a job, and where the source has failed.
     fn close<R: Threads + Wait>(self, rt: &R, alloc: Global) -> Result<Ran, AllocError>
-        ensures { IfOk result (λ ran. jobs_of ran.dones ≡ jobs_from 0 (works self)) };
+        ensures ok { IfOk result (λ ran. jobs_of ran.dones ≡ jobs self) }
+        ensures working { OnOk result (failed self ≡ false) };
 }

@@ -28,6 +28,7 @@ refusal_text script.TooMany = codes "script refused: 5 TooMany"
 refusal_text script.BadName = codes "script refused: 6 BadName"
 refusal_text script.BadClass = codes "script refused: 7 BadClass"
 refusal_text script.OutOfMemory = codes "script refused: 8 OutOfMemory"
+refusal_text script.BadPool = codes "script refused: 9 BadPool"
 
 -- what each fault is called; a refused script is said to be, with its reason
 abbrev pub fault_text : RunFault → List ℕ

@@ -23,6 +23,7 @@ of_script script.TooMany = ScriptRefused script.TooMany
 of_script script.BadName = ScriptRefused script.BadName
 of_script script.BadClass = ScriptRefused script.BadClass
 of_script script.OutOfMemory = OutOfMemory
+of_script script.BadPool = ScriptRefused script.BadPool
 
 -- a writer that failed is a write fault, and want of memory stays that
 abbrev pub of_print : PrintFault → RunFault

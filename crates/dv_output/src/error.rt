@@ -60,7 +60,8 @@ impl From<ScriptFault> for RunFault {
             | ScriptFault::BadShape
             | ScriptFault::TooMany
             | ScriptFault::BadName
-            | ScriptFault::BadClass => RunFault::ScriptRefused(refusal),
+            | ScriptFault::BadClass
+            | ScriptFault::BadPool => RunFault::ScriptRefused(refusal),
             ScriptFault::OutOfMemory => RunFault::OutOfMemory,
         }
     }

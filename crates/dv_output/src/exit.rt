@@ -58,5 +58,6 @@ fn refusal_text(refusal: ScriptFault) -> &'static str
         ScriptFault::BadName => "script refused: 6 BadName",
         ScriptFault::BadClass => "script refused: 7 BadClass",
         ScriptFault::OutOfMemory => "script refused: 8 OutOfMemory",
+        ScriptFault::BadPool => "script refused: 9 BadPool",
     }
 }

@@ -1,17 +1,18 @@
 -- What the passes answer is what the bytes say.
-use Rattle.std.proofs.Common.{◌≡◌, ℕ, ◌≤◌, List, length, Option, Some, None, Result, Ok, Err, IfOk, IfErr, true, sym, ap, arith}
+use Rattle.std.proofs.Common.{◌≡◌, ℕ, ◌≤◌, List, length, Option, Some, None, Result, Ok, Err, IfOk, IfErr, Bool, true, false, cond, refl, sym, ap, ◌∙◌, arith}
 use Rattle.serde_json.specs.Data.{Data}
 use Rattle.std.proofs.lemmas.Bool.{and_parts, leb-true}
 use Rattle.serde_json.proofs.Nesting.{depth-read}
 use Rattle.dv_grammar.specs.declared.draft.Draft.{Draft}
 use Rattle.dv_script.specs.declared.script.Script.{Script}
 use Rattle.dv_reader.specs.declared.error.ScriptFault.{ScriptFault}
-use Rattle.dv_reader.specs.declared.error.ScriptFault.TheVariants.{TooLong, NotJson, BadVersion, BadShape, TooMany, BadName, BadClass, OutOfMemory}
+use Rattle.dv_reader.specs.declared.error.ScriptFault.TheVariants.{TooLong, NotJson, BadVersion, BadShape, TooMany, BadName, BadClass, OutOfMemory, BadPool}
 use Rattle.dv_forms.specs.Forms.{Field, IsNumber}
-use Rattle.dv_reader.specs.Limits.{most_nodes, most_limit, nodes}
-use Rattle.dv_reader.specs.Refusal.{IsDocument, IsMisshapen, HasShape, Says, Refuses}
+use Rattle.dv_reader.specs.Limits.{most_nodes, most_limit, most_pools, nodes, is_small}
+use Rattle.dv_reader.specs.Refusal.{IsDocument, IsMisshapen, keeps_version, HasShape, Says, Refuses}
 use Rattle.dv_grammar.specs.Shape.{script_at}
-use Rattle.dv_reader.specs.Passes.{JudgedIn, Passes, is_version}
+use Rattle.dv_reader.specs.Passes.{JudgedIn, Passes, is_version, shape_at}
+use Rattle.dv_grammar.proofs.Steps.{some_injective, bind}
 use Rattle.dv_grammar.proofs.Complete.{complete_script}
 use Rattle.dv_grammar.proofs.Sound.{sound_script}
 use Rattle.dv_reader.proofs.Version.{version_is, no_version}
@@ -21,14 +22,31 @@ use Rattle.dv_reader.proofs.Count.{events_few}
 document : (bytes : List ℕ) (r : Result Script ScriptFault) (h : JudgedIn bytes r) → IsDocument bytes h.0
 document bytes r h = record { fits = h.1; text = h.2; is = h.3 }
 
+kept : (b : Bool) (a draft : Draft) → cond b (Some a) None ≡ Some draft → (b ≡ true) × (a ≡ draft)
+kept true a draft e = (refl, some_injective e)
+kept false a draft e = cc
+
+-- what is a draft is read as one that keeps to its version
+pub shape_is : (d : Data) (draft : Draft) → shape_at d ≡ Some draft → (script_at d ≡ Some draft) × (keeps_version draft ≡ true)
+shape_is d draft e =
+    bind (script_at d) _ draft e (λ a a_is a_then.
+    let k = kept (keeps_version a) a draft a_then in
+    (a_is ∙ ap Some k.1, ap keeps_version (sym k.1) ∙ k.0))
+
+-- what is read as a draft that keeps to its version is that draft
+pub shape_found : (d : Data) (draft : Draft) → script_at d ≡ Some draft → keeps_version draft ≡ true → shape_at d ≡ Some draft
+shape_found d draft is keeps = rw (is, keeps) refl
+
 -- what is read as a script has its shape
-shaped : (bytes : List ℕ) (d : Data) (draft : Draft) → IsDocument bytes d → is_version d ≡ true → script_at d ≡ Some draft → HasShape bytes d draft
-shaped bytes d draft document version is = record { document = document; version = version_is d version; shape = sound_script d draft is }
+pub shaped : (bytes : List ℕ) (d : Data) (draft : Draft) → IsDocument bytes d → is_version d ≡ true → shape_at d ≡ Some draft → HasShape bytes d draft
+shaped bytes d draft document version is =
+    let s = shape_is d draft is in
+    record { document = document; version = version_is d version; shape = sound_script d draft s.0; plain = s.1 }
 
 -- what is read as nothing has no script's shape
-pub misshapen : (bytes : List ℕ) (d : Data) → IsDocument bytes d → script_at d ≡ None → IsMisshapen d
-misshapen bytes d document is draft h =
-    let found : script_at d ≡ Some draft = complete_script d draft (depth-read bytes d document.is) h in cc
+pub misshapen : (bytes : List ℕ) (d : Data) → IsDocument bytes d → shape_at d ≡ None → IsMisshapen d
+misshapen bytes d document is draft h keeps =
+    let found : shape_at d ≡ Some draft = shape_found d draft (complete_script d draft (depth-read bytes d document.is) h) keeps in cc
 
 pub says : (bytes : List ℕ) (r : Result Script ScriptFault) → Passes bytes r → IfOk r (λ s. Says bytes s)
 says bytes (Ok s) h = let j = h.4 in record {
@@ -39,6 +57,7 @@ says bytes (Ok s) h = let j = h.4 in record {
   small = j.4;
   named = j.5;
   known = j.6;
+  pooled = j.7;
 }
 says bytes (Err fault) h = tt
 
@@ -56,13 +75,15 @@ refuses bytes (Err BadName) h =
 refuses bytes (Err BadClass) h =
     let j = h.4 in (h.0, j.0, shaped bytes h.0 j.0 (document bytes (Err BadClass) h) j.1 j.2, j.3, j.4, j.5)
 refuses bytes (Err OutOfMemory) h = tt
+refuses bytes (Err BadPool) h =
+    let j = h.4 in (h.0, j.0, shaped bytes h.0 j.0 (document bytes (Err BadPool) h) j.1 j.2, j.3, j.4, j.5, j.6)
 
 pub few : (bytes : List ℕ) (r : Result Script ScriptFault) → Passes bytes r → IfOk r (λ s. length s.events ≤ most_nodes)
 few bytes (Ok s) h =
     let j = h.4 in
     let same : length s.events ≡ length j.0.script.events = ap (λ (x : Script). length x.events) (sym j.3) in
-    let few_events : length j.0.script.events ≤ nodes h.0 = events_few h.0 j.0 (sound_script h.0 j.0 j.2) in
-    let few_nodes : nodes h.0 ≤ most_nodes = leb-true (nodes h.0) most_nodes (and_parts _ _ (and_parts _ _ (and_parts _ _ (and_parts _ _ j.4).0).0).0).0 in
+    let few_events : length j.0.script.events ≤ nodes h.0 = events_few h.0 j.0 (sound_script h.0 j.0 (shape_is h.0 j.0 j.2).0) in
+    let few_nodes : nodes h.0 ≤ most_nodes = leb-true (nodes h.0) most_nodes (and_parts _ _ (and_parts _ _ (and_parts _ _ (and_parts _ _ (and_parts _ _ j.4).0).0).0).0).0 in
     omega (arith, same, few_events, few_nodes)
 few bytes (Err fault) h = tt
 
@@ -74,5 +95,16 @@ pub limited : (bytes : List ℕ) (r : Result Script ScriptFault) → Passes byte
 limited bytes (Ok s) h =
     let j = h.4 in
     let same : s.limit ≡ j.0.script.limit = ap (λ (x : Script). x.limit) (sym j.3) in
-    omega (arith, same, limited_field _ j.0.script.limit (sound_script h.0 j.0 j.2).limit)
+    omega (arith, same, limited_field _ j.0.script.limit (sound_script h.0 j.0 (shape_is h.0 j.0 j.2).0).limit)
 limited bytes (Err fault) h = tt
+
+-- what is small enough has few pools
+small_pools : (d : Data) (draft : Draft) → is_small d draft ≡ true → length draft.script.pools ≤ most_pools
+small_pools d draft e = leb-true (length draft.script.pools) most_pools (and_parts _ _ (and_parts _ _ (and_parts _ _ (and_parts _ _ e).0).0).0).1
+
+pub few_pools : (bytes : List ℕ) (r : Result Script ScriptFault) → Passes bytes r → IfOk r (λ s. length s.pools ≤ most_pools)
+few_pools bytes (Ok s) h =
+    let j = h.4 in
+    let same : length s.pools ≡ length j.0.script.pools = ap (λ (x : Script). length x.pools) (sym j.3) in
+    omega (arith, same, small_pools h.0 j.0 j.4)
+few_pools bytes (Err fault) h = tt

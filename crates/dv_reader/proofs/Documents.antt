@@ -4,31 +4,29 @@ use Rattle.serde_json.specs.Data.{Data}
 use Rattle.serde_json.proofs.Nesting.{depth-read}
 use Rattle.dv_script.specs.declared.script.Script.{Script}
 use Rattle.dv_grammar.specs.declared.draft.Draft.{Draft}
-use Rattle.dv_reader.specs.declared.error.ScriptFault.TheVariants.{TooLong, NotJson, BadVersion, BadShape, TooMany, BadName, BadClass, OutOfMemory}
+use Rattle.dv_reader.specs.declared.error.ScriptFault.TheVariants.{TooLong, NotJson, BadVersion, BadShape, TooMany, BadName, BadClass, OutOfMemory, BadPool}
 use Rattle.dv_grammar.specs.Grammar.{IsScript}
 use Rattle.dv_reader.specs.Limits.{is_small}
-use Rattle.dv_reader.specs.Refusal.{IsDocument, HasVersion, HasShape, are_named, are_known, Says}
-use Rattle.dv_grammar.specs.Shape.{script_at}
-use Rattle.dv_reader.specs.Passes.{is_version}
+use Rattle.dv_reader.specs.Refusal.{IsDocument, HasVersion, HasShape, are_named, are_known, are_pooled, Says}
+use Rattle.dv_reader.specs.Passes.{is_version, shape_at}
 use Rattle.dv_reader.specs.Laws.{IsRefused, SaysOneAtMost, RefusedSaysNone, SaysOrIsRefused}
 use Rattle.dv_grammar.proofs.Steps.{some_injective}
 use Rattle.dv_grammar.proofs.Complete.{complete_script}
-use Rattle.dv_grammar.proofs.Sound.{sound_script}
 use Rattle.dv_reader.proofs.Version.{version_is, no_version}
-use Rattle.dv_reader.proofs.Answers.{misshapen}
+use Rattle.dv_reader.proofs.Answers.{shape_found, shaped, misshapen}
 
 -- bytes are the text of one value
 same_value : (bytes : List ℕ) (d e : Data) → IsDocument bytes d → IsDocument bytes e → d ≡ e
 same_value bytes d e a b = some_injective (sym a.is ∙ b.is)
 
 -- what has the shape of a script is read as that
-read_as : (bytes : List ℕ) (d : Data) (draft : Draft) → HasShape bytes d draft → script_at d ≡ Some draft
-read_as bytes d draft h = complete_script d draft (depth-read bytes d h.document.is) h.shape
+read_as : (bytes : List ℕ) (d : Data) (draft : Draft) → HasShape bytes d draft → shape_at d ≡ Some draft
+read_as bytes d draft h = shape_found d draft (complete_script d draft (depth-read bytes d h.document.is) h.shape) h.plain
 
 same_draft : (bytes : List ℕ) (d e : Data) (a b : Draft) → HasShape bytes d a → HasShape bytes e b → a ≡ b
 same_draft bytes d e a b h k =
     let same : d ≡ e = same_value bytes d e h.document k.document in
-    some_injective (sym (read_as bytes d a h) ∙ ap script_at same ∙ read_as bytes e b k)
+    some_injective (sym (read_as bytes d a h) ∙ ap shape_at same ∙ read_as bytes e b k)
 
 pub one_at_most : SaysOneAtMost
 one_at_most bytes s t a b =
@@ -40,7 +38,7 @@ refused_says_none bytes NotJson s other h a = let unread = h.1 a.shape.document.
 refused_says_none bytes BadVersion s other h a =
     h.2 (subst HasVersion (same_value bytes a.json h.0 a.shape.document h.1) a.shape.version)
 refused_says_none bytes BadShape s other h a =
-    h.3 a.draft (subst (λ (x : Data). IsScript x a.draft) (same_value bytes a.json h.0 a.shape.document h.1) a.shape.shape)
+    h.3 a.draft (subst (λ (x : Data). IsScript x a.draft) (same_value bytes a.json h.0 a.shape.document h.1) a.shape.shape) a.shape.plain
 refused_says_none bytes TooMany s other h a =
     let same : is_small a.json a.draft ≡ is_small h.0 h.1 =
     ap (λ (x : Data). is_small x a.draft) (same_value bytes a.json h.0 a.shape.document h.2.document)
@@ -59,6 +57,11 @@ refused_says_none bytes BadClass s other h a =
     let bad : are_known h.1 ≡ false = h.5 in
     cc
 refused_says_none bytes OutOfMemory s other h a = other refl
+refused_says_none bytes BadPool s other h a =
+    let same : are_pooled a.draft ≡ are_pooled h.1 = ap are_pooled (same_draft bytes a.json h.0 a.draft h.1 a.shape h.2) in
+    let good : are_pooled a.draft ≡ true = a.pooled in
+    let bad : are_pooled h.1 ≡ false = h.6 in
+    cc
 
 tested : (b : Bool) → (b ≡ true) ⊎ (b ≡ false)
 tested true = inl refl
@@ -71,9 +74,15 @@ looked None = inr refl
 abbrev Answered : List ℕ → Type 0
 Answered bytes = ((s : Script) × Says bytes s) ⊎ IsRefused bytes
 
+pooled_or_not : (bytes : List ℕ) (d : Data) (draft : Draft) → HasShape bytes d draft → is_small d draft ≡ true → are_named draft ≡ true → are_known draft ≡ true → Answered bytes
+pooled_or_not bytes d draft shape small named known = elim (tested (are_pooled draft)) [
+  | inl pooled ↦ inl (draft.script, record { json = d; draft = draft; same = refl; shape = shape; small = small; named = named; known = known; pooled = pooled })
+  | inr unpooled ↦ inr (BadPool, (λ e. cc), (d, draft, shape, small, named, known, unpooled))
+]
+
 known_or_not : (bytes : List ℕ) (d : Data) (draft : Draft) → HasShape bytes d draft → is_small d draft ≡ true → are_named draft ≡ true → Answered bytes
 known_or_not bytes d draft shape small named = elim (tested (are_known draft)) [
-  | inl known ↦ inl (draft.script, record { json = d; draft = draft; same = refl; shape = shape; small = small; named = named; known = known })
+  | inl known ↦ pooled_or_not bytes d draft shape small named known
   | inr unknown ↦ inr (BadClass, (λ e. cc), (d, draft, shape, small, named, unknown))
 ]
 
@@ -89,14 +98,14 @@ small_or_not bytes d draft shape = elim (tested (is_small d draft)) [
   | inr many ↦ inr (TooMany, (λ e. cc), (d, draft, shape, many))
 ]
 
-shaped_or_not : (bytes : List ℕ) (d : Data) → IsDocument bytes d → HasVersion d → Answered bytes
-shaped_or_not bytes d document version = elim (looked (script_at d)) [
-  | inl found ↦ small_or_not bytes d found.0 (record { document = document; version = version; shape = sound_script d found.0 found.1 })
-  | inr none ↦ inr (BadShape, (λ e. cc), (d, document, version, misshapen bytes d document none))
+shaped_or_not : (bytes : List ℕ) (d : Data) → IsDocument bytes d → is_version d ≡ true → Answered bytes
+shaped_or_not bytes d document version = elim (looked (shape_at d)) [
+  | inl found ↦ small_or_not bytes d found.0 (shaped bytes d found.0 document version found.1)
+  | inr none ↦ inr (BadShape, (λ e. cc), (d, document, version_is d version, misshapen bytes d document none))
 ]
 
 pub says_or_is_refused : SaysOrIsRefused
 says_or_is_refused bytes d document = elim (tested (is_version d)) [
-  | inl version ↦ shaped_or_not bytes d document (version_is d version)
+  | inl version ↦ shaped_or_not bytes d document version
   | inr other ↦ inr (BadVersion, (λ e. cc), (d, document, no_version d other))
 ]

@@ -1,4 +1,4 @@
--- How much a script may have: bytes; nodes, of which each array, object and scalar is one and a key is none; classes, callers, posts; and ticks of the clock.
+-- How much a script may have: bytes; nodes, of which each array, object and scalar is one and a key is none; classes, pools, callers, posts; and ticks of the clock.
 use Rattle.std.specs.Prelude.{ℕ, ◌+◌, ◌^◌, Bool, ◌&&◌, nat_le, List, length, map, sum}
 use Rattle.std.specs.List.{list_all}
 use Rattle.serde_json.specs.Data.{Data, null, boolean, number, string, array, object, Items, no_items, item, Members, no_members, member}
@@ -27,6 +27,10 @@ most_callers = 8
 -- the most posts of a caller
 abbrev pub most_posts : ℕ
 most_posts = 256
+
+-- the most pools of a script
+abbrev pub most_pools : ℕ
+most_pools = 4
 
 -- the most ticks by which a script advances the clock in all
 abbrev pub most_ticks : ℕ
@@ -69,6 +73,7 @@ abbrev pub is_small : Data → Draft → Bool
 is_small d draft =
     nat_le (nodes d) most_nodes
     && nat_le (length draft.declared) most_classes
+    && nat_le (length draft.script.pools) most_pools
     && nat_le (length draft.script.callers) most_callers
     && list_all are_few draft.script.callers
     && nat_le (ticks_in draft.script.events) most_ticks

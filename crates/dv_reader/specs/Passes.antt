@@ -1,16 +1,16 @@
 -- What the passes of the reader find, by the functions that they compute.
-use Rattle.std.specs.Prelude.{◌≡◌, ◌≤◌, ◌<◌, ℕ, Bool, true, false, List, length, Option, Some, None, option_and_then, nat_eq, IsUtf8, codes, Result, Ok, Err, ⊤}
+use Rattle.std.specs.Prelude.{◌≡◌, ◌≤◌, ◌<◌, ℕ, Bool, true, false, ◌||◌, if◌then◌else◌, List, length, Option, Some, None, option_and_then, nat_eq, IsUtf8, codes, Result, Ok, Err, ⊤}
 use Rattle.serde_json.specs.Data.{Data}
 use Rattle.serde_json.specs.Find.{get, as_number, as_u64}
 use Rattle.serde_json.specs.Read.{read}
 use Rattle.dv_script.specs.declared.script.Script.{Script}
 use Rattle.dv_reader.specs.declared.error.ScriptFault.{ScriptFault}
-use Rattle.dv_reader.specs.declared.error.ScriptFault.TheVariants.{TooLong, NotJson, BadVersion, BadShape, TooMany, BadName, BadClass, OutOfMemory}
+use Rattle.dv_reader.specs.declared.error.ScriptFault.TheVariants.{TooLong, NotJson, BadVersion, BadShape, TooMany, BadName, BadClass, OutOfMemory, BadPool}
 use Rattle.dv_forms.specs.declared.stop.Stop.{Stop}
 use Rattle.dv_forms.specs.declared.stop.Stop.TheVariants as stop
 use Rattle.dv_grammar.specs.declared.draft.Draft.{Draft}
 use Rattle.dv_reader.specs.Limits.{most_bytes, is_small}
-use Rattle.dv_reader.specs.Refusal.{are_named, are_known}
+use Rattle.dv_reader.specs.Refusal.{keeps_version, are_named, are_known, are_pooled}
 use Rattle.dv_grammar.specs.Shape.{script_at}
 
 -- the refusal of a reader that stops
@@ -18,18 +18,22 @@ abbrev pub script_fault_of : Stop → ScriptFault
 script_fault_of stop.BadShape = BadShape
 script_fault_of stop.OutOfMemory = OutOfMemory
 
--- there is a number, and it is 1
-abbrev pub is_one : Option ℕ → Bool
-is_one None = false
-is_one (Some n) = nat_eq n 1
+-- there is a number, and it is 1 or 2
+abbrev pub is_one_or_two : Option ℕ → Bool
+is_one_or_two None = false
+is_one_or_two (Some n) = nat_eq n 1 || nat_eq n 2
 
--- the version is the integer 1
+-- the version is the integer 1 or 2
 abbrev pub is_version : Data → Bool
-is_version d = is_one (option_and_then as_u64 (option_and_then as_number (get (codes "version") d)))
+is_version d = is_one_or_two (option_and_then as_u64 (option_and_then as_number (get (codes "version") d)))
+
+-- the draft that a JSON value is, where it keeps to its version
+abbrev pub shape_at : Data → Option Draft
+shape_at d = option_and_then (λ draft. if keeps_version draft then Some draft else None) (script_at d)
 
 -- what the last passes find of a draft of a JSON value
 abbrev pub Accepts : Data → Draft → Result ⊤ ScriptFault → Type 0
-Accepts d draft (Ok t) = (is_small d draft ≡ true) × (are_named draft ≡ true) × (are_known draft ≡ true)
+Accepts d draft (Ok t) = (is_small d draft ≡ true) × (are_named draft ≡ true) × (are_known draft ≡ true) × (are_pooled draft ≡ true)
 Accepts d draft (Err TooLong) = ⊥
 Accepts d draft (Err NotJson) = ⊥
 Accepts d draft (Err BadVersion) = ⊥
@@ -38,23 +42,27 @@ Accepts d draft (Err TooMany) = is_small d draft ≡ false
 Accepts d draft (Err BadName) = (is_small d draft ≡ true) × (are_named draft ≡ false)
 Accepts d draft (Err BadClass) = (is_small d draft ≡ true) × (are_named draft ≡ true) × (are_known draft ≡ false)
 Accepts d draft (Err OutOfMemory) = ⊥
+Accepts d draft (Err BadPool) = (is_small d draft ≡ true) × (are_named draft ≡ true) × (are_known draft ≡ true) × (are_pooled draft ≡ false)
 
 -- what the passes find of a JSON value
 abbrev pub Judged : Data → Result Script ScriptFault → Type 0
 Judged d (Ok s) =
-    (draft : Draft) × (is_version d ≡ true) × (script_at d ≡ Some draft) × (draft.script ≡ s)
-    × (is_small d draft ≡ true) × (are_named draft ≡ true) × (are_known draft ≡ true)
+    (draft : Draft) × (is_version d ≡ true) × (shape_at d ≡ Some draft) × (draft.script ≡ s)
+    × (is_small d draft ≡ true) × (are_named draft ≡ true) × (are_known draft ≡ true) × (are_pooled draft ≡ true)
 Judged d (Err TooLong) = ⊥
 Judged d (Err NotJson) = ⊥
 Judged d (Err BadVersion) = is_version d ≡ false
-Judged d (Err BadShape) = (is_version d ≡ true) × (script_at d ≡ None)
-Judged d (Err TooMany) = (draft : Draft) × (is_version d ≡ true) × (script_at d ≡ Some draft) × (is_small d draft ≡ false)
+Judged d (Err BadShape) = (is_version d ≡ true) × (shape_at d ≡ None)
+Judged d (Err TooMany) = (draft : Draft) × (is_version d ≡ true) × (shape_at d ≡ Some draft) × (is_small d draft ≡ false)
 Judged d (Err BadName) =
-    (draft : Draft) × (is_version d ≡ true) × (script_at d ≡ Some draft) × (is_small d draft ≡ true) × (are_named draft ≡ false)
+    (draft : Draft) × (is_version d ≡ true) × (shape_at d ≡ Some draft) × (is_small d draft ≡ true) × (are_named draft ≡ false)
 Judged d (Err BadClass) =
-    (draft : Draft) × (is_version d ≡ true) × (script_at d ≡ Some draft) × (is_small d draft ≡ true) × (are_named draft ≡ true)
+    (draft : Draft) × (is_version d ≡ true) × (shape_at d ≡ Some draft) × (is_small d draft ≡ true) × (are_named draft ≡ true)
     × (are_known draft ≡ false)
 Judged d (Err OutOfMemory) = ⊤
+Judged d (Err BadPool) =
+    (draft : Draft) × (is_version d ≡ true) × (shape_at d ≡ Some draft) × (is_small d draft ≡ true) × (are_named draft ≡ true)
+    × (are_known draft ≡ true) × (are_pooled draft ≡ false)
 
 -- what they find of the value that the bytes are
 abbrev pub JudgedIn : List ℕ → Result Script ScriptFault → Type 0
@@ -71,3 +79,4 @@ Passes bytes (Err TooMany) = JudgedIn bytes (Err TooMany)
 Passes bytes (Err BadName) = JudgedIn bytes (Err BadName)
 Passes bytes (Err BadClass) = JudgedIn bytes (Err BadClass)
 Passes bytes (Err OutOfMemory) = ⊤
+Passes bytes (Err BadPool) = JudgedIn bytes (Err BadPool)

@@ -1,6 +1,6 @@
--- What is wanted of the names and of the classes that a script uses: a pass over all of them.
-use Rattle.std.specs.Prelude.{ℕ, Bool, true, ◌&&◌, nat_lt, List, Option, Some, None}
-use Rattle.std.specs.List.{list_all}
+-- What is wanted of the names, of the classes and of the pools that a script uses: a pass over all of them.
+use Rattle.std.specs.Prelude.{ℕ, Bool, true, ◌&&◌, nat_lt, bytes_eq, List, Option, Some, None}
+use Rattle.std.specs.List.{list_all, list_any}
 use Rattle.dv_script.specs.declared.body.End.{End}
 use Rattle.dv_script.specs.declared.body.End.TheVariants.{Return, Pass, Plus, Raise, Trap, Wait}
 use Rattle.dv_script.specs.declared.body.Body.{Body}
@@ -12,25 +12,39 @@ use Rattle.dv_script.specs.declared.action.Action.TheOpen.{Action-F, Statement-F
 use Rattle.dv_script.specs.declared.action.Action.TheFolds.{fold-Action, fold-Statement, fold-Body}
 use Rattle.dv_script.specs.declared.event.Event.{Event}
 use Rattle.dv_script.specs.declared.event.Event.TheVariants as event
+use Rattle.dv_script.specs.declared.script.NamedPool.{NamedPool}
 use Rattle.dv_script.specs.declared.script.Script.{Script}
 use Rattle.dv_reader.specs.declared.suits.Wanted.{Wanted}
-use Rattle.dv_reader.specs.declared.suits.Wanted.TheVariants.{Names, Classes}
+use Rattle.dv_reader.specs.declared.suits.Wanted.TheVariants.{Names, Classes, Pools}
 use Rattle.dv_reader.specs.Names.{is_name, names_one}
 
 -- of a name: its form
 abbrev pub suits_name : Wanted → List ℕ → Bool
 suits_name Names name = is_name name
 suits_name (Classes count) name = true
+suits_name (Pools pools) name = true
 
 -- of a name where a Deferred that is there is named: its form, or `@`
 abbrev pub suits_deferred : Wanted → List ℕ → Bool
 suits_deferred Names name = names_one name
 suits_deferred (Classes count) name = true
+suits_deferred (Pools pools) name = true
 
 -- of a class: that it is one of so many
 abbrev pub suits_class : Wanted → ℕ → Bool
 suits_class Names class = true
 suits_class (Classes count) class = nat_lt class count
+suits_class (Pools pools) class = true
+
+-- whether a pool of this name is among these
+abbrev pub is_among : List ℕ → List NamedPool → Bool
+is_among name pools = list_any (λ pool. bytes_eq pool.name name) pools
+
+-- of a pool: its form, and that it is one of these
+abbrev pub suits_pool : Wanted → List ℕ → Bool
+suits_pool Names name = is_name name
+suits_pool (Classes count) name = true
+suits_pool (Pools pools) name = is_among name pools
 
 -- of an end
 abbrev pub suits_end : Wanted → End → Bool
@@ -89,6 +103,7 @@ action_step wanted (Action-F.StopTask name) = suits_name wanted name
 action_step wanted (Action-F.ResumeTask name) = suits_name wanted name
 action_step wanted (Action-F.Inline name statements) = suits_name wanted name && list_all (λ b. b) statements
 action_step wanted (Action-F.Thread name delay job) = suits_name wanted name && suits_work wanted job
+action_step wanted (Action-F.ThreadIn name pool delay job) = suits_name wanted name && suits_pool wanted pool && suits_work wanted job
 
 -- of a statement
 abbrev pub statement_step : Wanted → Statement-F Bool Bool Bool → Bool
@@ -101,7 +116,7 @@ statement_step wanted (Statement-F.End end) = suits_end wanted end
 abbrev pub body_step : Wanted → Body-F Bool Bool Bool → Bool
 body_step wanted b = list_all (λ b. b) b.actions && suits_end wanted b.end
 
--- each name and class of the action is as it is wanted
+-- each name, class and pool of the action is as it is wanted
 abbrev pub suits_action : Wanted → Action → Bool
 suits_action wanted = fold-Action Bool Bool Bool (action_step wanted) (statement_step wanted) (body_step wanted)
 

@@ -10,17 +10,17 @@ pub enum ScriptFault {
     /// It isn't JSON in UTF-8, or it nests too deeply.
     #[error("2 NotJson")]
     NotJson,
-    /// It isn't an object, or its `version` is absent or isn't the integer 1.
+    /// It isn't an object, or its `version` is absent or isn't the integer 1 or 2.
     #[error("3 BadVersion")]
     BadVersion,
     /// It is outside the grammar, or a number is outside its range.
     #[error("4 BadShape")]
     BadShape,
-    /// It has more than 65,536 nodes (each array, object and scalar is one), 256 classes, 8 callers or 256 posts of a
+    /// It has more than 65,536 nodes (each array, object and scalar is one), 256 classes, 4 pools, 8 callers or 256 posts of a
     /// caller, or its advances sum to more than 10^15.
     #[error("5 TooMany")]
     TooMany,
-    /// A name of an object or of a declared class isn't of 1 to 32 of A to Z, a to z, 0 to 9 and `_`, nor `@` where a
+    /// A name of an object, of a pool or of a declared class isn't of 1 to 32 of A to Z, a to z, 0 to 9 and `_`, nor `@` where a
     /// Deferred that is there is named.
     #[error("6 BadName")]
     BadName,
@@ -30,6 +30,9 @@ pub enum ScriptFault {
     /// Memory was refused: this may come in place of any other answer.
     #[error("8 OutOfMemory")]
     OutOfMemory,
+    /// A pool's name is given twice, or a pool that is used isn't declared.
+    #[error("9 BadPool")]
+    BadPool,
 }
 
 impl From<Stop> for ScriptFault {

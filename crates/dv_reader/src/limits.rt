@@ -22,6 +22,9 @@ pub const MOST_CALLERS: usize = 8;
 /// The most posts of a caller.
 pub const MOST_POSTS: usize = 256;
 
+/// The most pools of a script.
+pub const MOST_POOLS: usize = 4;
+
 /// How many nodes the value has, to the last number of 64 bits.
 #[cycle(nodes)]
 fn nodes(json: &Json) -> u64
@@ -100,12 +103,13 @@ fn all_are_few(callers: &[Items<Body>]) -> bool
     callers.iter().all(are_few)
 }
 
-/// Whether a script of this JSON value has few enough nodes, classes, callers, posts and ticks.
+/// Whether a script of this JSON value has few enough nodes, classes, pools, callers, posts and ticks.
 pub fn is_small(json: &Json, draft: &Draft) -> bool
     ensures { result ≡ is_small (view json.now) draft.now }
 {
     has_few_nodes(json)
         && draft.declared.as_slice().len() <= MOST_CLASSES
+        && draft.script.pools.as_slice().len() <= MOST_POOLS
         && draft.script.callers.as_slice().len() <= MOST_CALLERS
         && all_are_few(draft.script.callers.as_slice())
         && has_few_ticks(draft.script.events.as_slice())

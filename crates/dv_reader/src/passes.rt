@@ -3,18 +3,23 @@
 ghost use Rattle.std.specs.Prelude.{◌≡◌, ◌≤◌, length, IfOk, IfErr};
 ghost use Rattle.std.specs.List.{list_all};
 ghost use Rattle.serde_json.specs.View.{view};
-ghost use Rattle.dv_reader.specs.Limits.{most_nodes, most_limit};
-ghost use Rattle.dv_reader.specs.Refusal.{is_named, are_named, are_known, Says, Refuses};
-ghost use Rattle.dv_reader.specs.Passes.{is_version, Accepts, Judged, Passes};
+ghost use Rattle.dv_forms.specs.Answer.{Reads};
+ghost use Rattle.dv_reader.specs.Limits.{most_nodes, most_limit, most_pools};
+ghost use Rattle.dv_reader.specs.Refusal.{keeps_version, is_named, names_pool, are_named, are_known, are_distinct, are_pooled, Says, Refuses};
+ghost use Rattle.dv_reader.specs.declared.suits.Wanted.TheVariants.{Pools};
+ghost use Rattle.dv_reader.specs.Suits.{suits_script};
+ghost use Rattle.dv_reader.specs.Passes.{is_version, shape_at, Accepts, Judged, Passes};
 
 use crate::error::ScriptFault;
 use crate::limits::{MOST_BYTES, is_small};
 use crate::names::is_name;
-use crate::suits::{Wanted, suits_script};
+use crate::suits::{Wanted, is_among, suits_script};
 use dv_forms::declaration::Declaration;
+use dv_forms::stop::Stop;
 use dv_grammar::draft::Draft;
 use dv_grammar::reading::script::shape;
-use dv_script::script::Script;
+use dv_script::lent::PoolsRef;
+use dv_script::script::{NamedPool, Script};
 use serde_json::Value as Json;
 use std::alloc::Global;
 
@@ -22,7 +27,7 @@ fn is_version(json: &Json) -> bool
     ensures { result ≡ is_version (view json.now) }
 {
     match json.get("version") {
-        Some(version) => version.as_u64() == Some(1),
+        Some(version) => matches!(version.as_u64(), Some(1 | 2)),
         None => false,
     }
 }
@@ -39,19 +44,69 @@ fn all_named(declared: &[Declaration]) -> bool
     declared.iter().all(is_named)
 }
 
+fn names_pool(pool: &NamedPool) -> bool
+    ensures { result ≡ names_pool pool.now }
+{
+    is_name(pool.name.as_str())
+}
+
+fn all_pools_named(pools: &[NamedPool]) -> bool
+    ensures { result ≡ list_all names_pool pools.now }
+{
+    pools.iter().all(names_pool)
+}
+
 fn are_named(draft: &Draft) -> bool
     ensures { result ≡ are_named draft.now }
 {
-    all_named(draft.declared.as_slice()) && suits_script(Wanted::Names, &draft.script)
+    all_named(draft.declared.as_slice())
+        && all_pools_named(draft.script.pools.as_slice())
+        && suits_script(&Wanted::Names, &draft.script)
 }
 
 fn are_known(draft: &Draft) -> bool
     ensures { result ≡ are_known draft.now }
 {
-    draft.all_declared && suits_script(Wanted::Classes(draft.script.classes.count()), &draft.script)
+    draft.all_declared
+        && suits_script(
+            &Wanted::Classes(draft.script.classes.count()),
+            &draft.script,
+        )
 }
 
-/// Whether a draft of this JSON value is small enough, named well and knows its classes, or the least refusal.
+fn are_distinct(pools: &[NamedPool]) -> bool
+    ensures { result ≡ are_distinct pools.now }
+{
+    match pools.split_first() {
+        None => true,
+        Some((pool, rest)) => !is_among(&pool.name, rest) && are_distinct(rest),
+    }
+}
+
+fn uses_only(pools: &[NamedPool], script: &Script) -> bool
+    ensures { result ≡ suits_script (Pools pools.now) script.now }
+{
+    suits_script(&Wanted::Pools(PoolsRef::new(pools)), script)
+}
+
+fn are_pooled(draft: &Draft) -> bool
+    ensures { result ≡ are_pooled draft.now }
+{
+    let pools = draft.script.pools.as_slice();
+    are_distinct(pools) && uses_only(pools, &draft.script)
+}
+
+fn keeps_version(draft: &Draft) -> bool
+    ensures { result ≡ keeps_version draft.now }
+{
+    if draft.version == 1 {
+        uses_only(&[], &draft.script)
+    } else {
+        true
+    }
+}
+
+/// Whether a draft of this JSON value is small enough, named well and knows its classes and pools, or the least refusal.
 fn accept(json: &Json, draft: &Draft) -> Result<(), ScriptFault>
     ensures { Accepts (view json.now) draft.now result }
 {
@@ -64,7 +119,23 @@ fn accept(json: &Json, draft: &Draft) -> Result<(), ScriptFault>
     if !are_known(draft) {
         return Err(ScriptFault::BadClass);
     }
+    if !are_pooled(draft) {
+        return Err(ScriptFault::BadPool);
+    }
     Ok(())
+}
+
+/// The draft that a JSON value is, where it keeps to its version.
+fn shape_of(alloc: Global, json: &Json) -> Result<Draft, Stop>
+    ensures { Reads result (shape_at (view json.now)) }
+{
+    let draft = shape(alloc, json)?;
+    if keeps_version(&draft) {
+        Ok(draft)
+    } else {
+        draft.discard();
+        Err(Stop::BadShape)
+    }
 }
 
 /// The script that a JSON value is, or the least refusal.
@@ -75,7 +146,7 @@ fn judge(alloc: Global, json: &Json) -> Result<Script, ScriptFault>
     if !is_version(json) {
         return Err(ScriptFault::BadVersion);
     }
-    let draft = shape(alloc, json)?;
+    let draft = shape_of(alloc, json)?;
     match accept(json, &draft) {
         Ok(()) => Ok(draft.into_script()),
         Err(fault) => {
@@ -103,12 +174,13 @@ fn passed(alloc: Global, bytes: &[u8]) -> Result<Script, ScriptFault>
 }
 
 /// The script that the bytes say, or the least refusal.
-#[tactic(auto, using(crate::proofs::Answers::says, crate::proofs::Answers::refuses, crate::proofs::Answers::few, crate::proofs::Answers::limited))]
+#[tactic(auto, using(crate::proofs::Answers::says, crate::proofs::Answers::refuses, crate::proofs::Answers::few, crate::proofs::Answers::limited, crate::proofs::Answers::few_pools))]
 pub fn read_script(alloc: Global, bytes: &[u8]) -> Result<Script, ScriptFault>
     ensures ok { IfOk result (λ script. Says bytes.now script) }
     ensures err { IfErr result (λ fault. Refuses fault bytes.now) }
     ensures few { IfOk result (λ script. length script.events ≤ most_nodes) }
     ensures limited { IfOk result (λ script. script.limit ≤ most_limit) }
+    ensures pools { IfOk result (λ script. length script.pools ≤ most_pools) }
 {
     passed(alloc, bytes)
 }

@@ -1,5 +1,5 @@
 ghost use Rattle.std.specs.Prelude.{◌≤◌, ℕ, List, length, IfOk, IfErr};
-ghost use Rattle.dv_reader.specs.Limits.{most_nodes, most_limit};
+ghost use Rattle.dv_reader.specs.Limits.{most_nodes, most_limit, most_pools};
 ghost use Rattle.dv_reader.specs.Refusal.{Says, Refuses};
 
 use crate::error::ScriptFault;
@@ -26,6 +26,7 @@ impl ReadScript for Script {
         ensures err { IfErr result (λ fault. Refuses fault bytes.now) }
         ensures few { IfOk result (λ script. length script.events ≤ most_nodes) }
         ensures limited { IfOk result (λ script. script.limit ≤ most_limit) }
+        ensures pools { IfOk result (λ script. length script.pools ≤ most_pools) }
     {
         read_script(alloc, bytes)
     }

@@ -1,67 +1,87 @@
 ghost use Rattle.std.specs.Prelude.{◌≡◌, map};
 ghost use Rattle.std.specs.List.{list_all};
-ghost use Rattle.dv_reader.specs.Suits.{suits_name, suits_deferred, suits_class, suits_end, suits_work, suits_action, suits_statement, suits_body, suits_event, suits_script};
+ghost use Rattle.dv_reader.specs.Suits.{suits_name, suits_deferred, suits_class, is_among, suits_pool, suits_end, suits_work, suits_action, suits_statement, suits_body, suits_event, suits_script};
 
 use crate::names::{is_name, names_one};
 use dv_script::action::Action;
 use dv_script::body::{Body, End, Statement};
 use dv_script::event::Event;
-use dv_script::script::Script;
+use dv_script::lent::PoolsRef;
+use dv_script::script::{NamedPool, Script};
 use dv_script::work::Work;
 use dv_value::class_id::ClassId;
 use dv_value::items::Items;
 use dv_value::text::Text;
 
-/// What is wanted of the names and of the classes that a script uses.
-#[derive(Clone, Copy, Drop)]
-pub enum Wanted {
+/// What is wanted of the names, of the classes and of the pools that a script uses.
+#[derive(Drop)]
+pub enum Wanted<'s> {
     /// That each name has its form.
     Names,
     /// That each class is one of so many.
     Classes(u32),
+    /// That each pool is one of these.
+    Pools(PoolsRef<'s>),
 }
 
-fn suits_name(wanted: Wanted, name: &Text) -> bool
-    ensures { result ≡ suits_name wanted name.now }
+fn suits_name(wanted: &Wanted<'_>, name: &Text) -> bool
+    ensures { result ≡ suits_name wanted.now name.now }
+{
+    match wanted {
+        Wanted::Names => is_name(name.as_str()),
+        Wanted::Classes(_) | Wanted::Pools(_) => true,
+    }
+}
+
+fn suits_deferred(wanted: &Wanted<'_>, name: &Text) -> bool
+    ensures { result ≡ suits_deferred wanted.now name.now }
+{
+    match wanted {
+        Wanted::Names => names_one(name.as_str()),
+        Wanted::Classes(_) | Wanted::Pools(_) => true,
+    }
+}
+
+fn suits_class(wanted: &Wanted<'_>, class: ClassId) -> bool
+    ensures { result ≡ suits_class wanted.now class }
+{
+    match wanted {
+        Wanted::Names | Wanted::Pools(_) => true,
+        Wanted::Classes(count) => class.place() < *count,
+    }
+}
+
+/// Whether a pool of this name is among these.
+pub fn is_among(name: &Text, pools: &[NamedPool]) -> bool
+    ensures { result ≡ is_among name.now pools.now }
+{
+    pools.iter().any(|pool| pool.name.as_str() == name.as_str())
+}
+
+fn suits_pool(wanted: &Wanted<'_>, name: &Text) -> bool
+    ensures { result ≡ suits_pool wanted.now name.now }
 {
     match wanted {
         Wanted::Names => is_name(name.as_str()),
         Wanted::Classes(_) => true,
+        Wanted::Pools(pools) => is_among(name, pools.get()),
     }
 }
 
-fn suits_deferred(wanted: Wanted, name: &Text) -> bool
-    ensures { result ≡ suits_deferred wanted name.now }
-{
-    match wanted {
-        Wanted::Names => names_one(name.as_str()),
-        Wanted::Classes(_) => true,
-    }
-}
-
-fn suits_class(wanted: Wanted, class: ClassId) -> bool
-    ensures { result ≡ suits_class wanted class }
-{
-    match wanted {
-        Wanted::Names => true,
-        Wanted::Classes(count) => class.place() < count,
-    }
-}
-
-fn suit_deferreds(wanted: Wanted, names: &[Text]) -> bool
-    ensures { result ≡ list_all (suits_deferred wanted) names.now }
+fn suit_deferreds(wanted: &Wanted<'_>, names: &[Text]) -> bool
+    ensures { result ≡ list_all (suits_deferred wanted.now) names.now }
 {
     names.iter().all(|name| suits_deferred(wanted, name))
 }
 
-fn suit_classes(wanted: Wanted, listed: &[ClassId]) -> bool
-    ensures { result ≡ list_all (suits_class wanted) listed.now }
+fn suit_classes(wanted: &Wanted<'_>, listed: &[ClassId]) -> bool
+    ensures { result ≡ list_all (suits_class wanted.now) listed.now }
 {
     listed.iter().all(|class| suits_class(wanted, *class))
 }
 
-fn suits_end(wanted: Wanted, end: &End) -> bool
-    ensures { result ≡ suits_end wanted end.now }
+fn suits_end(wanted: &Wanted<'_>, end: &End) -> bool
+    ensures { result ≡ suits_end wanted.now end.now }
 {
     match end {
         End::Return(_) | End::Pass | End::Plus(_) => true,
@@ -71,8 +91,8 @@ fn suits_end(wanted: Wanted, end: &End) -> bool
     }
 }
 
-fn suits_work(wanted: Wanted, work: &Work) -> bool
-    ensures { result ≡ suits_work wanted work.now }
+fn suits_work(wanted: &Wanted<'_>, work: &Work) -> bool
+    ensures { result ≡ suits_work wanted.now work.now }
 {
     match work {
         Work::Value(_) | Work::Sum(_) => true,
@@ -81,8 +101,8 @@ fn suits_work(wanted: Wanted, work: &Work) -> bool
 }
 
 #[cycle(suits)]
-fn suits_action(wanted: Wanted, action: &Action) -> bool
-    ensures { result ≡ suits_action wanted action.now }
+fn suits_action(wanted: &Wanted<'_>, action: &Action) -> bool
+    ensures { result ≡ suits_action wanted.now action.now }
 {
     match action {
         Action::Deferred(name, None) => suits_name(wanted, name),
@@ -134,12 +154,15 @@ fn suits_action(wanted: Wanted, action: &Action) -> bool
             suits_name(wanted, name) && suit_statements(wanted, statements.as_slice())
         }
         Action::Thread(name, _, work) => suits_name(wanted, name) && suits_work(wanted, work),
+        Action::ThreadIn(name, pool, _, work) => {
+            suits_name(wanted, name) && suits_pool(wanted, pool) && suits_work(wanted, work)
+        }
     }
 }
 
 #[cycle(suits)]
-fn suit_actions(wanted: Wanted, actions: &[Action]) -> bool
-    ensures { result ≡ list_all (λ b. b) (map (suits_action wanted) actions.now) }
+fn suit_actions(wanted: &Wanted<'_>, actions: &[Action]) -> bool
+    ensures { result ≡ list_all (λ b. b) (map (suits_action wanted.now) actions.now) }
 {
     for action in actions {
         if !suits_action(wanted, action) {
@@ -150,15 +173,15 @@ fn suit_actions(wanted: Wanted, actions: &[Action]) -> bool
 }
 
 #[cycle(suits)]
-fn suits_body(wanted: Wanted, body: &Body) -> bool
-    ensures { result ≡ suits_body wanted body.now }
+fn suits_body(wanted: &Wanted<'_>, body: &Body) -> bool
+    ensures { result ≡ suits_body wanted.now body.now }
 {
     suit_actions(wanted, body.actions.as_slice()) && suits_end(wanted, &body.end)
 }
 
 #[cycle(suits)]
-fn suit_bodies(wanted: Wanted, bodies: &[Body]) -> bool
-    ensures { result ≡ list_all (λ b. b) (map (suits_body wanted) bodies.now) }
+fn suit_bodies(wanted: &Wanted<'_>, bodies: &[Body]) -> bool
+    ensures { result ≡ list_all (λ b. b) (map (suits_body wanted.now) bodies.now) }
 {
     for body in bodies {
         if !suits_body(wanted, body) {
@@ -169,8 +192,8 @@ fn suit_bodies(wanted: Wanted, bodies: &[Body]) -> bool
 }
 
 #[cycle(suits)]
-fn suits_statement(wanted: Wanted, statement: &Statement) -> bool
-    ensures { result ≡ suits_statement wanted statement.now }
+fn suits_statement(wanted: &Wanted<'_>, statement: &Statement) -> bool
+    ensures { result ≡ suits_statement wanted.now statement.now }
 {
     match statement {
         Statement::Do(action) => suits_action(wanted, action),
@@ -185,8 +208,8 @@ fn suits_statement(wanted: Wanted, statement: &Statement) -> bool
 }
 
 #[cycle(suits)]
-fn suit_statements(wanted: Wanted, statements: &[Statement]) -> bool
-    ensures { result ≡ list_all (λ b. b) (map (suits_statement wanted) statements.now) }
+fn suit_statements(wanted: &Wanted<'_>, statements: &[Statement]) -> bool
+    ensures { result ≡ list_all (λ b. b) (map (suits_statement wanted.now) statements.now) }
 {
     for statement in statements {
         if !suits_statement(wanted, statement) {
@@ -196,8 +219,8 @@ fn suit_statements(wanted: Wanted, statements: &[Statement]) -> bool
     true
 }
 
-fn suits_event(wanted: Wanted, event: &Event) -> bool
-    ensures { result ≡ suits_event wanted event.now }
+fn suits_event(wanted: &Wanted<'_>, event: &Event) -> bool
+    ensures { result ≡ suits_event wanted.now event.now }
 {
     match event {
         Event::Action(action) => suits_action(wanted, action),
@@ -205,27 +228,27 @@ fn suits_event(wanted: Wanted, event: &Event) -> bool
     }
 }
 
-fn suit_posts(wanted: Wanted, posts: &Items<Body>) -> bool
-    ensures { result ≡ list_all (suits_body wanted) posts.now }
+fn suit_posts(wanted: &Wanted<'_>, posts: &Items<Body>) -> bool
+    ensures { result ≡ list_all (suits_body wanted.now) posts.now }
 {
     posts.as_slice().iter().all(|body| suits_body(wanted, body))
 }
 
-fn suit_events(wanted: Wanted, events: &[Event]) -> bool
-    ensures { result ≡ list_all (suits_event wanted) events.now }
+fn suit_events(wanted: &Wanted<'_>, events: &[Event]) -> bool
+    ensures { result ≡ list_all (suits_event wanted.now) events.now }
 {
     events.iter().all(|event| suits_event(wanted, event))
 }
 
-fn suit_callers(wanted: Wanted, callers: &[Items<Body>]) -> bool
-    ensures { result ≡ list_all (λ posts. list_all (suits_body wanted) posts) callers.now }
+fn suit_callers(wanted: &Wanted<'_>, callers: &[Items<Body>]) -> bool
+    ensures { result ≡ list_all (λ posts. list_all (suits_body wanted.now) posts) callers.now }
 {
     callers.iter().all(|posts| suit_posts(wanted, posts))
 }
 
 /// Whether each name and each class of the script's events and posts is as it is wanted.
-pub fn suits_script(wanted: Wanted, script: &Script) -> bool
-    ensures { result ≡ suits_script wanted script.now }
+pub fn suits_script(wanted: &Wanted<'_>, script: &Script) -> bool
+    ensures { result ≡ suits_script wanted.now script.now }
 {
     suit_events(wanted, script.events.as_slice()) && suit_callers(wanted, script.callers.as_slice())
 }

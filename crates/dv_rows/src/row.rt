@@ -1,8 +1,7 @@
 use crate::lines::{first_difference, unfolded};
 use dv_jobs::gate::PlainGate;
 use dv_journal::memory_sink::MemorySink;
-use dv_run::run::run;
-use dv_run::{MemorySource, exit_of};
+use dv_run::{MemorySource, exit_of, run};
 use std::alloc::{AllocError, AllocGlobal, Global};
 use std::random::RandomSource;
 use std::sync::Wait;

@@ -43,6 +43,7 @@ after_script input old bytes script.TooMany front refused = refused_as input old
 after_script input old bytes script.BadName front refused = refused_as input old bytes script.BadName front refused (λ e. cc)
 after_script input old bytes script.BadClass front refused = refused_as input old bytes script.BadClass front refused (λ e. cc)
 after_script input old bytes script.OutOfMemory front refused = inl (Keeps-refl old)
+after_script input old bytes script.BadPool front refused = refused_as input old bytes script.BadPool front refused (λ e. cc)
 
 -- a script that isn't performed for want of memory: nothing was written
 pub after_perform : (input old : Told) → GivesUp OutOfMemory input old old
@@ -89,6 +90,7 @@ reader_after_script script.TooMany old new kept = kept
 reader_after_script script.BadName old new kept = kept
 reader_after_script script.BadClass old new kept = kept
 reader_after_script script.OutOfMemory old new kept = kept
+reader_after_script script.BadPool old new kept = kept
 
 -- nor has the writer
 writer_after_script : (fault : ScriptFault) (old : ℕ) → WriterFailed (Err (of_script fault)) old old
@@ -101,6 +103,7 @@ writer_after_script script.TooMany old = refl
 writer_after_script script.BadName old = refl
 writer_after_script script.BadClass old = refl
 writer_after_script script.OutOfMemory old = refl
+writer_after_script script.BadPool old = refl
 
 -- where a print gave up, the reader hasn't failed
 pub reader_after_print : (fault : PrintFault) (old new : ℕ) → new ≡ old → ReaderFailed (Err (of_print fault)) old new

@@ -1,9 +1,6 @@
 -- The words after the program's name.
 use Rattle.std.specs.Prelude.{Bool, ℕ, ◌+◌, ◌*◌, ◌-◌, nat_le, ◌&&◌, if◌then◌else◌, List, [], ◌∷◌, Option, None, Some}
-
--- the most workers of a run
-abbrev pub most_workers : ℕ
-most_workers = 16
+use Rattle.dv_threads.specs.declared.limits.TheConstants.{MOST_WORKERS}
 
 -- whether a byte is a decimal digit
 abbrev pub is_digit : ℕ → Bool
@@ -19,7 +16,7 @@ number_in (first ∷ second ∷ third ∷ bytes) = None
 -- as many workers, where there may be so many
 abbrev pub few_workers : Option ℕ → Option ℕ
 few_workers None = None
-few_workers (Some n) = if nat_le n most_workers then Some n else None
+few_workers (Some n) = if nat_le n MOST_WORKERS then Some n else None
 
 -- no word is no workers, one word is their number, and more words are none
 abbrev pub workers_in : List (List ℕ) → Option ℕ

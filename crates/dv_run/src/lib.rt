@@ -3,11 +3,13 @@
 
 mod driving;
 mod performing;
-pub mod run;
-pub mod workers;
+mod running;
+mod workers;
 
 pub use dv_output::error::RunFault;
 pub use dv_output::exit::exit_of;
 pub use dv_source::io_source::IoSource;
 pub use dv_source::memory_source::MemorySource;
 pub use dv_source::source::{ReadError, Source, SourceFault};
+pub use running::run;
+pub use workers::workers_of;

@@ -1,5 +1,6 @@
-ghost use Rattle.std.specs.Prelude.{◌≡◌, ◌<◌, ◌≤◌, ◌^◌, ◌-◌, [], IfOk};
+ghost use Rattle.std.specs.Prelude.{◌≡◌, ◌<◌, ◌≤◌, ◌^◌, ◌-◌, [], length, All, IfOk};
 ghost use Rattle.dv_posts.specs.Callers.{AllServe, AreFew, TookBatches};
+ghost use Rattle.dv_threads.specs.declared.limits.TheConstants.{MOST_POOLS, MOST_WORKERS};
 ghost use Rattle.dv_run.specs.Headline.{IsRun};
 
 use crate::driving::drive;
@@ -12,23 +13,38 @@ use dv_jobs::source::JobSource;
 use dv_posts::callers::{Caller, start_all};
 use dv_posts::inbox::Inbox;
 use dv_posts::limits::MOST_POSTS;
-use dv_script::script::Script;
-use dv_threads::pool::Pool;
+use dv_script::script::{NamedPool, Script};
+use dv_threads::limits::MOST_WORKERS;
+use dv_threads::pools::Pools;
 use std::alloc::{AllocError, AllocGlobal, Global};
 use std::random::RandomSource;
 use std::sync::Wait;
 use std::thread;
 use std::thread::Threads;
 
-/// Performs a script, with a thread for each caller and so many for jobs. A poller for inline bodies that can't be made counts as
+/// How many workers each of these pools has, and no more than pools have, as none has of a script that is read.
+fn workers_of_pools(alloc: Global, pools: &[NamedPool]) -> Result<Vec<u32>, AllocError>
+    ensures len { IfOk result (λ named. length named.items ≡ length pools.now) }
+    ensures few { IfOk result (λ named. All (λ n. n ≤ MOST_WORKERS) named.items) }
+{
+    let mut named = Vec::with_capacity(alloc, pools.len())?;
+    for pool in pools {
+        named.push_reserved(pool.workers.min(MOST_WORKERS));
+    }
+    Ok(named)
+}
+
+/// Performs a script, with a thread for each caller, so many for the jobs of the default pool, and as many as the script says for those
+/// of each other pool. Where there is no worker and no pool is named, no thread is started for jobs. A poller for inline bodies that can't be made counts as
 /// want of memory.
 pub fn perform<S, G>(rt: &S, script: &Script, workers: u32, gate: &G) -> Result<Report, AllocError>
 where
     S: Threads + Wait + RandomSource + AllocGlobal + Sync,
     G: Gate + Sync,
-    requires workers { workers ≤ 16 }
+    requires workers { workers ≤ MOST_WORKERS }
     requires limited { script.now.limit < 2 ^ 32 - 1 }
     requires few { AreFew script.now.callers }
+    requires pools { length script.now.pools ≤ MOST_POOLS }
     ensures { IfOk result (IsRun script.now) }
 {
     let Ok(poller) = Poller::new(rt) else {
@@ -39,26 +55,28 @@ where
         thread::scope_env(),
         rt,
         |scope| -> Result<Report, AllocError>
-            requires workers { workers ≤ 16 }
+            requires workers { workers ≤ MOST_WORKERS }
             requires limited { script.now.limit < 2 ^ 32 - 1 }
             requires few { AreFew script.now.callers }
+            requires pools { length script.now.pools ≤ MOST_POOLS }
             ensures { IfOk result (IsRun script.entry.now) }
         {
             let bodies = script.callers.as_slice();
             let (inbox, posters) = Inbox::open(alloc, bodies.len() as u32, MOST_POSTS)?;
             let callers = start_all(alloc, scope, bodies, posters)?;
-            if workers == 0 {
-                let jobs = OneThread::new(alloc);
+            let named = workers_of_pools(alloc, script.pools.as_slice())?;
+            if workers == 0 && named.is_empty() {
+                let jobs = OneThread::new(alloc, 0, gate);
                 perform_with(rt, alloc, poller, jobs, script, inbox, callers)
             } else {
-                let jobs = Pool::open(rt, alloc, scope, workers, gate)?;
+                let jobs = Pools::open(rt, alloc, scope, workers, named.as_slice(), gate)?;
                 perform_with(rt, alloc, poller, jobs, script, inbox, callers)
             }
         },
     )
 }
 
-/// Performs a script whose callers post, with this source for its jobs, to which nothing was submitted yet.
+/// Performs a script whose callers post, with this source for its jobs, to which nothing was submitted yet, and which has the pools that the script names.
 fn perform_with<S, J>(
     rt: &S,
     alloc: Global,
@@ -72,7 +90,8 @@ where
     S: Threads + Wait + RandomSource + AllocGlobal,
     J: JobSource,
     requires limited { script.now.limit < 2 ^ 32 - 1 }
-    requires unused { J.works jobs ≡ [] }
+    requires unused { J.jobs jobs ≡ [] }
+    requires declared { length script.now.pools ≤ J.pools jobs }
     requires serve { AllServe script.now.callers inbox callers.items }
     requires untaken { TookBatches inbox [] }
     ensures { IfOk result (IsRun script.now) }

@@ -1,14 +1,14 @@
 ghost use Rattle.std.specs.Prelude.{◌≡◌, ◌≤◌, map, string_bytes, IfSome};
 ghost use Rattle.dv_run.specs.Workers.{few_workers, is_digit, number_in, workers_in};
+ghost use Rattle.dv_threads.specs.declared.limits.TheConstants.{MOST_WORKERS};
 
-/// The most workers of a run.
-pub const MOST_WORKERS: u32 = 16;
+use dv_threads::limits::MOST_WORKERS;
 
 /// How many workers the words after the program's name ask for: none without a word, and otherwise the number that one word
-/// of one or two decimal digits is, from 0 to 16. None for any other words.
+/// of one or two decimal digits is, from 0 to `MOST_WORKERS`. None for any other words.
 pub fn workers_of(words: &[String]) -> Option<u32>
     ensures workers { result ≡ workers_in (map string_bytes words.now) }
-    ensures few { IfSome result (λ workers. workers ≤ 16) }
+    ensures few { IfSome result (λ workers. workers ≤ MOST_WORKERS) }
 {
     match words {
         [] => Some(0),
@@ -20,7 +20,7 @@ pub fn workers_of(words: &[String]) -> Option<u32>
 /// As many workers, where there may be so many.
 fn few_workers(workers: Option<u32>) -> Option<u32>
     ensures workers { result ≡ few_workers workers }
-    ensures few { IfSome result (λ workers. workers ≤ 16) }
+    ensures few { IfSome result (λ workers. workers ≤ MOST_WORKERS) }
 {
     match workers {
         Some(workers) if workers <= MOST_WORKERS => Some(workers),

@@ -136,5 +136,5 @@ stays_bounded = let l = every_step StaysFine fine in record {
   by_unpause = λ d w. bounded w _ (l.by_unpause d w);
   by_aside = λ e change w a. bounded w _ (l.by_aside e change w a);
   by_arrange = λ change w. bounded w _ (l.by_arrange change w);
-  by_submit = λ d work w. bounded w _ (l.by_submit d work w);
+  by_submit = λ d pool work w. bounded w _ (l.by_submit d pool work w);
 }

@@ -600,13 +600,13 @@ canceller_fair : (m d : ℕ) (failure : Option Failure) (w : World) → 0 < m �
 canceller_fair m d (Some failure) w q = now_fair m _ w
 canceller_fair m d None w q = if_fair m (is_unfired d w) w _ _ (next_fair m d (fire d cancelled w).0 w (fire d cancelled w).1 q (by_fire d cancelled w)) (now_fair m Done w)
 
-job_comes : (d delay : ℕ) (work : Work) (w : World) → Comes w (deliver_later (length w.works) d delay (submit d work w))
-job_comes d delay work w = join w (submit d work w) _ (record { keeps = λ R l. l.by_submit d work w }) (by_aside (entry.LaterJob (length w.works) _) _ (submit d work w) refl)
+job_comes : (d : ℕ) (pool : Option (List ℕ)) (delay : ℕ) (work : Work) (w : World) → Comes w (deliver_later (length w.works) d delay (submit d pool work w))
+job_comes d pool delay work w = join w (submit d pool work w) _ (record { keeps = λ R l. l.by_submit d pool work w }) (by_aside (entry.LaterJob (length w.works) _) _ (submit d pool work w) refl)
 
-threaded_fair : (m : ℕ) (name : List ℕ) (delay : ℕ) (work : Work) (w : World) → Fair w m (threaded name delay work w)
-threaded_fair m name delay work w =
+threaded_fair : (m : ℕ) (name : List ℕ) (pool : Option (List ℕ)) (delay : ℕ) (work : Work) (w : World) → Fair w m (threaded name pool delay work w)
+threaded_fair m name pool delay work w =
     let made = make (Some name) None w in
-    if_fair m (is_full w.works) w _ _ (now_fair m _ w) (done_fair m w _ (join w made _ (record { keeps = λ R l. l.by_make (Some name) None w }) (job_comes (length w.records) delay work made)))
+    if_fair m (is_full w.works) w _ _ (now_fair m _ w) (done_fair m w _ (join w made _ (record { keeps = λ R l. l.by_make (Some name) None w }) (job_comes (length w.records) pool delay work made)))
 
 delivered_comes : (d : ℕ) (o : Option Value) (w : World) → Comes w (delivered d o w).2
 delivered_comes d None w = same w
@@ -651,7 +651,7 @@ begun_fair m itself (PauseTaskOf name) w q = found_fair m (number_of name w.obje
 begun_fair m itself (StopTaskOf name) w q = found_fair m (number_of name w.objects.cooperator.task_names) name w _ (λ t. stopped_task_fair m t (slice_get w.objects.cooperator.tasks t) w q)
 begun_fair m itself (ResumeTaskOf name) w q = found_fair m (number_of name w.objects.cooperator.task_names) name w _ (λ t. resumed_fair m t (slice_get w.objects.cooperator.tasks t) w)
 begun_fair m itself (InlineOf name statements) w q = inline_begun_fair m name statements w q
-begun_fair m itself (ThreadOf name delay work) w q = threaded_fair m name delay work w
+begun_fair m itself (ThreadOf name pool delay work) w q = threaded_fair m name pool delay work w
 
 pub begun_comes : (itself : Option ℕ) (deed : Deed) (w : World) → Comes w (begun itself deed w).2
 begun_comes itself deed w = (begun_fair (1 + deed_size deed) itself deed w (omega arith)).comes

@@ -107,7 +107,7 @@ grow = record {
   by_unpause = λ d w. unless_and w.stopped _ _ w (unpaused_same _ _ w);
   by_aside = λ e change w a. same w _ (aside_same e change w);
   by_arrange = λ change w. unless w.stopped w _ refl;
-  by_submit = λ d work w. either w.stopped w w _ (same w w refl) (either (is_full w.works) w w _ (same w w refl) (either (fits w.journal (entry.Job (length w.works) d)) w _ _ (record { goes_on = record { more = work ∷ []; same = refl } }) (same w _ refl)));
+  by_submit = λ d pool work w. either w.stopped w w _ (same w w refl) (either (is_full w.works) w w _ (same w w refl) (either (fits w.journal (entry.Job (length w.works) d)) w _ _ (record { goes_on = record { more = work ∷ []; same = refl } }) (same w _ refl)));
 }
 
 -- they go on by a turn, and when an event begins

@@ -252,14 +252,14 @@ module _ (R : Both → Both → Type 0) (k : Kept R) where
   unfolding arrange
   by_arrange change w = unless w.stopped _ w (k.stays (state_of w))
 
-  submitted_keeps : (d : ℕ) (work : Work) (b : Bool) (w : World) → fits w.journal (entry.Job (length w.works) d) ≡ b
-      → Keeps w (cond b (record w { works = w.works ++ work ∷ []; journal = with_entry w.journal (entry.Job (length w.works) d) }) (record w { stopped = true }))
-  submitted_keeps d work true w x = k.asides (entry.Job (length w.works) d) (state_of w) refl x
-  submitted_keeps d work false w x = k.stays (state_of w)
+  submitted_keeps : (d : ℕ) (pool : Option (List ℕ)) (work : Work) (b : Bool) (w : World) → fits w.journal (entry.Job (length w.works) d) ≡ b
+      → Keeps w (cond b (record w { works = w.works ++ work ∷ []; pools = w.pools ++ pool ∷ []; journal = with_entry w.journal (entry.Job (length w.works) d) }) (record w { stopped = true }))
+  submitted_keeps d pool work true w x = k.asides (entry.Job (length w.works) d) (state_of w) refl x
+  submitted_keeps d pool work false w x = k.stays (state_of w)
 
-  by_submit : (d : ℕ) (work : Work) (w : World) → Keeps w (submit d work w)
+  by_submit : (d : ℕ) (pool : Option (List ℕ)) (work : Work) (w : World) → Keeps w (submit d pool work w)
   unfolding submit
-  by_submit d work w = unless w.stopped _ w (unless (is_full w.works) _ w (submitted_keeps d work _ w refl))
+  by_submit d pool work w = unless w.stopped _ w (unless (is_full w.works) _ w (submitted_keeps d pool work _ w refl))
 
   by_step : (d : ℕ) (w : World) → Keeps w (step d w).1
   unfolding step

@@ -25,7 +25,7 @@ pub record Lasting (R : World → World → Type 0) : Type 0 where
   pub by_unpause : (d : ℕ) (w : World) → R w (unpause d w).1
   pub by_aside : (e : Entry) (change : Objects → Objects) (w : World) → change_of e ≡ Aside → R w (aside e change w)
   pub by_arrange : (change : Objects → Objects) (w : World) → R w (arrange change w)
-  pub by_submit : (d : ℕ) (work : Work) (w : World) → R w (submit d work w)
+  pub by_submit : (d : ℕ) (pool : Option (List ℕ)) (work : Work) (w : World) → R w (submit d pool work w)
 
 -- u comes of w by steps: what every step keeps is kept
 pub record Comes (w u : World) : Type 1 where

@@ -437,8 +437,8 @@ module _ (inside : Inside) where
   awaited_by i (Some e) name p w = then_then (rule.add inside e (continuing i) (world.begin_await i e w)) finished (λ r. inline_said inside (Awaited i e p) r.0 r.1)
 
   -- threads
-  threaded : (name : List ℕ) (delay : ℕ) (work : Work) (w : World) → says (threading.threaded name delay work w) ≡ rule.thread name delay work w
-  threaded name delay work w = either (said inside) (is_full w.works) _ _ _ _ refl refl
+  threaded : (name : List ℕ) (pool : Option (List ℕ)) (delay : ℕ) (work : Work) (w : World) → says (threading.threaded name pool delay work w) ≡ rule.thread name pool delay work w
+  threaded name pool delay work w = either (said inside) (is_full w.works) _ _ _ _ refl refl
 
   delivered : (d : ℕ) (o : Option Work) (w : World) → says (threading.delivered d (option_map work_value o) w) ≡ found o (finished w) (λ work. rule.fire inside d (work_value work) w)
   delivered d None w = refl
@@ -520,7 +520,8 @@ module _ (inside : Inside) where
   begun_said itself (Action-F.StopTask name) w = bound (number_of name w.objects.cooperator.task_names) name w _ _ (λ t. task_stopped t (slice_get w.objects.cooperator.tasks t) w)
   begun_said itself (Action-F.ResumeTask name) w = bound (number_of name w.objects.cooperator.task_names) name w _ _ (λ t. resumed_of t (slice_get w.objects.cooperator.tasks t) w)
   begun_said itself (Action-F.Inline name statements) w = refl
-  begun_said itself (Action-F.Thread name delay work) w = threaded name delay work w
+  begun_said itself (Action-F.Thread name delay work) w = threaded name None delay work w
+  begun_said itself (Action-F.ThreadIn name pool delay work) w = threaded name (Some pool) delay work w
 
   -- settling
   side_begun : (d : ℕ) (o : Option Side) (input : Value) (w : World) → says (settling.side_begun d o input w) ≡ rule.run_side inside d o input w

@@ -48,6 +48,7 @@ action_step (Action-F.StopTask name) = 2
 action_step (Action-F.ResumeTask name) = 1
 action_step (Action-F.Inline name statements) = 3 + total statements
 action_step (Action-F.Thread name delay work) = 1
+action_step (Action-F.ThreadIn name pool delay work) = 1
 
 -- so does a statement
 abbrev statement_step : Statement-F ℕ ℕ ℕ → ℕ
@@ -119,7 +120,7 @@ deed_size (PauseTaskOf name) = 0
 deed_size (StopTaskOf name) = 1
 deed_size (ResumeTaskOf name) = 0
 deed_size (InlineOf name statements) = 2 + statements_size statements
-deed_size (ThreadOf name delay work) = 0
+deed_size (ThreadOf name pool delay work) = 0
 
 layer_fits : (x : Action-F Action Statement Body) → deed_size (deed_of x) < action_step (map-Action Action Statement Body ℕ ℕ ℕ action_size (fold-Statement ℕ ℕ ℕ action_step statement_step body_step) body_size x)
 layer_fits (Action-F.Deferred name canceller) = omega arith
@@ -157,6 +158,7 @@ layer_fits (Action-F.StopTask name) = omega arith
 layer_fits (Action-F.ResumeTask name) = omega arith
 layer_fits (Action-F.Inline name statements) = omega arith
 layer_fits (Action-F.Thread name delay work) = omega arith
+layer_fits (Action-F.ThreadIn name pool delay work) = omega arith
 
 -- an action is more text than what it begins at once
 pub deed_fits : (action : Action) → deed_size (deed_of (out-Action action)) < action_size action

@@ -37,7 +37,7 @@ stays = record {
   by_unpause = λ d w. record { where_stopped = λ h. kept_and w.stopped _ _ w h };
   by_aside = λ e change w a. record { where_stopped = λ h. kept w.stopped w _ h };
   by_arrange = λ change w. record { where_stopped = λ h. kept w.stopped w _ h };
-  by_submit = λ d work w. record { where_stopped = λ h. kept w.stopped w _ h };
+  by_submit = λ d pool work w. record { where_stopped = λ h. kept w.stopped w _ h };
 }
 
 pub stopped_worlds_stay : StoppedWorldsStay

@@ -100,4 +100,6 @@ pub enum Action {
     /// Makes the Deferred of a work that a thread does, which is fired after so many ticks, at most 10^12 (Twisted:
     /// `deferToThread`).
     Thread(Text, u64, Work),
+    /// As `Thread`, by a worker of the pool that is named second (Twisted: `deferToThreadPool`).
+    ThreadIn(Text, Text, u64, Work),
 }

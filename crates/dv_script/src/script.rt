@@ -2,6 +2,7 @@ use crate::body::Body;
 use crate::event::Event;
 use dv_value::classes::Classes;
 use dv_value::items::Items;
+use dv_value::text::Text;
 
 /// How the tasks of a script are stepped (Twisted: `Cooperator`).
 #[derive(Clone, Copy, Debug, Drop)]
@@ -12,6 +13,14 @@ pub struct Cooperator {
     pub delay: u64,
 }
 
+/// A pool beside the default one (Twisted: a `ThreadPool`).
+#[derive(Drop)]
+pub struct NamedPool {
+    pub name: Text,
+    /// How many workers it has, up to 16.
+    pub workers: u32,
+}
+
 /// A script.
 #[derive(Drop)]
 pub struct Script {
@@ -20,6 +29,8 @@ pub struct Script {
     /// The most that its journal may weigh, up to 200,000.
     pub limit: u64,
     pub cooperator: Cooperator,
+    /// The pools that it names, in order.
+    pub pools: Items<NamedPool>,
     /// The posts of each caller, in order.
     pub callers: Items<Items<Body>>,
     /// Its events, in order.

@@ -1,3 +1,5 @@
 pub mod Places
 pub mod Orders
 pub mod Gathers
+pub mod Kept
+pub mod Routed

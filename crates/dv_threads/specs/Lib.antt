@@ -1,3 +1,4 @@
 pub mod Parts
 pub mod Reply
 pub mod Pool
+pub mod Routes

@@ -32,7 +32,7 @@ pub fn turn<'s, R, J>(
     rt: &R,
     alloc: Global,
     poller: &Poller,
-    jobs: &mut Submissions<J>,
+    jobs: &mut Submissions<'s, J>,
     world: &mut World<'s>,
     stack: &mut Stack<Frame<'s>>,
     frame: Frame<'s>,

@@ -32,6 +32,15 @@ impl<T> Deque<T> {
         }
     }
 
+    /// Items, of which the first is in front.
+    pub fn of(items: Vec<T>) -> Deque<T>
+        ensures { result ≡ items.items }
+    {
+        Deque {
+            items: VecDeque::from(items),
+        }
+    }
+
     /// Whether there is nothing to pop.
     pub fn is_empty(&self) -> bool
         ensures { IsTrue result ↔ (self.now ≡ []) }

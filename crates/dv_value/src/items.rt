@@ -38,6 +38,13 @@ impl<T> Items<T> {
         self.items.as_slice()
     }
 
+    /// The items, as a `Vec`.
+    pub fn into_vec(self) -> Vec<T>
+        ensures { result.items ≡ self }
+    {
+        self.items
+    }
+
     /// Puts an item in the place of another, which comes back.
     pub fn replace(&mut self, place: usize, item: T) -> T
         requires within { place < length self.old }

@@ -16,12 +16,9 @@ use std::time::Duration;
 pub struct Shared {
     pub thief: Thief,
     pub answers: Answers,
-    /// The number of the worker that is to leave, or `EVERYBODY`. The owner never leaves.
+    /// The number of the worker that is to leave, or `EVERYBODY`. The owner, 0, never leaves.
     pub leaving: AtomicU32,
 }
-
-/// The number of the owner.
-pub const OWNER: u32 = 0;
 
 /// Stands for every number.
 pub const EVERYBODY: u32 = u32::MAX;

@@ -75,14 +75,16 @@ Records = List (Record Pair Canceller)
 pub record World : Type 0 where
   pub classes : List Class
   pub objects : Objects
+  -- the works of its jobs, and beside each the name of its pool, or nothing where that is the default one
   pub works : List Work
+  pub pools : List (Option (List ℕ))
   pub records : Records
   pub journal : Written
   pub stopped : Bool
 
 -- nothing is made and nothing is told at first
 abbrev pub first_world : List Class → ℕ → Settings → World
-first_world classes limit settings = record { classes = classes; objects = no_objects settings; works = []; records = []; journal = empty limit; stopped = false }
+first_world classes limit settings = record { classes = classes; objects = no_objects settings; works = []; pools = []; records = []; journal = empty limit; stopped = false }
 
 -- the Deferreds and the journal
 abbrev pub state_of : World → State Pair Canceller
@@ -294,13 +296,13 @@ came_to_found l i v (Some g) w = ((came i v g).0, arrange (with_list l (came i v
 unfoldable pub came_to : ℕ → ℕ → Value → World → Came × World
 came_to l i v w = if w.stopped then (record { fire = None; pass = v }, w) else came_to_found l i v (slice_get w.objects.lists l) w
 
--- a job is submitted, whose result is for d, and told; one more than a run has isn't, and one that can't be told stops the run
-unfoldable pub submit : ℕ → Work → World → World
-submit d work w =
+-- a job is submitted to a pool, whose result is for d, and told; one more than a run has isn't, and one that can't be told stops the run
+unfoldable pub submit : ℕ → Option (List ℕ) → Work → World → World
+submit d pool work w =
     if w.stopped then w else
     if is_full w.works then w else
     let told = entry.Job (length w.works) d in
-    if fits w.journal told then record w { works = w.works ++ work ∷ []; journal = with_entry w.journal told } else with_stop w
+    if fits w.journal told then record w { works = w.works ++ work ∷ []; pools = w.pools ++ pool ∷ []; journal = with_entry w.journal told } else with_stop w
 
 -- what the submitting of a job raises that is one more than a run has
 abbrev pub too_many_jobs : Failure

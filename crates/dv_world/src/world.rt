@@ -87,7 +87,7 @@ impl<'s> Model for World<'s> {
 
     ghost coded = { Prim.hlevel (codes, body_contract.the_row.coded, statement_contract.the_row.coded, work_contract.the_row.coded, class_contract.the_row.coded, failure_contract.the_row.coded, value_contract.the_row.coded) };
 
-    ghost view = { λ w. record { classes = w.classes.now; objects = record { names = w.names; locks = w.locks; semaphores = w.semaphores.items; queue_names = w.queue_names; queues = w.queues.items; lists = w.lists.items; clock = w.clock; call_names = w.call_names; bodies = w.bodies.items; loop_names = w.loop_names; loops = w.loops.items; cooperator = w.cooperator; inlines = w.inlines }; works = w.works; records = w.store; journal = w.journal; stopped = w.stopped } };
+    ghost view = { λ w. record { classes = w.classes.now; objects = record { names = w.names; locks = w.locks; semaphores = w.semaphores.items; queue_names = w.queue_names; queues = w.queues.items; lists = w.lists.items; clock = w.clock; call_names = w.call_names; bodies = w.bodies.items; loop_names = w.loop_names; loops = w.loops.items; cooperator = w.cooperator; inlines = w.inlines }; works = w.works.works; pools = w.works.pools; records = w.store; journal = w.journal; stopped = w.stopped } };
 }
 
 impl<'s> World<'s> {

@@ -3,7 +3,7 @@ ghost use Rattle.dv_forms.specs.Answer.{Reads};
 ghost use Rattle.dv_forms.specs.Parts.{text_at, one_of, two_of};
 ghost use Rattle.dv_grammar.specs.Shape.{with_name, with_names, plain_of};
 
-use crate::reading::work::named_work;
+use crate::reading::work::{named_work, thread_in};
 use crate::words::{NameWord, NamesWord, PlainWord};
 use dv_forms::arguments::{
     named_bounds, named_delay, named_failure, named_gathering, named_list, named_places,
@@ -91,6 +91,7 @@ pub fn plain_of(
             let (name, delay, work) = named_work(alloc, classes, arguments)?;
             Ok(Action::Thread(name, delay, work))
         }
+        PlainWord::ThreadIn => thread_in(alloc, classes, arguments),
         PlainWord::AddTimeout => {
             let (name, delay) = named_delay(alloc, arguments)?;
             Ok(Action::AddTimeout(name, delay))

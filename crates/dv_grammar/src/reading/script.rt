@@ -1,20 +1,21 @@
 ghost use Rattle.std.specs.Prelude.{[], option_map, option_and_then};
 ghost use Rattle.serde_json.specs.View.{view, items_view};
-ghost use Rattle.dv_forms.specs.Answer.{Reads};
-ghost use Rattle.dv_forms.specs.Parts.{each, field, list_at, number_at};
-ghost use Rattle.dv_grammar.specs.Shape.{caller_at, event_at, script_at};
+ghost use Rattle.dv_forms.specs.Answer.{Reads, Gives};
+ghost use Rattle.dv_forms.specs.Parts.{each, field, fields_at, list_at, number_at};
+ghost use Rattle.dv_grammar.specs.Grammar.{keys_of};
+ghost use Rattle.dv_grammar.specs.Shape.{caller_at, event_at, pool_at, script_at};
 
 use crate::draft::Draft;
 use crate::reading::body::bodies;
 use crate::reading::cooperator::cooperator_or_plain;
 use crate::reading::event::events;
-use dv_forms::leaf::{array, fields, number};
-use dv_forms::ranges::{MOST_LEVELS, MOST_LIMIT};
+use dv_forms::leaf::{array, fields, number, small, text, two};
+use dv_forms::ranges::{MOST_LEVELS, MOST_LIMIT, MOST_WORKERS};
 use dv_forms::stop::Stop;
 use dv_forms::table::{declarations, table};
 use dv_script::body::Body;
 use dv_script::event::Event;
-use dv_script::script::Script;
+use dv_script::script::{NamedPool, Script};
 use dv_value::classes::Classes;
 use dv_value::items::Items;
 use serde_json::Value as Json;
@@ -67,35 +68,101 @@ fn all_events(alloc: Global, classes: &Classes, json: Option<&Json>) -> Result<I
     }
 }
 
+/// The version of a script.
+fn version(json: Option<&Json>) -> Result<u32, Stop>
+    ensures { Reads result (option_and_then (number_at 1 2) (option_map (λ d. view d.now) json.entry)) }
+{
+    match json {
+        None => Err(Stop::BadShape),
+        Some(json) => small(json, 1, 2),
+    }
+}
+
+/// An object with no other keys than those of a script of this version.
+fn fields_of(version: u32, json: &Json) -> Result<(), Stop>
+    ensures { Gives (λ _. tt) result (fields_at (keys_of version) (view json.now)) }
+{
+    if version == 1 {
+        fields(
+            json,
+            &[
+                "version",
+                "events",
+                "limit",
+                "classes",
+                "cooperator",
+                "callers",
+            ],
+        )
+    } else {
+        fields(
+            json,
+            &[
+                "pools",
+                "version",
+                "events",
+                "limit",
+                "classes",
+                "cooperator",
+                "callers",
+            ],
+        )
+    }
+}
+
+/// The pools that a script names, which it may leave out.
+fn pools(alloc: Global, json: Option<&Json>) -> Result<Items<NamedPool>, Stop>
+    ensures { Reads result (field [] (list_at pool_at) (option_map (λ d. view d.now) json.entry)) }
+{
+    match json {
+        None => Ok(Items::new(alloc)),
+        Some(json) => each_pool(alloc, array(json)?),
+    }
+}
+
+fn each_pool(alloc: Global, items: &[Json]) -> Result<Items<NamedPool>, Stop>
+    ensures { Reads result (each pool_at (items_view items.now)) }
+{
+    let mut pools = Items::new(alloc);
+    for item in items {
+        pools.push(pool(alloc, item)?)?;
+    }
+    Ok(pools)
+}
+
+#[tactic(auto, unfolding(crate::specs::Shape::pool_at, dv_forms::specs::Parts::pair))]
+fn pool(alloc: Global, json: &Json) -> Result<NamedPool, Stop>
+    ensures { Reads result (pool_at (view json.now)) }
+{
+    let (name, workers) = two(array(json)?)?;
+    let name = text(alloc, name)?;
+    let workers = small(workers, 0, MOST_WORKERS)?;
+    Ok(NamedPool { name, workers })
+}
+
 /// A script by its shape alone.
 #[tactic(auto, unfolding(crate::specs::Shape::script_at))]
 pub fn shape(alloc: Global, json: &Json) -> Result<Draft, Stop>
     ensures { Reads result (script_at (view json.now)) }
 {
-    fields(
-        json,
-        &[
-            "version",
-            "events",
-            "limit",
-            "classes",
-            "cooperator",
-            "callers",
-        ],
-    )?;
+    let version = version(json.get("version"))?;
+    fields_of(version, json)?;
     let limit = limit(json.get("limit"))?;
     let cooperator = cooperator_or_plain(json.get("cooperator"))?;
+    let pools = pools(alloc, json.get("pools"))?;
     let declared = declarations(alloc, json.get("classes"))?;
     let (classes, all_declared) = table(alloc, declared.as_slice())?;
     let callers = callers(alloc, &classes, json.get("callers"))?;
     let events = all_events(alloc, &classes, json.get("events"))?;
     Ok(Draft {
+        version,
         declared,
         all_declared,
         script: Script {
             classes,
             limit,
             cooperator,
+            pools,
             callers,
             events,
         },

@@ -2,13 +2,14 @@ ghost use Rattle.std.specs.Prelude.{◌^◌};
 ghost use Rattle.serde_json.specs.View.{view, items_view};
 ghost use Rattle.dv_forms.specs.Answer.{Reads};
 ghost use Rattle.dv_forms.specs.Parts.{text_at, number_at, triple};
-ghost use Rattle.dv_grammar.specs.Shape.{work_at, work_of};
+ghost use Rattle.dv_grammar.specs.Shape.{work_at, work_of, thread_in_of};
 
 use crate::words::WorkWord;
 use dv_forms::arguments::{class_and_message, one_small, one_value};
-use dv_forms::leaf::{call, number, text, three};
+use dv_forms::leaf::{call, four, number, text, three};
 use dv_forms::ranges::MOST_DELAY;
 use dv_forms::stop::Stop;
+use dv_script::action::Action;
 use dv_script::work::Work;
 use dv_value::classes::Classes;
 use dv_value::text::Text;
@@ -60,4 +61,17 @@ pub fn named_work(
     let delay = number(delay, 0, MOST_DELAY)?;
     let work = work(alloc, classes, json)?;
     Ok((name, delay, work))
+}
+
+/// A work that a thread of a pool does.
+#[tactic(auto, unfolding(crate::specs::Shape::thread_in_of))]
+pub fn thread_in(alloc: Global, classes: &Classes, arguments: &[Json]) -> Result<Action, Stop>
+    ensures { Reads result (thread_in_of classes.now (items_view arguments.now)) }
+{
+    let (name, pool, delay, json) = four(arguments)?;
+    let name = text(alloc, name)?;
+    let pool = text(alloc, pool)?;
+    let delay = number(delay, 0, MOST_DELAY)?;
+    let work = work(alloc, classes, json)?;
+    Ok(Action::ThreadIn(name, pool, delay, work))
 }

@@ -1,8 +1,7 @@
 use dv_jobs::gate::PlainGate;
 use dv_journal::memory_sink::MemorySink;
 use dv_reader::error::ScriptFault;
-use dv_run::RunFault;
-use dv_run::run::run;
+use dv_run::{RunFault, run};
 use dv_source::memory_source::MemorySource;
 use std::alloc::{AllocError, AllocGlobal, Global};
 use std::random::RandomSource;
@@ -19,7 +18,7 @@ const HAND_OVER: &str =
 
 /// A script with each action, end, statement, work, key and event of the language.
 const WHOLE: &str =
-    r#"{"version":1,"limit":1000,"classes":[["Mine","ValueError"],["Yours","Mine"]],"cooperator":{"units":2,"delay":3},
+    r#"{"version":2,"limit":1000,"pools":[["io",1],["slow",0]],"classes":[["Mine","ValueError"],["Yours","Mine"]],"cooperator":{"units":2,"delay":3},
 "callers":[[{"do":[["note","posted"]]},{"end":["raise","Mine","post"]}]],
 "events":[
 ["deferred","a"],
@@ -56,7 +55,7 @@ const WHOLE: &str =
 ["pauseTask","j"],["resumeTask","j"],["stopTask","i"],
 ["inline","e",[["try",[["await","z"],["do",["note","unreached"]]],["NameError"],[["do",["note","caught"]]]],["await","a"],["end",["plus",1]]]],
 ["inline","f",[["end",["raise","Mine","f"]]]],
-["thread","d0",1,["sum",10]],["thread","d1",1,["value",[null,"w"]]],["thread","d2",1,["raise","TypeError","job"]],
+["thread","d0",1,["sum",10]],["threadIn","d1","io",1,["value",[null,"w"]]],["thread","d2",1,["raise","TypeError","job"]],
 ["drain",0],
 ["advance",5],
 ["stopLoop","u"],
@@ -118,7 +117,8 @@ where
             ScriptFault::BadVersion
             | ScriptFault::BadShape
             | ScriptFault::BadName
-            | ScriptFault::BadClass,
+            | ScriptFault::BadClass
+            | ScriptFault::BadPool,
         ) => foreign != 1,
         Some(ScriptFault::TooLong | ScriptFault::TooMany | ScriptFault::OutOfMemory) => false,
     })

@@ -1,9 +1,10 @@
-ghost use Rattle.std.specs.Prelude.{◌<◌, ◌^◌, ◌-◌, IfOk};
+ghost use Rattle.std.specs.Prelude.{◌<◌, ◌^◌, ◌-◌, ◌≤◌, length, IfOk};
 
 use dv_engine::engine::Engine;
 use dv_engine::error::EngineFault;
 use dv_engine::report::Report;
 use dv_inline::poller::Poller;
+use dv_jobs::gate::PlainGate;
 use dv_jobs::one_thread::OneThread;
 use dv_jobs::source::JobSource;
 use dv_posts::posted::Posted;
@@ -19,6 +20,7 @@ use std::thread::Threads;
 /// A script of these events, with two callers of two posts each.
 fn script(alloc: Global, events: &str) -> Result<Script, Fail>
     ensures limited { IfOk result (λ script. script.limit < 2 ^ 32 - 1) }
+    ensures pools { IfOk result (λ script. length script.pools ≤ 4) }
 {
     let text = format!(in alloc;
         r#"{{"version":1,"callers":[[{{}},{{}}],[{{}},{{}}]],"events":[{events}]}}"#
@@ -97,11 +99,12 @@ fn counts(report: Result<Report, EngineFault>) -> Result<(usize, usize), EngineF
 fn add_run<R>(rt: &R, script: &Script, calls: &[Call], lines: &mut String) -> Result<(), Fail>
 where
     R: Threads + Wait + RandomSource + AllocGlobal,
-    requires { script.now.limit < 2 ^ 32 - 1 }
+    requires limited { script.now.limit < 2 ^ 32 - 1 }
+    requires pools { length script.now.pools ≤ 4 }
 {
     let alloc = rt.alloc();
     let poller = Poller::new(rt)?;
-    let mut engine = Engine::new(alloc, poller, OneThread::new(alloc), script)?;
+    let mut engine = Engine::new(alloc, poller, OneThread::new(alloc, 4, &PlainGate), script)?;
     let added = add_answers(rt, &mut engine, calls, lines);
     let counts = counts(engine.finish(rt));
     added?;

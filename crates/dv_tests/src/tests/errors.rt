@@ -14,6 +14,7 @@ fn a_refusal_prints_its_number_and_its_name(rt: HostRuntime) -> Result<(), Fail>
         (ScriptFault::BadName, "6 BadName"),
         (ScriptFault::BadClass, "7 BadClass"),
         (ScriptFault::OutOfMemory, "8 OutOfMemory"),
+        (ScriptFault::BadPool, "9 BadPool"),
     ] {
         assert_eq!(rt; format!(in rt.alloc(); "{fault}")?.as_str(), expected);
     }

@@ -109,3 +109,35 @@ impl Gate for Yielding {
         job.done(alloc)
     }
 }
+
+/// Notes which worker answered the job of each number.
+#[derive(Drop)]
+pub struct Noting {
+    workers: Vec<AtomicU32>,
+}
+
+impl Noting {
+    /// For so many jobs.
+    pub fn new(alloc: Global, jobs: u32) -> Result<Noting, AllocError> {
+        let mut workers = Vec::new(alloc);
+        for _ in 0..jobs {
+            workers.push(AtomicU32::new(0))?;
+        }
+        Ok(Noting { workers })
+    }
+
+    /// Whether no job of an even number, or of an odd one, was answered by this worker.
+    pub fn is_none_of(&self, odd: usize, worker: u32) -> bool {
+        self.workers.iter().enumerate().all(|(number, noted)| number % 2 != odd
+            || noted.load(Ordering::SeqCst) != worker)
+    }
+}
+
+impl Gate for Noting {
+    fn answer(&self, alloc: Global, worker: u32, job: Job) -> Answer {
+        if let Some(noted) = self.workers.get(job.number as usize) {
+            noted.store(worker, Ordering::SeqCst);
+        }
+        job.done(alloc)
+    }
+}

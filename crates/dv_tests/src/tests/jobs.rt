@@ -1,6 +1,8 @@
 ghost use Rattle.std.specs.Prelude.{◌≡◌, ◌≤◌, []};
+ghost use Rattle.dv_jobs.specs.Sources.{AreInRow};
 
 use super::gates::{Counting, Holding, Refusing};
+use super::sources::{outcome, submit};
 use dv_jobs::error::JobFault;
 use dv_jobs::gate::Gate;
 use dv_jobs::source::JobSource;
@@ -26,16 +28,16 @@ fn two_sums<R, J>(
 where
     R: Threads + Wait + RandomSource + AllocGlobal,
     J: JobSource,
-    requires { J.works source ≡ [] }
+    requires { J.jobs source ≡ [] }
 {
     let mut source = source;
-    let first = source.submit(alloc, Work::Sum(4))?;
-    let second = source.submit(alloc, Work::Sum(9))?;
+    let first = submit(alloc, &mut source, 0, Work::Sum(4))?;
+    let second = submit(alloc, &mut source, 0, Work::Sum(9))?;
     if !gate.have_two_come() {
         return Err("no two workers answer side by side".into());
     }
-    let one = source.outcome(rt, alloc, first)?;
-    let two = source.outcome(rt, alloc, second)?;
+    let one = outcome(rt, alloc, &mut source, first)?;
+    let two = outcome(rt, alloc, &mut source, second)?;
     let ran = source.close(rt, alloc)?;
     Ok((one, two, ran.dones().len()))
 }
@@ -47,7 +49,7 @@ fn two_workers_answer_side_by_side(rt: HostRuntime) -> Result<(), Fail> {
         thread::scope_env(),
         &rt,
         |scope| -> Result<(Value, Value, usize), Fail> {
-            let pool = Pool::open(&rt, rt.alloc(), scope, 2, &gate)?;
+            let pool = Pool::open(&rt, rt.alloc(), scope, 1, 2, &gate)?;
             two_sums(&rt, rt.alloc(), pool, &gate)
         },
     )?;
@@ -59,9 +61,11 @@ fn two_workers_answer_side_by_side(rt: HostRuntime) -> Result<(), Fail> {
 }
 
 /// Submits as many works as may be: whether the source is full then, and not before.
-fn fill<J: JobSource>(alloc: Global, source: &mut J) -> bool {
+fn fill<J: JobSource>(alloc: Global, source: &mut J) -> bool
+    requires { AreInRow (J.jobs source.old) }
+{
     for n in 0..4096u32 {
-        if source.may_submit().is_err() || source.submit(alloc, Work::Sum(n)).is_err() {
+        if submit(alloc, source, 0, Work::Sum(n)).is_err() {
             return false;
         }
     }
@@ -75,7 +79,7 @@ fn each_of_4096_jobs_comes_to_the_gate_once(rt: HostRuntime) -> Result<(), Fail>
         thread::scope_env(),
         &rt,
         |scope| -> Result<(bool, usize), AllocError> {
-            let mut pool = Pool::open(&rt, rt.alloc(), scope, 4, &gate)?;
+            let mut pool = Pool::open(&rt, rt.alloc(), scope, 1, 4, &gate)?;
             let is_full = fill(rt.alloc(), &mut pool);
             let ran = pool.close(&rt, rt.alloc())?;
             Ok((is_full, ran.dones().len()))
@@ -92,13 +96,13 @@ fn one_given_back<R, J>(rt: &R, alloc: Global, source: J) -> Result<(bool, bool,
 where
     R: Threads + Wait + RandomSource + AllocGlobal,
     J: JobSource,
-    requires { J.works source ≡ [] }
+    requires { J.jobs source ≡ [] }
 {
     let mut source = source;
-    let first = source.submit(alloc, Work::Sum(4))?;
-    let second = source.submit(alloc, Work::Sum(9))?;
-    let one = source.outcome(rt, alloc, first).is_ok();
-    let two = source.outcome(rt, alloc, second).is_ok();
+    let first = submit(alloc, &mut source, 0, Work::Sum(4))?;
+    let second = submit(alloc, &mut source, 0, Work::Sum(9))?;
+    let one = outcome(rt, alloc, &mut source, first).is_ok();
+    let two = outcome(rt, alloc, &mut source, second).is_ok();
     let closed = source.close(rt, alloc).is_ok();
     Ok((one, two, closed))
 }
@@ -109,7 +113,7 @@ fn a_job_that_is_given_back_is_want_of_memory(rt: HostRuntime) -> Result<(), Fai
         thread::scope_env(),
         &rt,
         |scope| -> Result<(bool, bool, bool), Fail> {
-            let pool = Pool::open(&rt, rt.alloc(), scope, 2, &Refusing)?;
+            let pool = Pool::open(&rt, rt.alloc(), scope, 1, 2, &Refusing)?;
             one_given_back(&rt, rt.alloc(), pool)
         },
     )?;
@@ -126,7 +130,7 @@ fn the_workers_of_a_dropped_pool_leave(rt: HostRuntime) -> Result<(), Fail> {
         thread::scope_env(),
         &rt,
         |scope| -> Result<bool, AllocError> {
-            let mut pool = Pool::open(&rt, rt.alloc(), scope, 16, &gate)?;
+            let mut pool = Pool::open(&rt, rt.alloc(), scope, 1, 16, &gate)?;
             Ok(fill(rt.alloc(), &mut pool))
         },
     )?;

@@ -3,7 +3,7 @@ ghost use Rattle.std.specs.Prelude.{◌≤◌};
 use super::runs::too_many_jobs;
 use dv_jobs::gate::PlainGate;
 use dv_journal::memory_sink::MemorySink;
-use dv_run::run::run;
+use dv_run::run;
 use dv_source::memory_source::MemorySource;
 use std::alloc::{AllocError, AllocGlobal, Global};
 use std::random::RandomSource;

@@ -1,4 +1,4 @@
-ghost use Rattle.std.specs.Prelude.{◌<◌, ◌≤◌, ◌^◌, ◌-◌, IfOk};
+ghost use Rattle.std.specs.Prelude.{◌<◌, ◌≤◌, ◌^◌, ◌-◌, length, IfOk};
 
 use super::gates::{Counting, Yielding};
 use dv_engine::engine::{Engine, Next};
@@ -12,7 +12,7 @@ use dv_journal::memory_sink::MemorySink;
 use dv_output::output::print_report;
 use dv_posts::posted::Posted;
 use dv_reader::read_script::ReadScript;
-use dv_run::run::run;
+use dv_run::run;
 use dv_script::script::Script;
 use dv_source::memory_source::MemorySource;
 use dv_value::items::Items;
@@ -58,6 +58,7 @@ fn copied(alloc: Global, posts: &[Posted]) -> Result<Items<Posted>, AllocError> 
 /// The script that a text says.
 fn read(alloc: Global, text: &str) -> Result<Script, Fail>
     ensures limited { IfOk result (λ script. script.limit < 2 ^ 32 - 1) }
+    ensures pools { IfOk result (λ script. length script.pools ≤ 4) }
 {
     Ok(Script::read(alloc, text.as_bytes())?)
 }
@@ -93,11 +94,12 @@ where
 fn replayed<S>(rt: &S, script: &Script, batches: &[Items<Posted>]) -> Result<Report, Fail>
 where
     S: Threads + Wait + RandomSource + AllocGlobal,
-    requires { script.now.limit < 2 ^ 32 - 1 }
+    requires limited { script.now.limit < 2 ^ 32 - 1 }
+    requires pools { length script.now.pools ≤ 4 }
 {
     let alloc = rt.alloc();
     let poller = Poller::new(rt)?;
-    let mut engine = Engine::new(alloc, poller, OneThread::new(alloc), script)?;
+    let mut engine = Engine::new(alloc, poller, OneThread::new(alloc, 4, &PlainGate), script)?;
     let given = give_all(rt, &mut engine, batches);
     let report = engine.finish(rt);
     if let Err(fail) = given {
@@ -131,7 +133,8 @@ fn retell<S>(
 ) -> Result<(), Fail>
 where
     S: Threads + Wait + RandomSource + AllocGlobal,
-    requires { script.now.limit < 2 ^ 32 - 1 }
+    requires limited { script.now.limit < 2 ^ 32 - 1 }
+    requires pools { length script.now.pools ≤ 4 }
 {
     let report = replayed(rt, script, batches)?;
     let printed = print_report(rt.alloc(), &script.classes, &report, sink);
@@ -165,10 +168,11 @@ where
     Ok(true)
 }
 
-/// Jobs whose results are delivered in another order than they were submitted in; the posts of one caller; and two callers whose
+/// Jobs whose results are delivered in another order than they were submitted in, of one pool and of three; the posts of one caller; and two callers whose
 /// posts meet at drains, and submit jobs.
-const SCRIPTS: [&str; 3] = [
+const SCRIPTS: [&str; 4] = [
     r#"{"version":1,"events":[["thread","a",5,["sum",10]],["thread","b",5,["raise","ValueError","no"]],["thread","c",2,["value",7]],["advance",5]]}"#,
+    r#"{"version":2,"pools":[["io",2],["cpu",0]],"events":[["threadIn","a","io",5,["sum",10]],["threadIn","b","cpu",5,["raise","ValueError","no"]],["thread","c",2,["value",7]],["advance",5]]}"#,
     r#"{"version":1,"callers":[[{"do":[["note","x"]]},{"do":[["callback","d",1]]}]],"events":[["deferred","d"]]}"#,
     r#"{"version":1,"callers":[[{"do":[["acquire","ann","door"]]},{"do":[["release","door"]]}],[{"do":[["acquire","bob","door"]]},{"do":[["thread","j",1,["sum",4]]]},{"do":[["release","door"]]}]],"events":[["lock","door"],["drain",1],["drain",2],["advance",1],["note","drained"],["drain",3],["advance",2]]}"#,
 ];

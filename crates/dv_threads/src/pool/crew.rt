@@ -1,9 +1,10 @@
-ghost use Rattle.std.specs.Prelude.{◌≡◌, ◌≤◌, ◌+◌, length, IfOk};
+ghost use Rattle.std.specs.Prelude.{◌≡◌, ◌<◌, ◌≤◌, ◌+◌, ◌^◌, length, IfOk};
 ghost use Rattle.std.specs.Arc.{arc_value};
 ghost use Rattle.crossbeam_deque.specs.Handles.{worker_view};
 ghost use Rattle.dv_workers.specs.Rules.{all_parts};
-ghost use Rattle.dv_threads.specs.Parts.{IsOrderly, IsSamePool};
+ghost use Rattle.dv_threads.specs.Parts.{IsOrderly, StaysPlaced, IsSamePool};
 ghost use Rattle.dv_threads.specs.Pool.{AreOf};
+ghost use Rattle.dv_threads.specs.declared.limits.TheConstants.{MOST_WORKERS};
 
 use crate::pool::parts::Parts;
 use crate::pool::threads::{Handle, finish, start};
@@ -30,19 +31,23 @@ impl Drop for Crew {
 }
 
 impl Crew {
-    /// Starts so many workers with tokens of the owner's. One whose thread can't be started is left out.
+    /// Starts so many workers with tokens of the owner's, numbered from the first number on. One whose thread can't be started is
+    /// left out, and nobody has its number.
     pub fn start<'s, E, R: Wait + Sync, G: Gate + Sync>(
         rt: &'s R,
         alloc: Global,
         scope: &'s Scope<'s, E>,
         parts: &mut Parts,
+        first: u32,
         workers: u32,
         gate: &'s G,
     ) -> Result<Crew, AllocError>
         requires orderly { IsOrderly parts.old }
         requires whole { (worker_view parts.old.jobs).parts ≡ all_parts }
-        requires few { workers ≤ 16 }
+        requires few { workers ≤ MOST_WORKERS }
+        requires numbers { first + workers < 2 ^ 32 }
         ensures orderly { IsOrderly parts.new }
+        ensures placed { StaysPlaced parts.old parts.new }
         ensures same { IsSamePool parts.old parts.new }
         ensures ours { IfOk result (λ crew. arc_value crew.shared ≡ arc_value parts.new.shared) }
         ensures handles { IfOk result (λ crew. AreOf (arc_value crew.shared) crew.handles.items) }
@@ -52,7 +57,7 @@ impl Crew {
         let shared = Arc::try_clone(&parts.shared)?;
         for number in 0..workers {
             let end = parts.split();
-            match start(rt, alloc, scope, &parts.shared, gate, number + 1, end) {
+            match start(rt, alloc, scope, &parts.shared, gate, first + number, end) {
                 Ok(handle) => handles.push_reserved(handle),
                 Err(end) => parts.absorb(end),
             }
@@ -71,6 +76,7 @@ impl Crew {
         requires ours { arc_value parts.old.shared ≡ arc_value self.shared }
         requires handles { AreOf (arc_value self.shared) self.handles.items }
         ensures orderly { IsOrderly parts.new }
+        ensures placed { StaysPlaced parts.old parts.new }
         ensures same { IsSamePool parts.old parts.new }
         ensures parts { (worker_view parts.new.jobs).parts ≡ (worker_view parts.old.jobs).parts + length self.handles.items }
     {

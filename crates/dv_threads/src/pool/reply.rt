@@ -1,7 +1,6 @@
-ghost use Rattle.std.specs.Prelude.{◌<◌, ◌≤◌, length, IfOk, IfSome};
-ghost use Rattle.dv_script.specs.declared.work.TheConstants.{MOST_JOBS};
-ghost use Rattle.dv_jobs.specs.Sources.{IsValueAt};
-ghost use Rattle.dv_threads.specs.Parts.{IsOrderly, Keeps};
+ghost use Rattle.std.specs.Prelude.{◌≡◌, true, is_some, IfOk, OnOk, IfSome};
+ghost use Rattle.dv_jobs.specs.Sources.{IsSubmitted, IsValueUnder};
+ghost use Rattle.dv_threads.specs.Parts.{jobs_in, IsOrderly, HasPlaced, Keeps};
 ghost use Rattle.dv_threads.specs.Reply.{MayPoll, MayGive};
 
 use crate::pool::parts::Parts;
@@ -20,7 +19,7 @@ use std::sync::Wait;
 pub struct JobReply<'a, G> {
     alloc: Global,
     parts: Option<Parts>,
-    works: &'a [Work],
+    works: &'a [Option<Work>],
     gate: &'a G,
     number: u32,
 }
@@ -40,8 +39,8 @@ impl<'a, G: Gate> Future for JobReply<'a, G> {
         if let Some(value) = parts.value(self.alloc, self.works, self.number) {
             return Poll::Ready((parts, value));
         }
-        if !parts.collect() {
-            parts.help(self.alloc, self.gate);
+        if !parts.collect(self.works) {
+            parts.help(self.alloc, self.works, self.gate);
         }
         self.parts = Some(parts);
         cx.yield_now()
@@ -53,7 +52,7 @@ pub fn reply<R, G>(
     rt: &R,
     alloc: Global,
     parts: Parts,
-    works: &[Work],
+    works: &[Option<Work>],
     gate: &G,
     number: u32,
 ) -> (Option<Parts>, Result<Value, AllocError>)
@@ -61,9 +60,11 @@ where
     R: Wait + RandomSource + AllocGlobal,
     G: Gate,
     requires orderly { IsOrderly parts }
-    requires number { (number < length works.now) × (length works.now ≤ MOST_JOBS) }
-    ensures parts { IfSome result.0 (λ left. IsOrderly left × Keeps parts left) }
-    ensures value { IfOk result.1 (IsValueAt works.now number) }
+    requires placed { HasPlaced works.now parts }
+    requires known { IsSubmitted number (jobs_in 0 works.now) }
+    ensures parts { IfSome result.0 (λ left. IsOrderly left × HasPlaced works.now left × Keeps parts left) }
+    ensures value { IfOk result.1 (IsValueUnder number (jobs_in 0 works.now)) }
+    ensures there { OnOk result.1 (is_some result.0 ≡ true) }
 {
     let reply = JobReply {
         alloc,

@@ -2,8 +2,8 @@ ghost use Rattle.std.specs.Prelude.{◌≡◌, MatchResult};
 ghost use Rattle.std.specs.Arc.{arc_value};
 ghost use Rattle.dv_workers.specs.Worker.{IsEndOf, IsFresh, HasServed};
 
-use dv_jobs::gate::Gate;
-use dv_workers::worker::{End, OWNER, Shared, serve};
+use dv_jobs::gate::{Gate, OWNER};
+use dv_workers::worker::{End, Shared, serve};
 use std::alloc::Global;
 use std::snapshot::Snapshot;
 use std::sync::atomic::Ordering;

@@ -9,7 +9,7 @@ use dv_journal::deferred_id::DeferredId;
 use dv_journal::entry::Entry;
 use dv_objects::performed::Performed;
 use dv_objects::works::Works;
-use dv_script::lent::WorkRef;
+use dv_script::lent::{TextRef, WorkRef};
 use dv_value::class_id::ClassId;
 use dv_value::fault::failure;
 use std::alloc::{AllocError, Global};
@@ -17,24 +17,31 @@ use std::alloc::{AllocError, Global};
 impl<'s> World<'s> {
     ghost use Rattle.dv_world.specs.World.{submit, deliver_later};
 
-    /// The works that were submitted as jobs.
+    /// The works that were submitted as jobs, with their pools.
     pub fn works(&self) -> &Works<'s>
-        ensures { result.now ≡ self.now.works }
+        ensures works { result.now.works ≡ self.now.works }
+        ensures pools { result.now.pools ≡ self.now.pools }
     {
         &self.works
     }
 
-    /// Submits a job, whose result is for this Deferred, unless as many were as a run has (Twisted: `deferToThread`).
+    /// Submits a job to the pool of this name, or to the default one, whose result is for this Deferred, unless as many were as a
+    /// run has (Twisted: `deferToThreadPool`, `deferToThread`).
     #[tactic(auto, unfolding(crate::specs::World::submit))]
-    pub fn submit(&mut self, id: DeferredId, work: WorkRef<'s>) -> Result<(), AllocError>
-        ensures { OnOk result (self.new ≡ submit id work.entry self.old) }
+    pub fn submit(
+        &mut self,
+        id: DeferredId,
+        pool: Option<TextRef<'s>>,
+        work: WorkRef<'s>,
+    ) -> Result<(), AllocError>
+        ensures { OnOk result (self.new ≡ submit id pool.entry work.entry self.old) }
     {
         if self.stopped || self.works.is_full() {
             return Ok(());
         }
         let job = Entry::Job(self.works.len() as u32, id);
         match self.journal.write(job) {
-            Ok(()) => self.works.push(work),
+            Ok(()) => self.works.push(pool, work),
             Err(stop) => self.stopped_by(stop, ()),
         }
     }

@@ -6,6 +6,6 @@ use Rattle.dv_runner.proofs.runner.go_on_with.Goals as goal
 
 pub submit_all-requires : goal.submit_all-requires
 submit_all-requires g c =
-    subst (λ (works : List Work). GoesOn c.turn.new.jobs works) (sym c.works.ensures)
+    subst (λ (works : List Work). GoesOn c.turn.new.jobs works) (sym c.works.ensures.works)
     (subst (λ (works : List Work). GoesOn works c.turn.new.world.works) (sym (c.turn.ensures.jobs ∙ c.requires.jobs))
     (turned_goes_on c.args.stack.now c.args.frame c.args.performed c.args.world.now (c.turn.new.stack, c.in_ok-next.next, c.turn.new.world) c.in_ok-next.ensures.turned))

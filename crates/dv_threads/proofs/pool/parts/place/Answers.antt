@@ -1,16 +1,26 @@
-use Rattle.std.proofs.Common.{rules, ◌<◌, ◌≤◌, length}
-use Rattle.dv_threads.proofs.Places.{far, stored, full}
+use Rattle.std.proofs.Common.{rules, ◌<◌, ◌≤◌, length, sym}
+use Rattle.dv_threads.specs.Parts.{MayBeOf}
+use Rattle.dv_threads.proofs.Places.{far, stored, full, another}
 use Rattle.dv_threads.proofs.pool.parts.place.Goals as goal
 
 pub returns-then-number-len-clause-takes : goal.returns-then-number-len-clause-takes
 returns-then-number-len-clause-takes c =
     let past : length c.args.places.now.items ≤ c.job_in-job.result.now.number = search rules in
-    far _ c.args.answer _ c.job_in-job.ensures past
+    far _ _ c.args.answer _ c.job_in-job.ensures past
 
-pub returns-then-is_none-clause-takes : goal.returns-then-is_none-clause-takes
-returns-then-is_none-clause-takes c =
+pub returns-then-is_some-clause-takes : goal.returns-then-is_some-clause-takes
+returns-then-is_some-clause-takes c =
     let low : c.job_in-job.result.now.number < length c.args.places.now.items = search rules in
-    stored _ c.args.answer _ c.index.result.now c.job_in-job.ensures low c.index.ensures c.if-is_none.ensures
+    full _ _ c.args.answer _ c.index.result.now c.requires c.job_in-job.ensures low c.index.ensures (sym c.if-is_some.ensures)
 
-pub returns-else-is_none-clause-takes : goal.returns-else-is_none-clause-takes
-returns-else-is_none-clause-takes c = full _ c.args.answer _ c.index.result.now c.job_in-job.ensures c.index.ensures c.if-is_none.ensures
+pub returns-then-may_be_of-clause-takes : goal.returns-then-may_be_of-clause-takes
+returns-then-may_be_of-clause-takes c =
+    let low : c.job_in-job.result.now.number < length c.args.places.now.items = search rules in
+    let may : MayBeOf c.index-works-number.result c.args.answer = search rules in
+    stored _ _ c.args.answer _ c.index.result.now c.index-works-number.result c.requires c.job_in-job.ensures low c.index.ensures (sym c.if-is_some.ensures) c.index-works-number.is may
+
+pub returns-else-may_be_of-clause-takes : goal.returns-else-may_be_of-clause-takes
+returns-else-may_be_of-clause-takes c =
+    let low : c.job_in-job.result.now.number < length c.args.places.now.items = search rules in
+    let other : MayBeOf c.index-works-number.result c.args.answer → ⊥ = search rules in
+    another _ _ c.args.answer _ c.index.result.now c.index-works-number.result c.requires c.job_in-job.ensures low c.index.ensures (sym c.if-is_some.ensures) c.index-works-number.is other

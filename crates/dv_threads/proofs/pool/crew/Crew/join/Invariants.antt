@@ -2,7 +2,7 @@ use Rattle.std.proofs.Common.{◌≡◌, ◌+◌, length}
 use Rattle.std.specs.Vec.Iter.{into_iter_items}
 use Rattle.std.specs.Arc.{arc_value}
 use Rattle.crossbeam_deque.specs.Handles.{worker_view}
-use Rattle.dv_threads.specs.Parts.{IsOrderly, IsSamePool}
+use Rattle.dv_threads.specs.Parts.{IsOrderly, StaysPlaced, IsSamePool}
 use Rattle.dv_threads.specs.Pool.{AreOf}
 use Rattle.dv_threads.proofs.pool.crew.Crew.join.Given as goal
 
@@ -12,3 +12,4 @@ invariant-loop-handle g l =
     × IsSamePool l.initial.parts l.parts
     × ((worker_view l.parts.jobs).parts + length (into_iter_items l.handle-iterator) ≡ (worker_view l.initial.parts.jobs).parts + length l.fn.self.handles.items)
     × AreOf (arc_value l.fn.self.shared) (into_iter_items l.handle-iterator)
+    × StaysPlaced l.initial.parts l.parts

@@ -3,7 +3,7 @@ use Rattle.std.specs.Prelude.{vec_len, vec_capacity}
 use Rattle.std.specs.Arc.{arc_value}
 use Rattle.crossbeam_deque.specs.Handles.{worker_view}
 use Rattle.dv_workers.specs.Rules.{all_parts}
-use Rattle.dv_threads.specs.Parts.{IsOrderly, IsSamePool}
+use Rattle.dv_threads.specs.Parts.{IsOrderly, StaysPlaced, IsSamePool}
 use Rattle.dv_threads.specs.Pool.{AreOf}
 use Rattle.dv_threads.proofs.pool.crew.Crew.start.Given as goal
 
@@ -15,3 +15,4 @@ invariant-loop-number g l =
     × ((worker_view l.parts.jobs).parts + vec_len l.handles ≡ all_parts)
     × (vec_len l.handles ≤ l.number)
     × (l.workers ≤ vec_capacity l.handles)
+    × StaysPlaced l.initial.parts l.parts

@@ -1,6 +1,7 @@
-ghost use Rattle.std.specs.Prelude.{◌≡◌, ◌≤◌, OnOk, IfOk, IfErr};
+ghost use Rattle.std.specs.Prelude.{◌≡◌, ◌≤◌, length, OnOk, IfOk, IfErr};
 ghost use Rattle.dv_reader.specs.Limits.{most_limit};
 ghost use Rattle.dv_posts.specs.Callers.{AreFew};
+ghost use Rattle.dv_threads.specs.declared.limits.TheConstants.{MOST_POOLS, MOST_WORKERS};
 ghost use Rattle.dv_run.specs.Headline.{Prints};
 ghost use Rattle.dv_run.specs.Run.{SaysScript, GivesNoScript, GivesUp, ReaderFailed, WriterFailed};
 
@@ -23,8 +24,9 @@ use std::thread::Threads;
 /// an entry, and then a line for each Deferred that was made. Answers the report of which that is the text: the journal, what
 /// became of each Deferred, the batches in which posts were taken, the jobs, and whether the run stopped at the journal's limit.
 ///
-/// The jobs are done at the gate, by so many workers, each on a thread of its own, and by this thread where it waits; with no
-/// workers each is done here, where it is submitted, and the gate isn't asked. Each caller posts on a thread of its own, in
+/// The jobs are done at the gate: those of the default pool by so many workers, and those of a pool that the script names by as many as
+/// it says, each on a thread of its own, and by this thread where it waits for one. With no workers, and where no pool is named, each
+/// is done here, where it is submitted. The gate is asked for each job once. Each caller posts on a thread of its own, in
 /// order. A worker whose thread can't be started is left out, and the posts of a caller whose thread can't be are posted before
 /// the first event. It may wait for its threads.
 ///
@@ -47,7 +49,7 @@ where
     R: Source,
     W: Sink,
     G: Gate + Sync,
-    requires { workers ≤ 16 }
+    requires { workers ≤ MOST_WORKERS }
     ensures ok { IfOk result (λ report. Prints (R.left reader.old) (W.taken writer.old) (W.taken writer.new) report) }
     ensures err { IfErr result (λ fault. GivesUp fault (R.left reader.old) (W.taken writer.old) (W.taken writer.new)) }
     ensures reader { ReaderFailed result (R.failures reader.old) (R.failures reader.new) }
@@ -75,6 +77,7 @@ where
 fn script_of<R: Source>(alloc: Global, reader: &mut R) -> Result<Script, RunFault>
     ensures ok { IfOk result (λ script. SaysScript (R.left reader.old) script) }
     ensures few { IfOk result (λ script. AreFew script.callers) }
+    ensures pools { IfOk result (λ script. length script.pools ≤ MOST_POOLS) }
     ensures limited { IfOk result (λ script. script.limit ≤ most_limit) }
     ensures kept { OnOk result (R.failures reader.new ≡ R.failures reader.old) }
     ensures err { IfErr result (λ fault. GivesNoScript fault (R.left reader.old) (R.failures reader.old) (R.failures reader.new)) }

@@ -2,7 +2,7 @@ use Rattle.std.proofs.Common.{rules, ap, Err}
 use Rattle.dv_output.specs.Faults.{of_read}
 use Rattle.dv_run.specs.Run.{GivesNoScript}
 use Rattle.dv_run.proofs.RunLemmas.{read_gives_none}
-use Rattle.dv_run.proofs.run.script_of.Goals as goal
+use Rattle.dv_run.proofs.running.script_of.Goals as goal
 
 pub returns-in_err-bytes-clause-err : goal.returns-in_err-bytes-clause-err
 returns-in_err-bytes-clause-err g c =
