@@ -56,6 +56,36 @@ class Findings:
         return f"{self.runs} runs, {self.refused} refused growths, {self.wrong} wrong"
 
 
+def run_under(shim: Path, words: list[str], source: bytes, environment: dict[str, str], seconds: float) -> End:
+    """Runs a program under the shim."""
+    told, tells = os.pipe()
+    with open(told, "rb") as reports:
+        try:
+            status, output, errors = run_telling(shim, words, source, environment, seconds, tells)
+        finally:
+            os.close(tells)
+        return End(status, output, errors, len(reports.read()))
+
+
+def run_telling(
+    shim: Path, words: list[str], source: bytes, environment: dict[str, str], seconds: float, tells: int
+) -> tuple[int | None, bytes, bytes]:
+    """Runs a program under the shim, which tells this file of each fault that is met: how it ended, and what it wrote."""
+    try:
+        ran = subprocess.run(
+            words,
+            input=source,
+            capture_output=True,
+            env={"LD_PRELOAD": str(shim), "FAULT_REPORT": str(tells), **environment},
+            pass_fds=[tells],
+            timeout=seconds,
+            check=False,
+        )
+    except subprocess.TimeoutExpired as late:
+        return None, late.stdout or b"", late.stderr or b""
+    return ran.returncode, ran.stdout, ran.stderr
+
+
 @dataclass(frozen=True)
 class Program:
     """A program under the shim."""
@@ -66,30 +96,7 @@ class Program:
 
     def run(self, script: Script, workers: int, fault: Fault) -> End:
         """Runs a script under a fault."""
-        told, tells = os.pipe()
-        with open(told, "rb") as reports:
-            try:
-                status, output, errors = self.run_with(script, workers, fault, tells)
-            finally:
-                os.close(tells)
-            return End(status, output, errors, len(reports.read()))
-
-    def run_with(self, script: Script, workers: int, fault: Fault, tells: int) -> tuple[int | None, bytes, bytes]:
-        environment = {"LD_PRELOAD": str(self.shim), "FAULT_REPORT": str(tells), **fault.environment()}
-        words = [str(self.path), str(workers)]
-        try:
-            ran = subprocess.run(
-                words,
-                input=script.source,
-                capture_output=True,
-                env=environment,
-                pass_fds=[tells],
-                timeout=self.seconds,
-                check=False,
-            )
-        except subprocess.TimeoutExpired as late:
-            return None, late.stdout or b"", late.stderr or b""
-        return ran.returncode, ran.stdout, ran.stderr
+        return run_under(self.shim, [str(self.path), str(workers)], script.source, fault.environment(), self.seconds)
 
 
 @dataclass(frozen=True)

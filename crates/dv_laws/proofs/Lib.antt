@@ -1,2 +1,14 @@
 pub mod ReadBackLemmas
+pub mod At
 pub mod OnceLemmas
+pub mod Clocks
+pub mod Calm
+pub mod Steps
+pub mod Settles
+pub mod OneAtATimeLemmas
+pub mod AgainLemmas
+pub mod TimesLemmas
+pub mod WaitsLemmas
+pub mod CallsLemmas
+pub mod ReadyLemmas
+pub mod OrderLemmas

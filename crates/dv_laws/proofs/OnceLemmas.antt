@@ -1,5 +1,5 @@
 -- A Deferred is fired as often as its record says: once or never.
-use Rattle.std.proofs.Common.{◌≡◌, ◌⊎◌, inl, inr, ⊎_elim, append_assoc, ℕ, zero, suc, ◌+◌, ◌-◌, ◌≤◌, ◌++◌, Bool, true, false, nat_eq, List, [], ◌∷◌, Option, None, Some, refl, sym, ap, subst, ◌∙◌, arith, slice_get, slice_set, cond, length}
+use Rattle.std.proofs.Common.{◌≡◌, ◌⊎◌, inl, inr, ⊎_elim, append_assoc, ℕ, ◌+◌, ◌-◌, ◌≤◌, ◌++◌, Bool, true, false, nat_eq, List, [], ◌∷◌, Option, None, Some, refl, sym, ap, subst, ◌∙◌, arith, slice_get, slice_set, cond, length}
 use Rattle.std.proofs.lemmas.Bool.{eqb-true}
 use Rattle.std.proofs.lemmas.List.Sums.{sum_by_push}
 use Rattle.dv_value.specs.declared.value.Value.{Null}
@@ -13,13 +13,13 @@ use Rattle.dv_store.specs.Chaining as chaining
 use Rattle.dv_store.specs.Cancelling.{guard}
 use Rattle.dv_store.specs.Fire.{with_firing, with_guard}
 use Rattle.dv_store.specs.Pausing.{with_pauses}
-use Rattle.dv_store.specs.Record.{with_item, new_record, changed, changing}
+use Rattle.dv_store.specs.Record.{with_item, new_record, changing}
 use Rattle.dv_store.specs.declared.record.Item.TheVariants as item
 use Rattle.dv_laws.specs.Once.{firing, firings, swallowing, swallowings, ComesFired, Stands, SwallowsTheCancelled, FiredOnce, EachDeferredIsFiredOnce}
 use Rattle.dv_posts.specs.Batches.{Batch}
 use Rattle.dv_runner.specs.Meaning.{Means}
 use Rattle.dv_runner.proofs.Kept.{Both, Kind, Kept, telling_of, every_step}
-use Rattle.dv_laws.proofs.ReadBackLemmas.{get_set}
+use Rattle.dv_laws.proofs.At.{counted_of, at, set_at, changing_at, first_at, last_at, more_at, push_at, split_last}
 use Rattle.dv_runner.proofs.ScriptsSaid.{scripts_mean_what_is_defined}
 use Rattle.dv_runner.proofs.Total.{means_keeps}
 use Rattle.dv_world.specs.World.{World, Records, state_of}
@@ -31,14 +31,6 @@ fired_of r = cond r.fired 1 0
 
 abbrev marks_of : Kind → ℕ
 marks_of r = cond r.swallows 1 0
-
--- what counts of what is found, and of n
-abbrev counted_of : (Kind → ℕ) → Option Kind → ℕ
-counted_of f None = 0
-counted_of f (Some r) = f r
-
-abbrev at : (Kind → ℕ) → ℕ → Records → ℕ
-at f n rs = counted_of f (slice_get rs n)
 
 -- how often n should have been fired, and how many of its firings are to be swallowed
 abbrev due_at : ℕ → Records → ℕ
@@ -56,74 +48,9 @@ marked_once_at : (o : Option Kind) → counted_of marks_of o ≤ 1
 marked_once_at None = omega arith
 marked_once_at (Some r) = elim r.swallows as (λ b. ◌≤◌ (cond b 1 0) 1) [ true ↦ omega arith | false ↦ omega arith ]
 
-module _ (f : Kind → ℕ) (n : ℕ) where
-  -- a record that counts as before, by whether it is that of n
-  same_at : (b : Bool) (d : ℕ) (r s : Kind) (l : Records) → nat_eq d n ≡ b → slice_get l d ≡ Some r → f s ≡ f r → counted_of f (cond b (Some s) (slice_get l n)) ≡ counted_of f (slice_get l n)
-  same_at true d r s l e h p = rw (← (eqb-true d n e), h, p) refl
-  same_at false d r s l e h p = refl
-
-  -- so where it is set
-  set_at : (d : ℕ) (r s : Kind) (l : Records) → slice_get l d ≡ Some r → f s ≡ f r → at f n (slice_set l d s) ≡ at f n l
-  set_at d r s l h p = rw (get_set l d n r s h) (same_at _ d r s l refl h p)
-
-  -- so where there is one
-  changed_at : (d : ℕ) (g : Kind → Kind) (o : Option Kind) (l : Records) → slice_get l d ≡ o → ((r : Kind) → f (g r) ≡ f r) → at f n (changed d g o l) ≡ at f n l
-  changed_at d g None l h p = refl
-  changed_at d g (Some r) l h p = set_at d r (g r) l h (p r)
-
-  -- so where it is looked for
-  changing_at : (d : ℕ) (g : Kind → Kind) (l : Records) → ((r : Kind) → f (g r) ≡ f r) → at f n (changing d g l) ≡ at f n l
-  changing_at d g l p = changed_at d g _ l refl p
-
-  -- a record that counts now, by whether it is that of n
-  first_by : (b : Bool) (d : ℕ) (r s : Kind) (l : Records) → nat_eq d n ≡ b → slice_get l d ≡ Some r → f r ≡ 0 → f s ≡ 1 → counted_of f (cond b (Some s) (slice_get l n)) ≡ at f n l + cond b 1 0
-  first_by true d r s l e h p q = rw (← (eqb-true d n e), h, p, q) (omega arith)
-  first_by false d r s l e h p q = omega arith
-
-  first_at : (d : ℕ) (r s : Kind) (l : Records) → slice_get l d ≡ Some r → f r ≡ 0 → f s ≡ 1 → at f n (slice_set l d s) ≡ at f n l + cond (nat_eq d n) 1 0
-  first_at d r s l h p q = rw (get_set l d n r s h) (first_by _ d r s l refl h p q)
-
-  -- a record that counts no more
-  last_by : (b : Bool) (d : ℕ) (r s : Kind) (l : Records) → nat_eq d n ≡ b → slice_get l d ≡ Some r → f r ≡ 1 → f s ≡ 0 → counted_of f (cond b (Some s) (slice_get l n)) + cond b 1 0 ≡ at f n l
-  last_by true d r s l e h p q = rw (← (eqb-true d n e), h, p, q) (omega arith)
-  last_by false d r s l e h p q = omega arith
-
-  last_at : (d : ℕ) (r s : Kind) (l : Records) → slice_get l d ≡ Some r → f r ≡ 1 → f s ≡ 0 → at f n (slice_set l d s) + cond (nat_eq d n) 1 0 ≡ at f n l
-  last_at d r s l h p q = rw (get_set l d n r s h) (last_by _ d r s l refl h p q)
-
-  -- a record that may count now
-  more_by : (b : Bool) (d : ℕ) (r s : Kind) (l : Records) → nat_eq d n ≡ b → slice_get l d ≡ Some r → f s ≤ f r + 1 → counted_of f (cond b (Some s) (slice_get l n)) ≤ at f n l + cond b 1 0
-  more_by true d r s l e h p = rw (← (eqb-true d n e), h) p
-  more_by false d r s l e h p = omega arith
-
-  more_changed : (d : ℕ) (g : Kind → Kind) (o : Option Kind) (l : Records) → slice_get l d ≡ o → ((r : Kind) → f (g r) ≤ f r + 1) → at f n (changed d g o l) ≤ at f n l + cond (nat_eq d n) 1 0
-  more_changed d g None l h p = omega arith
-  more_changed d g (Some r) l h p = rw (get_set l d n r (g r) h) (more_by _ d r (g r) l refl h (p r))
-
-  more_at : (d : ℕ) (g : Kind → Kind) (l : Records) → ((r : Kind) → f (g r) ≤ f r + 1) → at f n (changing d g l) ≤ at f n l + cond (nat_eq d n) 1 0
-  more_at d g l p = more_changed d g _ l refl p
-
--- a new record doesn't count
-push_at : (f : Kind → ℕ) (n : ℕ) (s : Kind) (l : Records) → f s ≡ 0 → at f n (l ++ s ∷ []) ≡ at f n l
-push_at f zero s [] h = h
-push_at f (suc n) s [] h = refl
-push_at f zero s (x ∷ l) h = refl
-push_at f (suc n) s (x ∷ l) h = push_at f n s l h
-
 -- a mark that is set counts one at most
 marks_more : (r : Kind) → marks_of (with_guard true r) ≤ marks_of r + 1
 marks_more r = omega arith
-
--- where x stands in a list with one more item at its end, it stood before, or it is that item
-split_last : {X : Type 0} (P : List X → Type 0) (x last : X) (xs before later : List X) → ((bs ls : List X) → xs ≡ bs ++ x ∷ ls → P bs) → (x ≡ last → P xs) → xs ++ last ∷ [] ≡ before ++ x ∷ later → P before
-split_last P x last [] [] later h k q = k cc
-split_last P x last [] (b ∷ []) later h k q = absurd cc
-split_last P x last [] (b ∷ c ∷ bs) later h k q = absurd cc
-split_last P x last (y ∷ xs) [] later h k q = let e : y ≡ x = cc in h [] xs (ap (λ z. z ∷ xs) e)
-split_last P x last (y ∷ xs) (b ∷ bs) later h k q =
-    let e : y ≡ b = cc in
-    let rest : xs ++ last ∷ [] ≡ bs ++ x ∷ later = cc in
-    subst (λ z. P (z ∷ bs)) e (split_last (λ l. P (y ∷ l)) x last xs bs later (λ cs ls r. h (y ∷ cs) ls (ap (λ l. y ∷ l) r)) k rest)
 
 -- one more entry, before which n was fired if it is a further firing
 comes_on : (n : ℕ) (again e : Entry) (entries : List Entry) → ComesFired n again entries → (again ≡ e → firings n entries ≡ 1) → ComesFired n again (entries ++ e ∷ [])

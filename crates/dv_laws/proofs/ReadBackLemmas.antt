@@ -33,11 +33,11 @@ get_set (x ∷ l) (suc d) zero r s h = rw eqb-suc-zero refl
 get_set (x ∷ l) (suc d) (suc n) r s h = rw eqb-suc-suc (get_set l d n r s h)
 
 -- what is shown of a record
-abbrev shown_of : Kind → Shown
+abbrev pub shown_of : Kind → Shown
 shown_of r = record { name = r.name; fired = r.fired; value = r.value; waits_for = r.waits_for; pauses = r.pauses }
 
 -- what is shown of n
-abbrev at : ℕ → Records → Option Shown
+abbrev pub at : ℕ → Records → Option Shown
 at n rs = option_map shown_of (slice_get rs n)
 
 -- a record that is set shows its change, by whether it is that of n
@@ -90,19 +90,19 @@ push_at zero s (x ∷ l) = rw eqb-suc-zero refl
 push_at (suc n) s (x ∷ l) = rw eqb-suc-suc (push_at n s l)
 
 -- the journal tells what the records show
-abbrev ReadsBack : Both → Type 0
+abbrev pub ReadsBack : Both → Type 0
 ReadsBack s = (n : ℕ) → told_by n s.1.entries ≡ at n s.0
 
 -- if it did before, it does after
-record Reads (s t : Both) : Type 0 where
-  goes_on : ReadsBack s → ReadsBack t
+pub record Reads (s t : Both) : Type 0 where
+  pub goes_on : ReadsBack s → ReadsBack t
 
 -- an entry that tells the change
 tells : (e : Entry) (rs : Records) (s : Both) → ((n : ℕ) → at n rs ≡ told n (at n s.0) e) → Reads s (telling_of e rs s)
 tells e rs s p = record { goes_on = λ k n. rw (p n, ← (k n)) (fold-append (told n) None s.1.entries (e ∷ [])) }
 
 -- each entry tells its change
-reads : Kept Reads
+pub reads : Kept Reads
 reads = record {
   stays = λ s. record { goes_on = λ k. k };
   joins = λ s t u p q. record { goes_on = λ k. q.goes_on (p.goes_on k) };

@@ -1,11 +1,47 @@
 //! Laws of whole runs, each a function with an empty body whose clauses are the laws.
 
+ghost use Rattle.dv_laws.specs.Again.{OnlyTheNextFiringIsSwallowed};
+ghost use Rattle.dv_laws.specs.Calls.{CallsRunInOrder, CallsRunOnceInTime};
+ghost use Rattle.dv_laws.specs.OneAtATime.{EachPairIsUsedOnce, SidesRunOneAtATime};
 ghost use Rattle.dv_laws.specs.Once.{EachDeferredIsFiredOnce};
 ghost use Rattle.dv_laws.specs.ReadBack.{OutcomesAreToldByTheJournal};
+ghost use Rattle.dv_laws.specs.Ready.{NothingRunsEarly};
+ghost use Rattle.dv_laws.specs.Times.{TimeNeverFalls};
+ghost use Rattle.dv_laws.specs.Waits.{WaitsEndByAHandOver};
 
 /// The journal of a run tells what has become of each Deferred, that each was fired once at most, and that a further firing
 /// of it was swallowed once at most, where it was fired with CancelledError and an empty message, as a cancel does.
 pub fn journals_tell()
     ensures outcomes { OutcomesAreToldByTheJournal }
     ensures once { EachDeferredIsFiredOnce }
+{}
+
+/// In a run a firing that is swallowed is the next one after the Deferred was fired; each later one is refused.
+pub fn firings_are_refused()
+    ensures swallowed { OnlyTheNextFiringIsSwallowed }
+{}
+
+/// In a run each pair of a Deferred is used once at most, and its sides run one at a time: none is run while another of the same
+/// Deferred hasn't ended, and each `set`, `take` or `wait` ends one that was run. None is run before the Deferred is fired, while
+/// it is paused, or while it waits for another.
+pub fn callbacks_run_in_turn()
+    ensures once { EachPairIsUsedOnce }
+    ensures alone { SidesRunOneAtATime }
+    ensures ready { NothingRunsEarly }
+{}
+
+/// In a run a Deferred that waits for another is left alone until that hands its value over to it: none of its sides is run before,
+/// and its value stays. It is handed a value no more often than it waited.
+pub fn waits_end()
+    ensures handed { WaitsEndByAHandOver }
+{}
+
+/// In a run the times of `advance` never fall, and nothing is scheduled for a time before the last of them. Each call that is
+/// scheduled is run once at most, not after it was cancelled and not before its time; of two that are scheduled once each the
+/// one that is due earlier is run first, and of those that are due at one time the one that was scheduled first. So it is with
+/// the cooperator's ticks, deliveries and timers.
+pub fn time_goes_on()
+    ensures falls { TimeNeverFalls }
+    ensures calls { CallsRunOnceInTime }
+    ensures order { CallsRunInOrder }
 {}

@@ -1,0 +1,219 @@
+-- What a journal tells of delayed calls, and of what else waits for its time (Twisted: `callLater`, `DelayedCall.cancel`).
+use Rattle.std.specs.Prelude.{ℕ, ◌≡◌, ◌≤◌, Bool, true, false, nat_eq, bytes_eq, if◌then◌else◌, List, ◌∷◌, ◌++◌, Option, None, Some, fold, sum_by}
+use Rattle.dv_journal.specs.declared.entry.Entry.{Entry}
+use Rattle.dv_journal.specs.declared.entry.Entry.TheVariants as entry
+use Rattle.dv_script.specs.declared.script.Script.{Script}
+use Rattle.dv_engine.specs.Report.{Reports}
+use Rattle.dv_engine.specs.declared.report.Report.{Report}
+use Rattle.dv_laws.specs.Once.{Stands}
+use Rattle.dv_laws.specs.Places.{AtEachPlace, OfEachEntry}
+use Rattle.dv_laws.specs.Times.{Timing, timing_of, Untimed, Advances, Schedules}
+
+-- what waits for its time: a delayed call of the script, by its name; the cooperator's tick; the delivery of a job's result; a timer of a Deferred. A turn of a loop isn't among these, since a first turn may be taken without waiting
+pub data Timed : Type 0 where
+  Called : (name : List ℕ) → Timed
+  Ticking : Timed
+  Delivered : (job : ℕ) → Timed
+  TimedOut : (d : ℕ) → Timed
+
+-- the two are the same
+abbrev pub is_same : Timed → Timed → Bool
+is_same (Called name) (Called other) = bytes_eq name other
+is_same (Called name) Ticking = false
+is_same (Called name) (Delivered other) = false
+is_same (Called name) (TimedOut other) = false
+is_same Ticking (Called other) = false
+is_same Ticking Ticking = true
+is_same Ticking (Delivered other) = false
+is_same Ticking (TimedOut other) = false
+is_same (Delivered job) (Called other) = false
+is_same (Delivered job) Ticking = false
+is_same (Delivered job) (Delivered other) = nat_eq job other
+is_same (Delivered job) (TimedOut other) = false
+is_same (TimedOut d) (Called other) = false
+is_same (TimedOut d) Ticking = false
+is_same (TimedOut d) (Delivered other) = false
+is_same (TimedOut d) (TimedOut other) = nat_eq d other
+
+-- it counts one where it is the same
+abbrev pub count_of : Timed → Option Timed → ℕ
+count_of t None = 0
+count_of t (Some other) = if is_same t other then 1 else 0
+
+-- what an entry tells that is scheduled
+abbrev pub scheduled_by : Entry → Option Timed
+scheduled_by (entry.New id name) = None
+scheduled_by (entry.Name id name) = None
+scheduled_by (entry.Add id) = None
+scheduled_by (entry.Fire id value) = None
+scheduled_by (entry.Swallow id) = None
+scheduled_by (entry.Refuse id) = None
+scheduled_by (entry.Run id) = None
+scheduled_by (entry.Set id value) = None
+scheduled_by (entry.Take id from value) = None
+scheduled_by (entry.Wait id on) = None
+scheduled_by (entry.Hand from id value) = None
+scheduled_by (entry.Pause id) = None
+scheduled_by (entry.Unpause id) = None
+scheduled_by (entry.Cancel id) = None
+scheduled_by (entry.Note text) = None
+scheduled_by (entry.Unhandled failure) = None
+scheduled_by (entry.Lock name) = None
+scheduled_by (entry.Semaphore name tokens) = None
+scheduled_by (entry.Acquire name id) = None
+scheduled_by (entry.Release name) = None
+scheduled_by (entry.Queue name most_stored most_waiting) = None
+scheduled_by (entry.Put name value) = None
+scheduled_by (entry.Get name id) = None
+scheduled_by (entry.LaterCall name due) = Some (Called name)
+scheduled_by (entry.LaterLoop name due) = None
+scheduled_by (entry.LaterTick due) = Some Ticking
+scheduled_by (entry.LaterJob job due) = Some (Delivered job)
+scheduled_by (entry.LaterTimeout id due) = Some (TimedOut id)
+scheduled_by (entry.Uncall name) = None
+scheduled_by (entry.Call name) = None
+scheduled_by entry.Tick = None
+scheduled_by (entry.Deliver job) = None
+scheduled_by (entry.Timeout id) = None
+scheduled_by (entry.Loop name id) = None
+scheduled_by (entry.Turn name) = None
+scheduled_by (entry.Stop name) = None
+scheduled_by (entry.Task name) = None
+scheduled_by (entry.Step name) = None
+scheduled_by (entry.Hold name id) = None
+scheduled_by (entry.End name value) = None
+scheduled_by (entry.PauseTask name) = None
+scheduled_by (entry.ResumeTask name) = None
+scheduled_by (entry.WhenDone name id) = None
+scheduled_by (entry.Await id on) = None
+scheduled_by (entry.Job job id) = None
+scheduled_by (entry.Advance time) = None
+scheduled_by entry.Drain = None
+scheduled_by (entry.Post caller index) = None
+
+-- what it tells that waits no longer: it is run, or is a delayed call that is cancelled
+abbrev pub ended_by : Entry → Option Timed
+ended_by (entry.New id name) = None
+ended_by (entry.Name id name) = None
+ended_by (entry.Add id) = None
+ended_by (entry.Fire id value) = None
+ended_by (entry.Swallow id) = None
+ended_by (entry.Refuse id) = None
+ended_by (entry.Run id) = None
+ended_by (entry.Set id value) = None
+ended_by (entry.Take id from value) = None
+ended_by (entry.Wait id on) = None
+ended_by (entry.Hand from id value) = None
+ended_by (entry.Pause id) = None
+ended_by (entry.Unpause id) = None
+ended_by (entry.Cancel id) = None
+ended_by (entry.Note text) = None
+ended_by (entry.Unhandled failure) = None
+ended_by (entry.Lock name) = None
+ended_by (entry.Semaphore name tokens) = None
+ended_by (entry.Acquire name id) = None
+ended_by (entry.Release name) = None
+ended_by (entry.Queue name most_stored most_waiting) = None
+ended_by (entry.Put name value) = None
+ended_by (entry.Get name id) = None
+ended_by (entry.LaterCall name due) = None
+ended_by (entry.LaterLoop name due) = None
+ended_by (entry.LaterTick due) = None
+ended_by (entry.LaterJob job due) = None
+ended_by (entry.LaterTimeout id due) = None
+ended_by (entry.Uncall name) = Some (Called name)
+ended_by (entry.Call name) = Some (Called name)
+ended_by entry.Tick = Some Ticking
+ended_by (entry.Deliver job) = Some (Delivered job)
+ended_by (entry.Timeout id) = Some (TimedOut id)
+ended_by (entry.Loop name id) = None
+ended_by (entry.Turn name) = None
+ended_by (entry.Stop name) = None
+ended_by (entry.Task name) = None
+ended_by (entry.Step name) = None
+ended_by (entry.Hold name id) = None
+ended_by (entry.End name value) = None
+ended_by (entry.PauseTask name) = None
+ended_by (entry.ResumeTask name) = None
+ended_by (entry.WhenDone name id) = None
+ended_by (entry.Await id on) = None
+ended_by (entry.Job job id) = None
+ended_by (entry.Advance time) = None
+ended_by entry.Drain = None
+ended_by (entry.Post caller index) = None
+
+-- how often it is scheduled, and how often it waits no longer, as is told
+abbrev pub schedulings : Timed → List Entry → ℕ
+schedulings t entries = sum_by (λ e. count_of t (scheduled_by e)) entries
+
+abbrev pub endings : Timed → List Entry → ℕ
+endings t entries = sum_by (λ e. count_of t (ended_by e)) entries
+
+-- what is told when it is scheduled, and when it is run
+abbrev pub later_of : Timed → ℕ → Entry
+later_of (Called name) due = entry.LaterCall name due
+later_of Ticking due = entry.LaterTick due
+later_of (Delivered job) due = entry.LaterJob job due
+later_of (TimedOut d) due = entry.LaterTimeout d due
+
+abbrev pub run_of : Timed → Entry
+run_of (Called name) = entry.Call name
+run_of Ticking = entry.Tick
+run_of (Delivered job) = entry.Deliver job
+run_of (TimedOut d) = entry.Timeout d
+
+-- the time after one more entry, and by all that was told
+abbrev pub time_after : ℕ → Timing → ℕ
+time_after time Untimed = time
+time_after time (Advances later) = later
+time_after time (Schedules due) = time
+
+abbrev pub time_by : List Entry → ℕ
+time_by entries = fold (λ time e. time_after time (timing_of e)) 0 entries
+
+-- it was scheduled, and is due by now
+pub record WasDue (t : Timed) (told : List Entry) : Type 0 where
+  pub due : ℕ
+  pub scheduled : Stands (later_of t due) told
+  pub by_now : due ≤ time_by told
+
+-- what is scheduled is run or cancelled once at most each time, and not run before its time
+pub record RunsInTime (t : Timed) (entries : List Entry) : Type 0 where
+  pub once : AtEachPlace (λ told. endings t told ≤ schedulings t told) entries
+  pub due : OfEachEntry (λ told x. x ≡ run_of t → WasDue t told) entries
+
+-- in a run each call that is scheduled is run once at most, not after it was cancelled and not before its time, by its report
+abbrev pub CallsRunOnceInTime : Type 0
+CallsRunOnceInTime = (script : Script) (report : Report) → Reports script report → (t : Timed) → RunsInTime t report.journal.entries
+
+-- it was scheduled once, due at this time
+pub record ScheduledOnce (t : Timed) (due : ℕ) (told : List Entry) : Type 0 where
+  pub once : schedulings t told ≡ 1
+  pub scheduled : Stands (later_of t due) told
+
+-- it was scheduled once by then, due at this time, and has run
+pub record HasRun (t : Timed) (due : ℕ) (told : List Entry) : Type 0 where
+  pub before : List Entry
+  pub later : List Entry
+  pub ran : told ≡ before ++ run_of t ∷ later
+  pub scheduled : ScheduledOnce t due before
+
+-- one entry stands before another
+pub record Precedes (x y : Entry) (entries : List Entry) : Type 0 where
+  pub before : List Entry
+  pub between : List Entry
+  pub later : List Entry
+  pub among : entries ≡ before ++ x ∷ (between ++ y ∷ later)
+
+-- the one is due earlier than the other, or both at one time, and then it was scheduled first
+pub record IsFirst (t u : Timed) (first second : ℕ) (told : List Entry) : Type 0 where
+  pub earlier : first ≤ second
+  pub in_order : first ≡ second → Precedes (later_of t first) (later_of u second) told
+
+-- of two that are scheduled once each, the one that is due earlier runs first, and of those that are due at one time the one that was scheduled first
+abbrev pub RunsInOrder : Timed → Timed → List Entry → Type 0
+RunsInOrder t u entries = OfEachEntry (λ told x. x ≡ run_of u → (first second : ℕ) → HasRun t first told → ScheduledOnce u second told → IsFirst t u first second told) entries
+
+-- in a run calls run in the order of the times that they are due at, and then in that of their scheduling, by its report
+abbrev pub CallsRunInOrder : Type 0
+CallsRunInOrder = (script : Script) (report : Report) → Reports script report → (t u : Timed) → RunsInOrder t u report.journal.entries

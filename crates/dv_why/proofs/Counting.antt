@@ -1,0 +1,23 @@
+-- Items and wants, counted.
+use Rattle.std.proofs.Common.{◌≡◌, ℕ, zero, suc, ◌<◌, ◌≤◌, List, [], ◌∷◌, length, get_or, Some, None, refl, ap, arith}
+use Rattle.serde_json.specs.View.{items_view}
+use Rattle.serde_json.specs.declared.value.Value.{Value}
+use Rattle.dv_why.specs.declared.want.Want.{Want}
+use Rattle.dv_why.specs.Places.{count, nth}
+
+-- there are as many items as values
+pub count_items : (vs : List Value) → count (items_view vs) ≡ length vs
+count_items [] = refl
+count_items (v ∷ vs) = ap suc (count_items vs)
+
+-- the item of a number below the length
+pub nth_within : (ws : List Want) (n : ℕ) (default : Want) → n < length ws → nth ws n ≡ Some (get_or ws n default)
+nth_within [] n default h = absurd (omega arith)
+nth_within (w ∷ ws) zero default h = refl
+nth_within (w ∷ ws) (suc n) default h = nth_within ws n default (omega arith)
+
+-- there is none of another number
+pub nth_past : (ws : List Want) (n : ℕ) → length ws ≤ n → nth ws n ≡ None
+nth_past [] n h = refl
+nth_past (w ∷ ws) zero h = absurd (omega arith)
+nth_past (w ∷ ws) (suc n) h = nth_past ws n (omega arith)

@@ -1,0 +1,171 @@
+-- Whether what stands at a place is what the place asks for, its parts apart.
+use Rattle.std.specs.Prelude.{ℕ, ◌&&◌, ◌||◌, nat_eq, Bool, true, false, not, List, length, Option, Some, None, is_some, option_and_then, bytes_eq, codes}
+use Rattle.std.specs.List.{list_any}
+use Rattle.serde_json.specs.Data.{Data, null, boolean, number, string, array, object, Items, no_items, item}
+use Rattle.serde_json.specs.Find.{as_str, as_bool, as_array, as_object, as_i64, get, at}
+use Rattle.serde_json.specs.View.{view}
+use Rattle.serde_json.specs.declared.value.Value.{Value}
+use Rattle.dv_value.specs.Classes.{find_class}
+use Rattle.dv_forms.specs.Parts.{text_at, integer_at, number_at, bound_at, list_flag_at, gather_flag_at}
+use Rattle.dv_reader.specs.Names.{is_name, names_one}
+use Rattle.dv_why.specs.declared.want.Leaf.{Leaf}
+use Rattle.dv_why.specs.declared.want.Leaf.TheVariants as leaf
+use Rattle.dv_why.specs.declared.want.Call.{Call}
+use Rattle.dv_why.specs.declared.want.Keyed.{Keyed}
+use Rattle.dv_why.specs.declared.want.Keyed.TheVariants as keyed
+use Rattle.dv_why.specs.declared.want.Want.{Want}
+use Rattle.dv_why.specs.declared.want.Want.TheVariants as want
+use Rattle.dv_why.specs.declared.question.Question.{Question}
+use Rattle.dv_why.specs.declared.question.Question.TheVariants as question
+use Rattle.dv_why.specs.Wants.{form_of}
+use Rattle.dv_why.specs.Places.{count}
+
+-- a leaf reads as the grammar reads it
+abbrev pub leaf_fits : Leaf → Data → Bool
+leaf_fits leaf.Text d = is_some (text_at d)
+leaf_fits leaf.Name d = is_some (text_at d)
+leaf_fits leaf.Deferred d = is_some (text_at d)
+leaf_fits leaf.Pool d = is_some (text_at d)
+leaf_fits leaf.Class d = is_some (text_at d)
+leaf_fits leaf.Integer d = is_some (integer_at d)
+leaf_fits (leaf.Number low high) d = is_some (number_at low high d)
+leaf_fits leaf.Boolean d = is_some (as_bool d)
+leaf_fits leaf.Bound d = is_some (bound_at d)
+leaf_fits leaf.ListFlag d = is_some (list_flag_at d)
+leaf_fits leaf.GatherFlag d = is_some (gather_flag_at d)
+
+-- a value, its items apart: no object, and no number but integers of 64 bits
+abbrev pub value_fits : Data → Bool
+value_fits null = true
+value_fits (boolean b) = true
+value_fits (number x) = is_some (as_i64 x)
+value_fits (string text) = true
+value_fits (array ds) = true
+value_fits (object ms) = false
+
+-- the number of arguments is that of the word, or the word is wrong itself
+abbrev pub has_form : Option (List Want) → ℕ → Bool
+has_form None given = true
+has_form (Some wants) given = nat_eq (length wants) given
+
+-- the first part of a call is no text, which is wrong itself, or a word that has so many arguments
+abbrev pub begins_well : Call → Option (List ℕ) → ℕ → Bool
+begins_well c None given = true
+begins_well c (Some word) given = has_form (form_of c word given) given
+
+-- a call, its parts apart: an array of one part at least
+abbrev pub parts_fit : Call → Items → Bool
+parts_fit c no_items = false
+parts_fit c (item d ds) = begins_well c (as_str d) (count ds)
+
+-- there are two parts
+abbrev pub are_two : Items → Bool
+are_two ds = nat_eq (count ds) 2
+
+-- there is an array, whose items fit
+abbrev pub array_fits : (Items → Bool) → Option Items → Bool
+array_fits fit None = false
+array_fits fit (Some ds) = fit ds
+
+-- the word of a call: in version 1 no thread is one of a pool
+abbrev pub word_fits : ℕ → Call → Option (List ℕ) → Bool
+word_fits version c None = false
+word_fits version c (Some word) = not (nat_eq version 1 && bytes_eq word (codes "threadIn")) && is_some (form_of c word 0)
+
+-- whether the object has the keys that it has to have
+abbrev pub has_keys : Keyed → Data → Bool
+has_keys (keyed.Script version) d = is_some (get (codes "version") d) && is_some (get (codes "events") d)
+has_keys keyed.Cooperator d = is_some (get (codes "units") d) && is_some (get (codes "delay") d)
+has_keys keyed.Body d = true
+
+-- what stands at a place has the shape that the place asks for, its parts apart
+abbrev pub fits : ℕ → Want → Data → Bool
+fits version (want.Leaf leaf) d = leaf_fits leaf d
+fits version want.Value d = value_fits d
+fits version (want.Call c) d = array_fits (parts_fit c) (as_array d)
+fits version (want.Pair p) d = array_fits are_two (as_array d)
+fits version (want.Keyed k) d = is_some (as_object d) && has_keys k d
+fits version (want.Array i) d = is_some (as_array d)
+fits version (want.Word c) d = word_fits version c (as_str d)
+fits version (want.Other k) d = false
+
+-- whether a name has the form that its place asks for
+abbrev pub is_named : Leaf → List ℕ → Bool
+is_named leaf.Text name = true
+is_named leaf.Name name = is_name name
+is_named leaf.Deferred name = names_one name
+is_named leaf.Pool name = is_name name
+is_named leaf.Class name = true
+is_named leaf.Integer name = true
+is_named (leaf.Number low high) name = true
+is_named leaf.Boolean name = true
+is_named leaf.Bound name = true
+is_named leaf.ListFlag name = true
+is_named leaf.GatherFlag name = true
+
+-- whether it names a class
+abbrev pub is_class : Leaf → Bool
+is_class leaf.Text = false
+is_class leaf.Name = false
+is_class leaf.Deferred = false
+is_class leaf.Pool = false
+is_class leaf.Class = true
+is_class leaf.Integer = false
+is_class (leaf.Number low high) = false
+is_class leaf.Boolean = false
+is_class leaf.Bound = false
+is_class leaf.ListFlag = false
+is_class leaf.GatherFlag = false
+
+-- whether it names a pool
+abbrev pub is_pool : Leaf → Bool
+is_pool leaf.Text = false
+is_pool leaf.Name = false
+is_pool leaf.Deferred = false
+is_pool leaf.Pool = true
+is_pool leaf.Class = false
+is_pool leaf.Integer = false
+is_pool (leaf.Number low high) = false
+is_pool leaf.Boolean = false
+is_pool leaf.Bound = false
+is_pool leaf.ListFlag = false
+is_pool leaf.GatherFlag = false
+
+-- whether a pool that is declared so has this name
+abbrev pub has_name : List ℕ → Option (List ℕ) → Bool
+has_name name None = false
+has_name name (Some other) = bytes_eq other name
+
+-- whether a pool of this name is declared
+abbrev pub is_declared : List Value → List ℕ → Bool
+is_declared pools name = list_any (λ pool. has_name name (option_and_then as_str (at 0 (view pool)))) pools
+
+-- whether a name is what is looked for
+abbrev pub name_suits : Question → Leaf → List ℕ → Bool
+name_suits (question.Shape version) l name = true
+name_suits question.Names l name = is_named l name
+name_suits (question.Classes classes) l name = not (is_class l) || is_some (find_class name classes.now)
+name_suits (question.Pools pools) l name = not (is_pool l) || is_declared pools.now name
+
+-- whether a leaf is what is looked for, where it is a text
+abbrev pub leaf_suits : Question → Leaf → Option (List ℕ) → Bool
+leaf_suits q l None = true
+leaf_suits q l (Some name) = name_suits q l name
+
+-- whether what stands at a place is what is looked for, where the question is about names
+abbrev pub names_suit : Question → Want → Data → Bool
+names_suit q (want.Leaf l) d = leaf_suits q l (as_str d)
+names_suit q want.Value d = true
+names_suit q (want.Call c) d = true
+names_suit q (want.Pair p) d = true
+names_suit q (want.Keyed k) d = true
+names_suit q (want.Array i) d = true
+names_suit q (want.Word c) d = true
+names_suit q (want.Other k) d = true
+
+-- whether what stands at a place answers the question well, its parts apart
+abbrev pub suits : Question → Want → Data → Bool
+suits (question.Shape version) w d = fits version w d
+suits question.Names w d = names_suit question.Names w d
+suits (question.Classes classes) w d = names_suit (question.Classes classes) w d
+suits (question.Pools pools) w d = names_suit (question.Pools pools) w d

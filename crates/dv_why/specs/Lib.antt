@@ -1,0 +1,6 @@
+pub mod Wants
+pub mod Places
+pub mod Fits
+pub mod Finds
+pub mod Why
+pub mod Explaining

@@ -1,0 +1,73 @@
+-- Places in a JSON value, as JSON Pointers tell them (RFC 6901), and what the place asks for.
+use Rattle.std.specs.Prelude.{ℕ, zero, suc, List, [], ◌∷◌, Option, Some, None, option_and_then}
+use Rattle.serde_json.specs.Data.{Data, Items, no_items, item}
+use Rattle.serde_json.specs.Find.{at, get}
+use Rattle.dv_forms.specs.Parts.{call_at}
+use Rattle.dv_why.specs.declared.misfit.Step.{Step}
+use Rattle.dv_why.specs.declared.misfit.Step.TheVariants as step
+use Rattle.dv_why.specs.declared.want.Want.{Want}
+use Rattle.dv_why.specs.declared.want.Want.TheVariants as want
+use Rattle.dv_why.specs.declared.want.Call.{Call}
+use Rattle.dv_why.specs.Wants.{item_want, key_want, form_of, pair_wants}
+
+-- the part to which a step leads
+abbrev pub step_to : Step → Data → Option Data
+step_to (step.Item n) d = at n d
+step_to (step.Key key) d = get key.now d
+
+-- the part to which steps lead, the first step from the whole
+abbrev pub at_place : List Step → Data → Option Data
+at_place [] d = Some d
+at_place (s ∷ rest) d = option_and_then (at_place rest) (step_to s d)
+
+-- the item of this number
+abbrev pub nth : List Want → ℕ → Option Want
+nth [] n = None
+nth (w ∷ ws) zero = Some w
+nth (w ∷ ws) (suc n) = nth ws n
+
+-- how many items there are
+abbrev pub count : Items → ℕ
+count no_items = 0
+count (item d ds) = suc (count ds)
+
+-- what the place of an argument asks for
+abbrev pub argument_want : Call → Data → ℕ → Option Want
+argument_want c d n = option_and_then (λ call. option_and_then (λ ws. nth ws n) (form_of c call.0 (count call.1))) (call_at d)
+
+-- what the place of a part of a call asks for: first its word
+abbrev pub call_want : Call → Data → ℕ → Option Want
+call_want c d zero = Some (want.Word c)
+call_want c d (suc n) = argument_want c d n
+
+-- what the place of an item of an array asks for, by what the array's place does
+abbrev pub part_want : Want → Data → ℕ → Option Want
+part_want (want.Leaf leaf) d n = None
+part_want want.Value d n = Some want.Value
+part_want (want.Call c) d n = call_want c d n
+part_want (want.Pair p) d n = nth (pair_wants p) n
+part_want (want.Keyed k) d n = None
+part_want (want.Array i) d n = Some (item_want i)
+part_want (want.Word c) d n = None
+part_want (want.Other k) d n = None
+
+-- what the place of a key's value asks for
+abbrev pub value_want : Want → List ℕ → Option Want
+value_want (want.Leaf leaf) key = None
+value_want want.Value key = None
+value_want (want.Call c) key = None
+value_want (want.Pair p) key = None
+value_want (want.Keyed k) key = Some (key_want k key)
+value_want (want.Array i) key = None
+value_want (want.Word c) key = None
+value_want (want.Other k) key = None
+
+-- what the place asks for to which a step leads
+abbrev pub step_want : Want → Data → Step → Option Want
+step_want w d (step.Item n) = part_want w d n
+step_want w d (step.Key key) = value_want w key.now
+
+-- what the place asks for to which steps lead, where the whole asks for this
+abbrev pub want_at : List Step → Want → Data → Option Want
+want_at [] w d = Some w
+want_at (s ∷ rest) w d = option_and_then (λ e. option_and_then (λ v. want_at rest v e) (step_want w d s)) (step_to s d)

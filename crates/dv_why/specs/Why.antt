@@ -1,0 +1,158 @@
+-- What is told of a script.
+use Rattle.std.specs.Prelude.{◌≡◌, ◌⊎◌, ℕ, nat_eq, if◌then◌else◌, true, false, List, [], take, Option, Some, None, option_and_then, IsUtf8, codes, ⊤}
+use Rattle.serde_json.specs.Data.{Data, number, unsigned, boolean, string, object, member, no_members}
+use Rattle.serde_json.specs.Find.{get, as_number, as_u64, pointer}
+use Rattle.serde_json.specs.Read.{read}
+use Rattle.serde_json.specs.View.{view}
+use Rattle.serde_json.specs.Written.{IsInOrder}
+use Rattle.dv_script.specs.declared.script.Script.{Script}
+use Rattle.dv_reader.specs.declared.error.ScriptFault.{ScriptFault}
+use Rattle.dv_reader.specs.declared.error.ScriptFault.TheVariants.{TooLong, NotJson, BadVersion, BadShape, TooMany, BadName, BadClass, OutOfMemory, BadPool}
+use Rattle.dv_reader.specs.Refusal.{Says, Refuses}
+use Rattle.dv_why.specs.declared.classes.Table.{Table}
+use Rattle.dv_why.specs.declared.classes.Table.TheVariants.{Whole, Wrong}
+use Rattle.dv_why.specs.declared.want.Want.{Want}
+use Rattle.dv_why.specs.declared.want.Want.TheVariants as want
+use Rattle.dv_why.specs.declared.want.Keyed.TheVariants as keyed
+use Rattle.dv_why.specs.declared.misfit.Misfit.{Misfit}
+use Rattle.dv_why.specs.declared.question.Question.{Question}
+use Rattle.dv_why.specs.declared.question.Question.TheVariants as question
+use Rattle.dv_why.specs.Fits.{suits}
+use Rattle.dv_why.specs.Finds.{Leads}
+
+-- 1, or 2 where it is anything else
+abbrev pub one_or_two : Option ℕ → ℕ
+one_or_two None = 2
+one_or_two (Some n) = if nat_eq n 1 then 1 else 2
+
+-- the version that a document says, or 2 where it says none
+abbrev pub version_in : Data → ℕ
+version_in d = one_or_two (option_and_then as_u64 (option_and_then as_number (get (codes "version") d)))
+
+-- what is asked of a document as a whole
+abbrev pub script_in : Data → Want
+script_in d = want.Keyed (keyed.Script (version_in d))
+
+-- a class that is told to be wrong is a part of the document
+abbrev pub IsTableOf : Data → Table → Type 0
+IsTableOf d (Whole classes) = ⊤
+IsTableOf d (Wrong m expected) = Leads (script_in d) d m
+
+-- the number of a refusal
+abbrev pub number_of : ScriptFault → ℕ
+number_of TooLong = 1
+number_of NotJson = 2
+number_of BadVersion = 3
+number_of BadShape = 4
+number_of TooMany = 5
+number_of BadName = 6
+number_of BadClass = 7
+number_of OutOfMemory = 8
+number_of BadPool = 9
+
+-- the name of a refusal
+abbrev pub name_of : ScriptFault → List ℕ
+name_of TooLong = codes "TooLong"
+name_of NotJson = codes "NotJson"
+name_of BadVersion = codes "BadVersion"
+name_of BadShape = codes "BadShape"
+name_of TooMany = codes "TooMany"
+name_of BadName = codes "BadName"
+name_of BadClass = codes "BadClass"
+name_of OutOfMemory = codes "OutOfMemory"
+name_of BadPool = codes "BadPool"
+
+-- what is told of a script that is accepted
+abbrev pub accepted : Data
+accepted = object (member (codes "accepted") (boolean true) no_members)
+
+-- what is told of a refusal
+abbrev pub refused : ScriptFault → List ℕ → List ℕ → List ℕ → Data
+refused fault at expected found =
+    object (member (codes "at") (string at) (member (codes "expected") (string expected) (member (codes "found") (string found)
+    (member (codes "name") (string (name_of fault)) (member (codes "refusal") (number (unsigned (number_of fault))) no_members)))))
+
+-- what is told of a text that is no JSON
+abbrev pub refused_text : ScriptFault → ℕ → ℕ → List ℕ → List ℕ → Data
+refused_text fault line column expected found =
+    object (member (codes "at") (string []) (member (codes "column") (number (unsigned column)) (member (codes "expected") (string expected)
+    (member (codes "found") (string found) (member (codes "line") (number (unsigned line)) (member (codes "name") (string (name_of fault))
+    (member (codes "refusal") (number (unsigned (number_of fault))) no_members)))))))
+
+-- the front of a text
+abbrev pub IsFront : List ℕ → List ℕ → Type 0
+IsFront shown text = (n : ℕ) × (shown ≡ take n text)
+
+-- the front of a JSON text of the value
+abbrev pub Shows : List ℕ → Data → Type 0
+Shows shown d = (text : List ℕ) × IsInOrder text d × IsFront shown text
+
+-- what stands at a place answers the question badly, or the place is the whole
+abbrev pub Misfits : Question → Misfit → Type 0
+Misfits q m = (suits q m.want (view m.found.now) ≡ false) ⊎ (m.steps.items ≡ [])
+
+-- what is wrong where a script is refused for its shape or its names
+abbrev pub IsWrong : ScriptFault → Data → Misfit → Type 0
+IsWrong TooLong d m = ⊤
+IsWrong NotJson d m = ⊤
+IsWrong BadVersion d m = ⊤
+IsWrong BadShape d m = Misfits (question.Shape (version_in d)) m
+IsWrong TooMany d m = ⊤
+IsWrong BadName d m = Misfits question.Names m
+IsWrong BadClass d m = ⊤
+IsWrong OutOfMemory d m = ⊤
+IsWrong BadPool d m = ⊤
+
+-- a misfit of a document that is refused so: its steps lead to it and to what its place asks for, and it is wrong
+pub record Explains (fault : ScriptFault) (d : Data) (m : Misfit) : Type 0 where
+  pub leads : Leads (script_in d) d m
+  pub wrong : IsWrong fault d m
+
+-- the text leads to a part of the document, and that is shown
+pub record Points (d : Data) (at found : List ℕ) : Type 0 where
+  pub part : Data
+  pub place : pointer at d ≡ Some part
+  pub shows : Shows found part
+
+-- what is told of a refusal of a JSON value
+pub record TellsOf (fault : ScriptFault) (d : Data) (told : Data) : Type 0 where
+  pub at : List ℕ
+  pub expected : List ℕ
+  pub found : List ℕ
+  pub whole : told ≡ refused fault at expected found
+  pub points : Points d at found
+
+-- the same, of the bytes
+abbrev pub TellsOfJson : ScriptFault → List ℕ → Data → Type 0
+TellsOfJson fault bytes told = (d : Data) × IsUtf8 bytes × (read bytes ≡ Some d) × TellsOf fault d told
+
+-- what is told of a text that is too long
+abbrev pub TellsOfLong : Data → Type 0
+TellsOfLong told = (expected found : List ℕ) × (told ≡ refused TooLong [] expected found)
+
+-- what is told of a text that is no JSON
+abbrev pub TellsOfText : Data → Type 0
+TellsOfText told =
+    ((expected found : List ℕ) × (told ≡ refused NotJson [] expected found))
+    ⊎ ((line column : ℕ) × (expected found : List ℕ) × (told ≡ refused_text NotJson line column expected found))
+
+-- what is told of bytes that are refused
+abbrev pub IsToldOf : ScriptFault → List ℕ → Data → Type 0
+IsToldOf TooLong bytes told = TellsOfLong told
+IsToldOf NotJson bytes told = TellsOfText told
+IsToldOf BadVersion bytes told = TellsOfJson BadVersion bytes told
+IsToldOf BadShape bytes told = TellsOfJson BadShape bytes told
+IsToldOf TooMany bytes told = TellsOfJson TooMany bytes told
+IsToldOf BadName bytes told = TellsOfJson BadName bytes told
+IsToldOf BadClass bytes told = TellsOfJson BadClass bytes told
+IsToldOf OutOfMemory bytes told = TellsOfJson OutOfMemory bytes told
+IsToldOf BadPool bytes told = TellsOfJson BadPool bytes told
+
+-- the line is the JSON text of this
+abbrev pub Reads : List ℕ → (Data → Type 0) → Type 0
+Reads line Is = (told : Data) × (read line ≡ Some told) × Is told
+
+-- a script is accepted and told so, or it is refused for its reason and that is told
+abbrev pub Answers : List ℕ → Option ScriptFault → List ℕ → Type 0
+Answers bytes None line = ((script : Script) × Says bytes script) × (read line ≡ Some accepted)
+Answers bytes (Some fault) line = Refuses fault bytes × Reads line (IsToldOf fault bytes)

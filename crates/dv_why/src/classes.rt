@@ -1,0 +1,89 @@
+//! The classes that a script declares.
+
+ghost use Rattle.std.specs.Prelude.{◌+◌, ◌<◌, ◌≤◌, ◌^◌, length, IfOk, IfSome, OnOk};
+ghost use Rattle.serde_json.specs.View.{view};
+ghost use Rattle.dv_why.specs.Wants.{all_classes, one_class};
+ghost use Rattle.dv_why.specs.Why.{IsTableOf};
+ghost use Rattle.dv_why.specs.Finds.{Leads};
+
+use crate::expected::Expected;
+use crate::misfit::{Misfit, Step};
+use crate::want::{Leaf, Want};
+use dv_forms::ranges::MOST_CLASSES;
+use dv_value::class_fault::ClassFault;
+use dv_value::classes::Classes;
+use serde_json::Value as Json;
+use std::alloc::{AllocError, Global};
+
+/// The table of a script, or the first class that may not be declared, and what is expected there.
+#[derive(Drop)]
+pub enum Table<'j> {
+    Whole(Classes),
+    Wrong(Misfit<'j>, Expected),
+}
+
+/// The table of a script of this document.
+#[tactic(auto, unfolding(dv_value::specs::Builtin::builtin))]
+pub fn make_table(alloc: Global, json: &Json) -> Result<Table<'_>, AllocError>
+    ensures { IfOk result (λ table. IsTableOf (view json.now) table) }
+{
+    let mut classes = Classes::builtin(alloc)?;
+    if let Some(declared) = json.get("classes") {
+        for number in 0..MOST_CLASSES {
+            if let Some((part, expected)) = declare_next(alloc, &mut classes, declared, number)? {
+                return Ok(Table::Wrong(part.under(Step::Key("classes"))?, expected));
+            }
+        }
+    }
+    Ok(Table::Whole(classes))
+}
+
+/// Adds the class of this number to the table, if there is one that may be declared, or tells which part of it is wrong.
+fn declare_next<'j>(
+    alloc: Global,
+    classes: &mut Classes,
+    declared: &'j Json,
+    number: usize,
+) -> Result<Option<(Misfit<'j>, Expected)>, AllocError>
+    requires room { length classes.old + 1 < 2 ^ 32 }
+    ensures leads { IfOk result (λ found. IfSome found (λ part. Leads all_classes (view declared.now) part.0)) }
+    ensures grows { OnOk result (length classes.new ≤ length classes.old + 1) }
+{
+    let Some(json) = declared.get(number) else {
+        return Ok(None);
+    };
+    match declare(alloc, classes, json)? {
+        Some((part, expected)) => Ok(Some((part.under(Step::Item(number))?, expected))),
+        None => Ok(None),
+    }
+}
+
+/// Adds a class to the table, or tells which of its two parts is wrong.
+fn declare<'j>(
+    alloc: Global,
+    classes: &mut Classes,
+    json: &'j Json,
+) -> Result<Option<(Misfit<'j>, Expected)>, AllocError>
+    requires room { length classes.old + 1 < 2 ^ 32 }
+    ensures leads { IfOk result (λ found. IfSome found (λ part. Leads one_class (view json.now) part.0)) }
+    ensures grows { OnOk result (length classes.new ≤ length classes.old + 1) }
+{
+    let (Some(name), Some(parent)) = (json.get(0usize), json.get(1usize)) else {
+        return Ok(None);
+    };
+    let (Some(name_text), Some(parent_text)) = (name.as_str(), parent.as_str()) else {
+        return Ok(None);
+    };
+    match classes.declare(name_text, parent_text) {
+        Ok(_) => Ok(None),
+        Err(ClassFault::Taken) => {
+            let misfit = Misfit::here(alloc, Want::Leaf(Leaf::Name), name);
+            Ok(Some((misfit.under(Step::Item(0))?, Expected::FreeClass)))
+        }
+        Err(ClassFault::NoParent) => {
+            let misfit = Misfit::here(alloc, Want::Leaf(Leaf::Text), parent);
+            Ok(Some((misfit.under(Step::Item(1))?, Expected::Parent)))
+        }
+        Err(ClassFault::OutOfMemory) => Err(AllocError),
+    }
+}

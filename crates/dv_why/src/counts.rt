@@ -1,0 +1,148 @@
+//! What there is too much of in a script.
+
+ghost use Rattle.std.specs.Prelude.{IfOk, IfSome};
+ghost use Rattle.serde_json.specs.View.{view};
+ghost use Rattle.dv_why.specs.Wants.{all_callers};
+ghost use Rattle.dv_why.specs.Why.{script_in};
+ghost use Rattle.dv_why.specs.Finds.{Leads};
+
+use crate::document::{value_of, whole};
+use crate::expected::Expected;
+use crate::misfit::{Misfit, Step};
+use crate::want::Item;
+use dv_forms::ranges::{MOST_CLASSES, MOST_TICKS};
+use serde_json::Value as Json;
+use std::alloc::{AllocError, Global};
+
+/// The most nodes of a script.
+const MOST_NODES: u64 = 65_536;
+
+/// The most pools of a script.
+const MOST_POOLS: usize = 4;
+
+/// The most callers of a script.
+const MOST_CALLERS: usize = 8;
+
+/// The most posts of a caller.
+const MOST_POSTS: usize = 256;
+
+/// How many nodes the value has, to the last number of 64 bits.
+#[cycle(nodes)]
+fn nodes(json: &Json) -> u64 {
+    match json {
+        Json::Null | Json::Bool(_) | Json::Number(_) | Json::String(_) => 1,
+        Json::Array(items) => item_nodes(items.as_slice()).saturating_add(1),
+        Json::Object(members) => {
+            let mut count = 1u64;
+            for (_, json) in members.iter() {
+                count = count.saturating_add(nodes(json));
+            }
+            count
+        }
+    }
+}
+
+#[cycle(nodes)]
+fn item_nodes(items: &[Json]) -> u64 {
+    let mut count = 0u64;
+    for item in items {
+        count = count.saturating_add(nodes(item));
+    }
+    count
+}
+
+/// By how many ticks an event advances the clock, to the last number of 64 bits.
+fn ticks_of(event: &Json) -> u64 {
+    match (event.get(0usize), event.get(1usize)) {
+        (Some(word), Some(ticks)) => if word.as_str() == Some("advance") {
+            ticks.as_u64().unwrap_or(0)
+        } else {
+            0
+        },
+        (Some(_) | None, Some(_) | None) => 0,
+    }
+}
+
+fn ticks_in(events: &[Json]) -> u64 {
+    let mut total = 0u64;
+    for event in events {
+        total = total.saturating_add(ticks_of(event));
+    }
+    total
+}
+
+/// The items of the array of a key, or none where there is no such array.
+pub fn items_of<'j>(json: &'j Json, key: &str) -> &'j [Json] {
+    match json.get(key) {
+        Some(Json::Array(items)) => items.as_slice(),
+        Some(Json::Null | Json::Bool(_) | Json::Number(_) | Json::String(_) | Json::Object(_))
+        | None => &[],
+    }
+}
+
+fn is_long(json: &Json, key: &str, most: usize) -> bool {
+    items_of(json, key).len() > most
+}
+
+/// The first caller that has too many posts.
+fn busy_caller(alloc: Global, callers: &Json) -> Result<Option<Misfit<'_>>, AllocError>
+    ensures { IfOk result (λ found. IfSome found (λ misfit. Leads all_callers (view callers.now) misfit)) }
+{
+    let Json::Array(items) = callers else {
+        return Ok(None);
+    };
+    for number in 0..items.len() {
+        if let Some(posts) = callers.get(number)
+            && is_busy(posts)
+        {
+            let misfit = Misfit::here(alloc, Item::Caller.want(), posts);
+            return Ok(Some(misfit.under(Step::Item(number))?));
+        }
+    }
+    Ok(None)
+}
+
+fn is_busy(posts: &Json) -> bool {
+    match posts {
+        Json::Array(items) => items.len() > MOST_POSTS,
+        Json::Null | Json::Bool(_) | Json::Number(_) | Json::String(_) | Json::Object(_) => false,
+    }
+}
+
+/// The first caller of a document that has too many posts, seen from the document.
+fn busy_one(alloc: Global, json: &Json) -> Result<Option<Misfit<'_>>, AllocError>
+    ensures { IfOk result (λ found. IfSome found (λ misfit. Leads (script_in (view json.now)) (view json.now) misfit)) }
+{
+    let Some(callers) = json.get("callers") else {
+        return Ok(None);
+    };
+    match busy_caller(alloc, callers)? {
+        Some(misfit) => Ok(Some(misfit.under(Step::Key("callers"))?)),
+        None => Ok(None),
+    }
+}
+
+/// The first list of a script of which there is too much, or the whole script, and what is expected.
+pub fn too_many(alloc: Global, json: &Json) -> Result<(Misfit<'_>, Expected), AllocError>
+    ensures { IfOk result (λ found. Leads (script_in (view json.now)) (view json.now) found.0) }
+{
+    if nodes(json) > MOST_NODES {
+        return Ok((whole(alloc, json), Expected::FewNodes));
+    }
+    if is_long(json, "classes", MOST_CLASSES) {
+        return Ok((value_of(alloc, json, "classes")?, Expected::FewClasses));
+    }
+    if is_long(json, "pools", MOST_POOLS) {
+        return Ok((value_of(alloc, json, "pools")?, Expected::FewPools));
+    }
+    if is_long(json, "callers", MOST_CALLERS) {
+        return Ok((value_of(alloc, json, "callers")?, Expected::FewCallers));
+    }
+    if let Some(misfit) = busy_one(alloc, json)? {
+        return Ok((misfit, Expected::FewPosts));
+    }
+    if ticks_in(items_of(json, "events")) > MOST_TICKS {
+        return Ok((value_of(alloc, json, "events")?, Expected::FewTicks));
+    }
+    Ok((whole(alloc, json), Expected::FewNodes))
+}

@@ -1,0 +1,53 @@
+//! Documents as a whole.
+
+ghost use Rattle.std.specs.Prelude.{◌≡◌, [], IfOk};
+ghost use Rattle.serde_json.specs.View.{view};
+ghost use Rattle.dv_why.specs.Why.{version_in, script_in};
+ghost use Rattle.dv_why.specs.Finds.{Leads};
+
+use crate::misfit::{Misfit, Step};
+use crate::want::{Keyed, Want};
+use serde_json::Value as Json;
+use std::alloc::{AllocError, Global};
+
+/// The version that a document says, or 2 where it says none.
+pub fn version_of(json: &Json) -> u32
+    ensures { result ≡ version_in (view json.now) }
+{
+    match json.get("version") {
+        Some(version) => if version.as_u64() == Some(1) { 1 } else { 2 },
+        None => 2,
+    }
+}
+
+/// What is asked of a document as a whole.
+pub fn script_of(json: &Json) -> Want
+    ensures { result ≡ script_in (view json.now) }
+{
+    Want::Keyed(Keyed::Script(version_of(json)))
+}
+
+/// The document itself, as what is wrong.
+pub fn whole(alloc: Global, json: &Json) -> Misfit<'_>
+    ensures leads { Leads (script_in (view json.now)) (view json.now) result }
+    ensures steps { result.steps.items ≡ [] }
+{
+    Misfit::here(alloc, script_of(json), json)
+}
+
+/// The value of a key of the document, as what is wrong, or the document where there is none.
+pub fn value_of<'j>(
+    alloc: Global,
+    json: &'j Json,
+    key: &'static str,
+) -> Result<Misfit<'j>, AllocError>
+    ensures { IfOk result (λ misfit. Leads (script_in (view json.now)) (view json.now) misfit) }
+{
+    match json.get(key) {
+        Some(value) => {
+            let want = Keyed::Script(version_of(json)).want(key);
+            Misfit::here(alloc, want, value).under(Step::Key(key))
+        }
+        None => Ok(whole(alloc, json)),
+    }
+}

@@ -1,0 +1,228 @@
+use crate::form::Form;
+use crate::want::{Call, Item, Keyed, Leaf, Pair, Want};
+use dv_forms::leaf::call as call_in;
+use serde_json::Value as Json;
+use std::alloc::AllocError;
+
+/// What is expected where a script is wrong.
+#[derive(Clone, Copy, Drop)]
+pub enum Expected {
+    /// What the place asks for.
+    Wanted(Want),
+    /// The word with other arguments, in this form.
+    Form(&'static str),
+    /// This key, which isn't there.
+    Key(&'static str),
+    /// A name that no class has yet.
+    FreeClass,
+    /// A parent that is in the table already.
+    Parent,
+    /// A name that no pool before has.
+    FreePool,
+    /// An object with a version.
+    Document,
+    /// A text of so many bytes at most.
+    Short,
+    /// A JSON text.
+    JsonText,
+    /// So many nodes at most.
+    FewNodes,
+    /// So many classes at most.
+    FewClasses,
+    /// So many pools at most.
+    FewPools,
+    /// So many callers at most.
+    FewCallers,
+    /// So many posts at most.
+    FewPosts,
+    /// Advances that sum to so much at most.
+    FewTicks,
+}
+
+fn leaf_text(leaf: Leaf) -> &'static str {
+    match leaf {
+        Leaf::Text => "a text",
+        Leaf::Name => "a name: a text of 1 to 32 of A to Z, a to z, 0 to 9 and _",
+        Leaf::Deferred => {
+            "the name of a Deferred: a text of 1 to 32 of A to Z, a to z, 0 to 9 and _, or \"@\""
+        }
+        Leaf::Pool => {
+            "the name of a pool that the key `pools` declares: a text of 1 to 32 of A to Z, a to z, 0 to 9 and _"
+        }
+        Leaf::Class => {
+            "the name of a class: one that every script has, or one that the key `classes` declares"
+        }
+        Leaf::Integer => "an integer of 64 bits",
+        Leaf::Number(_, _) => "an integer",
+        Leaf::Boolean => "true or false",
+        Leaf::Bound => "null, or an integer from 0 to 65536",
+        Leaf::ListFlag =>
+            "a flag: \"fireOnOneCallback\", \"fireOnOneErrback\" or \"consumeErrors\"",
+        Leaf::GatherFlag => "the flag \"consumeErrors\"",
+    }
+}
+
+fn call_text(call: Call) -> &'static str {
+    match call {
+        Call::Event => "an event: an array of a word and its arguments",
+        Call::Action => "an action: an array of a word and its arguments",
+        Call::Statement =>
+            "a statement: an array of one of the words do, await, try and end, and its arguments",
+        Call::End => {
+            "an end: an array of one of the words return, pass, plus, raise, trap and wait, and its arguments"
+        }
+        Call::Leaving => {
+            "an end of an inline body: an array of one of the words return, pass, plus and raise, and its arguments"
+        }
+        Call::Work =>
+            "a work: an array of one of the words value, raise and sum, and its arguments",
+    }
+}
+
+fn word_text(call: Call) -> &'static str {
+    match call {
+        Call::Event => "the word of an action, advance or drain",
+        Call::Action => "the word of an action",
+        Call::Statement => "the word of a statement: do, await, try or end",
+        Call::End => "the word of an end: return, pass, plus, raise, trap or wait",
+        Call::Leaving => "the word of an end of an inline body: return, pass, plus or raise",
+        Call::Work => "the word of a work: value, raise or sum",
+    }
+}
+
+fn pair_text(pair: Pair) -> &'static str {
+    match pair {
+        Pair::Declaration => "a class: an array [NAME,PARENT] of two texts",
+        Pair::Pool => "a pool: an array [NAME,WORKERS] of a text and an integer from 0 to 16",
+    }
+}
+
+fn keyed_text(keyed: Keyed) -> &'static str {
+    match keyed {
+        Keyed::Script(_) => "a script: an object",
+        Keyed::Cooperator => "a cooperator: an object of the keys units and delay",
+        Keyed::Body => "a body: an object of the keys do and end, each of which may be left out",
+    }
+}
+
+fn array_text(item: Item) -> &'static str {
+    match item {
+        Item::Value => "an array of values",
+        Item::Event => "an array of events",
+        Item::Action => "an array of actions",
+        Item::Statement => "an array of statements",
+        Item::Body => "an array of bodies",
+        Item::Caller => "an array of arrays of bodies, one a caller",
+        Item::Deferred => "an array of names of Deferreds",
+        Item::Class => "an array of names of classes",
+        Item::ListFlag | Item::GatherFlag => "an array of flags",
+        Item::Declaration => "an array of classes [NAME,PARENT]",
+        Item::Pool => "an array of pools [NAME,WORKERS]",
+    }
+}
+
+fn want_text(want: Want) -> &'static str {
+    match want {
+        Want::Leaf(leaf) => leaf_text(leaf),
+        Want::Value =>
+            "a value: null, true, false, an integer of 64 bits, a text or an array of values",
+        Want::Call(call) => call_text(call),
+        Want::Pair(pair) => pair_text(pair),
+        Want::Keyed(keyed) => keyed_text(keyed),
+        Want::Array(item) => array_text(item),
+        Want::Word(call) => word_text(call),
+        Want::Other(keyed) => keys_text(keyed),
+    }
+}
+
+fn keys_text(keyed: Keyed) -> &'static str {
+    match keyed {
+        Keyed::Script(1) => {
+            "no such key: a script of version 1 has version, events, limit, classes, cooperator and callers"
+        }
+        Keyed::Script(_) => {
+            "no such key: a script of version 2 has version, events, limit, classes, cooperator, pools and callers"
+        }
+        Keyed::Cooperator => "no such key: a cooperator has units and delay",
+        Keyed::Body => "no such key: a body has do and end",
+    }
+}
+
+fn write_want(text: &mut String, want: Want) -> Result<(), AllocError> {
+    if let Want::Leaf(Leaf::Number(low, high)) = want {
+        return write!(text, "an integer from {low} to {high}");
+    }
+    text.push_str(want_text(want))
+}
+
+impl Expected {
+    /// Adds it to the text, as one sentence without its full stop.
+    pub fn write(self, text: &mut String) -> Result<(), AllocError> {
+        match self {
+            Expected::Wanted(want) => write_want(text, want),
+            Expected::Form(shown) => write!(text, "the form {shown}"),
+            Expected::Key(key) => write!(text, "an object that has the key `{key}`"),
+            Expected::FreeClass => text.push_str("the name of a class that no class has yet"),
+            Expected::Parent => text.push_str(
+                "the name of a class that is in the table already, of those that every script has or declared before",
+            ),
+            Expected::FreePool => text.push_str("the name of a pool that no pool before it has"),
+            Expected::Document => text.push_str("a script: an object that has the key `version`"),
+            Expected::Short => text.push_str("a text of 1048576 bytes at most"),
+            Expected::JsonText => text.push_str("a JSON text in UTF-8, nested to 127 at most"),
+            Expected::FewNodes => text.push_str(
+                "65536 nodes at most, of which each array, object, text, number, boolean and null is one",
+            ),
+            Expected::FewClasses => text.push_str("256 classes at most"),
+            Expected::FewPools => text.push_str("4 pools at most"),
+            Expected::FewCallers => text.push_str("8 callers at most"),
+            Expected::FewPosts => text.push_str("256 posts of a caller at most"),
+            Expected::FewTicks => { text.push_str("advances that sum to 1000000000000000 at most") }
+        }
+    }
+}
+
+/// The form of the word with which a call begins, if it is one that may stand there.
+fn form_in(call: Call, json: &Json) -> Option<Form> {
+    match call_in(json) {
+        Ok((word, arguments)) => call.form(word, arguments.len()),
+        Err(_) => None,
+    }
+}
+
+/// The key that an object has to have and hasn't.
+fn missing_key(keyed: Keyed, json: &Json) -> Option<&'static str> {
+    let keys: &'static [&'static str] = match keyed {
+        Keyed::Script(_) => &["version", "events"],
+        Keyed::Cooperator => &["units", "delay"],
+        Keyed::Body => &[],
+    };
+    for key in keys {
+        if json.get(*key).is_none() {
+            return Some(*key);
+        }
+    }
+    None
+}
+
+impl Expected {
+    /// What is expected at a place that asks for this, where this stands.
+    pub fn at(want: Want, found: &Json) -> Expected {
+        match want {
+            Want::Call(call) => match form_in(call, found) {
+                Some(form) => Expected::Form(form.shown),
+                None => Expected::Wanted(want),
+            },
+            Want::Keyed(keyed) => match (found, missing_key(keyed, found)) {
+                (Json::Object(_), Some(key)) => Expected::Key(key),
+                (_, Some(_) | None) => Expected::Wanted(want),
+            },
+            Want::Leaf(_)
+            | Want::Value
+            | Want::Pair(_)
+            | Want::Array(_)
+            | Want::Word(_)
+            | Want::Other(_) => Expected::Wanted(want),
+        }
+    }
+}

@@ -1,0 +1,213 @@
+//! Finds the first part of a JSON value that answers a question badly.
+
+ghost use Rattle.std.specs.Prelude.{◌≡◌, IfOk, IfSome, option_map};
+ghost use Rattle.serde_json.specs.View.{view, items_view};
+ghost use Rattle.dv_forms.specs.Parts.{call_at};
+ghost use Rattle.dv_why.specs.Places.{argument_want, call_want, nth, part_want};
+ghost use Rattle.dv_why.specs.Finds.{Finds};
+
+use crate::misfit::{Misfit, Step};
+use crate::question::{Question, suits};
+use crate::want::{Call, Keyed, Want};
+use serde_json::Value as Json;
+use std::alloc::{AllocError, Global};
+
+#[tactic(auto, using(crate::proofs::Counting::nth_within, crate::proofs::Counting::nth_past))]
+fn nth(wants: &[Want], number: usize) -> Option<Want>
+    ensures { result ≡ nth wants.now number }
+{
+    if number < wants.len() {
+        Some(wants[number])
+    } else {
+        None
+    }
+}
+
+/// The word of a call, and what comes with it.
+#[tactic(auto, unfolding(dv_forms::specs::Parts::call_at))]
+fn call_in(json: &Json) -> Option<(&str, &[Json])>
+    ensures { option_map (λ call. (call.0.now, items_view call.1.now)) result ≡ call_at (view json.now) }
+{
+    let Json::Array(parts) = json else {
+        return None;
+    };
+    let Some((first, arguments)) = parts.as_slice().split_first() else {
+        return None;
+    };
+    let Json::String(word) = first else {
+        return None;
+    };
+    Some((word.as_str(), arguments))
+}
+
+/// What the place of this argument of a call asks for.
+#[tactic(auto, using(crate::proofs::Counting::count_items))]
+fn argument_of(call: Call, json: &Json, number: usize) -> Option<Want>
+    ensures { result ≡ argument_want call (view json.now) number }
+{
+    let (word, arguments) = call_in(json)?;
+    let form = call.form(word, arguments.len())?;
+    nth(form.wants, number)
+}
+
+/// What the place of this part of a call asks for: first its word.
+fn part_of_call(call: Call, json: &Json, number: usize) -> Option<Want>
+    ensures { result ≡ call_want call (view json.now) number }
+{
+    if number == 0 {
+        Some(Want::Word(call))
+    } else {
+        argument_of(call, json, number - 1)
+    }
+}
+
+/// What the place of this item of an array asks for, by what the array's place does.
+fn part_of(want: Want, json: &Json, number: usize) -> Option<Want>
+    ensures { result ≡ part_want want (view json.now) number }
+{
+    match want {
+        Want::Value => Some(Want::Value),
+        Want::Call(call) => part_of_call(call, json, number),
+        Want::Pair(pair) => nth(pair.form().wants, number),
+        Want::Array(item) => Some(item.want()),
+        Want::Leaf(_) | Want::Keyed(_) | Want::Word(_) | Want::Other(_) => None,
+    }
+}
+
+/// The first part of the value that isn't as its place asks for, as far as the question goes.
+#[cycle(find)]
+pub fn find<'j>(
+    alloc: Global,
+    question: Question<'_>,
+    want: Want,
+    levels: u32,
+    json: &'j Json,
+) -> Result<Option<Misfit<'j>>, AllocError>
+    ensures { IfOk result (λ found. IfSome found (λ misfit. Finds question.entry want (view json.now) misfit)) }
+{
+    if levels > 0
+        && let Want::Keyed(keyed) = want
+        && let Some(misfit) = at_other_key(alloc, question, keyed, levels - 1, json)?
+    {
+        return Ok(Some(misfit));
+    }
+    if !suits(question, want, json) {
+        return Ok(Some(Misfit::here(alloc, want, json)));
+    }
+    if levels == 0 {
+        return Ok(None);
+    }
+    match want {
+        Want::Keyed(keyed) => in_object(alloc, question, keyed, levels - 1, json),
+        Want::Value | Want::Call(_) | Want::Pair(_) | Want::Array(_) => {
+            in_array(alloc, question, want, levels - 1, json)
+        }
+        Want::Leaf(_) | Want::Word(_) | Want::Other(_) => Ok(None),
+    }
+}
+
+#[cycle(find)]
+fn in_array<'j>(
+    alloc: Global,
+    question: Question<'_>,
+    want: Want,
+    levels: u32,
+    json: &'j Json,
+) -> Result<Option<Misfit<'j>>, AllocError>
+    ensures { IfOk result (λ found. IfSome found (λ misfit. Finds question.entry want (view json.now) misfit)) }
+{
+    let Json::Array(items) = json else {
+        return Ok(None);
+    };
+    for number in 0..items.len() {
+        if let Some(misfit) = in_item(alloc, question, want, levels, json, number)? {
+            return Ok(Some(misfit));
+        }
+    }
+    Ok(None)
+}
+
+#[cycle(find)]
+fn in_item<'j>(
+    alloc: Global,
+    question: Question<'_>,
+    want: Want,
+    levels: u32,
+    json: &'j Json,
+    number: usize,
+) -> Result<Option<Misfit<'j>>, AllocError>
+    ensures { IfOk result (λ found. IfSome found (λ misfit. Finds question.entry want (view json.now) misfit)) }
+{
+    let (Some(part), Some(item)) = (part_of(want, json, number), json.get(number)) else {
+        return Ok(None);
+    };
+    match find(alloc, question, part, levels, item)? {
+        Some(misfit) => Ok(Some(misfit.under(Step::Item(number))?)),
+        None => Ok(None),
+    }
+}
+
+#[cycle(find)]
+fn in_object<'j>(
+    alloc: Global,
+    question: Question<'_>,
+    keyed: Keyed,
+    levels: u32,
+    json: &'j Json,
+) -> Result<Option<Misfit<'j>>, AllocError>
+    ensures { IfOk result (λ found. IfSome found (λ misfit. Finds question.entry (Want.Keyed keyed) (view json.now) misfit)) }
+{
+    for key in keyed.keys() {
+        if let Some(misfit) = in_key(alloc, question, keyed, levels, json, *key)? {
+            return Ok(Some(misfit));
+        }
+    }
+    Ok(None)
+}
+
+/// The value of the first key that the object may not have.
+#[cycle(find)]
+fn at_other_key<'j>(
+    alloc: Global,
+    question: Question<'_>,
+    keyed: Keyed,
+    levels: u32,
+    json: &'j Json,
+) -> Result<Option<Misfit<'j>>, AllocError>
+    ensures { IfOk result (λ found. IfSome found (λ misfit. Finds question.entry (Want.Keyed keyed) (view json.now) misfit)) }
+{
+    let Json::Object(members) = json else {
+        return Ok(None);
+    };
+    for (key, _) in members.iter() {
+        if is_other(keyed, key.as_str()) {
+            return in_key(alloc, question, keyed, levels, json, key.as_str());
+        }
+    }
+    Ok(None)
+}
+
+/// Whether an object may not have this key.
+fn is_other(keyed: Keyed, key: &str) -> bool {
+    matches!(keyed.want(key), Want::Other(_))
+}
+
+#[cycle(find)]
+fn in_key<'j>(
+    alloc: Global,
+    question: Question<'_>,
+    keyed: Keyed,
+    levels: u32,
+    json: &'j Json,
+    key: &'j str,
+) -> Result<Option<Misfit<'j>>, AllocError>
+    ensures { IfOk result (λ found. IfSome found (λ misfit. Finds question.entry (Want.Keyed keyed) (view json.now) misfit)) }
+{
+    let Some(value) = json.get(key) else {
+        return Ok(None);
+    };
+    match find(alloc, question, keyed.want(key), levels, value)? {
+        Some(misfit) => Ok(Some(misfit.under(Step::Key(key))?)),
+        None => Ok(None),
+    }
+}

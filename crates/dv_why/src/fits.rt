@@ -1,0 +1,102 @@
+//! Whether what stands at a place has the shape that the place asks for, its parts apart.
+
+ghost use Rattle.std.specs.Prelude.{◌≡◌};
+ghost use Rattle.serde_json.specs.View.{view, items_view};
+ghost use Rattle.serde_json.specs.Find.{as_str, as_array};
+ghost use Rattle.dv_why.specs.Fits.{value_fits, begins_well, parts_fit, array_fits, are_two, word_fits, has_keys, fits};
+
+use crate::leaf::leaf_fits;
+use crate::want::{Call, Keyed, Want};
+use serde_json::Value as Json;
+
+fn value_fits(json: &Json) -> bool
+    ensures { result ≡ value_fits (view json.now) }
+{
+    match json {
+        Json::Null | Json::Bool(_) | Json::String(_) | Json::Array(_) => true,
+        Json::Number(n) => n.as_i64().is_some(),
+        Json::Object(_) => false,
+    }
+}
+
+fn begins_well(call: Call, first: &Json, given: usize) -> bool
+    ensures { result ≡ begins_well call (as_str (view first.now)) given }
+{
+    match first.as_str() {
+        Some(word) => match call.form(word, given) {
+            Some(form) => form.wants.len() == given,
+            None => true,
+        },
+        None => true,
+    }
+}
+
+#[tactic(auto, using(crate::proofs::Counting::count_items))]
+fn parts_fit(call: Call, parts: &[Json]) -> bool
+    ensures { result ≡ parts_fit call (items_view parts.now) }
+{
+    match parts.split_first() {
+        Some((first, arguments)) => begins_well(call, first, arguments.len()),
+        None => false,
+    }
+}
+
+fn call_fits(call: Call, json: &Json) -> bool
+    ensures { result ≡ array_fits (parts_fit call) (as_array (view json.now)) }
+{
+    match json {
+        Json::Array(parts) => parts_fit(call, parts.as_slice()),
+        Json::Null | Json::Bool(_) | Json::Number(_) | Json::String(_) | Json::Object(_) => false,
+    }
+}
+
+#[tactic(auto, using(crate::proofs::Counting::count_items))]
+fn are_two(parts: &[Json]) -> bool
+    ensures { result ≡ are_two (items_view parts.now) }
+{
+    parts.len() == 2
+}
+
+fn is_pair(json: &Json) -> bool
+    ensures { result ≡ array_fits are_two (as_array (view json.now)) }
+{
+    match json {
+        Json::Array(parts) => are_two(parts.as_slice()),
+        Json::Null | Json::Bool(_) | Json::Number(_) | Json::String(_) | Json::Object(_) => false,
+    }
+}
+
+fn word_fits(version: u32, call: Call, json: &Json) -> bool
+    ensures { result ≡ word_fits version call (as_str (view json.now)) }
+{
+    match json.as_str() {
+        Some(word) => !(version == 1 && word == "threadIn") && call.form(word, 0).is_some(),
+        None => false,
+    }
+}
+
+fn has_keys(keyed: Keyed, json: &Json) -> bool
+    ensures { result ≡ has_keys keyed (view json.now) }
+{
+    match keyed {
+        Keyed::Script(_) => json.get("version").is_some() && json.get("events").is_some(),
+        Keyed::Cooperator => json.get("units").is_some() && json.get("delay").is_some(),
+        Keyed::Body => true,
+    }
+}
+
+/// Whether what stands at a place has the shape that the place asks for in a script of this version, its parts apart.
+pub fn fits(version: u32, want: Want, json: &Json) -> bool
+    ensures { result ≡ fits version want (view json.now) }
+{
+    match want {
+        Want::Leaf(leaf) => leaf_fits(leaf, json),
+        Want::Value => value_fits(json),
+        Want::Call(call) => call_fits(call, json),
+        Want::Pair(_) => is_pair(json),
+        Want::Keyed(keyed) => json.as_object().is_some() && has_keys(keyed, json),
+        Want::Array(_) => json.as_array().is_some(),
+        Want::Word(call) => word_fits(version, call, json),
+        Want::Other(_) => false,
+    }
+}

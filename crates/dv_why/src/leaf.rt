@@ -1,0 +1,65 @@
+//! Whether a part in which nothing is looked for is as its place asks for.
+
+ghost use Rattle.std.specs.Prelude.{◌≡◌, is_some};
+ghost use Rattle.serde_json.specs.View.{view};
+ghost use Rattle.dv_forms.specs.Parts.{number_at, bound_at, list_flag_at, gather_flag_at};
+ghost use Rattle.dv_why.specs.Fits.{leaf_fits};
+
+use crate::want::Leaf;
+use serde_json::Value as Json;
+
+fn is_number(json: &Json, low: u64, high: u64) -> bool
+    ensures { result ≡ is_some (number_at low high (view json.now)) }
+{
+    match json.as_u64() {
+        Some(n) => low <= n && n <= high,
+        None => false,
+    }
+}
+
+fn is_bound(json: &Json) -> bool
+    ensures { result ≡ is_some (bound_at (view json.now)) }
+{
+    match json {
+        Json::Null => true,
+        Json::Number(_) => is_number(json, 0, 65_536),
+        Json::Bool(_) | Json::String(_) | Json::Array(_) | Json::Object(_) => false,
+    }
+}
+
+fn is_list_flag(json: &Json) -> bool
+    ensures { result ≡ is_some (list_flag_at (view json.now)) }
+{
+    match json.as_str() {
+        Some(word) => {
+            word == "fireOnOneCallback" || word == "fireOnOneErrback" || word == "consumeErrors"
+        }
+        None => false,
+    }
+}
+
+fn is_gather_flag(json: &Json) -> bool
+    ensures { result ≡ is_some (gather_flag_at (view json.now)) }
+{
+    match json.as_str() {
+        Some(word) => word == "consumeErrors",
+        None => false,
+    }
+}
+
+/// Whether it reads as the grammar reads it.
+pub fn leaf_fits(leaf: Leaf, json: &Json) -> bool
+    ensures { result ≡ leaf_fits leaf (view json.now) }
+{
+    match leaf {
+        Leaf::Text | Leaf::Name | Leaf::Deferred | Leaf::Pool | Leaf::Class => {
+            json.as_str().is_some()
+        }
+        Leaf::Integer => json.as_i64().is_some(),
+        Leaf::Number(low, high) => is_number(json, low, high),
+        Leaf::Boolean => json.as_bool().is_some(),
+        Leaf::Bound => is_bound(json),
+        Leaf::ListFlag => is_list_flag(json),
+        Leaf::GatherFlag => is_gather_flag(json),
+    }
+}

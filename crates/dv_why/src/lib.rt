@@ -1,0 +1,20 @@
+//! Why a script is refused: the place in it that is wrong, what is expected there, and what stands there.
+#![tactic(auto)]
+
+mod classes;
+mod counts;
+mod document;
+pub mod expected;
+pub mod explaining;
+mod find;
+mod fits;
+mod form;
+mod leaf;
+mod line;
+mod misfit;
+mod names;
+mod place;
+mod pools;
+mod question;
+pub mod want;
+pub mod why;

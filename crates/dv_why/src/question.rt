@@ -1,0 +1,142 @@
+ghost use Rattle.std.specs.Prelude.{◌≡◌, option_and_then};
+ghost use Rattle.serde_json.specs.View.{view};
+ghost use Rattle.serde_json.specs.Find.{as_str, at};
+ghost use Rattle.dv_why.specs.Fits.{is_named, is_class, is_pool, has_name, is_declared, name_suits, leaf_suits, names_suit, suits};
+
+use crate::fits::fits;
+use crate::names::{is_name, names_one};
+use crate::want::{Leaf, Want};
+use dv_value::classes::Classes;
+use serde_json::Value as Json;
+
+/// What is looked for in a script.
+#[derive(Clone, Copy, Drop)]
+pub enum Question<'q> {
+    /// What isn't of the shape that its place asks for, in a script of this version.
+    Shape(u32),
+    /// A name that isn't of its form.
+    Names,
+    /// A class that isn't in this table.
+    Classes(&'q Classes),
+    /// A pool that isn't among these.
+    Pools(&'q [Json]),
+}
+
+fn is_named(leaf: Leaf, name: &str) -> bool
+    ensures { result ≡ is_named leaf name.now }
+{
+    match leaf {
+        Leaf::Name | Leaf::Pool => is_name(name),
+        Leaf::Deferred => names_one(name),
+        Leaf::Text
+        | Leaf::Class
+        | Leaf::Integer
+        | Leaf::Number(_, _)
+        | Leaf::Boolean
+        | Leaf::Bound
+        | Leaf::ListFlag
+        | Leaf::GatherFlag => true,
+    }
+}
+
+fn is_class(leaf: Leaf) -> bool
+    ensures { result ≡ is_class leaf }
+{
+    match leaf {
+        Leaf::Class => true,
+        Leaf::Text
+        | Leaf::Name
+        | Leaf::Deferred
+        | Leaf::Pool
+        | Leaf::Integer
+        | Leaf::Number(_, _)
+        | Leaf::Boolean
+        | Leaf::Bound
+        | Leaf::ListFlag
+        | Leaf::GatherFlag => false,
+    }
+}
+
+fn is_pool(leaf: Leaf) -> bool
+    ensures { result ≡ is_pool leaf }
+{
+    match leaf {
+        Leaf::Pool => true,
+        Leaf::Text
+        | Leaf::Name
+        | Leaf::Deferred
+        | Leaf::Class
+        | Leaf::Integer
+        | Leaf::Number(_, _)
+        | Leaf::Boolean
+        | Leaf::Bound
+        | Leaf::ListFlag
+        | Leaf::GatherFlag => false,
+    }
+}
+
+fn has_name(name: &str, pool: &Json) -> bool
+    ensures { result ≡ has_name name.now (option_and_then as_str (at 0 (view pool.now))) }
+{
+    match pool.get(0usize) {
+        Some(json) => match json.as_str() {
+            Some(other) => other == name,
+            None => false,
+        },
+        None => false,
+    }
+}
+
+/// Whether a pool of this name is among those that are declared.
+pub fn is_declared(pools: &[Json], name: &str) -> bool
+    ensures { result ≡ is_declared pools.now name.now }
+{
+    pools.iter().any(|pool| has_name(name, pool))
+}
+
+fn name_suits(question: Question<'_>, leaf: Leaf, name: &str) -> bool
+    ensures { result ≡ name_suits question.entry leaf name.now }
+{
+    match question {
+        Question::Shape(_) => true,
+        Question::Names => is_named(leaf, name),
+        Question::Classes(classes) => !is_class(leaf) || classes.find(name).is_some(),
+        Question::Pools(pools) => !is_pool(leaf) || is_declared(pools, name),
+    }
+}
+
+fn leaf_suits(question: Question<'_>, leaf: Leaf, json: &Json) -> bool
+    ensures { result ≡ leaf_suits question.entry leaf (as_str (view json.now)) }
+{
+    match json.as_str() {
+        Some(name) => name_suits(question, leaf, name),
+        None => true,
+    }
+}
+
+fn names_suit(question: Question<'_>, want: Want, json: &Json) -> bool
+    ensures { result ≡ names_suit question.entry want (view json.now) }
+{
+    match want {
+        Want::Leaf(leaf) => leaf_suits(question, leaf, json),
+        Want::Value
+        | Want::Call(_)
+        | Want::Pair(_)
+        | Want::Keyed(_)
+        | Want::Array(_)
+        | Want::Word(_)
+        | Want::Other(_) => true,
+    }
+}
+
+/// Whether what stands at a place answers the question well, its parts apart.
+pub fn suits(question: Question<'_>, want: Want, json: &Json) -> bool
+    ensures { result ≡ suits question.entry want (view json.now) }
+{
+    match question {
+        Question::Shape(version) => fits(version, want, json),
+        Question::Names | Question::Classes(_) | Question::Pools(_) => {
+            names_suit(question, want, json)
+        }
+    }
+}

@@ -1,0 +1,187 @@
+//! What a place of a script asks for.
+
+ghost use Rattle.std.specs.Prelude.{◌≡◌};
+ghost use Rattle.dv_why.specs.Wants.{item_want, key_want, script_want, cooperator_want, body_want};
+
+/// What stands at a place, where nothing is looked for in it.
+#[derive(Clone, Copy, Drop)]
+pub enum Leaf {
+    /// Any text.
+    Text,
+    /// The name of an object, or of a class that is declared.
+    Name,
+    /// The name of a Deferred that is there.
+    Deferred,
+    /// The name of a pool.
+    Pool,
+    /// The name of a class.
+    Class,
+    /// An integer of 64 bits.
+    Integer,
+    /// An integer from the first to the second.
+    Number(u64, u64),
+    Boolean,
+    /// A bound of a queue, or none.
+    Bound,
+    ListFlag,
+    GatherFlag,
+}
+
+/// What an array of a word and its arguments may be.
+#[derive(Clone, Copy, Drop)]
+pub enum Call {
+    Event,
+    Action,
+    Statement,
+    End,
+    /// An end by which an inline body may be left.
+    Leaving,
+    Work,
+}
+
+/// What an array of two parts, of which none is a word, may be.
+#[derive(Clone, Copy, Drop)]
+pub enum Pair {
+    Declaration,
+    Pool,
+}
+
+/// What an object may be.
+#[derive(Clone, Copy, Drop)]
+pub enum Keyed {
+    /// A script of this version.
+    Script(u32),
+    Cooperator,
+    Body,
+}
+
+/// What each item of an array is.
+#[derive(Clone, Copy, Drop)]
+pub enum Item {
+    Value,
+    Event,
+    Action,
+    Statement,
+    Body,
+    Caller,
+    Deferred,
+    Class,
+    ListFlag,
+    GatherFlag,
+    Declaration,
+    Pool,
+}
+
+/// What a place asks for.
+#[derive(Clone, Copy, Drop)]
+pub enum Want {
+    Leaf(Leaf),
+    Value,
+    Call(Call),
+    Pair(Pair),
+    Keyed(Keyed),
+    Array(Item),
+    /// The word with which such an array begins.
+    Word(Call),
+    /// The value of a key that such an object may not have.
+    Other(Keyed),
+}
+
+impl Item {
+    /// What the place of each item asks for.
+    pub fn want(self) -> Want
+        ensures { result ≡ item_want self }
+    {
+        match self {
+            Item::Value => Want::Value,
+            Item::Event => Want::Call(Call::Event),
+            Item::Action => Want::Call(Call::Action),
+            Item::Statement => Want::Call(Call::Statement),
+            Item::Body => Want::Keyed(Keyed::Body),
+            Item::Caller => Want::Array(Item::Body),
+            Item::Deferred => Want::Leaf(Leaf::Deferred),
+            Item::Class => Want::Leaf(Leaf::Class),
+            Item::ListFlag => Want::Leaf(Leaf::ListFlag),
+            Item::GatherFlag => Want::Leaf(Leaf::GatherFlag),
+            Item::Declaration => Want::Pair(Pair::Declaration),
+            Item::Pool => Want::Pair(Pair::Pool),
+        }
+    }
+}
+
+fn script_want(version: u32, key: &str) -> Want
+    ensures { result ≡ script_want version key.now }
+{
+    match key {
+        "version" => Want::Leaf(Leaf::Number(1, 2)),
+        "events" => Want::Array(Item::Event),
+        "limit" => Want::Leaf(Leaf::Number(0, 200_000)),
+        "classes" => Want::Array(Item::Declaration),
+        "cooperator" => Want::Keyed(Keyed::Cooperator),
+        "callers" => Want::Array(Item::Caller),
+        "pools" => if version == 1 {
+            Want::Other(Keyed::Script(version))
+        } else {
+            Want::Array(Item::Pool)
+        },
+        _ => Want::Other(Keyed::Script(version)),
+    }
+}
+
+fn cooperator_want(key: &str) -> Want
+    ensures { result ≡ cooperator_want key.now }
+{
+    match key {
+        "units" => Want::Leaf(Leaf::Number(1, 1_000)),
+        "delay" => Want::Leaf(Leaf::Number(1, 1_000_000_000_000)),
+        _ => Want::Other(Keyed::Cooperator),
+    }
+}
+
+fn body_want(key: &str) -> Want
+    ensures { result ≡ body_want key.now }
+{
+    match key {
+        "do" => Want::Array(Item::Action),
+        "end" => Want::Call(Call::End),
+        _ => Want::Other(Keyed::Body),
+    }
+}
+
+impl Keyed {
+    /// What the place of the value of this key asks for.
+    pub fn want(self, key: &str) -> Want
+        ensures { result ≡ key_want self key.now }
+    {
+        match self {
+            Keyed::Script(version) => script_want(version, key),
+            Keyed::Cooperator => cooperator_want(key),
+            Keyed::Body => body_want(key),
+        }
+    }
+
+    /// The keys that it may have, in the order in which they are looked at.
+    pub fn keys(self) -> &'static [&'static str] {
+        match self {
+            Keyed::Script(1) => &[
+                "version",
+                "limit",
+                "cooperator",
+                "classes",
+                "callers",
+                "events",
+            ],
+            Keyed::Script(_) => &[
+                "version",
+                "limit",
+                "cooperator",
+                "pools",
+                "classes",
+                "callers",
+                "events",
+            ],
+            Keyed::Cooperator => &["units", "delay"],
+            Keyed::Body => &["do", "end"],
+        }
+    }
+}

@@ -1,0 +1,271 @@
+ghost use Rattle.std.specs.Prelude.{◌≡◌, ℕ, List, [], IfOk, string_bytes};
+ghost use Rattle.serde_json.specs.View.{view};
+ghost use Rattle.dv_reader.specs.declared.error.ScriptFault.TheVariants.{NotJson};
+ghost use Rattle.dv_why.specs.Why.{script_in, accepted, refused, refused_text, Shows, Explains, Misfits, TellsOf, TellsOfJson, TellsOfText, IsToldOf, Answers};
+ghost use Rattle.dv_why.specs.Finds.{Leads};
+
+use crate::classes::{Table, make_table};
+use crate::counts::{items_of, too_many};
+use crate::document::{script_of, value_of, version_of, whole};
+use crate::expected::Expected;
+use crate::find::find;
+use crate::line::{name_of, number_of, shown, shown_json};
+use crate::misfit::Misfit;
+use crate::place::pointer_of;
+use crate::pools::second_pool;
+use crate::question::Question;
+use dv_forms::ranges::MOST_LEVELS;
+use dv_reader::error::ScriptFault;
+use dv_reader::read_script::ReadScript;
+use dv_script::script::Script;
+use serde_json::{Value as Json, json};
+use std::alloc::{AllocError, Global};
+
+/// What is told of a script.
+#[derive(Drop)]
+pub struct Told {
+    /// Why it is refused, where it is.
+    pub fault: Option<ScriptFault>,
+    /// The same, and where and what is wrong, as a line of JSON without its end.
+    pub line: String,
+}
+
+/// Tells whether a script is accepted, and where it isn't, why. AllocError where memory is refused.
+pub fn tell(alloc: Global, bytes: &[u8]) -> Result<Told, AllocError>
+    ensures { IfOk result (λ told. Answers bytes.now told.fault (string_bytes told.line)) }
+{
+    match Script::read(alloc, bytes) {
+        Ok(script) => {
+            script.discard();
+            Ok(Told {
+                fault: None,
+                line: accepted(alloc)?.to_string(alloc)?,
+            })
+        }
+        Err(ScriptFault::OutOfMemory) => Err(AllocError),
+        Err(fault) => Ok(Told {
+            fault: Some(fault),
+            line: refusal(alloc, fault, bytes)?.to_string(alloc)?,
+        }),
+    }
+}
+
+fn accepted(alloc: Global) -> Result<Json, AllocError>
+    ensures { IfOk result (λ told. view told ≡ accepted) }
+{
+    json!(in alloc; {"accepted": true})
+}
+
+/// What is told of a refusal.
+fn refusal(alloc: Global, fault: ScriptFault, bytes: &[u8]) -> Result<Json, AllocError>
+    ensures { IfOk result (λ told. IsToldOf fault bytes.now (view told)) }
+{
+    match fault {
+        ScriptFault::TooLong => of_text(alloc, fault, Expected::Short, bytes),
+        ScriptFault::NotJson => of_no_json(alloc, bytes),
+        ScriptFault::BadVersion
+        | ScriptFault::BadShape
+        | ScriptFault::TooMany
+        | ScriptFault::BadName
+        | ScriptFault::BadClass
+        | ScriptFault::OutOfMemory
+        | ScriptFault::BadPool => of_json(alloc, fault, bytes),
+    }
+}
+
+fn sentence(alloc: Global, expected: Expected) -> Result<String, AllocError> {
+    let mut text = String::new(alloc);
+    expected.write(&mut text)?;
+    Ok(text)
+}
+
+/// What is told of a refusal with this place, this that is expected there, and this that stands there.
+fn refused(
+    alloc: Global,
+    fault: ScriptFault,
+    at: &str,
+    expected: &str,
+    found: &str,
+) -> Result<Json, AllocError>
+    ensures { IfOk result (λ told. view told ≡ refused fault at.now expected.now found.now) }
+{
+    json!(in alloc; {
+        "refusal": number_of(fault),
+        "name": name_of(fault),
+        "at": at,
+        "expected": expected,
+        "found": found,
+    })
+}
+
+/// The front of bytes, as much as is shown.
+fn shown_bytes(alloc: Global, bytes: &[u8]) -> Result<String, AllocError> {
+    let text = String::from_utf8_lossy(alloc, bytes)?;
+    shown(alloc, text.as_str())
+}
+
+/// A text that is wrong as a whole.
+fn of_text(
+    alloc: Global,
+    fault: ScriptFault,
+    expected: Expected,
+    bytes: &[u8],
+) -> Result<Json, AllocError>
+    ensures { IfOk result (λ told. (expected found : List ℕ) × (view told ≡ refused fault [] expected found)) }
+{
+    let expected = sentence(alloc, expected)?;
+    let found = shown_bytes(alloc, bytes)?;
+    refused(alloc, fault, "", expected.as_str(), found.as_str())
+}
+
+/// A text that is no JSON, with the line and the column from which it can't be.
+fn of_no_json(alloc: Global, bytes: &[u8]) -> Result<Json, AllocError>
+    ensures { IfOk result (λ told. TellsOfText (view told)) }
+{
+    match Json::from_slice(alloc, bytes) {
+        Ok(_) => of_text(alloc, ScriptFault::NotJson, Expected::JsonText, bytes),
+        Err(error) => {
+            let expected = sentence(alloc, Expected::JsonText)?;
+            let found = shown_bytes(alloc, bytes)?;
+            of_place(
+                alloc,
+                error.line() as u64,
+                error.column() as u64,
+                expected.as_str(),
+                found.as_str(),
+            )
+        }
+    }
+}
+
+fn of_place(
+    alloc: Global,
+    line: u64,
+    column: u64,
+    expected: &str,
+    found: &str,
+) -> Result<Json, AllocError>
+    ensures { IfOk result (λ told. view told ≡ refused_text NotJson line column expected.now found.now) }
+{
+    json!(in alloc; {
+        "refusal": number_of(ScriptFault::NotJson),
+        "name": name_of(ScriptFault::NotJson),
+        "at": "",
+        "line": line,
+        "column": column,
+        "expected": expected,
+        "found": found,
+    })
+}
+
+/// A JSON text that is no script.
+fn of_json(alloc: Global, fault: ScriptFault, bytes: &[u8]) -> Result<Json, AllocError>
+    ensures { IfOk result (λ told. TellsOfJson fault bytes.now (view told)) }
+{
+    let Ok(json) = Json::from_slice(alloc, bytes) else {
+        return Err(AllocError);
+    };
+    of_value(alloc, fault, &json)
+}
+
+/// A JSON value that is no script.
+fn of_value(alloc: Global, fault: ScriptFault, json: &Json) -> Result<Json, AllocError>
+    ensures { IfOk result (λ told. TellsOf fault (view json.now) (view told)) }
+{
+    let (misfit, expected) = misfit_of(alloc, fault, json)?;
+    let at = pointer_of(alloc, misfit.steps.as_slice())?;
+    let expected = sentence(alloc, expected)?;
+    match json.pointer(at.as_str()) {
+        Some(part) => at_part(alloc, fault, at.as_str(), expected.as_str(), part),
+        None => at_part(alloc, fault, "", expected.as_str(), json),
+    }
+}
+
+/// What is told of a part at this place.
+fn at_part(
+    alloc: Global,
+    fault: ScriptFault,
+    at: &str,
+    expected: &str,
+    part: &Json,
+) -> Result<Json, AllocError>
+    ensures { IfOk result (λ told. (found : List ℕ) × Shows found (view part.now) × (view told ≡ refused fault at.now expected.now found)) }
+{
+    let found = shown_json(alloc, part)?;
+    refused(alloc, fault, at, expected, found.as_str())
+}
+
+/// What is wrong in a document that is refused so, and what is expected there.
+fn misfit_of(
+    alloc: Global,
+    fault: ScriptFault,
+    json: &Json,
+) -> Result<(Misfit<'_>, Expected), AllocError>
+    ensures { IfOk result (λ found. Explains fault (view json.now) found.0) }
+{
+    match fault {
+        ScriptFault::BadVersion => wrong_version(alloc, json),
+        ScriptFault::BadShape => in_script(alloc, Question::Shape(version_of(json)), json),
+        ScriptFault::TooMany => too_many(alloc, json),
+        ScriptFault::BadName => in_script(alloc, Question::Names, json),
+        ScriptFault::BadClass => bad_class(alloc, json),
+        ScriptFault::BadPool => bad_pool(alloc, json),
+        ScriptFault::TooLong | ScriptFault::NotJson | ScriptFault::OutOfMemory => Ok((
+            whole(alloc, json),
+            Expected::Wanted(script_of(json)),
+        )),
+    }
+}
+
+/// The version of a document that has a wrong one, or the document where there is none.
+fn wrong_version(alloc: Global, json: &Json) -> Result<(Misfit<'_>, Expected), AllocError>
+    ensures { IfOk result (λ found. Leads (script_in (view json.now)) (view json.now) found.0) }
+{
+    let misfit = value_of(alloc, json, "version")?;
+    let expected = match json.get("version") {
+        Some(_) => Expected::Wanted(misfit.want),
+        None => Expected::Document,
+    };
+    Ok((misfit, expected))
+}
+
+/// The first part of a document that answers the question badly, or the document.
+fn in_script<'j>(
+    alloc: Global,
+    question: Question<'_>,
+    json: &'j Json,
+) -> Result<(Misfit<'j>, Expected), AllocError>
+    ensures leads { IfOk result (λ found. Leads (script_in (view json.now)) (view json.now) found.0) }
+    ensures wrong { IfOk result (λ found. Misfits question.entry found.0) }
+{
+    match find(alloc, question, script_of(json), MOST_LEVELS, json)? {
+        Some(misfit) => Ok(with_expected(misfit)),
+        None => Ok(with_expected(whole(alloc, json))),
+    }
+}
+
+/// A misfit, and what is expected at its place.
+fn with_expected(misfit: Misfit<'_>) -> (Misfit<'_>, Expected)
+    ensures { result.0 ≡ misfit.entry }
+{
+    let expected = Expected::at(misfit.want, misfit.found);
+    (misfit, expected)
+}
+
+fn bad_class(alloc: Global, json: &Json) -> Result<(Misfit<'_>, Expected), AllocError>
+    ensures { IfOk result (λ found. Leads (script_in (view json.now)) (view json.now) found.0) }
+{
+    match make_table(alloc, json)? {
+        Table::Wrong(misfit, expected) => Ok((misfit, expected)),
+        Table::Whole(classes) => in_script(alloc, Question::Classes(&classes), json),
+    }
+}
+
+fn bad_pool(alloc: Global, json: &Json) -> Result<(Misfit<'_>, Expected), AllocError>
+    ensures { IfOk result (λ found. Leads (script_in (view json.now)) (view json.now) found.0) }
+{
+    match second_pool(alloc, json)? {
+        Some(misfit) => Ok((misfit, Expected::FreePool)),
+        None => in_script(alloc, Question::Pools(items_of(json, "pools")), json),
+    }
+}
