@@ -3,7 +3,7 @@
 from __future__ import annotations
 
 import json
-from typing import List, NamedTuple, Optional, Sequence, Set, Tuple
+from typing import Iterator, List, NamedTuple, Optional, Sequence, Set, Tuple
 
 from . import grammar
 from .classes import BUILT_IN
@@ -135,9 +135,19 @@ def is_of_level(script: str, level: str) -> bool:
     known = grammar.actions_up_to(level)
     words = _words(root)
     beyond = {word for word in words if word in grammar.ACTIONS and word not in known}
-    if level != "posts" and ("drain" in words or (isinstance(root, dict) and "callers" in root)):
-        return False
-    return not beyond and ("advance" not in words or grammar.has_clock(level))
+    return not beyond and all(grammar.has(level, other) for other in _levels(root, words))
+
+
+def _levels(root: object, words: Set[str]) -> Iterator[str]:
+    """The levels that add what a script has beside its actions."""
+    keys = root if isinstance(root, dict) else {}
+    version = keys.get("version")
+    if "advance" in words:
+        yield "clock"
+    if "drain" in words or "callers" in keys:
+        yield "posts"
+    if type(version) is int and version == 2:
+        yield "pools"
 
 
 def _words(value: object) -> Set[str]:

@@ -8,12 +8,18 @@ from typing import Dict, FrozenSet, List, Tuple
 MOST_BYTES = 1_048_576
 MOST_NODES = 65_536
 MOST_CLASSES = 256
+MOST_POOLS = 4
 MOST_CALLERS = 8
 MOST_POSTS = 256
 MOST_JOBS = 4_096
 DEEPEST = 127
 LONGEST_TIME = 10**15
 DEFAULT_LIMIT = 2_000
+
+#: the keys that a script has to have, and for each version those that it may have
+NEEDED_KEYS: FrozenSet[str] = frozenset({"version", "events"})
+_KEYS: FrozenSet[str] = frozenset({"limit", "classes", "cooperator", "callers"})
+KEYS: Dict[int, FrozenSet[str]] = {1: _KEYS, 2: _KEYS | {"pools"}}
 
 LIMITS = range(0, 200_001)
 ADVANCES = range(0, LONGEST_TIME + 1)
@@ -24,6 +30,7 @@ TOKENS = range(1, 65_537)
 BOUNDS = range(0, 65_537)
 SUMS = range(0, 1_000_001)
 UNITS = range(1, 1_001)
+WORKERS = range(0, 17)
 
 
 class Kind(enum.Enum):
@@ -42,6 +49,7 @@ class Kind(enum.Enum):
     LOOP = "a loop"
     NEW_TASK = "a name for a task that is made"
     TASK = "a task"
+    POOL = "a pool of threads, which the key `pools` declares"
     VALUE = "a value"
     BODY = "a body"
     BODIES = "an array of bodies"
@@ -79,7 +87,7 @@ FLAGS: Dict[Kind, FrozenSet[str]] = {
 #: the kinds that name an object of a kind, or make one
 MADE: FrozenSet[Kind] = frozenset(kind for kind in Kind if kind.name.startswith("NEW_"))
 FOUND: FrozenSet[Kind] = frozenset(
-    {Kind.DEFERRED, Kind.LOCK, Kind.QUEUE, Kind.CALL, Kind.LOOP, Kind.TASK}
+    {Kind.DEFERRED, Kind.LOCK, Kind.QUEUE, Kind.CALL, Kind.LOOP, Kind.TASK, Kind.POOL}
 )
 
 Arguments = Tuple[Kind, ...]
@@ -121,6 +129,7 @@ ACTIONS: Dict[str, List[Arguments]] = {
     "stopTask": [(K.TASK,)],
     "inline": [(K.NEW_DEFERRED, K.STATEMENTS)],
     "thread": [(K.NEW_DEFERRED, K.DELAY, K.WORK)],
+    "threadIn": [(K.NEW_DEFERRED, K.POOL, K.DELAY, K.WORK)],
 }
 
 ENDS: Dict[str, List[Arguments]] = {
@@ -174,6 +183,7 @@ LEVELS: Dict[str, Tuple[str, ...]] = {
     "inline": ("inline",),
     "threads": ("thread",),
     "posts": (),
+    "pools": ("threadIn",),
 }
 
 
@@ -184,6 +194,7 @@ def actions_up_to(level: str) -> FrozenSet[str]:
     return frozenset(action for name in below for action in LEVELS[name])
 
 
-def has_clock(level: str) -> bool:
-    """Whether scripts of this level have advances."""
-    return list(LEVELS).index(level) >= list(LEVELS).index("clock")
+def has(level: str, part: str) -> bool:
+    """Whether a level has what another one adds: it is that one, or comes after it."""
+    names = list(LEVELS)
+    return names.index(level) >= names.index(part)

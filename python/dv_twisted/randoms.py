@@ -33,6 +33,7 @@ _WEIGHTS: Dict[str, int] = {
     "resumeTask": 2,
     "inline": 6,
     "thread": 3,
+    "threadIn": 3,
 }
 
 _NAMES: Dict[str, str] = {
@@ -43,6 +44,8 @@ _NAMES: Dict[str, str] = {
     "LOOP": "pq",
     "TASK": "tuv",
 }
+
+_POOLS = ("io", "net", "a")
 
 _CLASSES = ("ValueError", "TypeError", "CancelledError", "Exception", "Mine", "AlreadyCalledError")
 _TEXTS = ("x", "", "no")
@@ -56,31 +59,47 @@ class Scripts:
         self._seed = seed
         self._level = level
         self._random = random.Random()
-        known = [word for word in grammar.ACTIONS if word in grammar.actions_up_to(level)]
-        self._words = known
-        self._weights = [_WEIGHTS.get(word, 1) for word in known]
-        self._shallow = [word for word in known if not _holds_bodies(word)]
-        self._has_clock = grammar.has_clock(level)
+        self._known = [word for word in grammar.ACTIONS if word in grammar.actions_up_to(level)]
+        self._pools: List[str] = []
         self._paused: List[str] = []
         self._makers: Dict[Kind, Callable[[int], Any]] = self._kinds()
+        self._take_words()
+
+    def _take_words(self) -> None:
+        """Has actions be those of the level; only with a pool may one be submitted to."""
+        words = [word for word in self._known if word != "threadIn" or self._pools]
+        self._words = words
+        self._weights = [_WEIGHTS.get(word, 1) for word in words]
+        self._shallow = [word for word in words if not _holds_bodies(word)]
 
     def script(self, number: int) -> str:
         """The script of this number."""
         self._random.seed(f"{self._seed} {self._level} {number}")
         self._paused = []
         root: Dict[str, Any] = {"version": 1, "classes": [["Mine", "ValueError"]]}
+        if self._has("pools"):
+            self._version(root)
         if self._one_in(5):
             root["limit"] = self._random.randint(0, 60)
         if "cooperate" in self._words:
             units, delay = self._random.randint(1, 4), self._random.randint(1, 3)
             root["cooperator"] = {"units": units, "delay": delay}
-        if self._level == "posts":
+        if self._has("posts"):
             posts = [self._bodies(0) for _ in range(self._random.randint(1, 3))]
             root["callers"] = posts
         events = self._beginning()
         events += [self._event() for _ in range(self._random.randint(3, 16))]
         root["events"] = events
         return json.dumps(root, separators=(",", ":"))
+
+    def _version(self, root: Dict[str, Any]) -> None:
+        """The version of the script, and its pools where it has some."""
+        self._pools = self._random.sample(_POOLS, self._random.randint(0, 3))
+        if self._pools or self._one_in(2):
+            root["version"] = 2
+        if self._pools:
+            root["pools"] = [[name, self._random.randint(0, 2)] for name in self._pools]
+        self._take_words()
 
     def _beginning(self) -> List[List[Any]]:
         """Deferreds, and some of what else the level has, so that names are bound."""
@@ -95,10 +114,13 @@ class Scripts:
     def _one_in(self, number: int) -> bool:
         return self._random.randrange(number) == 0
 
+    def _has(self, part: str) -> bool:
+        return grammar.has(self._level, part)
+
     def _event(self) -> List[Any]:
-        if self._has_clock and self._one_in(3):
+        if self._has("clock") and self._one_in(3):
             return ["advance", self._random.randint(0, 5)]
-        if self._level == "posts" and self._one_in(5):
+        if self._has("posts") and self._one_in(5):
             return ["drain", self._random.randint(0, 4)]
         return self._action(0)
 
@@ -149,6 +171,7 @@ class Scripts:
         }
         for kind in (*grammar.MADE, *grammar.FOUND):
             makers[kind] = self._naming(kind)
+        makers[Kind.POOL] = lambda depth: self._random.choice(self._pools)
         for kind, flags in grammar.FLAGS.items():
             makers[kind] = self._flagging(sorted(flags))
         return makers

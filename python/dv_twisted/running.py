@@ -6,6 +6,7 @@ import contextlib
 import sys
 import threading
 import warnings
+from bisect import bisect_left
 from typing import Any, Callable, Dict, Generator, Iterator, List, Optional, Sequence, Tuple
 
 from twisted.internet import defer, task, threads
@@ -19,7 +20,7 @@ from .instruments import install, locks, queues
 from .instruments.clock import run_due
 from .profile import Entry
 from .script import Script, read
-from .telling import Line, Named, Observer, Part, Record, Thing, Time, weight
+from .telling import Action, Line, Observer, Part, Record, Thing, Time, lines_of, weight
 from .texts import Outcome, Text, compact, weight_of
 
 #: a caller's post, by the numbers of the caller and of the post
@@ -96,38 +97,52 @@ class Teller(Observer):
         return Thing(self._names.pop())
 
 
-def rendered(line: Line) -> str:
-    """A line as it is printed."""
-    return "".join(map(_part, line))
+def rendered(line: Line, records: Sequence[Record]) -> str:
+    """A line as it is printed, where these Deferreds were made."""
+    return "".join(str(records[part].name) if isinstance(part, int) else _part(part) for part in line)
 
 
 def _part(part: Part) -> str:
     if isinstance(part, Record):
         return f"#{part.number}"
-    if isinstance(part, Named):
-        return str(part.record.name)
     if isinstance(part, Time):
         return str(int(part.seconds))
     return part.text if isinstance(part, (Text, Outcome)) else str(part)
 
 
 class Job:
-    """A job of a thread pool whose result comes at a time of the clock: Twisted's `deferToThreadPool` without a thread."""
+    """What a job has come to, and who is told of it at a time of the clock."""
+
+    def __init__(self, done: Callable[[bool, object], None], success: bool, result: object) -> None:
+        self._done = done
+        self._success = success
+        self._result = result
+
+    def deliver(self) -> None:
+        """Tells what it has come to."""
+        self._done(self._success, self._result)
+
+
+class Pool:
+    """A pool of threads as Twisted's `deferToThreadPool` sees it, without threads: a job is done where it is submitted."""
 
     def __init__(self) -> None:
-        self.done: Callable[[bool, object], None] = lambda success, result: None
-        self.result: Tuple[bool, object] = (True, None)
+        self.jobs: List[Job] = []
 
     def callInThreadWithCallback(self, done: Callable[[bool, object], None], f: Any) -> None:
-        """Does the job, and keeps what it comes to."""
-        self.done = done
+        """Does a job, and keeps what it comes to."""
         try:
-            self.result = (True, f())
+            job = Job(done, True, f())
         except Exception:
-            self.result = (False, _Failure())
+            job = Job(done, False, _Failure())
+        self.jobs.append(job)
+
+
+class OwnThread:
+    """The reactor as Twisted's `deferToThreadPool` sees it, on the thread of all that happens."""
 
     def callFromThread(self, f: Callable[..., object], *args: object) -> None:
-        """Calls at once, since this is the reactor's thread."""
+        """Calls at once."""
         f(*args)
 
 
@@ -168,7 +183,9 @@ class Player:
         )
         self.deferreds: Dict[str, Deferred[Any]] = {}
         self.things: Dict[Tuple[str, str], Any] = {}
-        self.jobs = 0
+        self.reactor = OwnThread()
+        self.pool = Pool()
+        self.pools = {name: Pool() for name in script.pools}
         self.batches: Optional[Iterator[Sequence[Post]]] = None if batches is None else iter(batches)
         self.taken = [0] * len(script.callers)
 
@@ -184,8 +201,11 @@ class Player:
         teller = self.teller
         stopped = teller.stopped
         teller.end()
-        run = Run([rendered(line) for line in teller.lines], teller.outcomes or [], stopped)
-        run.quirks = teller.quirks
+        lines = list(lines_of(teller.parts))
+        journal = [rendered(line, teller.records) for _, line in lines]
+        run = Run(journal, teller.outcomes or [], stopped)
+        places = [place for place, _ in lines]
+        run.quirks = [(bisect_left(places, place), entry) for place, entry in teller.quirks]
         return run
 
     def _terminator(self) -> Callable[[], bool]:
@@ -235,7 +255,7 @@ class Player:
             self._go_on()
             self.teller.tell(f"post {caller} {index}")
             body = self.script.callers[caller][index]
-            self._telling(lambda: self.teller.perform(None, "post", None, self._body, body))
+            self._telling(lambda: self.teller.perform(None, "post", None, self._body, (body,)))
 
     def _batch(self, most: Optional[int]) -> List[Post]:
         """As many posts as may be taken, caller by caller in turn."""
@@ -452,7 +472,7 @@ class Player:
             except BaseException as failure:
                 self._go_on()
                 self.teller.tell_unhandled(failure)
-            advance = lambda: self.teller.act([], run_due, self.clock)
+            advance = lambda: self.teller.act(Action(), run_due, self.clock)
 
     def _loop(self, action: List[Any], here: Optional[Deferred[Any]]) -> None:
         _, name, deferred, interval, now, body = action
@@ -544,28 +564,36 @@ class Player:
     # threads
 
     def _thread(self, action: List[Any], here: Optional[Deferred[Any]]) -> None:
-        if self.jobs == grammar.MOST_JOBS:
-            raise self.teller.classes.make("RuntimeError", "too many jobs")
         _, name, delay, work = action
-        number, job = self.jobs, Job()
+        self._submit(name, self.pool, delay, work)
+
+    def _thread_in(self, action: List[Any], here: Optional[Deferred[Any]]) -> None:
+        _, name, pool, delay, work = action
+        self._submit(name, self.pools[pool], delay, work)
+
+    def _submit(self, name: str, pool: Pool, delay: int, work: List[Any]) -> None:
+        """Submits a job to a pool. Jobs of all pools are numbered in one row."""
+        number = sum(len(each.jobs) for each in (self.pool, *self.pools.values()))
+        if number == grammar.MOST_JOBS:
+            raise self.teller.classes.make("RuntimeError", "too many jobs")
 
         def made(deferred: Deferred[Any], record: Record) -> None:
             self.deferreds[name] = deferred
             self.teller.tell(f"job {number} ", record)
 
         self.teller.expect_name(name, made)
-        self.teller.act([], threads.deferToThreadPool, job, job, lambda: self._work(work))
-        self.jobs += 1
-        self._deliver_later(number, delay, job)
+        submit: Callable[..., Any] = threads.deferToThreadPool
+        self.teller.act(Action(), submit, self.reactor, pool, lambda: self._work(work))
+        self._deliver_later(number, delay, pool.jobs[-1])
 
     def _deliver_later(self, number: int, delay: int, job: Job) -> None:
         self.teller.tell(f"later job {number} ", Time(self.clock.seconds() + delay))
 
         def deliver() -> None:
             self.teller.tell(f"deliver {number}")
-            self._telling(lambda: job.done(*job.result))
+            self._telling(job.deliver)
 
-        self.teller.act([], self.clock.callLater, delay, deliver)
+        self.teller.act(Action(), self.clock.callLater, delay, deliver)
 
     def _work(self, work: List[Any]) -> Any:
         word = work[0]
@@ -626,6 +654,7 @@ _OTHERS: Dict[str, Callable[[Player, List[Any], Optional[Deferred[Any]]], None]]
     "stopTask": Player._stop_task,
     "inline": Player._inline,
     "thread": Player._thread,
+    "threadIn": Player._thread_in,
 }
 
 
@@ -640,6 +669,13 @@ def be_quiet() -> None:
     """Has Twisted log and warn of nothing, since what happens is told."""
     warnings.simplefilter("ignore")
     globalLogBeginner.beginLoggingTo([], redirectStandardIO=False, discardBuffer=True)
+    sys.unraisablehook = _tell_unraisable
+
+
+def _tell_unraisable(unraisable: Any) -> None:
+    """Tells what a destructor has failed with, but for one that couldn't log since Python's stack was full."""
+    if unraisable.exc_type is not RecursionError:
+        sys.__unraisablehook__(unraisable)
 
 
 def with_room(call: Callable[[], int]) -> int:

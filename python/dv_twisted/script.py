@@ -5,7 +5,8 @@ from __future__ import annotations
 import json
 import math
 import re
-from typing import Any, Dict, List, Mapping, NoReturn, Optional, Sequence, Set, Tuple
+from itertools import accumulate
+from typing import AbstractSet, Any, Dict, List, Mapping, NoReturn, Optional, Sequence, Tuple
 
 from . import grammar
 from .grammar import Kind
@@ -19,6 +20,7 @@ BAD_SHAPE = (4, "BadShape")
 TOO_MANY = (5, "TooMany")
 BAD_NAME = (6, "BadName")
 BAD_CLASS = (7, "BadClass")
+BAD_POOL = (9, "BadPool")
 
 
 class Refused(Exception):
@@ -42,6 +44,8 @@ class Script:
         self.classes: List[List[str]] = root.get("classes", [])
         self.units: int = cooperator["units"]
         self.delay: int = cooperator["delay"]
+        #: the names of the pools; no line shows how many workers one has
+        self.pools: List[str] = [name for name, _ in root.get("pools", [])]
         self.callers: List[List[Dict[str, Any]]] = root.get("callers", [])
 
 
@@ -50,13 +54,19 @@ def read(data: bytes, names_of_classes: Sequence[str]) -> Script:
     if len(data) > grammar.MOST_BYTES:
         raise Refused(TOO_LONG)
     root = _json(data)
-    if not isinstance(root, dict) or not _is_integer(root.get("version")) or root["version"] != 1:
+    if not _has_version(root):
         raise Refused(BAD_VERSION)
     found = _Shape().root(root)
     _refuse_counts(root, found)
     _refuse_names(root, found)
     _refuse_classes(root, found, names_of_classes)
+    _refuse_pools(root, found)
     return Script(root)
+
+
+def _has_version(root: Any) -> bool:
+    """Whether it is an object that says a version which there is."""
+    return isinstance(root, dict) and _is_integer(root.get("version")) and root["version"] in grammar.KEYS
 
 
 # JSON
@@ -66,7 +76,7 @@ def _json(data: bytes) -> Any:
     """What the bytes say in JSON, where a number that isn't an integer of 64 bits is a float."""
     try:
         text = data.decode("utf-8", "strict")
-        if _depth(text) > grammar.DEEPEST:
+        if depth(text) > grammar.DEEPEST:
             raise Refused(NOT_JSON)
         value = json.loads(
             text,
@@ -98,14 +108,15 @@ def _integer(text: str) -> Any:
     return int(text)
 
 
-def _depth(text: str) -> int:
-    """How deep arrays and objects are nested in a text, up to where that is too deep."""
-    deepest = depth = 0
-    for part in re.finditer(r'"(?:[^"\\]|\\.)*"|[\[{]|[\]}]', text, re.DOTALL):
-        mark = part.group()[0]
-        depth += (mark in "[{") - (mark in "]}")
-        deepest = max(deepest, depth)
-    return deepest
+#: what a text has beside the marks by which arrays and objects begin and end
+_BESIDE = re.compile(r'"(?:[^"\\]|\\.)*"|[^\[\]{}"]+|"', re.DOTALL)
+_DEEPER = {"[": 1, "{": 1, "]": -1, "}": -1}
+
+
+def depth(text: str) -> int:
+    """How deep arrays and objects are nested in a text."""
+    marks = _BESIDE.sub("", text)
+    return max(accumulate(map(_DEEPER.__getitem__, marks)), default=0)
 
 
 def _pairs(pairs: List[Tuple[str, Any]]) -> Dict[str, Any]:
@@ -139,6 +150,8 @@ class _Found:
         self.names: List[str] = []
         #: names of Deferreds that exist
         self.deferreds: List[str] = []
+        #: names of pools that are used
+        self.pools: List[str] = []
         self.classes: List[str] = []
         self.advanced = 0
 
@@ -151,22 +164,32 @@ class _Shape:
 
     def root(self, root: Dict[str, Any]) -> _Found:
         """What a whole script has."""
-        self._keys(root, {"version", "events"}, {"limit", "classes", "cooperator", "callers"})
+        self._keys(root, grammar.NEEDED_KEYS, grammar.KEYS[root["version"]])
         self._number(root.get("limit", 0), grammar.LIMITS)
         for pair in self._array(root.get("classes", [])):
             self._texts(pair, 2)
         if "cooperator" in root:
             self._cooperator(root["cooperator"])
+        for pool in self._array(root.get("pools", [])):
+            self._pool(pool)
         for posts in self._array(root.get("callers", [])):
             self._bodies(posts)
         for event in self._array(root["events"]):
             self._event(event)
+        if self.found.pools and "pools" not in grammar.KEYS[root["version"]]:
+            self._refuse(self.found.pools)
         return self.found
 
     def _cooperator(self, value: Any) -> None:
         self._keys(value, {"units", "delay"}, set())
         self._number(value["units"], grammar.UNITS)
         self._number(value["delay"], grammar.INTERVALS)
+
+    def _pool(self, value: Any) -> None:
+        if len(self._array(value)) != 2:
+            self._refuse(value)
+        self.found.names.append(self._text(value[0]))
+        self._number(value[1], grammar.WORKERS)
 
     def _event(self, event: Any) -> None:
         word = self._word(event)
@@ -196,6 +219,8 @@ class _Shape:
         elif kind in grammar.MADE or kind in grammar.FOUND:
             names = self.found.deferreds if kind is Kind.DEFERRED else self.found.names
             names.append(self._text(value))
+            if kind is Kind.POOL:
+                self.found.pools.append(value)
         else:
             self._other(kind, value)
 
@@ -255,7 +280,7 @@ class _Shape:
             if flag not in known:
                 self._refuse(value)
 
-    def _keys(self, value: Any, needed: Set[str], known: Set[str]) -> None:
+    def _keys(self, value: Any, needed: AbstractSet[str], known: AbstractSet[str]) -> None:
         if not isinstance(value, dict) or not needed <= value.keys() <= needed | known:
             self._refuse(value)
 
@@ -288,7 +313,7 @@ class _Shape:
         raise Refused(BAD_SHAPE, json.dumps(value)[:200])
 
 
-# counts, names, classes
+# counts, names, classes, pools
 
 
 def _refuse_counts(root: Mapping[str, Any], found: _Found) -> None:
@@ -296,6 +321,7 @@ def _refuse_counts(root: Mapping[str, Any], found: _Found) -> None:
     if (
         nodes(root) > grammar.MOST_NODES
         or len(root.get("classes", [])) > grammar.MOST_CLASSES
+        or len(root.get("pools", [])) > grammar.MOST_POOLS
         or len(callers) > grammar.MOST_CALLERS
         or any(len(posts) > grammar.MOST_POSTS for posts in callers)
         or found.advanced > grammar.LONGEST_TIME
@@ -334,3 +360,12 @@ def _refuse_classes(root: Mapping[str, Any], found: _Found, built_in: Sequence[s
     for name in found.classes:
         if name not in known:
             raise Refused(BAD_CLASS, name)
+
+
+def _refuse_pools(root: Mapping[str, Any], found: _Found) -> None:
+    declared = [name for name, _ in root.get("pools", [])]
+    if len(set(declared)) < len(declared):
+        raise Refused(BAD_POOL)
+    for name in found.pools:
+        if name not in declared:
+            raise Refused(BAD_POOL, name)

@@ -10,7 +10,19 @@ code performs an action the observer is `quiet`: lines are told, and what Twiste
 from __future__ import annotations
 
 import contextlib
-from typing import Any, Callable, Dict, Iterator, List, Optional, Tuple, Union
+from typing import (
+    Any,
+    Callable,
+    Dict,
+    Iterable,
+    Iterator,
+    List,
+    Mapping,
+    Optional,
+    Sequence,
+    Tuple,
+    Union,
+)
 
 from twisted.internet.defer import Deferred
 
@@ -23,66 +35,66 @@ KINDS = frozenset(
     {"maybe", "list", "lock", "queue", "clock", "timer", "loop", "cooperator", "inline"}
 )
 
-_on: List["Observer"] = []
+
+class _Twisted:
+    """Twisted, as it is watched."""
+
+    #: the observer that is on, if any
+    observer: Optional["Observer"] = None
 
 
-def observer() -> Optional["Observer"]:
-    """The observer that is on, if any."""
-    return _on[-1] if _on else None
+watched = _Twisted()
 
 
 def observer_of(kind: str) -> Optional["Observer"]:
     """The observer that is on, if it tells objects of this kind as such."""
-    return _on[-1] if _on and kind in _on[-1].kinds else None
+    watcher = watched.observer
+    return watcher if watcher is not None and kind in watcher.kinds else None
+
+
+def is_deferred(value: object) -> bool:
+    """Whether it is a Deferred, which `isinstance` takes long to say, since Twisted's class is an abstract one."""
+    return Deferred in type(value).__mro__
 
 
 class Record:
     """What is known of a Deferred. It doesn't keep that alive."""
 
-    __slots__ = (
-        "name",
-        "number",
-        "fired",
-        "outcome",
-        "before",
-        "waits_for",
-        "pauses",
-        "ran",
-        "same",
-        "side",
-        "kind",
-        "came",
-        "hidden_of",
-        "body",
-        "made_in",
-        "alias",
-        "helper",
-    )
+    number: Optional[int] = None
+    fired = False
+    #: whether it is being fired, and what with isn't in place yet
+    starts = False
+    outcome = NULL
+    #: what it had before that was taken
+    before = NULL
+    waits_for: Optional["Record"] = None
+    pauses = 0
+    #: whether a side of its own has run whose result isn't in place yet, and what that is, where it is known
+    ran = False
+    same: Optional[Outcome] = None
+    #: the body of the side that ran last
+    side: Any = None
+    kind = ""
+    #: of a list: what its children came with, by their places
+    came: Optional[Dict[int, Outcome]] = None
+    #: of a Deferred that Twisted makes for a cancelled inline body: the one that the program knows
+    hidden_of: Optional["Record"] = None
+    #: of an inline body: its frame
+    body: Optional["Frame"] = None
+    made_in: Optional["Frame"] = None
+    #: the function and the line of the program where it was made, by which it is named
+    made_at: Optional[Tuple[str, Optional[int]]] = None
+    alias: Optional["Record"] = None
+    helper = False
 
     def __init__(self, name: Optional[str] = None) -> None:
         self.name = name
-        self.number: Optional[int] = None
-        self.fired = False
-        self.outcome = NULL
-        #: what it had before that was taken
-        self.before = NULL
-        self.waits_for: Optional[Record] = None
-        self.pauses = 0
-        #: whether a side of its own has run whose result isn't in place yet, and what that is, where it is known
-        self.ran = False
-        self.same: Optional[Outcome] = None
-        #: the body of the side that ran last
-        self.side: Any = None
-        self.kind = ""
-        #: of a list: what its children came with, by their places
-        self.came: Dict[int, Outcome] = {}
-        #: of a Deferred that Twisted makes for a cancelled inline body: the one that the program knows
-        self.hidden_of: Optional[Record] = None
-        #: of an inline body: its frame
-        self.body: Optional[Frame] = None
-        self.made_in: Optional[Frame] = None
-        self.alias: Optional[Record] = None
-        self.helper = False
+
+    def child_came(self, place: int, outcome: Outcome) -> None:
+        """The child of a list that has this place came with this."""
+        if self.came is None:
+            self.came = {}
+        self.came[place] = outcome
 
     def state(self) -> str:
         """How it is, as its line shows it."""
@@ -112,15 +124,6 @@ class Thing:
         return self.name
 
 
-class Named:
-    """A part of a line: the name of a Deferred."""
-
-    __slots__ = ("record",)
-
-    def __init__(self, record: Record) -> None:
-        self.record = record
-
-
 class Time:
     """A part of a line: a time of the clock, in the program's seconds."""
 
@@ -130,12 +133,40 @@ class Time:
         self.seconds = seconds
 
 
-class Pending:
-    """A part of a line that is known only when the run is over."""
+class Action(List[Any]):
+    """An action of the program: a word of the language, and what it was given.
+
+    Among the parts of lines it is a whole line: that its helper is made, which is told only of an action that has one.
+    """
+
+    #: the failure that it raised, as a line shows it, and whether its body went on after that
+    raised: Optional[str] = None
+    caught = False
+    #: the Deferred of the inline body in which such a one is told
+    helper: Optional[Record] = None
 
 
-Part = Union[str, Record, Named, Thing, Time, Text, Outcome, Pending]
+class Failed:
+    """Among the parts of lines, a whole line: that the helper of an action is fired, if it has one."""
+
+    def __init__(self, action: Action) -> None:
+        self.action = action
+
+
+#: a number is the name of the Deferred that was made as the one of this number
+Part = Union[str, int, Record, Thing, Time, Text, Outcome, Action, Failed]
 Line = Tuple[Part, ...]
+
+
+def lines_of(parts: Iterable[Optional[Part]]) -> Iterator[Tuple[int, Line]]:
+    """Each line of these parts, and the place of its first one, where no line is that of a helper."""
+    line: List[Part] = []
+    for place, part in enumerate(parts):
+        if part is not None:
+            line.append(part)
+        else:
+            yield place - len(line), tuple(line)
+            line = []
 
 
 def weight(line: Line) -> int:
@@ -146,13 +177,20 @@ def weight(line: Line) -> int:
 class Frame:
     """A run of a body: `kind` is the kind of body, or `event` for the program itself."""
 
+    #: of an inline body
+    record: Optional[Record] = None
+    awaits: Optional[Deferred[Any]] = None
+    #: what it awaited last had
+    present: Optional[Outcome] = None
+    #: whether a Deferred that is made now has no name
+    anonymous = False
+    #: what the side that runs was given, where that is Twisted's own
+    passing: Optional[Tuple[object, Outcome]] = None
+    #: what is expected of the next Deferreds that are made, the next one last
+    expected: Tuple["Expected", ...] = ()
+
     def __init__(self, kind: str) -> None:
         self.kind = kind
-        #: of an inline body
-        self.record: Optional[Record] = None
-        self.awaits: Optional[Deferred[Any]] = None
-        #: what it awaited last had
-        self.present: Optional[Outcome] = None
 
 
 class Expected:
@@ -167,6 +205,10 @@ class Expected:
         self.made = made
 
 
+_NOTHING = Expected()
+_NO_KEYWORDS: Mapping[str, Any] = {}
+
+
 class Observer:
     """Tells the lines of a run. A subclass may also note the actions and bodies of the program."""
 
@@ -174,22 +216,21 @@ class Observer:
         self.kinds = kinds
         self.classes = Classes()
         self.texts = Texts(self.classes)
-        self.lines: List[Line] = []
+        #: the parts of all lines, each line followed by None. No line is an object of its own, since Python's collector
+        #: of garbage goes over all objects again and again
+        self.parts: List[Optional[Part]] = []
         self.records: List[Record] = []
         self.top = Frame("event")
         self.frame = self.top
         self.quiet = False
-        #: whether a Deferred that is made now has no name
-        self.anonymous = False
         #: the Deferred to which a cancel is being passed on along a wait
         self.forwarded: Optional[Deferred[Any]] = None
-        #: what the side that runs was given, where that is Twisted's own
-        self.passing: Optional[Tuple[object, Outcome]] = None
+        #: what the body that has ended last gave, where it was asked for
+        self.gave: Optional[Outcome] = None
         #: the inline bodies that are being cancelled
         self.cancelling: List[Record] = []
-        #: where Twisted did what an entry of docs/PROFILE.md names: the number of the line, and the entry
+        #: where Twisted did what an entry of docs/PROFILE.md names: how many parts were told before, and the entry
         self.quirks: List[Tuple[int, Entry]] = []
-        self._expected: List[Expected] = []
         self._told: Optional[int] = None
         #: what the instruments of a kind keep of this run
         self.clock: Optional[Any] = None
@@ -205,21 +246,22 @@ class Observer:
     @contextlib.contextmanager
     def watching(self) -> Iterator["Observer"]:
         """Has Twisted be watched by this observer, and by no other."""
-        _on.append(self)
+        before, watched.observer = watched.observer, self
         try:
             yield self
         finally:
-            _on.pop()
+            watched.observer = before
 
     # lines
 
     def tell(self, *parts: Part) -> None:
         """Tells a line."""
-        self.lines.append(parts)
+        self.parts.extend(parts)
+        self.parts.append(None)
 
-    def quirk(self, entry: Entry, line: Optional[int] = None) -> None:
-        """Notes that Twisted does here, or at this line, what an entry of the profile names."""
-        self.quirks.append((len(self.lines) if line is None else line, entry))
+    def quirk(self, entry: Entry, place: Optional[int] = None) -> None:
+        """Notes that Twisted does here, or where so many parts are told, what an entry of the profile names."""
+        self.quirks.append((len(self.parts) if place is None else place, entry))
 
     def problem(self, reason: str, kind: Optional[str] = None) -> None:
         """Notes what a script can't say: it may be told as the Python that objects of this kind are made of."""
@@ -241,9 +283,9 @@ class Observer:
 
     # Deferreds
 
-    def record(self, deferred: Deferred[Any]) -> Record:
+    def record(self, deferred: Any) -> Record:
         """What is known of a Deferred."""
-        found: Optional[Tuple[Observer, Record]] = deferred.__dict__.get("_dv_record")
+        found: Optional[Tuple[Observer, Record]] = deferred._dv_record
         if found is not None and found[0] is self:
             return found[1]
         return self.adopt(deferred)
@@ -256,73 +298,87 @@ class Observer:
         self.made(deferred, record)
         self.put_expected(expected)
         if deferred.called:
-            outcome = self.texts.outcome(deferred.__dict__.get("_dv_result"))
+            outcome = self.texts.outcome(getattr(deferred, "result", None))
             self.tell("fire ", record, " ", outcome)
             record.fired, record.outcome = True, outcome
         return record
 
-    def keep(self, deferred: Deferred[Any], record: Record) -> None:
+    def keep(self, deferred: Any, record: Record) -> None:
         """Has a Deferred be known by this record."""
-        deferred.__dict__["_dv_record"] = (self, record)
+        deferred._dv_record = (self, record)
+
+    def locate(self, record: Record) -> None:
+        """Notes where the program makes a Deferred, if it is named by that."""
 
     def made(self, deferred: Deferred[Any], record: Record, kind: str = "") -> None:
         """A Deferred was made: it gets its name, and is told."""
-        expected = self._expected.pop() if self._expected else Expected()
-        if expected.name is not None:
-            record.name = expected.name
-        if self.anonymous:
+        frame = self.frame
+        expected = self._next_expected() if frame.expected else _NOTHING
+        if frame.anonymous:
             record.name = "-"
-        record.kind = kind
-        record.number = len(self.records)
-        self.tell("new ", record, " ", Named(record))
+        elif expected.name is not None:
+            record.name = expected.name
+        elif record.made_at is None:
+            self.locate(record)
+        self.maker = None
+        if kind:
+            record.kind = kind
+        record.number = number = len(self.records)
+        self.tell("new ", record, " ", number)
         self.records.append(record)
         if expected.made is not None:
             expected.made(deferred, record)
 
     def rename(self, deferred: Deferred[Any]) -> None:
         """A body gave a Deferred, which has the name of the next one that is made from here on."""
-        expected = self._expected.pop() if self._expected else Expected()
+        expected = self._next_expected()
         record = self.record(deferred)
-        self.tell("name ", record, " ", expected.name or Named(record))
+        own: Part = "-" if record.number is None else record.number
+        self.tell("name ", record, " ", expected.name or own)
         if expected.made is not None:
             expected.made(deferred, record)
 
     def expect(self, made: Callable[[Deferred[Any], Record], None]) -> None:
         """Has this be told of the next Deferred that is made, beside what is expected already."""
-        before = self._expected.pop() if self._expected else Expected()
+        before = self._next_expected()
 
         def both(deferred: Deferred[Any], record: Record) -> None:
             if before.made is not None:
                 before.made(deferred, record)
             made(deferred, record)
 
-        self._expected.append(Expected(before.name, both))
+        self.frame.expected += (Expected(before.name, both),)
 
     def expect_name(
         self, name: str, bind: Callable[[Deferred[Any], Record], None]
     ) -> None:
         """Has the next Deferred that is made be known by this name."""
-        self._expected.append(Expected(name, bind))
+        self.frame.expected += (Expected(name, bind),)
 
-    def take_expected(self) -> List[Expected]:
-        """What is expected of the next Deferred, which isn't expected any more."""
-        expected, self._expected = self._expected, []
+    def _next_expected(self) -> Expected:
+        """What is expected of the next Deferred, and not of those after it."""
+        *others, expected = self.frame.expected or (_NOTHING,)
+        self.frame.expected = tuple(others)
         return expected
 
-    def put_expected(self, expected: List[Expected]) -> None:
+    def take_expected(self) -> Tuple[Expected, ...]:
+        """What is expected of the next Deferreds, which isn't expected any more."""
+        expected, self.frame.expected = self.frame.expected, ()
+        return expected
+
+    def put_expected(self, expected: Tuple[Expected, ...]) -> None:
         """Expects this again."""
-        self._expected = expected
+        self.frame.expected = expected
 
     # actions and bodies
 
-    def act(self, action: List[Any], call: Callable[..., Any], *args: Any, **kwargs: Any) -> Any:
+    def act(self, action: Action, call: Callable[..., Any], *args: Any) -> Any:
         """Performs a call of the program's into Twisted."""
-        frame, quiet = self.frame, self.quiet
-        self.quiet = True
+        quiet, self.quiet = self.quiet, True
         try:
-            return call(*args, **kwargs)
+            return call(*args)
         finally:
-            self.quiet, self.frame = quiet, frame
+            self.quiet = quiet
 
     def perform(
         self,
@@ -330,14 +386,13 @@ class Observer:
         kind: str,
         given: Optional[Tuple[object, Outcome]],
         call: Callable[..., Any],
-        *args: Any,
-        **kwargs: Any,
+        args: Sequence[Any] = (),
+        kwargs: Mapping[str, Any] = _NO_KEYWORDS,
     ) -> Any:
         """Has the program do what it was called back for: a run of the body, on what it is given."""
         frame = self.begin_body(body, kind, given)
-        before = (self.quiet, self.frame, self.anonymous, self.passing, self._expected)
-        self.quiet, self.frame, self.anonymous, self.passing = False, frame, False, None
-        self._expected = []
+        before, quiet = self.frame, self.quiet
+        self.frame, self.quiet = frame, False
         try:
             result = call(*args, **kwargs)
         except BaseException as error:
@@ -347,7 +402,7 @@ class Observer:
             self.end_body(frame, None, result, given)
             return result
         finally:
-            self.quiet, self.frame, self.anonymous, self.passing, self._expected = before
+            self.frame, self.quiet = before, quiet
 
     def new_body(self, kind: str) -> Any:
         """A body that the program hands to Twisted."""
@@ -392,13 +447,13 @@ class Observer:
         """A name for a lock, queue, delayed call, loop or task that is made."""
         return Thing(kind)
 
-    def value(self, value: object) -> Any:
-        """A value of the program's, as an action of it has it."""
+    def value(self, outcome: Outcome) -> Any:
+        """A value of the program's that is shown so, as an action of it has it."""
         return None
 
-    def raising(self, error: BaseException) -> List[Any]:
-        """A failure of the program's, as an action of it has it."""
-        return []
+    def firing(self, record: Record, result: object, outcome: Outcome) -> Action:
+        """The action that fires a Deferred with this, which is shown so."""
+        return Action()
 
     # the clock
 

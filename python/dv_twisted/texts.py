@@ -4,14 +4,14 @@ from __future__ import annotations
 
 import json
 import weakref
-from typing import Any, Dict, Tuple, Union, cast
+from typing import Any, Dict, Tuple, Union
 
 from twisted.internet.defer import FirstError
 from twisted.python.failure import Failure
 
 from .classes import Classes, clean, message_of
 
-INTEGERS = range(-(2**63), 2**63)
+_LEAST, _MOST = -(2**63), 2**63 - 1
 
 #: a VALUE of the language, in which a failure is an object with the key "fail"
 Shown = Any
@@ -21,7 +21,7 @@ _DEEPEST = 40
 
 def compact(value: Shown) -> str:
     """The compact JSON of a value."""
-    return _ENCODER.encode(value)
+    return str(value) if type(value) is int else _ENCODER.encode(value)
 
 
 _ENCODER = json.JSONEncoder(ensure_ascii=False, separators=(",", ":"))
@@ -114,7 +114,7 @@ class Texts:
 
     def outcome(self, value: object) -> Outcome:
         """What a Deferred that has this value shows."""
-        return Outcome(self.shown(value))
+        return NULL if value is None else Outcome(self.shown(value))
 
     def failure(self, error: BaseException) -> Text:
         """An error, as the journal shows it."""
@@ -126,15 +126,15 @@ class Texts:
         shown = self.shown(value)
         return Text(compact(shown), weight_of(shown))
 
-    def shown(self, value: object, depth: int = 0) -> Shown:
+    def shown(self, value: Any, depth: int = 0) -> Shown:
         """A value in the language."""
         kind = type(value)
-        if value is None or kind is bool:
+        if value is None or kind is bool or (kind is int and _LEAST <= value <= _MOST):
             return value
         if kind is str:
-            return clean(cast(str, value))
+            return clean(value)
         if isinstance(value, int):
-            return int(value) if value in INTEGERS else f"<int {value}>"
+            return int(value) if _LEAST <= value <= _MOST else f"<int {value}>"
         if isinstance(value, str):
             return clean("".join(value))
         if isinstance(value, (list, tuple)) and depth < _DEEPEST:

@@ -96,6 +96,8 @@ class Comparing(unittest.TestCase):
         self.assertFalse(is_of_level(script(["advance", 1]), "lists"))
         self.assertFalse(is_of_level(script(["drain", 1]), "threads"))
         self.assertFalse(is_of_level(script(["maybe", "d", {"do": [["lock", "l"]]}]), "lists"))
+        self.assertFalse(is_of_level(script(["note", "x"], version=2), "posts"))
+        self.assertTrue(is_of_level(script(["drain", 1], version=2), "pools"))
 
 
 class Cutting(unittest.TestCase):
@@ -134,8 +136,16 @@ class Random(unittest.TestCase):
         self.assertEqual(Scripts(1, "posts").script(9), Scripts(1, "posts").script(9))
         self.assertNotEqual(Scripts(1, "posts").script(9), Scripts(2, "posts").script(9))
 
+    def test_a_level_has_what_those_before_it_have(self) -> None:
+        for level in grammar.LEVELS:
+            text = "".join(Scripts(1, level).script(number) for number in range(60))
+            self.assertEqual('["advance"' in text, grammar.has(level, "clock"), level)
+            self.assertEqual('"callers"' in text, grammar.has(level, "posts"), level)
+            self.assertEqual('"version":2' in text, grammar.has(level, "pools"), level)
+            self.assertIn('"version":1', text, level)
+
     def test_all_actions_come_up(self) -> None:
-        scripts = Scripts(1, "posts")
+        scripts = Scripts(1, "pools")
         text = "".join(scripts.script(number) for number in range(300))
         self.assertEqual([word for word in grammar.ACTIONS if f'["{word}"' not in text], [])
 

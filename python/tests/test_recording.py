@@ -3,6 +3,7 @@
 from __future__ import annotations
 
 import json
+import sys
 import unittest
 from typing import Any, Callable, List
 
@@ -230,13 +231,38 @@ class Refused(unittest.TestCase):
         self.assert_refused(program, "the result of a Deferred is set by hand")
 
 
+class Cheap(unittest.TestCase):
+    """What a recorded program costs."""
+
+    def test_a_deferred_with_a_callback_takes_few_calls_of_python(self) -> None:
+        calls: List[str] = []
+
+        def count(frame: Any, event: str, argument: Any) -> None:
+            if event == "call":
+                calls.append(frame.f_code.co_name)
+
+        def program() -> None:
+            sys.setprofile(count)
+            try:
+                for number in range(100):
+                    deferred: defer.Deferred[int] = defer.Deferred()
+                    deferred.addCallback(str)
+                    deferred.callback(number)
+            finally:
+                sys.setprofile(None)
+
+        recorded(program)
+        self.assertLess(len(calls) / 100, 80)
+
+
 class Transparent(unittest.TestCase):
     """Where nobody watches, Twisted is as it was."""
 
     def test_a_deferred_has_no_result_until_it_is_fired(self) -> None:
         install()
         deferred: defer.Deferred[int] = defer.Deferred()
-        self.assertFalse(hasattr(deferred, "result"))
+        with self.assertRaisesRegex(AttributeError, "^'Deferred' object has no attribute 'result'$"):
+            getattr(deferred, "result")
         deferred.callback(1)
         self.assertEqual(deferred.result, 1)
         del deferred.result
@@ -248,7 +274,7 @@ class Transparent(unittest.TestCase):
         with recorder.watching():
             pass
         defer.succeed(1).addCallback(lambda value: value)
-        self.assertEqual(recorder.lines, [])
+        self.assertEqual(recorder.parts, [])
 
     def test_arguments_of_callbacks_arrive(self) -> None:
         came: List[Any] = []

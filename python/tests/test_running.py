@@ -168,6 +168,44 @@ class Printed(unittest.TestCase):
             #1 b fail ValueError "no\"""",
         )
 
+    def test_jobs_of_all_pools_are_numbered_in_one_row(self) -> None:
+        run_ = ran(
+            ["threadIn", "a", "io", 5, ["sum", 10]],
+            ["threadIn", "b", "cpu", 2, ["raise", "ValueError", "no"]],
+            ["thread", "io", 2, ["value", 7]],
+            ["advance", 2],
+            version=2,
+            pools=[["io", 2], ["cpu", 0]],
+        )
+        self.assert_prints(
+            run_,
+            """new #0 a
+            job 0 #0
+            later job 0 5
+            new #1 b
+            job 1 #1
+            later job 1 2
+            new #2 io
+            job 2 #2
+            later job 2 2
+            advance 2
+            deliver 1
+            fire #1 fail ValueError "no"
+            deliver 2
+            fire #2 ok 7
+            #0 a unfired
+            #1 b fail ValueError "no"
+            #2 io ok 7""",
+        )
+
+    def test_a_run_has_4096_jobs_of_all_pools_at_most(self) -> None:
+        job: List[Any] = ["threadIn", "a", "io", 9, ["value", 0]]
+        events = [["thread", "a", 9, ["value", 0]], *[job] * 4_095]
+        run_ = ran(*events, job, version=2, pools=[["io", 1]], limit=20_000)
+        self.assertEqual(run_.journal[-2], "later job 4095 9")
+        self.assertEqual(run_.journal[-1], 'unhandled RuntimeError "too many jobs"')
+        self.assertEqual(len(run_.outcomes), 4_096)
+
     def test_posts_are_performed_in_the_batches_that_are_given(self) -> None:
         callers = [[{"do": [["note", "a"]]}], [{"do": [["note", "b"]]}]]
         run_ = ran(["drain", 2], callers=callers, batches=[[(1, 0)], [(0, 0)]])

@@ -24,6 +24,11 @@ def with_events(*events: object) -> str:
     return json.dumps({"version": 1, "events": list(events)})
 
 
+def with_pools(pools: object, *events: object) -> str:
+    """A script of version 2, of these pools and events."""
+    return json.dumps({"version": 2, "pools": pools, "events": list(events)})
+
+
 class Refusals(unittest.TestCase):
     """Each reason at its edge."""
 
@@ -51,10 +56,12 @@ class Refusals(unittest.TestCase):
         self.assertEqual(refusal("[" * 128 + "]" * 128), 2)
         self.assertEqual(refusal('["' + "[" * 200 + '"]'), 3)
 
-    def test_a_version_is_the_integer_1(self) -> None:
-        for version in ("1.0", "true", "-0", '"1"', "2"):
+    def test_a_version_is_the_integer_1_or_2(self) -> None:
+        for version in ("1.0", "2.0", "true", "-0", "0", '"1"', "[1]", "3"):
             with self.subTest(version):
                 self.assertEqual(refusal(f'{{"version":{version},"events":[]}}'), 3)
+        for version in ("1", "2"):
+            self.assertEqual(refusal(f'{{"version":{version},"events":[]}}'), 0)
 
     def test_numbers_outside_their_ranges(self) -> None:
         for event in (
@@ -100,6 +107,38 @@ class Refusals(unittest.TestCase):
     def test_a_timer_has_a_time_from_0_to_10_to_the_12(self) -> None:
         self.assertEqual(refusal(with_events(["addTimeout", "d", 0], ["addTimeout", "d", 10**12])), 0)
         self.assertEqual(refusal(with_events(["addTimeout", "a b", 0])), 6)
+
+    def test_version_1_has_no_pools(self) -> None:
+        submitted = ["threadIn", "a", "io", 1, ["value", 1]]
+        nested = ["inline", "d", [["try", [], [], [["do", submitted]]]]]
+        for event in (submitted, ["deferred", "d", {"do": [submitted]}], nested):
+            with self.subTest(event):
+                self.assertEqual(refusal(with_events(event)), 4)
+                self.assertEqual(refusal(with_pools([["io", 1]], event)), 0)
+        self.assertEqual(refusal('{"version":1,"pools":[],"events":[]}'), 4)
+
+    def test_what_is_no_pool(self) -> None:
+        for pool in ("io", ["io"], ["io", 1, 1], [1, "io"], ["io", 17], ["io", -1], ["io", True]):
+            with self.subTest(pool):
+                self.assertEqual(refusal(with_pools([pool])), 4)
+        self.assertEqual(refusal(with_pools({})), 4)
+        self.assertEqual(refusal(with_pools([["io", 0], ["net", 16]])), 0)
+
+    def test_a_script_has_4_pools_at_most(self) -> None:
+        pools = [[name, 1] for name in "abcd"]
+        self.assertEqual(refusal(with_pools(pools)), 0)
+        self.assertEqual(refusal(with_pools(pools + [["a", 1]])), 5)
+
+    def test_names_of_pools(self) -> None:
+        self.assertEqual(refusal(with_pools([["a b", 1], ["a b", 1]])), 6)
+        self.assertEqual(refusal(with_pools([["@", 1]])), 6)
+        self.assertEqual(refusal(with_pools([], ["threadIn", "a", "@", 1, ["value", 1]])), 6)
+
+    def test_a_pool_is_declared_once_and_used_by_its_name(self) -> None:
+        self.assertEqual(refusal(with_pools([["io", 1], ["net", 1], ["io", 2]])), 9)
+        self.assertEqual(refusal(with_pools([["io", 1]], ["threadIn", "a", "IO", 1, ["value", 1]])), 9)
+        unknown = ["threadIn", "a", "gpu", 1, ["raise", "Zed", ""]]
+        self.assertEqual(refusal(with_pools([["io", 1], ["io", 1]], unknown)), 7)
 
     def test_keys_are_no_nodes(self) -> None:
         self.assertEqual(nodes({"a": [1, None], "b": {}}), 5)

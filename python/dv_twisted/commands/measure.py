@@ -1,7 +1,8 @@
 """`python/measure [MODULE..]`: records each test of Twisted's own modules, and compares it with `deferreds`.
 
 It prints the table of docs/TWISTED.md. The status is 0 exactly where each test passes under the recorder that passes
-without it, and no difference lacks an entry in docs/PROFILE.md.
+without it, and no difference lacks an entry in docs/PROFILE.md. `python/measure --slower` prints how much slower a
+program is that is recorded.
 """
 
 from __future__ import annotations
@@ -28,6 +29,7 @@ from ..recording.measuring import (
     measure_test,
 )
 from ..recording.programs import tests_of
+from ..recording.slowness import slownesses
 from ..running import with_room
 
 MODULES = (
@@ -97,16 +99,24 @@ def _tell_each(measured: List[Measured]) -> None:
             print(f"{one.test} {one.state}{': ' + one.why if one.why else ''}")
 
 
+def _slower() -> int:
+    print("| Program | Times while it runs | Times with what is said of it |\n|---|---|---|")
+    for program, running, said in slownesses():
+        print(f"| {program} | {running:.1f} | {said:.1f} |", flush=True)
+    return 0
+
+
 def main(words: List[str]) -> int:
     """The command."""
     parser = argparse.ArgumentParser(prog="measure", description=__doc__.split("\n", 1)[0])
     parser.add_argument("--ours", metavar="COMMAND", help="our program (what ./deferreds --build has built)")
+    parser.add_argument("--slower", action="store_true", help="measure how much slower a recorded program is")
     parser.add_argument("modules", nargs="*", metavar="MODULE")
     arguments = parser.parse_args(words)
 
     def run() -> int:
         try:
-            return _run(arguments)
+            return _slower() if arguments.slower else _run(arguments)
         except Broken as broken:
             print(f"measure: {broken}", file=sys.stderr)
             return 70

@@ -8,7 +8,7 @@ from typing import Any, Callable, Dict, List, Optional
 from twisted.internet import base, task
 
 from ..profile import Entry
-from ..telling import Line, Observer, Thing, Time, observer, observer_of
+from ..telling import Action, Line, Observer, Thing, Time, observer_of, watched
 
 _later = task.Clock.callLater
 _advance = task.Clock.advance
@@ -25,7 +25,7 @@ class Delayed:
     def __init__(self, watcher: Observer, delay: float) -> None:
         self.thing = watcher.thing("call")
         self.body = watcher.new_body("call")
-        self.action: List[Any] = ["later", self.thing, Time(delay), self.body]
+        self.action = Action(["later", self.thing, Time(delay), self.body])
 
 
 def due_time(watcher: Observer, delay: float) -> Time:
@@ -109,12 +109,12 @@ def _run_due(
     kwargs: Any,
 ) -> Any:
     """The time of a delayed call has come."""
-    if observer() is not watcher:
+    if watched.observer is not watcher:
         return f(*args, **kwargs)
     if not watcher.quiet:
         watcher.problem("a delayed call that the program itself runs", "clock")
         return f(*args, **kwargs)
-    perform = functools.partial(watcher.perform, delayed.body, "call", None, f, *args, **kwargs)
+    perform = functools.partial(watcher.perform, delayed.body, "call", None, f, args, kwargs)
     return tell_due(watcher, clock, ("call ", delayed.thing), perform)
 
 
@@ -144,7 +144,7 @@ def _instrumented_advance(self: task.Clock, amount: float) -> None:
     if amount < 0:
         watcher.problem("time goes back", "clock")
 
-    watcher.act(["advance", Time(amount)], _tell_advance, watcher, self, amount)
+    watcher.act(Action(["advance", Time(amount)]), _tell_advance, watcher, self, amount)
 
 
 def _tell_advance(watcher: Observer, clock: task.Clock, amount: float) -> None:
@@ -165,7 +165,7 @@ def _instrumented_cancel(self: base.DelayedCall) -> None:
         _cancel(self)
         return
     thing: Thing = delayed.thing
-    watcher.act(["cancelCall", thing], _tell_cancelled, watcher, self, thing)
+    watcher.act(Action(["cancelCall", thing]), _tell_cancelled, watcher, self, thing)
 
 
 def _tell_cancelled(watcher: Observer, call: base.DelayedCall, thing: Thing) -> None:
@@ -185,7 +185,8 @@ def _instrument_moving(name: str) -> None:
         if watcher is None or watcher.quiet or delayed is None or not self.active():
             move(self, seconds)
             return
-        watcher.act(["cancelCall", delayed.thing], watcher.tell, "uncall ", delayed.thing)
+        cancel = Action(["cancelCall", delayed.thing])
+        watcher.act(cancel, watcher.tell, "uncall ", delayed.thing)
         move(self, seconds)
         if sum(call.getTime() == self.getTime() for call in watcher.clock_calls()) > 1:
             watcher.problem(f"a delayed call is moved to the time of another ({name})", "clock")

@@ -13,7 +13,8 @@ from __future__ import annotations
 
 import functools
 import sys
-import weakref
+from functools import partial
+from operator import attrgetter
 from types import CodeType
 from typing import Any, Callable, Dict, List, Optional, Tuple
 
@@ -23,7 +24,7 @@ from twisted.python.failure import Failure
 
 from ..classes import set_message
 from ..profile import Entry
-from ..telling import Frame, Observer, Record, observer
+from ..telling import Action, Frame, Observer, Record, is_deferred, watched
 from ..texts import NULL, Outcome, error_of
 
 #: typed as a function by Twisted, since its overloads say what it gives
@@ -39,12 +40,19 @@ _pause = Deferred.pause
 _unpause = Deferred.unpause
 _cancel = Deferred.cancel
 _list_cancel = DeferredList.cancel
-_own_code: List[CodeType] = [_start.__code__, _run_callbacks.__code__]
+_run_code: CodeType = _run_callbacks.__code__
 _inline_code: CodeType = defer._inlineCallbacks.__code__
 
-_NO_RESULT = object()
+_passthru: Callable[..., Any] = defer.passthru
+_failthru: Callable[..., Any] = defer._failthru
 
-#: the runs of callbacks that are under way, each with those that handed a value over in it, and the lines of that
+_NO_RESULT = object()
+_NO_KEYWORDS: Dict[str, Any] = {}
+
+#: the arguments of the callback and of the errback of a pair, each with those that have keywords
+PairArguments = Tuple[Any, Any, Any, Any]
+
+#: the runs of callbacks that are under way, each with those that handed a value over in it, and where that is told
 _givers: List[List[Tuple[Deferred[Any], int]]] = []
 
 Canceller = Callable[[Deferred[Any]], Any]
@@ -63,44 +71,51 @@ def qualified(function: object) -> str:
     return str(getattr(function, "__qualname__", ""))
 
 
+class _NoResult:
+    """What a Deferred has in place of the attribute `_dv_result` until it has a result."""
+
+    def __get__(self, deferred: object, owner: object) -> Any:
+        raise AttributeError(f"{type(deferred).__name__!r} object has no attribute 'result'")
+
+
 def result_of(deferred: Deferred[Any]) -> object:
-    """What a Deferred has, or `NO_RESULT`."""
-    return deferred.__dict__.get("_dv_result", _NO_RESULT)
+    """What a Deferred has, or `_NO_RESULT`."""
+    return getattr(deferred, "_dv_result", _NO_RESULT)
 
 
-class _Result:
-    """The attribute `result` of Deferreds, which tells what is set."""
+def _set_result(deferred: Any, value: object) -> None:
+    """Sets the attribute `result` of a Deferred, and tells what has come about by that."""
+    watcher = watched.observer
+    if watcher is None:
+        pass
+    elif watcher.quiet:
+        _tell_result(watcher, deferred, value)
+    else:
+        watcher.problem("the result of a Deferred is set by hand")
+    deferred._dv_result = value
 
-    def __get__(self, deferred: Optional[Deferred[Any]], owner: object = None) -> Any:
-        if deferred is None:
-            return self
-        try:
-            return deferred.__dict__["_dv_result"]
-        except KeyError:
-            raise AttributeError("result") from None
 
-    def __set__(self, deferred: Deferred[Any], value: object) -> None:
-        watcher = observer()
-        if watcher is not None:
-            code = sys._getframe(1).f_code
-            if code is _own_code[1]:
-                _tell_result(watcher, deferred, value)
-            elif code is not _own_code[0]:
-                watcher.problem("the result of a Deferred is set by hand")
-        deferred.__dict__["_dv_result"] = value
-
-    def __delete__(self, deferred: Deferred[Any]) -> None:
-        deferred.__dict__.pop("_dv_result", None)
+def _delete_result(deferred: Any) -> None:
+    del deferred._dv_result
 
 
 def _tell_result(watcher: Observer, deferred: Deferred[Any], value: object) -> None:
-    """Tells what has come about, where `_runCallbacks` sets this result."""
+    """Tells what has come about, where Twisted sets this result."""
     record = watcher.record(deferred)
-    held = result_of(deferred)
     if record.ran:
         _tell_side_ended(watcher, record, value)
-    elif record.waits_for is not None and held is not deferred:
-        _tell_hand_over(watcher, deferred, record, record.waits_for)
+    elif record.starts:
+        record.starts = False
+    else:
+        _tell_moved(watcher, deferred, record, result_of(deferred), value)
+
+
+def _tell_moved(
+    watcher: Observer, deferred: Deferred[Any], record: Record, held: object, value: object
+) -> None:
+    """Tells what has come about, where a value comes from another Deferred, or goes to one."""
+    if record.waits_for is not None and held is not deferred:
+        _tell_hand_over(watcher, deferred, record, record.waits_for, held)
     elif value is held:
         record.before = record.outcome
     elif held is deferred:
@@ -108,7 +123,7 @@ def _tell_result(watcher: Observer, deferred: Deferred[Any], value: object) -> N
             watcher.end_by_warning(record, error_of(value))
         record.waits_for = None
         _tell_set(watcher, record, value)
-    elif isinstance(held, Deferred):
+    elif is_deferred(held):
         _tell_taken(watcher, record, watcher.record(held))
     elif value is None:
         record.before, record.outcome = record.outcome, NULL
@@ -117,13 +132,11 @@ def _tell_result(watcher: Observer, deferred: Deferred[Any], value: object) -> N
 def _tell_side_ended(watcher: Observer, record: Record, value: object) -> None:
     record.ran = False
     same, record.same = record.same, None
-    if isinstance(value, Deferred):
-        return
-    if same is None:
-        _tell_set(watcher, record, value)
-    else:
+    if same is not None:
         watcher.tell("set ", record, " ", same)
         record.outcome = same
+    elif not is_deferred(value):
+        _tell_set(watcher, record, value)
 
 
 def _tell_set(watcher: Observer, record: Record, value: object) -> None:
@@ -135,7 +148,7 @@ def _tell_set(watcher: Observer, record: Record, value: object) -> None:
 
 
 def _tell_hand_over(
-    watcher: Observer, deferred: Deferred[Any], record: Record, giver: Record
+    watcher: Observer, deferred: Deferred[Any], record: Record, giver: Record, held: object
 ) -> None:
     if giver.hidden_of is None:
         watcher.tell("hand ", giver, " ", record, " ", giver.outcome)
@@ -143,9 +156,8 @@ def _tell_hand_over(
     record.waits_for = None
     if deferred.paused > 1:
         watcher.quirk(Entry.PAUSED_RECEIVER)
-    held = result_of(deferred)
     if _givers and isinstance(held, Deferred):
-        _givers[-1].append((held, len(watcher.lines)))
+        _givers[-1].append((held, len(watcher.parts)))
 
 
 def _tell_taken(watcher: Observer, record: Record, giver: Record) -> None:
@@ -159,13 +171,13 @@ def _tell_taken(watcher: Observer, record: Record, giver: Record) -> None:
 
 
 def _instrumented_init(self: Deferred[Any], canceller: Optional[Canceller] = None) -> None:
-    watcher = observer()
+    watcher = watched.observer
     if watcher is None:
         _init(self, canceller)
         return
     record = Record()
     record.made_in = watcher.frame
-    if is_inline_canceller(canceller) and "inline" in watcher.kinds:
+    if canceller is not None and is_inline_canceller(canceller) and "inline" in watcher.kinds:
         _init(self, canceller)
         if sys._getframe(1).f_code.co_name == "handleCancel":
             record.hidden_of = _cancelled_inline(watcher)
@@ -186,13 +198,14 @@ def _act_deferred(
     watcher: Observer, deferred: Deferred[Any], record: Record, canceller: Optional[Canceller]
 ) -> None:
     """The program makes a Deferred."""
-    action: List[Any] = ["deferred", record]
-    if callable(canceller):
+    action = Action(["deferred", record])
+    if canceller is not None and callable(canceller):
         body = watcher.new_body("canceller")
         action.append(body)
         canceller = _instrumented_canceller(watcher, body, canceller)
     _init(deferred, canceller)
     watcher.keep(deferred, record)
+    watcher.locate(record)
     watcher.act(action, watcher.made, deferred, record)
 
 
@@ -212,11 +225,11 @@ def _cancelled_inline(watcher: Observer) -> Optional[Record]:
 def _instrumented_canceller(watcher: Observer, body: Any, canceller: Canceller) -> Canceller:
     @functools.wraps(canceller, updated=())
     def cancelled(deferred: Deferred[Any]) -> object:
-        if observer() is not watcher:
+        if watched.observer is not watcher:
             return canceller(deferred)
         if is_inline_canceller(canceller):
             watcher.problem("a cancel of an inline body that isn't told as one")
-        return watcher.perform(body, "canceller", None, canceller, deferred)
+        return watcher.perform(body, "canceller", None, canceller, (deferred,))
 
     return cancelled
 
@@ -229,18 +242,13 @@ def _instrumented_add(
     callback: Callable[..., Any],
     errback: Optional[Callable[..., Any]] = None,
     callbackArgs: Any = (),
-    callbackKeywords: Any = None,
+    callbackKeywords: Any = _NO_KEYWORDS,
     errbackArgs: Any = (),
-    errbackKeywords: Any = None,
+    errbackKeywords: Any = _NO_KEYWORDS,
 ) -> Deferred[Any]:
-    errback = defer._failthru if errback is None else errback
-    arguments = (
-        callbackArgs or (),
-        callbackKeywords or {},
-        errbackArgs or (),
-        errbackKeywords or {},
-    )
-    watcher = observer()
+    errback = _failthru if errback is None else errback
+    arguments = callbackArgs, callbackKeywords, errbackArgs, errbackKeywords
+    watcher = watched.observer
     if watcher is None or not callable(callback) or not callable(errback):
         return _add_callbacks(self, callback, errback, *arguments)
     record = watcher.record(self)
@@ -248,52 +256,60 @@ def _instrumented_add(
         if not watcher.quiet:
             watcher.problem("the hidden Deferred of a cancelled inline body is used", "inline")
         return _add_callbacks(self, callback, errback, *arguments)
-    special = special_pairs.get(qualified(errback))
-    if special is not None and special(watcher, self, record, callback, errback):
-        return self
+    if errback is not _failthru:
+        special = special_pairs.get(qualified(errback))
+        if special is not None and special(watcher, self, record, callback, errback):
+            return self
     if watcher.quiet:
-        watcher.tell("add ", record)
-        _add_callbacks(
-            self,
-            _own_side(watcher, self, callback),
-            _own_side(watcher, self, errback),
-            *arguments,
-        )
+        first, second = _own_side(watcher, record, callback), _own_side(watcher, record, errback)
+        _tell_pair(watcher, self, record, first, second, arguments)
     else:
-        _add_pair(watcher, self, record, callback, errback, arguments)
+        _act_pair(watcher, self, record, callback, errback, arguments)
     return self
 
 
-def _add_pair(
+def _act_pair(
     watcher: Observer,
     deferred: Deferred[Any],
     record: Record,
     callback: Callable[..., Any],
     errback: Callable[..., Any],
-    arguments: Tuple[Any, ...],
+    arguments: PairArguments,
 ) -> None:
     """A pair of the program's."""
-    first = watcher.new_body("callback")
-    action = ["addBoth", record, first]
-    second = first
-    if callback is defer.passthru and errback is not defer._failthru:
-        action[0] = "addErrback"
-    elif errback is defer._failthru:
-        action[0] = "addCallback"
-    elif callback != errback or arguments[:2] != arguments[2:]:
-        second = watcher.new_body("callback")
-        action = ["addCallbacks", record, first, second]
+    body = watcher.new_body("callback")
+    action = Action(["addBoth", record, body])
+    first = _side(watcher, record, callback, body)
+    if errback is _failthru:
+        action[0], second = "addCallback", errback
+    elif callback is _passthru:
+        action[0], second = "addErrback", _side(watcher, record, errback, body)
+    elif callback != errback or not _are_same(arguments):
+        action[0], other = "addCallbacks", watcher.new_body("callback")
+        action.append(other)
+        second = _side(watcher, record, errback, other)
+    else:
+        second = first
+    watcher.act(action, _tell_pair, watcher, deferred, record, first, second, arguments)
 
-    def add() -> None:
-        watcher.tell("add ", record)
-        _add_callbacks(
-            deferred,
-            _side(watcher, deferred, callback, first),
-            _side(watcher, deferred, errback, second),
-            *arguments,
-        )
 
-    watcher.act(action, add)
+def _are_same(arguments: PairArguments) -> bool:
+    """Whether callback and errback have the same arguments. Some give None for none."""
+    on_value, by_name, on_failure, by_name_on_failure = arguments
+    return (on_value or ()) == (on_failure or ()) and (by_name or {}) == (by_name_on_failure or {})
+
+
+def _tell_pair(
+    watcher: Observer,
+    deferred: Deferred[Any],
+    record: Record,
+    callback: Callable[..., Any],
+    errback: Callable[..., Any],
+    arguments: PairArguments,
+) -> None:
+    """Tells that a pair is added, and adds it."""
+    watcher.tell("add ", record)
+    _add_callbacks(deferred, callback, errback, *arguments)
 
 
 def add_silently(
@@ -303,74 +319,69 @@ def add_silently(
     _add_callbacks(deferred, callback, errback)
 
 
-def _is_missing(call: Callable[..., Any]) -> bool:
-    """Whether it is what Twisted puts in place of a side that isn't given."""
-    return call is defer.passthru or call is defer._failthru
-
-
 def _side(
-    watcher: Observer, deferred: Deferred[Any], call: Callable[..., Any], body: Any
+    watcher: Observer, record: Record, call: Callable[..., Any], body: Any
 ) -> Callable[..., Any]:
-    """A side of the program's, which runs the body."""
-    if _is_missing(call):
+    """A side of the program's, which runs the body, unless it is what Twisted puts in place of one that isn't given."""
+    if call is _passthru:
         return call
-    reference = weakref.ref(deferred)
-
-    def perform(value: object, *args: Any, **kwargs: Any) -> object:
-        me = reference()
-        if me is None or observer() is not watcher:
-            return call(value, *args, **kwargs)
-        record = watcher.record(me)
-        watcher.tell("run ", record)
-        try:
-            return watcher.perform(
-                body, "callback", (value, record.outcome), call, value, *args, **kwargs
-            )
-        finally:
-            record.ran, record.side = True, body
-
-    return named_as(call, perform)
+    return partial(_run_side, call, watcher, record, body)
 
 
-def _own_side(
-    watcher: Observer, deferred: Deferred[Any], call: Callable[..., Any]
-) -> Callable[..., Any]:
-    """A side of Twisted's own."""
-    if _is_missing(call):
+def _own_side(watcher: Observer, record: Record, call: Callable[..., Any]) -> Callable[..., Any]:
+    """A side of Twisted's own, unless it is what Twisted puts in place of one that isn't given."""
+    if call is _passthru or call is _failthru:
         return call
-    reference = weakref.ref(deferred)
+    return partial(_run_own_side, call, watcher, record)
 
-    def perform(value: object, *args: Any, **kwargs: Any) -> object:
-        me = reference()
-        if me is None or observer() is not watcher:
-            return call(value, *args, **kwargs)
-        return _run_own_side(watcher, watcher.record(me), call, value, args, kwargs)
 
-    return named_as(call, perform)
+def _stands_for(side: Callable[..., Any]) -> Callable[..., Any]:
+    """What was given as a side, where this is what Twisted was given in its place."""
+    is_ours = isinstance(side, partial) and side.func in (_run_side, _run_own_side)
+    return side.args[0] if is_ours else side  # type: ignore[attr-defined, no-any-return]
+
+
+def _run_side(
+    call: Callable[..., Any],
+    watcher: Observer,
+    record: Record,
+    body: Any,
+    /,
+    *args: Any,
+    **kwargs: Any,
+) -> object:
+    if watched.observer is not watcher:
+        return call(*args, **kwargs)
+    watcher.tell("run ", record)
+    record.side = body
+    try:
+        result = watcher.perform(body, "callback", (args[0], record.outcome), call, args, kwargs)
+        record.same = watcher.gave
+        return result
+    finally:
+        record.ran = True
 
 
 def _run_own_side(
-    watcher: Observer,
-    record: Record,
-    call: Callable[..., Any],
-    value: object,
-    args: Tuple[Any, ...],
-    kwargs: Dict[str, Any],
+    call: Callable[..., Any], watcher: Observer, record: Record, /, *args: Any, **kwargs: Any
 ) -> object:
+    if watched.observer is not watcher:
+        return call(*args, **kwargs)
+    value = args[0]
     watcher.tell("run ", record)
-    given = record.outcome
-    before, watcher.passing = watcher.passing, (value, given)
+    given, frame = record.outcome, watcher.frame
+    before, frame.passing = frame.passing, (value, given)
     if getattr(call, "__func__", None) is DeferredList._cbDeferred:
-        watcher.record(getattr(call, "__self__")).came[args[0]] = record.outcome
+        watcher.record(getattr(call, "__self__")).child_came(args[1], given)
     try:
-        result = call(value, *args, **kwargs)
+        result = call(*args, **kwargs)
         if result is value and type(result) is list:
             record.same = given
         elif getattr(call, "__wrapped__", call) is _parse_result:
             record.same = _second_parts(given)
         return result
     finally:
-        watcher.passing = before
+        frame.passing = before
         record.ran = True
 
 
@@ -405,9 +416,7 @@ def _instrumented_add_callback(
 def _instrumented_add_errback(
     self: Deferred[Any], errback: Callable[..., Any], *args: Any, **kwargs: Any
 ) -> Deferred[Any]:
-    return self.addCallbacks(
-        defer.passthru, errback, errbackArgs=args, errbackKeywords=kwargs
-    )
+    return self.addCallbacks(_passthru, errback, errbackArgs=args, errbackKeywords=kwargs)
 
 
 def _instrumented_add_both(
@@ -424,10 +433,10 @@ def _instrumented_add_both(
 
 
 def _instrumented_chain(self: Deferred[Any], other: Deferred[Any]) -> Any:
-    watcher = observer()
+    watcher = watched.observer
     if watcher is None or watcher.quiet or not isinstance(other, Deferred):
         return _chain_deferred(self, other)
-    action = ["chain", watcher.record(self), watcher.record(other)]
+    action = Action(["chain", watcher.record(self), watcher.record(other)])
     return watcher.act(action, _chain_deferred, self, other)
 
 
@@ -435,66 +444,69 @@ def _instrumented_chain(self: Deferred[Any], other: Deferred[Any]) -> Any:
 
 
 def _instrumented_start(self: Deferred[Any], result: object) -> None:
-    watcher = observer()
+    watcher = watched.observer
     if watcher is None:
         _start(self, result)
         return
     record = watcher.record(self)
     if "inline" in watcher.kinds and _is_internal(result):
-        record.fired = True
+        record.fired = record.starts = True
         _start(self, result)
-        return
-    if _ends_inline(watcher):
-        frame = watcher.frame
-        watcher.quiet = True
-        try:
-            watcher.end_inline(frame, result)
-            _fire(watcher, self, record, result, False)
-        finally:
-            watcher.quiet, watcher.frame = False, frame
-        return
-    if watcher.quiet:
-        _fire(watcher, self, record, result, True)
-        return
-    if record.hidden_of is not None:
-        watcher.problem("the hidden Deferred of a cancelled inline body is used", "inline")
-    if isinstance(result, Failure):
-        action = ["errback", record, watcher.raising(error_of(result))]
+    elif watcher.quiet:
+        _fire(watcher, self, record, result, _handed_on(watcher, record, result))
+    elif watcher.frame.kind == "inline" and _ends_inline(watcher):
+        _fire_inline(watcher, self, record, result)
     else:
-        action = ["callback", record, watcher.value(result)]
-    watcher.act(action, _fire, watcher, self, record, result, False)
+        if record.hidden_of is not None:
+            watcher.problem("the hidden Deferred of a cancelled inline body is used", "inline")
+        outcome = watcher.texts.outcome(result)
+        action = watcher.firing(record, result, outcome)
+        watcher.act(action, _fire, watcher, self, record, result, outcome)
+
+
+def _fire_inline(
+    watcher: Observer, deferred: Deferred[Any], record: Record, result: object
+) -> None:
+    """An inline body fires its own Deferred."""
+    frame = watcher.frame
+    watcher.quiet = True
+    try:
+        watcher.end_inline(frame, result)
+        _fire(watcher, deferred, record, result, watcher.texts.outcome(result))
+    finally:
+        watcher.quiet, watcher.frame = False, frame
+
+
+#: the error by which Twisted cancels an inline body, in the versions that have one
+_INTERNAL: Tuple[type, ...] = tuple(
+    filter(None, [getattr(defer, "_InternalInlineCallbacksCancelledError", None)])
+)
 
 
 def _is_internal(result: object) -> bool:
     """Whether it is the error by which Twisted cancels an inline body."""
-    kind = getattr(defer, "_InternalInlineCallbacksCancelledError", None)
-    return kind is not None and isinstance(result, Failure) and isinstance(result.value, kind)
+    return isinstance(result, Failure) and isinstance(result.value, _INTERNAL)
 
 
 def _ends_inline(watcher: Observer) -> bool:
     """Whether an inline body fires its own Deferred: its caller's caller is Twisted's loop over bodies."""
-    if watcher.quiet or watcher.frame.kind != "inline" or "inline" not in watcher.kinds:
-        return False
-    return sys._getframe(3).f_code is _inline_code
+    return "inline" in watcher.kinds and sys._getframe(3).f_code is _inline_code
 
 
 def _fire(
-    watcher: Observer, deferred: Deferred[Any], record: Record, result: object, own: bool
+    watcher: Observer, deferred: Deferred[Any], record: Record, result: object, outcome: Outcome
 ) -> None:
     """Tells a firing, by Twisted's own code or by the program, and fires."""
     if record.hidden_of is not None:
         _tell_hidden_firing(watcher, deferred, record, record.hidden_of, result)
-        _start(deferred, result)
-        return
-    if not deferred.called:
-        known = _handed_on(watcher, record, result) if own else None
-        outcome = watcher.texts.outcome(result) if known is None else known
+    elif not deferred.called:
         watcher.tell("fire ", record, " ", outcome)
         record.fired, record.outcome = True, outcome
     elif deferred._suppressAlreadyCalled:
         watcher.tell("swallow ", record)
     else:
         watcher.tell("refuse ", record)
+    record.starts = not deferred.called
     try:
         _start(deferred, result)
     except defer.AlreadyCalledError as error:
@@ -502,19 +514,17 @@ def _fire(
         raise
 
 
-def _handed_on(watcher: Observer, record: Record, result: object) -> Optional[Outcome]:
+def _handed_on(watcher: Observer, record: Record, result: object) -> Outcome:
     """What Twisted hands on shows what it had when it was told last, though the program has changed it since."""
-    passing = watcher.passing
+    passing = watcher.frame.passing
     if passing is not None and passing[0] is result and type(result) is list:
         return passing[1]
-    if record.kind == "list" and record.came:
-        return _came_to(record, result)
-    return None
+    came = _came_to(record.came, result) if record.kind == "list" and record.came else None
+    return watcher.texts.outcome(result) if came is None else came
 
 
-def _came_to(record: Record, result: object) -> Optional[Outcome]:
+def _came_to(came: Dict[int, Outcome], result: object) -> Optional[Outcome]:
     """What a DeferredList is fired with, by what its children came with."""
-    came = record.came
     if isinstance(result, tuple) and len(result) == 2 and result[1] in came:
         return Outcome([came[result[1]].value, result[1]])
     if isinstance(result, list) and len(result) == len(came):
@@ -538,7 +548,7 @@ def _tell_hidden_firing(
 
 def _instrumented_continuation(self: Deferred[Any]) -> Any:
     """Twisted asks for this where a Deferred comes to wait for what it has."""
-    watcher = observer()
+    watcher = watched.observer
     if watcher is not None:
         held: Any = self.result
         record, other = watcher.record(self), watcher.record(held)
@@ -549,7 +559,7 @@ def _instrumented_continuation(self: Deferred[Any]) -> Any:
 
 
 def _instrumented_run(self: Deferred[Any]) -> None:
-    watcher = observer()
+    watcher = watched.observer
     if watcher is None or self._runningCallbacks:
         _run_callbacks(self)
         return
@@ -559,9 +569,9 @@ def _instrumented_run(self: Deferred[Any]) -> None:
         _run_callbacks(self)
     finally:
         _givers.pop()
-    for giver, line in givers:
+    for giver, place in givers:
         if _is_abandoned(giver):
-            watcher.quirk(Entry.ABANDONED_CHAIN, line)
+            watcher.quirk(Entry.ABANDONED_CHAIN, place)
 
 
 def _is_abandoned(giver: Deferred[Any]) -> bool:
@@ -572,12 +582,12 @@ def _is_abandoned(giver: Deferred[Any]) -> bool:
 
 
 def _instrumented_pause(self: Deferred[Any]) -> None:
-    watcher = observer()
-    if watcher is None or watcher.quiet or sys._getframe(1).f_code is _own_code[1]:
+    watcher = watched.observer
+    if watcher is None or watcher.quiet or sys._getframe(1).f_code is _run_code:
         _pause(self)
         return
     record = watcher.record(self)
-    watcher.act(["pause", record], _tell_paused, watcher, self, record)
+    watcher.act(Action(["pause", record]), _tell_paused, watcher, self, record)
 
 
 def _tell_paused(watcher: Observer, deferred: Deferred[Any], record: Record) -> None:
@@ -589,12 +599,12 @@ def _tell_paused(watcher: Observer, deferred: Deferred[Any], record: Record) -> 
 
 
 def _instrumented_unpause(self: Deferred[Any]) -> None:
-    watcher = observer()
+    watcher = watched.observer
     if watcher is None or watcher.quiet:
         _unpause(self)
         return
     record = watcher.record(self)
-    watcher.act(["unpause", record], _tell_unpaused, watcher, self, record)
+    watcher.act(Action(["unpause", record]), _tell_unpaused, watcher, self, record)
 
 
 def _tell_unpaused(watcher: Observer, deferred: Deferred[Any], record: Record) -> None:
@@ -611,7 +621,7 @@ def _instrumented_cancel(self: Deferred[Any]) -> None:
 
 
 def _instrumented_list_cancel(self: Any) -> None:
-    watcher = observer()
+    watcher = watched.observer
     if watcher is not None and watcher.record(self).kind != "list" and not watcher.quiet:
         _list_cancel(self)  # told as what it is made of
         return
@@ -619,13 +629,13 @@ def _instrumented_list_cancel(self: Any) -> None:
 
 
 def _cancelled(deferred: Deferred[Any], cancel: Callable[[Any], None]) -> None:
-    watcher = observer()
+    watcher = watched.observer
     if watcher is None:
         cancel(deferred)
     elif watcher.quiet:
         _tell_cancel(watcher, deferred, cancel)
     else:
-        action = ["cancel", watcher.record(deferred)]
+        action = Action(["cancel", watcher.record(deferred)])
         watcher.act(action, _tell_cancel, watcher, deferred, cancel)
 
 
@@ -681,7 +691,7 @@ def _waits_in_a_circle(deferred: Deferred[Any]) -> bool:
 
 def _warn_about(offender: Callable[..., Any], text: str) -> None:
     """Warns of the function that a side stands for."""
-    _warn(getattr(offender, "__wrapped__", offender), text)
+    _warn(_stands_for(offender), text)
 
 
 _warn: Callable[..., Any] = getattr(defer, "warnAboutFunction")
@@ -690,7 +700,9 @@ _warn: Callable[..., Any] = getattr(defer, "warnAboutFunction")
 def install() -> None:
     """Puts the instrument into Deferred and DeferredList."""
     setattr(defer, "warnAboutFunction", _warn_about)
-    setattr(Deferred, "result", _Result())
+    setattr(Deferred, "result", property(attrgetter("_dv_result"), _set_result, _delete_result))
+    setattr(Deferred, "_dv_result", _NoResult())
+    setattr(Deferred, "_dv_record", None)
     wrapped: Dict[str, Callable[..., Any]] = {
         "__init__": _instrumented_init,
         "addCallbacks": _instrumented_add,

@@ -7,7 +7,7 @@ from typing import Any, Callable, List
 from twisted.internet import defer
 from twisted.internet.defer import Deferred
 
-from ..telling import Frame, Observer, Record, observer, observer_of
+from ..telling import Action, Frame, Observer, Record, observer_of, watched
 from .deferreds import add_silently, named_as, special_pairs
 
 _cancellable = defer._cancellableInlineCallbacks
@@ -30,7 +30,7 @@ def _instrumented_cancellable(gen: Any) -> Any:
 def _act(watcher: Observer, gen: Any) -> Any:
     body = watcher.new_body("inline")
     frame = watcher.begin_body(body, "inline", None)
-    action: List[Any] = ["inline", None, body]
+    action = Action(["inline", None, body])
 
     def made(deferred: Deferred[Any], record: Record) -> None:
         action[1] = record
@@ -57,12 +57,12 @@ def _instrumented_inline(result: object, gen: Any, status: Any) -> None:
     if kept is None or kept[0] is not watcher:
         _inline_callbacks(result, gen, status)
         return
-    before = watcher.quiet, watcher.frame, watcher.anonymous
-    watcher.quiet, watcher.frame, watcher.anonymous = False, kept[1], False
+    before = watcher.quiet, watcher.frame
+    watcher.quiet, watcher.frame = False, kept[1]
     try:
         _inline_callbacks(result, gen, status)
     finally:
-        watcher.quiet, watcher.frame, watcher.anonymous = before
+        watcher.quiet, watcher.frame = before
 
 
 def _add_await(
@@ -83,7 +83,7 @@ def _add_await(
     came = []
 
     def got(value: object) -> object:
-        if observer() is not watcher:
+        if watched.observer is not watcher:
             return callback(value)
         came.append(True)
         watcher.tell("run ", record)

@@ -9,7 +9,7 @@ from typing import Any, Callable, Iterable, List, Tuple
 from twisted.internet import defer
 from twisted.internet.defer import Deferred
 from ..profile import Entry
-from ..telling import Observer, Record, observer, observer_of
+from ..telling import Action, Observer, Record, observer_of, watched
 
 #: typed as a function by Twisted, since its overloads say what it gives
 DeferredList: Any = defer.DeferredList
@@ -29,12 +29,8 @@ def _act(
     make: Callable[[], Any],
 ) -> Any:
     """Performs the action that makes a list."""
-    action: List[Any] = [
-        word,
-        None,
-        [watcher.record(child) for child in children],
-        [name for name, is_set in flags if is_set],
-    ]
+    records = [watcher.record(child) for child in children]
+    action = Action([word, None, records, [name for name, is_set in flags if is_set]])
 
     def made(deferred: Deferred[Any], record: Record) -> None:
         action[1] = record
@@ -116,7 +112,7 @@ class _Log:
 
     def failure(self, text: str, *args: Any, **kwargs: Any) -> Any:
         """Logs a failure."""
-        watcher = observer()
+        watcher = watched.observer
         if watcher is not None and watcher.quiet and text.startswith(_CANCELLER_RAISED):
             watcher.tell("unhandled ", watcher.texts.failure(failed_now()))
         return self._log.failure(text, *args, **kwargs)

@@ -2,13 +2,13 @@
 
 from __future__ import annotations
 
-from typing import Any, Callable, List, Type, Union
+from typing import Any, Callable, Type, Union
 
 from twisted.internet import defer
 from twisted.internet.defer import Deferred, DeferredLock, DeferredSemaphore
 
 from ..classes import set_message
-from ..telling import Observer, Record, Thing, observer_of
+from ..telling import Action, Observer, Record, Thing, observer_of
 
 Primitive = Union[DeferredLock, DeferredSemaphore]
 
@@ -26,11 +26,10 @@ def thing_of(watcher: Observer, primitive: Primitive) -> Thing:
         watcher.problem("a lock or semaphore that was used before it is recorded", "lock")
     if isinstance(primitive, DeferredSemaphore):
         tokens = primitive.limit
-        watcher.act(
-            ["semaphore", thing, tokens], watcher.tell, "semaphore ", thing, f" {tokens}"
-        )
+        action = Action(["semaphore", thing, tokens])
+        watcher.act(action, watcher.tell, "semaphore ", thing, f" {tokens}")
     else:
-        watcher.act(["lock", thing], watcher.tell, "lock ", thing)
+        watcher.act(Action(["lock", thing]), watcher.tell, "lock ", thing)
     return thing
 
 
@@ -42,7 +41,7 @@ def _is_held(primitive: Primitive) -> bool:
 
 
 def _asking(
-    watcher: Observer, action: List[Any], thing: Thing, call: Callable[[], Any]
+    watcher: Observer, action: Action, thing: Thing, call: Callable[[], Any]
 ) -> Any:
     """Performs an action by which a new Deferred asks for a token."""
 
@@ -65,7 +64,7 @@ def _instrument(cls: Type[Any]) -> None:
         if watcher is None or watcher.quiet:
             return acquire(self)
         thing = thing_of(watcher, self)
-        return _asking(watcher, ["acquire", None, thing], thing, lambda: acquire(self))
+        return _asking(watcher, Action(["acquire", None, thing]), thing, lambda: acquire(self))
 
     def instrumented_release(self: Any) -> Any:
         watcher = observer_of("lock")
@@ -73,7 +72,7 @@ def _instrument(cls: Type[Any]) -> None:
             return release(self)
         if watcher.quiet:
             return _give_back(watcher, self, release)
-        action = ["release", thing_of(watcher, self)]
+        action = Action(["release", thing_of(watcher, self)])
         return watcher.act(action, _give_back, watcher, self, release)
 
     def instrumented_run(self: Any, f: Callable[..., Any], *args: Any, **kwargs: Any) -> Any:
@@ -82,7 +81,7 @@ def _instrument(cls: Type[Any]) -> None:
             return run(self, f, *args, **kwargs)
         thing, body = thing_of(watcher, self), watcher.new_body("run")
         perform = _performing(watcher, body, f)
-        action = ["runWith", None, thing, body]
+        action = Action(["runWith", None, thing, body])
         return _asking(watcher, action, thing, lambda: run(self, perform, *args, **kwargs))
 
     cls.acquire, cls.release, cls.run = (
@@ -100,7 +99,7 @@ def _performing(
     def perform(*args: Any, **kwargs: Any) -> Any:
         if observer_of("lock") is not watcher:
             return f(*args, **kwargs)
-        return watcher.perform(body, "run", None, f, *args, **kwargs)
+        return watcher.perform(body, "run", None, f, args, kwargs)
 
     return perform
 

@@ -2,14 +2,14 @@
 
 from __future__ import annotations
 
-from typing import Any, Callable, List, Optional, Tuple
+from typing import Any, Callable, Optional, Tuple
 
 from twisted.internet import task
 from twisted.internet.defer import Deferred
 
 from ..classes import set_message
 from ..profile import Entry
-from ..telling import Observer, Record, Thing, Time, observer_of
+from ..telling import Action, Observer, Record, Thing, Time, observer_of
 from .clock import due_time, own_calls
 from .deferreds import add_silently, special_pairs
 
@@ -43,7 +43,7 @@ def _act_start(
     thing, body = watcher.thing("loop"), watcher.new_body("turn")
     loop.__dict__["_dv_loop"] = (watcher, (thing, body))
     watcher.texts.bind(loop, thing)
-    action: List[Any] = ["loop", thing, None, Time(interval), bool(now), body]
+    action = Action(["loop", thing, None, Time(interval), bool(now), body])
 
     def made(deferred: Deferred[Any], record: Record) -> None:
         action[2] = record
@@ -74,7 +74,7 @@ def _instrumented_stop(self: task.LoopingCall) -> None:
     if watcher is None or known is None or watcher.quiet:
         _stop(self)
         return
-    watcher.act(["stopLoop", known[0]], _tell_stop, watcher, self, known[0])
+    watcher.act(Action(["stopLoop", known[0]]), _tell_stop, watcher, self, known[0])
 
 
 def _tell_stop(watcher: Observer, loop: task.LoopingCall, thing: Thing) -> None:

@@ -7,13 +7,13 @@ from typing import Any, Callable, List
 from twisted.internet import defer, task
 from twisted.internet.defer import Deferred
 
-from ..telling import Observer, Record, observer
+from ..telling import Action, Observer, Record, watched
 
 _maybe = defer.maybeDeferred
 
 
 def _instrumented_maybe(f: Callable[..., Any], *args: Any, **kwargs: Any) -> Any:
-    watcher = observer()
+    watcher = watched.observer
     if watcher is None:
         return _maybe(f, *args, **kwargs)
     if watcher.quiet:
@@ -25,7 +25,7 @@ def _instrumented_maybe(f: Callable[..., Any], *args: Any, **kwargs: Any) -> Any
 
 def _act(watcher: Observer, f: Callable[..., Any], args: Any, kwargs: Any) -> Any:
     body = watcher.new_body("maybe")
-    action: List[Any] = ["maybe", None, body]
+    action = Action(["maybe", None, body])
 
     def made(deferred: Deferred[Any], record: Record) -> None:
         action[1] = record
@@ -35,7 +35,7 @@ def _act(watcher: Observer, f: Callable[..., Any], args: Any, kwargs: Any) -> An
         given: List[Deferred[Any]] = []
 
         def perform() -> Any:
-            result = watcher.perform(body, "maybe", None, f, *args, **kwargs)
+            result = watcher.perform(body, "maybe", None, f, args, kwargs)
             watcher.put_expected(expected)
             if isinstance(result, Deferred):
                 given.append(result)
@@ -69,13 +69,14 @@ def _of_twisteds_own(
     def perform() -> Any:
         if turn is None:
             return f(*args, **kwargs)
-        return watcher.perform(turn, "turn", None, f, *args, **kwargs)
+        return watcher.perform(turn, "turn", None, f, args, kwargs)
 
-    before, watcher.anonymous = watcher.anonymous, True
+    frame = watcher.frame
+    before, frame.anonymous = frame.anonymous, True
     try:
         return _maybe(perform)
     finally:
-        watcher.anonymous = before
+        frame.anonymous = before
 
 
 def install() -> None:

@@ -2,11 +2,11 @@
 
 from __future__ import annotations
 
-from typing import Any, List, Optional
+from typing import Any, Optional
 
 from twisted.internet.defer import Deferred, DeferredQueue
 
-from ..telling import Observer, Record, Thing, observer_of
+from ..telling import Action, Observer, Record, Thing, observer_of
 
 _put = DeferredQueue.put
 _get = DeferredQueue.get
@@ -23,9 +23,8 @@ def thing_of(watcher: Observer, queue: DeferredQueue[Any]) -> Thing:
     if queue.pending or queue.waiting:
         watcher.problem("a queue that was used before it is recorded", "queue")
     bounds = f" {_bound(queue.size)} {_bound(queue.backlog)}"
-    watcher.act(
-        ["queue", thing, queue.size, queue.backlog], watcher.tell, "queue ", thing, bounds
-    )
+    action = Action(["queue", thing, queue.size, queue.backlog])
+    watcher.act(action, watcher.tell, "queue ", thing, bounds)
     return thing
 
 
@@ -50,7 +49,8 @@ def _act_put(watcher: Observer, queue: DeferredQueue[Any], obj: Any) -> Any:
             watcher.tell("put ", thing, " ", watcher.texts.value(obj))
         return _put(queue, obj)
 
-    return watcher.act(["put", thing, watcher.value(obj)], put)
+    action = Action(["put", thing, watcher.value(watcher.texts.outcome(obj))])
+    return watcher.act(action, put)
 
 
 def _instrumented_get(self: DeferredQueue[Any]) -> Any:
@@ -62,7 +62,7 @@ def _instrumented_get(self: DeferredQueue[Any]) -> Any:
 
 def _act_get(watcher: Observer, queue: DeferredQueue[Any]) -> Any:
     thing = thing_of(watcher, queue)
-    action: List[Any] = ["get", None, thing]
+    action = Action(["get", None, thing])
 
     def made(deferred: Deferred[Any], record: Record) -> None:
         action[1] = record

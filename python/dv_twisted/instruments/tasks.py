@@ -9,7 +9,7 @@ from twisted.internet import task
 from twisted.internet.defer import AlreadyCalledError, Deferred
 
 from ..profile import Entry
-from ..telling import Observer, Record, Thing, Time, observer_of
+from ..telling import Action, Observer, Record, Thing, Time, observer_of
 from .clock import due_time, own_calls
 
 _Task = task.CooperativeTask
@@ -89,7 +89,7 @@ def _instrumented_init(self: Any, iterator: Iterator[Any], cooperator: Any) -> N
     known = Known(watcher.thing("task"), watcher.new_body("steps"))
     self.__dict__["_dv_task"] = (watcher, known)
     watcher.texts.bind(iterator, known.thing)
-    action = ["cooperate", known.thing, known.steps]
+    action = Action(["cooperate", known.thing, known.steps])
     watcher.act(action, _tell_made, watcher, known, self, iterator, cooperator)
 
 
@@ -162,7 +162,7 @@ def _instrumented_tick(self: Any) -> None:
             watcher.problem("a tick inside a body", "cooperator")
         if not cooperating.alone:
             watcher.problem("a tick that the program itself runs", "cooperator")
-        watcher.act(["advance", Time(1)], _run_tick, watcher, cooperating)
+        watcher.act(Action(["advance", Time(1)]), _run_tick, watcher, cooperating)
 
 
 def _run_tick(watcher: Observer, cooperating: Cooperating) -> None:
@@ -268,7 +268,7 @@ def _instrumented_pause(self: Any) -> None:
     elif watcher.quiet:
         _hold(watcher, self, known)
     else:
-        watcher.act(["pauseTask", known.thing], _tell_paused, watcher, self, known)
+        watcher.act(Action(["pauseTask", known.thing]), _tell_paused, watcher, self, known)
 
 
 def _tell_paused(watcher: Observer, cooperative: Any, known: Known) -> None:
@@ -299,7 +299,7 @@ def _instrumented_resume(self: Any) -> None:
             watcher.quirk(Entry.HOLD_ON_AN_ENDED_TASK)
             _resume(self)
     else:
-        watcher.act(["resumeTask", known.thing], _tell_resumed, watcher, self, known)
+        watcher.act(Action(["resumeTask", known.thing]), _tell_resumed, watcher, self, known)
 
 
 def _tell_resumed(watcher: Observer, cooperative: Any, known: Known) -> None:
@@ -314,7 +314,7 @@ def _instrumented_stop(self: Any) -> None:
     if watcher is None or known is None or watcher.quiet:
         _stop(self)
     else:
-        watcher.act(["stopTask", known.thing], _stop, self)
+        watcher.act(Action(["stopTask", known.thing]), _stop, self)
 
 
 def _instrumented_when_done(self: Any) -> Any:
@@ -326,7 +326,7 @@ def _instrumented_when_done(self: Any) -> Any:
 
 
 def _act_when_done(watcher: Observer, cooperative: Any, thing: Thing) -> Any:
-    action: List[Any] = ["whenDone", None, thing]
+    action = Action(["whenDone", None, thing])
 
     def made(deferred: Deferred[Any], record: Record) -> None:
         action[1] = record

@@ -13,7 +13,7 @@ from typing import Any, Callable, Optional
 from twisted.internet import task
 from twisted.internet.defer import Deferred
 
-from ..telling import Observer, Record, Time, observer, observer_of
+from ..telling import Action, Observer, Record, Time, observer_of, watched
 from .clock import due_time, is_delay, keep_timer, schedule, tell_due
 
 _add_timeout = Deferred.addTimeout
@@ -46,7 +46,7 @@ def _run_due(
     watcher: Observer, record: Record, clock: task.Clock, f: Callable[[], None]
 ) -> None:
     """The time of a timer has come."""
-    if observer() is not watcher:
+    if watched.observer is not watcher:
         f()
         return
     if not watcher.quiet:
@@ -69,7 +69,7 @@ def _instrumented_add_timeout(
     if record.hidden_of is not None:
         return _add_timeout(self, timeout, clock)
     timing: Any = _Timing(watcher, record, clock)
-    action = ["addTimeout", record, Time(timeout)]
+    action = Action(["addTimeout", record, Time(timeout)])
     given: Deferred[Any] = watcher.act(action, _add_timeout, self, timeout, timing)
     return given
 

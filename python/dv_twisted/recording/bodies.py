@@ -2,9 +2,9 @@
 
 from __future__ import annotations
 
-from typing import Any, List, Optional
+from typing import Any, List, Optional, Sequence
 
-from ..telling import Frame, Pending, Record
+from ..telling import Action, Frame
 from ..texts import Outcome
 
 
@@ -18,53 +18,55 @@ class Unsayable:
         self.outcome = outcome
 
 
-class Action:
-    """An action of the program: a word of the language, and what it was given."""
-
-    def __init__(self, said: List[Any]) -> None:
-        self.said = said
-        #: the failure that it raised, as a line shows it, and whether its body went on after that
-        self.raised: Optional[str] = None
-        self.caught = False
-        #: the Deferred of the inline body in which such a one is told
-        self.helper: Optional[Record] = None
-
-
 class Body:
-    """What the program hands to Twisted to be called back: of a task, `runs` are the bodies of its steps."""
+    """What the program hands to Twisted to be called back."""
 
     def __init__(self, kind: str) -> None:
         self.kind = kind
         self.runs: List["Run"] = []
-        self.steps: List["Body"] = []
+
+
+class Steps:
+    """What the program hands to a Cooperator: the bodies of the steps of a task."""
+
+    def __init__(self) -> None:
+        self.bodies: List[Body] = []
 
 
 class Run(Frame):
     """A run of a body: the actions that it performed, and how it ended."""
 
+    #: how it ended, or None, where its input was passed on
+    end: Any = None
+    _actions: Optional[List[Action]] = None
+
     def __init__(self, kind: str, given: Optional[Outcome] = None) -> None:
-        super().__init__(kind)
-        self.actions: List[Action] = []
-        #: how it ended, or None, where its input was passed on
-        self.end: Any = None
+        self.kind = kind
         self.given = given
+
+    @property
+    def actions(self) -> Sequence[Action]:
+        """The actions, in order."""
+        return self._actions or ()
+
+    def note(self, action: Action) -> None:
+        """Notes an action: the body has gone on after the failure of the last one, if that failed."""
+        if self._actions is None:
+            self._actions = []
+        elif self._actions[-1].raised is not None:
+            self._actions[-1].caught = True
+        self._actions.append(action)
 
     def settle_raised(self, raised: Optional[str]) -> bool:
         """Notes which actions it went on after, though they raised; whether it ended by the last one's failure."""
-        for action in self.actions[:-1]:
+        if self._actions is None:
+            return False
+        for action in self._actions[:-1]:
             action.caught = action.caught or action.raised is not None
-        last = self.actions[-1] if self.actions else None
-        if last is None or last.raised is None:
+        last = self._actions[-1]
+        if last.raised is None:
             return False
         if raised == last.raised:
             return True
         last.caught = True
         return False
-
-
-class Helped(Pending):
-    """The line of the helper of an action, which is told only where the action's failure was caught."""
-
-    def __init__(self, action: Action, fired: bool) -> None:
-        self.action = action
-        self.fired = fired

@@ -103,7 +103,7 @@ def _simple(run: TestRun, virtual: bool) -> Optional[str]:
         return SKIPPED
     if run.waits or (virtual and not run.passed):
         return WAITS
-    return None if run.recorder.lines else NOTHING
+    return None if run.recorder.parts else NOTHING
 
 
 def _left(name: str, best: Attempt, virtual: bool, passed: bool) -> Measured:

@@ -15,7 +15,7 @@ from typing import Any, Callable, Iterator, List, Optional, Tuple
 from twisted.internet.defer import Deferred
 
 from ..instruments import install
-from ..telling import KINDS, observer
+from ..telling import KINDS, watched
 from .reactor import VirtualReactor, in_place_of_the_real
 from .recorder import Recorder
 
@@ -48,7 +48,7 @@ def printing_notes(recorder: Recorder) -> Iterator[None]:
 
     def noting(*values: Any, **kwargs: Any) -> None:
         real(*values, **kwargs)
-        if kwargs.get("file") is None and observer() is recorder and not recorder.quiet:
+        if kwargs.get("file") is None and watched.observer is recorder and not recorder.quiet:
             said = io.StringIO()
             real(*values, file=said, sep=kwargs.get("sep", " "), end="")
             recorder.note(said.getvalue())

@@ -3,20 +3,23 @@
 from __future__ import annotations
 
 from threading import get_ident
-from typing import Any, Callable, Dict, List, NamedTuple, Optional, Tuple, cast
+from typing import Any, Callable, Dict, List, NamedTuple, Optional, Tuple, Union
 
 from twisted.internet.defer import Deferred, FirstError
 from twisted.python.failure import Failure
 
 from ..classes import clean, message_of
 from ..profile import Entry
-from ..telling import KINDS, Frame, Observer, Record, Thing
+from ..telling import KINDS, Action, Failed, Frame, Observer, Record, Thing, is_deferred
 from ..texts import NULL, Outcome, Text, compact, error_of, weight_of
-from .bodies import Action, Body, Helped, Run, Unsayable
-from .places import name_of_place, place
+from .bodies import Body, Run, Steps, Unsayable
+from .places import FreeNames, name_of_spot, place, spot
 
 #: kinds of runs whose result is dropped
-_DROPPED = ("call", "canceller", "step")
+_DROPPED = frozenset({"call", "canceller", "step"})
+
+#: how many frames around `locate` are never the program's: an instrument is called, and has a Deferred made
+_INSTRUMENTS = 2
 
 
 class Problem(NamedTuple):
@@ -30,18 +33,21 @@ class Problem(NamedTuple):
 class Recorder(Observer):
     """Records a run of a program. It is on where the program's code runs."""
 
+    #: the program itself, and the run of a body in which it is
+    top: Run
+    frame: Run
+
     def __init__(self, kinds: frozenset[str] = KINDS) -> None:
         super().__init__(kinds if "clock" in kinds else kinds - {"timer", "loop"})
-        self.top: Frame = Run("event")
+        self.top = Run("event")
         self.frame = self.top
+        #: the actions of the program itself
+        self.events: List[Action] = []
+        #: the actions of bodies that have failed
+        self.failed: List[Action] = []
         self.problems: List[Problem] = []
-        self._names: Dict[str, int] = {}
+        self._names = FreeNames()
         self._thread = get_ident()
-
-    @property
-    def run(self) -> Run:
-        """The run of a body in which the program is."""
-        return cast(Run, self.frame)
 
     def problem(self, reason: str, kind: Optional[str] = None) -> None:
         """Notes what a script can't say."""
@@ -49,78 +55,78 @@ class Recorder(Observer):
 
     # names
 
-    def _free_name(self, wanted: str) -> str:
-        number = self._names[wanted] = self._names.get(wanted, 0) + 1
-        return wanted if number == 1 else f"{wanted}_{number}"
-
     def thing(self, kind: str) -> Thing:
         """A name for an object that is made."""
-        return Thing(self._free_name(f"{kind}_{name_of_place()}"[:27]))
+        return Thing(self._names.give(f"{kind}_{name_of_spot(spot())}"[:27]))
 
-    def made(self, deferred: Deferred[Any], record: Record, kind: str = "") -> None:
-        """A Deferred was made, and is named by where."""
-        if record.name is None and not self.anonymous:
-            record.name = self._free_name(name_of_place(self.maker))
-        self.maker = None
-        super().made(deferred, record, kind)
+    def locate(self, record: Record) -> None:
+        """Notes where a Deferred is made."""
+        record.made_at = spot(self.maker, _INSTRUMENTS)
 
     def adopt(self, deferred: Deferred[Any]) -> Record:
         """A Deferred that was made before the recording began is made, and fired, where it is met first."""
-        state = deferred.__dict__
+        state, value = deferred.__dict__, getattr(deferred, "result", None)
         if state.get("callbacks") or deferred.paused or state.get("_canceller"):
             self.problem("a Deferred from before the recording, which has pairs, pauses or a canceller")
-        if isinstance(state.get("_dv_result"), Deferred):
+        if is_deferred(value):
             self.problem("a Deferred from before the recording, which waits for another")
         if self.quiet:
             self.problem("a Deferred from before the recording, which Twisted meets first")
         record = super().adopt(deferred)
-        self.run.actions.append(Action(["deferred", record]))
+        self._note(Action(["deferred", record]))
         if deferred.called:
-            value = state.get("_dv_result")
-            word = "errback" if isinstance(value, Failure) else "callback"
-            said = self.raising(error_of(value)) if isinstance(value, Failure) else self.value(value)
-            self.run.actions.append(Action([word, record, said]))
+            self._note(self.firing(record, value, record.outcome))
         return record
 
     # actions and bodies
 
-    def act(self, action: List[Any], call: Callable[..., Any], *args: Any, **kwargs: Any) -> Any:
+    def act(self, action: Action, call: Callable[..., Any], *args: Any) -> Any:
         """Performs a call of the program's into Twisted, and notes it as an action."""
         if get_ident() != self._thread:
             self.problem("Deferreds are used in another thread")
-        run, noted, quiet = self.run, Action(action), self.quiet
-        is_event = run is self.top
-        if is_event:
-            self.begin_event()
-        elif run.actions and run.actions[-1].raised is not None:
-            run.actions[-1].caught = True
-        run.actions.append(noted)
-        may_be_helped = not is_event and run.kind != "inline"
-        if may_be_helped:
-            self.lines.append((Helped(noted, False),))
-        self.quiet = True
+        run = self.frame
+        if run is self.top:
+            self._told = None
+            self.events.append(action)
+        else:
+            run.note(action)
+            if run.kind != "inline":
+                self.parts.append(action)
+        quiet, self.quiet = self.quiet, True
         try:
-            return call(*args, **kwargs)
+            return call(*args)
         except BaseException as error:
-            noted.raised = self.texts.failure(error).text
-            if isinstance(error, RecursionError):
-                self.quirk(Entry.PYTHON_STACK)
-            if is_event:
-                self.tell_unhandled(error)
-            elif may_be_helped:
-                self.lines.append((Helped(noted, True),))
+            self._end_action(run, action, error)
             raise
         finally:
-            self.quiet, self.frame = quiet, run
+            self.quiet = quiet
+
+    def _note(self, action: Action) -> None:
+        """Notes an action of the program, or of the body that runs."""
+        if self.frame is self.top:
+            self.events.append(action)
+        else:
+            self.frame.note(action)
+
+    def _end_action(self, run: Run, action: Action, error: BaseException) -> None:
+        """An action has failed."""
+        action.raised = self.texts.failure(error).text
+        if isinstance(error, RecursionError):
+            self.quirk(Entry.PYTHON_STACK)
+        if run is self.top:
+            self.tell_unhandled(error)
+        elif run.kind != "inline":
+            self.parts.append(Failed(action))
+            self.failed.append(action)
 
     def note(self, text: str) -> None:
         """The program notes a text."""
         said = clean(text)
-        self.act(["note", said], self.tell, "note ", Text(compact(said), weight_of(said)))
+        self.act(Action(["note", said]), self.tell, "note ", Text(compact(said), weight_of(said)))
 
-    def new_body(self, kind: str) -> Body:
+    def new_body(self, kind: str) -> Union[Body, Steps]:
         """A body that the program hands to Twisted."""
-        return Body(kind)
+        return Steps() if kind == "steps" else Body(kind)
 
     def begin_body(
         self, body: Any, kind: str, given: Optional[Tuple[object, Outcome]]
@@ -139,13 +145,14 @@ class Recorder(Observer):
     ) -> None:
         """A run of a body has ended."""
         assert isinstance(frame, Run)
+        self.gave = None
         raised = None if error is None else self.texts.failure(error).text
         if frame.settle_raised(raised):
             return
         if error is not None:
             passed = given is not None and given[1].text == f"fail {raised}"
             frame.end = None if passed else self.raising(error)
-        elif isinstance(result, Deferred):
+        elif is_deferred(result):
             if frame.kind == "step" or frame.kind not in _DROPPED:
                 frame.end = ["wait", self.record(result)]
         elif frame.kind not in _DROPPED:
@@ -160,39 +167,40 @@ class Recorder(Observer):
         self, frame: Run, result: object, given: Optional[Tuple[object, Outcome]]
     ) -> Any:
         """The END by which a body gave this result."""
-        if self.texts.outcome(result).is_same(NULL if given is None else given[1]):
-            if given is None or isinstance(result, Failure) or result is given[0]:
-                return None
-            said = self.value(result)
-            return None if isinstance(said, Unsayable) else ["return", said]
+        before = NULL if given is None else given[1]
+        outcome = self.texts.outcome(result)
+        is_same = outcome.is_same(before)
         if isinstance(result, Failure):
-            return self.raising(error_of(result))
+            return None if is_same else self.raising(error_of(result))
+        self.gave = before if is_same else outcome
+        if is_same and (given is None or result is given[0]):
+            return None
         if frame.kind == "turn":
             return None
-        said = self.value(result)
-        return said if isinstance(said, Unsayable) else ["return", said]
+        said = self.value(outcome)
+        if isinstance(said, Unsayable):
+            return None if is_same else said
+        return ["return", said]
 
     # steps and inline bodies
 
     def begin_step(self, steps: Any) -> Body:
         """A step of a task begins."""
         body = Body("step")
-        steps.steps.append(body)
+        steps.bodies.append(body)
         return body
 
     def end_steps(self, steps: Any, body: Any) -> None:
         """A task has ended, in a step that has no body."""
-        steps.steps.remove(body)
+        steps.bodies.remove(body)
         if body.runs[0].actions:
             self.problem("a task acts in the step in which it ends", "cooperator")
 
     def begin_await(self, frame: Frame, record: Record) -> Action:
         """An inline body awaits a Deferred."""
         assert isinstance(frame, Run)
-        if frame.actions and frame.actions[-1].raised is not None:
-            frame.actions[-1].caught = True
         awaited = Action(["await", record])
-        frame.actions.append(awaited)
+        frame.note(awaited)
         return awaited
 
     def end_await(self, awaited: Any, value: object, outcome: Outcome) -> None:
@@ -210,9 +218,9 @@ class Recorder(Observer):
         if error is not None:
             frame.end = self.raising(error)
             return
-        said = self.value(result)
+        said = self.value(self.texts.outcome(result))
         present = frame.present
-        awaited = any(action.said[0] == "await" for action in frame.actions)
+        awaited = any(action[0] == "await" for action in frame.actions)
         if isinstance(said, Unsayable):
             passes = present is not None and present.text == said.outcome
             frame.end = ["pass"] if passes else said
@@ -221,12 +229,18 @@ class Recorder(Observer):
 
     # values
 
-    def value(self, value: object) -> Any:
+    def firing(self, record: Record, result: object, outcome: Outcome) -> Action:
+        """The action that fires a Deferred with this, which is shown so."""
+        if isinstance(result, Failure):
+            return Action(["errback", record, self.raising(error_of(result))])
+        return Action(["callback", record, self.value(outcome)])
+
+    def value(self, outcome: Outcome) -> Any:
         """A VALUE, unless the language has none for it."""
-        shown = self.texts.shown(value)
-        if _holds_failures(shown):
-            outcome = self.texts.outcome(value).text
-            return Unsayable("a value that holds a Failure is made by the program", place(), outcome)
+        shown = outcome.value
+        if isinstance(shown, (list, dict)) and _holds_failures(shown):
+            reason = "a value that holds a Failure is made by the program"
+            return Unsayable(reason, place(), outcome.text)
         return shown
 
     def raising(self, error: BaseException) -> Any:

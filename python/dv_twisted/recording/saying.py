@@ -2,18 +2,19 @@
 
 from __future__ import annotations
 
-import json
 import math
 from fractions import Fraction
+from itertools import accumulate
 from typing import Any, Dict, Iterator, List, Optional, Set, Tuple
 
 from .. import grammar
 from ..instruments.tasks import Cooperating
 from ..profile import Entry
-from ..script import nodes
-from ..telling import Line, Named, Part, Record, Thing, Time
-from ..texts import Outcome, Text
-from .bodies import Action, Body, Helped, Run, Unsayable
+from ..script import depth, nodes
+from ..telling import Action, Failed, Part, Record, Thing, Time
+from ..texts import Outcome, Text, compact
+from .bodies import Body, Run, Steps, Unsayable
+from .places import FreeNames, name_of_spot
 from .recorder import Problem, Recorder
 
 _FINEST = 10**9
@@ -34,22 +35,20 @@ class Said:
         self.problems: List[Problem] = list(recorder.problems)
         self.records: List[Record] = []
         self.rebinds = False
+        self._name()
         self._number()
         self._find_scale()
         self.script = self._script()
-        self.journal, places = self._journal()
+        self.journal: List[str] = []
+        self.quirks: List[Tuple[int, Entry]] = []
+        self._say_lines()
         self.outcomes = [f"#{r.number} {_first(r).name} {r.state()}" for r in self.records]
-        self.quirks: List[Tuple[int, Entry]] = [
-            (places[line], entry) for line, entry in recorder.quirks
-        ]
+        #: the script, as JSON
+        self.text = ""
         if self.script is not None:
             self._set_limit(self.script)
+            self.text = compact(self.script)
             self._refuse_size(self.script)
-
-    @property
-    def text(self) -> str:
-        """The script, as JSON."""
-        return json.dumps(self.script, ensure_ascii=False, separators=(",", ":"))
 
     @property
     def output(self) -> str:
@@ -61,17 +60,28 @@ class Said:
 
     # numbers and times
 
+    def _name(self) -> None:
+        """Names the Deferreds of the program by where they were made, in the order in which they were."""
+        names = FreeNames()
+        for record in self._recorder.records:
+            if record.name is None and record.made_at is not None:
+                record.name = names.give(name_of_spot(record.made_at))
+
     def _number(self) -> None:
         """Numbers the Deferreds in the order of their lines, with the helpers of caught actions among them."""
-        for line in self._recorder.lines:
-            part = line[0]
-            if part == "new " and isinstance(line[1], Record):
-                self._add_record(line[1])
-            elif isinstance(part, Helped) and part.action.caught and not part.fired:
-                helper = Record(f"caught_{len(self.records)}")
+        if not any(action.caught for action in self._recorder.failed):
+            for record in self._recorder.records:
+                self._add_record(record)
+            return
+        before: Optional[Part] = None
+        for part in self._recorder.parts:
+            if before == "new " and isinstance(part, Record):
+                self._add_record(part)
+            elif isinstance(part, Action) and part.caught:
+                part.helper = helper = Record(f"caught_{len(self.records)}")
                 helper.fired = helper.helper = True
-                part.action.helper = helper
                 self._add_record(helper)
+            before = part
 
     def _add_record(self, record: Record) -> None:
         record.number = len(self.records)
@@ -79,8 +89,10 @@ class Said:
 
     def _find_scale(self) -> None:
         """How many units of the clock a second has, so that all times are whole."""
-        times = [part.seconds for line in self._recorder.lines for part in line if isinstance(part, Time)]
-        times += _times(self._recorder.top, set())
+        if self._recorder.clock is None and self._recorder.cooperator is None:
+            return
+        times = [part.seconds for part in self._recorder.parts if isinstance(part, Time)]
+        times += _times(self._recorder.events, set())
         for seconds in times:
             denominator = _exact(seconds).denominator
             self._scale = self._scale * denominator // math.gcd(self._scale, denominator)
@@ -93,44 +105,40 @@ class Said:
 
     # the journal
 
-    def _journal(self) -> Tuple[List[str], List[int]]:
-        """The lines, and for each line of the recorder how many come before it."""
-        journal: List[str] = []
-        places: List[int] = []
-        for line in self._recorder.lines:
-            places.append(len(journal))
-            said = self._line(line)
-            if said is not None:
-                journal.append(said)
-        places.append(len(journal))
-        return journal, places
+    def _say_lines(self) -> None:
+        """Says the journal, and after how many of its lines Twisted did what an entry of the profile names."""
+        texts = [part if type(part) is str else self._part(part) for part in self._recorder.parts]
+        self.journal = "".join(texts).split("\n")[:-1]
+        if self._recorder.quirks:
+            before = [0, *accumulate(text.count("\n") for text in texts)]
+            self.quirks = [(before[place], entry) for place, entry in self._recorder.quirks]
 
-    def _line(self, line: Line) -> Optional[str]:
-        part = line[0]
-        if not isinstance(part, Helped):
-            return "".join(map(self._part, line))
-        helper = part.action.helper
-        if helper is None:
-            return None
-        return f"fire #{helper.number} ok null" if part.fired else f"new #{helper.number} {helper.name}"
-
-    def _part(self, part: Part) -> str:
+    def _part(self, part: Optional[Part]) -> str:
+        """A part of a line, or its end."""
+        if part is None:
+            return "\n"
         if isinstance(part, Record):
             return f"#{part.number}"
-        if isinstance(part, Named):
-            return str(_first(part.record).name)
+        if isinstance(part, (Text, Outcome)):
+            return part.text
+        if isinstance(part, int):
+            return str(_first(self._recorder.records[part]).name)
         if isinstance(part, Time):
             return str(self._units(part))
-        return part.text if isinstance(part, (Text, Outcome)) else str(part)
+        if isinstance(part, Action):
+            helper = part.helper
+            return "" if helper is None else f"new #{helper.number} {helper.name}\n"
+        if isinstance(part, Failed):
+            helper = part.action.helper
+            return "" if helper is None else f"fire #{helper.number} ok null\n"
+        return str(part)
 
     # the script
 
     def _script(self) -> Optional[Dict[str, Any]]:
-        top = self._recorder.top
-        assert isinstance(top, Run)
         script: Dict[str, Any] = {"version": 1, "limit": _MOST_LIMIT}
         try:
-            events = [self._action(action) for action in top.actions]
+            events = [self._action(action) for action in self._recorder.events]
             if isinstance(self._recorder.cooperator, Cooperating):
                 script["cooperator"] = self._cooperator(self._recorder.cooperator)
         except CannotSay:
@@ -147,17 +155,18 @@ class Said:
         self._problem(reason, kind, place)
         return CannotSay(reason)
 
-    def _action(self, action: Action) -> List[Any]:
-        said = action.said
+    def _action(self, said: Action) -> List[Any]:
         chained = self._as_chain(said)
         if chained is not None:
             return chained
         if said[0] == "errback" and isinstance(said[2], list):
-            said = [said[0], said[1], *said[2][1:]]
+            return [self._say(part) for part in (said[0], said[1], *said[2][1:])]
         return [self._say(part) for part in said]
 
     def _say(self, part: Any) -> Any:
         """A part of an action, in the words of the language."""
+        if type(part) is str:
+            return part
         if isinstance(part, Record):
             return self._deferred(part)
         if isinstance(part, Thing):
@@ -168,6 +177,8 @@ class Said:
             raise self._cannot(part.reason, None, part.place)
         if isinstance(part, Body):
             return self._body(part)
+        if isinstance(part, Steps):
+            return [self._body(body) for body in part.bodies]
         if isinstance(part, list):
             return [self._say(item) for item in part]
         return part
@@ -180,14 +191,14 @@ class Said:
             raise self._cannot("a Deferred without a name is used by the program")
         return name
 
-    def _as_chain(self, said: List[Any]) -> Optional[List[Any]]:
+    def _as_chain(self, said: Action) -> Optional[List[Any]]:
         """A pair that only fires another Deferred with what it was given, which may be no value of the language."""
         if said[0] not in ("addCallback", "addErrback", "addBoth", "addCallbacks"):
             return None
         ran = [run for body in said[2:] for run in body.runs]
         if len(ran) != 1 or len(ran[0].actions) != 1 or ran[0].end not in (None, ["return", None]):
             return None
-        fired = ran[0].actions[0].said
+        fired = ran[0].actions[0]
         given = ran[0].given
         if fired[0] not in ("callback", "errback") or not isinstance(fired[2], Unsayable):
             return None
@@ -196,8 +207,6 @@ class Said:
         return ["chain", self._say(said[1]), self._say(fired[1])]
 
     def _body(self, body: Body) -> Any:
-        if body.kind == "steps":
-            return [self._body(step) for step in body.steps]
         if body.kind == "inline":
             return self._statements(body)
         if not body.runs:
@@ -252,7 +261,7 @@ class Said:
         if len(first.actions) != len(other.actions) or not self._same(first.end, other.end):
             return False
         return all(
-            one.caught == two.caught and self._same(one.said, two.said)
+            one.caught == two.caught and self._same(one, two)
             for one, two in zip(first.actions, other.actions)
         )
 
@@ -265,6 +274,8 @@ class Said:
             return _exact(one.seconds) == _exact(two.seconds)
         if isinstance(one, Body) and isinstance(two, Body):
             return self._same_body(one, two)
+        if isinstance(one, Steps) and isinstance(two, Steps):
+            return self._same(one.bodies, two.bodies)
         if isinstance(one, list) and isinstance(two, list):
             return len(one) == len(two) and all(map(self._same, one, two))
         if isinstance(one, Unsayable) and isinstance(two, Unsayable):
@@ -294,8 +305,6 @@ class Said:
         return True
 
     def _same_body(self, one: Body, two: Body) -> bool:
-        if one.kind == "steps":
-            return len(one.steps) == len(two.steps) and all(map(self._same_body, one.steps, two.steps))
         if not two.runs:
             return True
         if not one.runs:
@@ -306,17 +315,19 @@ class Said:
     # limits of scripts
 
     def _set_limit(self, script: Dict[str, Any]) -> None:
-        weight = sum(1 + len(line.encode()) for line in self.journal)
+        weight = len(self.journal) + len("".join(self.journal).encode())
         script["limit"] = min(_MOST_LIMIT, max(grammar.DEFAULT_LIMIT, weight))
         if weight > _MOST_LIMIT and not self._fits():
             self._problem("the journal weighs more than a script's may")
 
     def _fits(self) -> bool:
         """Whether a journal of many bytes is one of few lines and short values after all."""
-        return sum(_weight(line) for line in self._recorder.lines) <= _MOST_LIMIT
+        weights = [part.weight for part in self._recorder.parts if isinstance(part, (Text, Outcome))]
+        helpers = sum(record.helper for record in self.records)
+        return len(self.journal) + sum(weights) + helpers <= _MOST_LIMIT
 
     def _refuse_size(self, script: Dict[str, Any]) -> None:
-        if _depth(script) > grammar.DEEPEST:
+        if depth(self.text) > grammar.DEEPEST:
             self._problem("bodies are nested too deep", "clock")
         if len(self.text.encode()) > grammar.MOST_BYTES:
             self._problem("the script is longer than one may be")
@@ -324,10 +335,6 @@ class Said:
             self._problem("the script has more nodes than one may have")
         if len(script.get("classes", [])) > grammar.MOST_CLASSES:
             self._problem("the script has more classes than one may have")
-
-
-def _weight(line: Line) -> int:
-    return 1 + sum(part.weight for part in line if isinstance(part, (Text, Outcome)))
 
 
 def _exact(seconds: float) -> Fraction:
@@ -341,28 +348,17 @@ def _first(record: Record) -> Record:
     return record
 
 
-def _depth(value: Any) -> int:
-    items = value.values() if isinstance(value, dict) else value if isinstance(value, list) else None
-    return 0 if items is None else 1 + max(map(_depth, items), default=0)
-
-
-def _times(run: Any, seen: Set[int]) -> Iterator[float]:
-    """The times that the actions of a run have."""
-    if id(run) in seen:
-        return
-    seen.add(id(run))
-    for action in run.actions:
-        yield from _times_of(action.said, seen)
-
-
-def _times_of(part: Any, seen: Set[int]) -> Iterator[float]:
+def _times(part: Any, seen: Set[int]) -> Iterator[float]:
+    """The times that a part of an action has, but for those of runs that were seen before."""
     if isinstance(part, Time):
         yield part.seconds
-    elif isinstance(part, list):
+    elif isinstance(part, (list, tuple)):
         for item in part:
-            yield from _times_of(item, seen)
+            yield from _times(item, seen)
     elif isinstance(part, Body):
-        for run in part.runs:
-            yield from _times(run, seen)
-        for step in part.steps:
-            yield from _times_of(step, seen)
+        yield from _times(part.runs, seen)
+    elif isinstance(part, Steps):
+        yield from _times(part.bodies, seen)
+    elif isinstance(part, Run) and id(part) not in seen:
+        seen.add(id(part))
+        yield from _times(part.actions, seen)
