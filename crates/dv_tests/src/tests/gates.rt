@@ -1,4 +1,4 @@
-use dv_jobs::gate::Gate;
+use dv_jobs::gate::{Gate, OWNER};
 use dv_jobs::job::{Answer, Job};
 use std::alloc::{AllocError, Global};
 use std::sync::atomic::{AtomicU32, Ordering};
@@ -13,6 +13,8 @@ pub struct Holding {
     came: AtomicU32,
     /// How many jobs were held in vain.
     pub alone: AtomicU32,
+    /// The worker that came last, 0 where none but the owner did.
+    pub worker: AtomicU32,
 }
 
 impl Holding {
@@ -20,6 +22,7 @@ impl Holding {
         Holding {
             came: AtomicU32::new(0),
             alone: AtomicU32::new(0),
+            worker: AtomicU32::new(OWNER),
         }
     }
 
@@ -36,7 +39,10 @@ impl Holding {
 }
 
 impl Gate for Holding {
-    fn answer(&self, alloc: Global, _worker: u32, job: Job) -> Answer {
+    fn answer(&self, alloc: Global, worker: u32, job: Job) -> Answer {
+        if worker != OWNER {
+            self.worker.store(worker, Ordering::SeqCst);
+        }
         self.came.fetch_add(1, Ordering::SeqCst);
         if !self.have_two_come() {
             self.alone.fetch_add(1, Ordering::SeqCst);

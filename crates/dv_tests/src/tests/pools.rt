@@ -4,7 +4,10 @@ use super::gates::{Holding, Noting};
 use super::sources::{outcome, submit};
 use dv_jobs::gate::Gate;
 use dv_jobs::source::JobSource;
+use dv_journal::memory_sink::MemorySink;
+use dv_run::run;
 use dv_script::work::Work;
+use dv_source::memory_source::MemorySource;
 use dv_threads::pools::Pools;
 use dv_value::value::Value;
 use std::alloc::{AllocError, AllocGlobal, Global};
@@ -106,5 +109,39 @@ where
 fn two_jobs_of_a_pool_that_hold_each_other_both_end(rt: HostRuntime) -> Result<(), Fail> {
     assert!(rt; hold_each_other(&rt, IO)?);
     assert!(rt; hold_each_other(&rt, NET)?);
+    Ok(())
+}
+
+/// Runs a script of two jobs that hold each other, with no worker but those of its pools: the worker that answered one of them, and
+/// how many were held in vain.
+fn worker_of<S>(rt: &S, script: &str) -> Result<(u32, u32), Fail>
+where
+    S: Threads + Wait + RandomSource + AllocGlobal + Sync,
+{
+    let gate = Holding::new();
+    let mut source = MemorySource::new(script.as_bytes(), 4096);
+    let mut sink = MemorySink::new(rt.alloc(), 4096, 4096)?;
+    match run(rt, &mut source, &mut sink, 0, &gate) {
+        Ok(report) => report.discard(),
+        Err(_) => return Err("the run gave up".into()),
+    }
+    Ok((
+        gate.worker.load(Ordering::SeqCst),
+        gate.alone.load(Ordering::SeqCst),
+    ))
+}
+
+/// Two jobs of the first pool, and two of the second.
+const TWO_OF_IO: &str =
+    r#"{"version":2,"pools":[["io",1],["net",1]],"events":[["threadIn","a","io",0,["sum",4]],["threadIn","b","io",0,["sum",9]],["advance",0]]}"#;
+
+const TWO_OF_NET: &str =
+    r#"{"version":2,"pools":[["io",1],["net",1]],"events":[["threadIn","a","net",0,["sum",4]],["threadIn","b","net",0,["sum",9]],["advance",0]]}"#;
+
+#[test]
+fn jobs_of_a_script_are_done_by_the_pool_of_their_name(rt: HostRuntime) -> Result<(), Fail> {
+    let io = worker_of(&rt, TWO_OF_IO)?;
+    let net = worker_of(&rt, TWO_OF_NET)?;
+    assert_eq!(rt; (io, net), ((1, 0), (2, 0)));
     Ok(())
 }
