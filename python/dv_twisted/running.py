@@ -124,7 +124,7 @@ class Job:
 
 
 class Pool:
-    """A pool of threads as Twisted's `deferToThreadPool` sees it, without threads: a job is done where it is submitted."""
+    """A pool of threads as Twisted's `deferToThreadPool` sees it: a job is done where it is submitted, on no thread."""
 
     def __init__(self) -> None:
         self.jobs: List[Job] = []
