@@ -1,18 +1,18 @@
 ghost use Rattle.std.specs.Prelude.{◌≡◌, ◌≤◌, length, OnOk, IfOk, IfErr};
-ghost use Rattle.dv_reader.specs.Limits.{most_limit};
 ghost use Rattle.dv_posts.specs.Callers.{AreFew};
-ghost use Rattle.dv_threads.specs.declared.limits.TheConstants.{MOST_POOLS, MOST_WORKERS};
+ghost use Rattle.dv_script.specs.declared.limits.TheConstants.{MOST_LIMIT, MOST_POOLS, MOST_WORKERS};
 ghost use Rattle.dv_run.specs.Headline.{Prints};
 ghost use Rattle.dv_run.specs.Run.{SaysScript, GivesNoScript, GivesUp, ReaderFailed, WriterFailed};
 
+use crate::driving::Reporting;
 use crate::performing::perform;
 use dv_engine::report::Report;
 use dv_jobs::gate::Gate;
 use dv_journal::sink::Sink;
 use dv_output::error::RunFault;
 use dv_output::output::print_report;
-use dv_reader::MOST_BYTES;
 use dv_reader::read_script::ReadScript;
+use dv_script::limits::MOST_BYTES;
 use dv_script::script::Script;
 use dv_source::source::{Source, read_up_to};
 use std::alloc::{AllocGlobal, Global};
@@ -57,7 +57,7 @@ where
 {
     let alloc = rt.alloc();
     let script = script_of(alloc, reader)?;
-    let Ok(report) = perform(rt, &script, workers, gate) else {
+    let Ok(report) = perform(rt, &script, workers, gate, &Reporting) else {
         script.discard();
         return Err(RunFault::OutOfMemory);
     };
@@ -74,11 +74,11 @@ where
 
 /// The script that the input says.
 #[tactic(auto, using(crate::proofs::RunLemmas::script_rules))]
-fn script_of<R: Source>(alloc: Global, reader: &mut R) -> Result<Script, RunFault>
+pub fn script_of<R: Source>(alloc: Global, reader: &mut R) -> Result<Script, RunFault>
     ensures ok { IfOk result (λ script. SaysScript (R.left reader.old) script) }
     ensures few { IfOk result (λ script. AreFew script.callers) }
     ensures pools { IfOk result (λ script. length script.pools ≤ MOST_POOLS) }
-    ensures limited { IfOk result (λ script. script.limit ≤ most_limit) }
+    ensures limited { IfOk result (λ script. script.limit ≤ MOST_LIMIT) }
     ensures kept { OnOk result (R.failures reader.new ≡ R.failures reader.old) }
     ensures err { IfErr result (λ fault. GivesNoScript fault (R.left reader.old) (R.failures reader.old) (R.failures reader.new)) }
 {
