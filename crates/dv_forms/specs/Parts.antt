@@ -8,6 +8,7 @@ use Rattle.dv_script.specs.declared.action.ListFlag.{ListFlag}
 use Rattle.dv_script.specs.declared.action.ListFlag.TheVariants as flag
 use Rattle.dv_script.specs.declared.action.GatherFlag.{GatherFlag}
 use Rattle.dv_script.specs.declared.action.GatherFlag.TheVariants as gather_flag
+use Rattle.dv_script.specs.declared.limits.TheConstants.{MOST_PLACES}
 use Rattle.dv_forms.specs.declared.declaration.Declaration.{Declaration}
 use Rattle.dv_forms.specs.Forms.{has_only, place_of}
 use Rattle.dv_forms.specs.Table.{table_of, all_declared}
@@ -55,11 +56,11 @@ within low high n = if nat_le low n && nat_le n high then Some n else None
 abbrev pub number_at : ℕ → ℕ → Data → Option ℕ
 number_at low high d = option_and_then (within low high) (option_and_then as_u64 (as_number d))
 
--- no bound, or one up to 65,536
+-- no bound, or one up to the most places
 abbrev pub bound_at : Data → Option (Option ℕ)
 bound_at null = Some None
 bound_at (boolean b) = None
-bound_at (number x) = option_map Some (number_at 0 65536 (number x))
+bound_at (number x) = option_map Some (number_at 0 MOST_PLACES (number x))
 bound_at (string text) = None
 bound_at (array ds) = None
 bound_at (object ms) = None

@@ -4,11 +4,8 @@ use Rattle.dv_value.specs.declared.classes.Class.{Class}
 use Rattle.dv_value.specs.Classes.{find_class}
 use Rattle.dv_value.specs.Declaring.{with_class}
 use Rattle.dv_value.specs.Builtin.{builtin}
+use Rattle.dv_script.specs.declared.limits.TheConstants.{MOST_CLASSES}
 use Rattle.dv_forms.specs.declared.declaration.Declaration.{Declaration}
-
--- the most classes that a script declares
-abbrev pub most_classes : ℕ
-most_classes = 256
 
 -- by what a name and a parent are found to be: the name is free, and the parent is there
 abbrev pub is_free_under : Option ℕ → Option ℕ → Bool
@@ -36,8 +33,8 @@ are_declared table (c ∷ cs) = can_declare table c && are_declared (with_declar
 
 -- the table of a script that declares these classes: where they are too many, it is refused and none of them counts
 abbrev pub table_of : List Declaration → List Class
-table_of cs = if nat_le (length cs) most_classes then table_after builtin cs else builtin
+table_of cs = if nat_le (length cs) MOST_CLASSES then table_after builtin cs else builtin
 
 -- whether each class that a script declares may be declared, and they aren't too many
 abbrev pub all_declared : List Declaration → Bool
-all_declared cs = if nat_le (length cs) most_classes then are_declared builtin cs else false
+all_declared cs = if nat_le (length cs) MOST_CLASSES then are_declared builtin cs else false

@@ -1,5 +1,6 @@
-ghost use Rattle.std.specs.Prelude.{◌^◌};
 ghost use Rattle.serde_json.specs.View.{items_view};
+ghost use Rattle.dv_clock.specs.declared.limits.TheConstants.{MOST_DELAY};
+ghost use Rattle.dv_script.specs.declared.limits.TheConstants.{MOST_PLACES};
 ghost use Rattle.dv_forms.specs.Answer.{Reads};
 ghost use Rattle.dv_forms.specs.Parts.{text_at, integer_at, number_at, bound_at, value_at, class_at, list_flag_at, gather_flag_at, list_at, sole, pair, triple};
 
@@ -7,10 +8,11 @@ use crate::leaf::{
     bound, class, classes_in, gather_flags_in, integer, list_flags_in, number, one, small, text,
     texts_in, three, two,
 };
-use crate::ranges::{MOST_DELAY, MOST_PLACES};
 use crate::stop::Stop;
 use crate::value::value;
+use dv_clock::limits::MOST_DELAY;
 use dv_script::action::{GatherFlag, ListFlag};
+use dv_script::limits::MOST_PLACES;
 use dv_value::class_id::ClassId;
 use dv_value::classes::Classes;
 use dv_value::items::Items;
@@ -84,7 +86,7 @@ pub fn named_value(alloc: Global, arguments: &[Json]) -> Result<(Text, Value), S
 /// A name, and a number of places.
 #[tactic(auto, unfolding(crate::specs::Parts::pair))]
 pub fn named_places(alloc: Global, arguments: &[Json]) -> Result<(Text, u32), Stop>
-    ensures { Reads result (pair text_at (number_at 1 65536) (items_view arguments.now)) }
+    ensures { Reads result (pair text_at (number_at 1 MOST_PLACES) (items_view arguments.now)) }
 {
     let (name, json) = two(arguments)?;
     let name = text(alloc, name)?;
@@ -95,7 +97,7 @@ pub fn named_places(alloc: Global, arguments: &[Json]) -> Result<(Text, u32), St
 /// A name, and a delay.
 #[tactic(auto, unfolding(crate::specs::Parts::pair))]
 pub fn named_delay(alloc: Global, arguments: &[Json]) -> Result<(Text, u64), Stop>
-    ensures { Reads result (pair text_at (number_at 0 (10 ^ 12)) (items_view arguments.now)) }
+    ensures { Reads result (pair text_at (number_at 0 MOST_DELAY) (items_view arguments.now)) }
 {
     let (name, json) = two(arguments)?;
     let name = text(alloc, name)?;

@@ -6,9 +6,9 @@ ghost use Rattle.dv_forms.specs.Forms.{has_only};
 ghost use Rattle.dv_forms.specs.Answer.{Reads, Gives};
 ghost use Rattle.dv_forms.specs.Parts.{text_at, integer_at, number_at, bound_at, class_at, list_flag, list_flag_at, gather_flag_named, gather_flag_at, list_at, call_at, none, first, if_any, one, one_or_two, two, three, four, five, fields_at};
 
-use crate::ranges::MOST_PLACES;
 use crate::stop::Stop;
 use dv_script::action::{GatherFlag, ListFlag};
+use dv_script::limits::MOST_PLACES;
 use dv_value::class_id::ClassId;
 use dv_value::classes::Classes;
 use dv_value::items::Items;

@@ -5,7 +5,6 @@ pub mod arguments;
 pub mod declaration;
 pub mod leaf;
 pub mod leaving;
-pub mod ranges;
 pub mod stop;
 pub mod table;
 pub mod value;

@@ -1,5 +1,5 @@
 -- What the grammar relates is read.
-use Rattle.std.proofs.Common.{◌≡◌, ℕ, zero, suc, ◌≤◌, ◌^◌, Bool, nat_cmp, List, [], ◌∷◌, Option, Some, None, option_and_then, refl, ap, arith, codes, inl, inr}
+use Rattle.std.proofs.Common.{◌≡◌, ℕ, zero, suc, ◌≤◌, Bool, nat_cmp, List, [], ◌∷◌, Option, Some, None, option_and_then, refl, ap, arith, codes, inl, inr}
 use Rattle.std.specs.Cmp.Lexicographic.{slice_cmp}
 use Rattle.std.proofs.lemmas.Bool.{le-leb}
 use Rattle.serde_json.specs.Data.{Data, Items, no_items, item, Members, no_members, member, depth, items_depth, members_depth}
@@ -18,6 +18,8 @@ use Rattle.dv_script.specs.declared.action.Action.{Action}
 use Rattle.dv_script.specs.declared.event.Event.{Event}
 use Rattle.dv_script.specs.declared.script.Cooperator.{Cooperator}
 use Rattle.dv_script.specs.declared.script.NamedPool.{NamedPool}
+use Rattle.dv_script.specs.declared.limits.TheConstants.{MOST_LIMIT, MOST_PLACES, MOST_SUM, MOST_WORKERS, USUAL_LIMIT}
+use Rattle.dv_clock.specs.declared.limits.TheConstants.{MOST_DELAY, MOST_TICKS}
 use Rattle.dv_forms.specs.declared.declaration.Declaration.{Declaration}
 use Rattle.dv_grammar.specs.declared.draft.Draft.{Draft}
 use Rattle.dv_forms.specs.Forms.{Each, IsList, Field, Key, IsText, IsNumber, IsClass, IsValue, a_null, a_bool, an_int, a_text, a_list, AreValues, no_values, more_values}
@@ -79,7 +81,7 @@ complete_number low high d n h = rw h.0 (complete_within low high n h.1 h.2)
 
 complete_bound : (d : Data) (bound : Option ℕ) → IsBound d bound → bound_at d ≡ Some bound
 complete_bound _ _ no_bound = refl
-complete_bound _ _ (a_bound d n h) = rw h.0 (rw (complete_within 0 65536 n h.1 h.2) refl)
+complete_bound _ _ (a_bound d n h) = rw h.0 (rw (complete_within 0 MOST_PLACES n h.1 h.2) refl)
 
 complete_list_flag : (d : Data) (flag : ListFlag) → IsListFlag d flag → list_flag_at d ≡ Some flag
 complete_list_flag _ _ fires_on_callback = refl
@@ -102,7 +104,7 @@ complete_work : (table : List Class) (d : Data) (w : Work) → IsWork table d w 
 unfolding work_at work_of call_at none first one two sole pair
 complete_work table _ _ (gives d v h) = rw (complete_value h) refl
 complete_work table _ _ (fails c class text h) = rw (complete_class table c class h) refl
-complete_work table _ _ (sums d n h) = rw (complete_number 0 1000000 d n h) refl
+complete_work table _ _ (sums d n h) = rw (complete_number 0 MOST_SUM d n h) refl
 
 -- ---- how deep members lie
 
@@ -132,22 +134,22 @@ mutual
   complete_action table n (pause name) h = refl
   complete_action table n (unpause name) h = refl
   complete_action table n (cancel name) h = refl
-  complete_action table n (add_timeout name d delay g) h = rw (complete_number 0 (10 ^ 12) d delay g) refl
+  complete_action table n (add_timeout name d delay g) h = rw (complete_number 0 MOST_DELAY d delay g) refl
   complete_action table n (note text) h = refl
   complete_action table n (list name c e children flags g k) h = rw (complete_list IsText text_at complete_text c children g, complete_list IsListFlag list_flag_at complete_list_flag e flags k) refl
   complete_action table n (gather name c e children flags g k) h = rw (complete_list IsText text_at complete_text c children g, complete_list IsGatherFlag gather_flag_at complete_gather_flag e flags k) refl
   complete_action table n (maybe name d b g) h = rw (complete_body table n g (omega (arith, h))) refl
   complete_action table n (lock name) h = refl
-  complete_action table n (semaphore name d m g) h = rw (complete_number 1 65536 d m g) refl
+  complete_action table n (semaphore name d m g) h = rw (complete_number 1 MOST_PLACES d m g) refl
   complete_action table n (acquire name other) h = refl
   complete_action table n (release name) h = refl
   complete_action table n (run_with name other d b g) h = rw (complete_body table n g (omega (arith, h))) refl
   complete_action table n (queue name c e size backlog g k) h = rw (complete_bound c size g, complete_bound e backlog k) refl
   complete_action table n (put name d v g) h = rw (complete_value g) refl
   complete_action table n (get name other) h = refl
-  complete_action table n (later name c d delay b g k) h = rw (complete_number 0 (10 ^ 12) c delay g, complete_body table n k (omega (arith, h))) refl
+  complete_action table n (later name c d delay b g k) h = rw (complete_number 0 MOST_DELAY c delay g, complete_body table n k (omega (arith, h))) refl
   complete_action table n (cancel_call name) h = refl
-  complete_action table n (loop name other c interval at_once d b g k) h = rw (complete_number 1 (10 ^ 12) c interval g, complete_body table n k (omega (arith, h))) refl
+  complete_action table n (loop name other c interval at_once d b g k) h = rw (complete_number 1 MOST_DELAY c interval g, complete_body table n k (omega (arith, h))) refl
   complete_action table n (stop_loop name) h = refl
   complete_action table n (cooperate name ds bodies g) h = rw (complete_bodies table n g (omega (arith, h))) refl
   complete_action table n (when_done name task) h = refl
@@ -155,8 +157,8 @@ mutual
   complete_action table n (stop_task name) h = refl
   complete_action table n (resume_task name) h = refl
   complete_action table n (inline name ds statements g) h = rw (complete_statements table n g (omega (arith, h))) refl
-  complete_action table n (thread name c d delay job g k) h = rw (complete_number 0 (10 ^ 12) c delay g, complete_work table d job k) refl
-  complete_action table n (thread_in name pool c d delay job g k) h = rw (complete_number 0 (10 ^ 12) c delay g, complete_work table d job k) refl
+  complete_action table n (thread name c d delay job g k) h = rw (complete_number 0 MOST_DELAY c delay g, complete_work table d job k) refl
+  complete_action table n (thread_in name pool c d delay job g k) h = rw (complete_number 0 MOST_DELAY c delay g, complete_work table d job k) refl
 
   complete_actions : (table : List Class) {ds : Items} {xs : List Action} (n : ℕ) → AreActions table ds xs → items_depth ds ≤ n → each (action_at table n) ds ≡ Some xs
   complete_actions table n no_actions h = refl
@@ -198,7 +200,7 @@ mutual
 complete_event : (table : List Class) (d : Data) (e : Event) → depth d ≤ max_depth → IsEvent table d e → event_at table d ≡ Some e
 unfolding event_at event_of other_event action_by call_at none first one sole
 complete_event table d _ h (acts _ a g) = rw (complete_action table max_depth g h) refl
-complete_event table _ _ h (advances d n g) = rw (complete_number 0 (10 ^ 15) d n g) refl
+complete_event table _ _ h (advances d n g) = rw (complete_number 0 MOST_TICKS d n g) refl
 complete_event table _ _ h (drains d n g) = rw (complete_number 0 2048 d n g) refl
 
 complete_each_deep : {X : Type 0} (Is : Data → X → Type 0) (at : Data → Option X) → ((d : Data) (x : X) → depth d ≤ max_depth → Is d x → at d ≡ Some x)
@@ -224,14 +226,14 @@ complete_declaration _ _ (declares name parent) = refl
 
 complete_pool : (d : Data) (p : NamedPool) → IsPool d p → pool_at d ≡ Some p
 unfolding pool_at none first one two pair
-complete_pool _ _ (pools name d workers h) = rw (complete_number 0 16 d workers h) refl
+complete_pool _ _ (pools name d workers h) = rw (complete_number 0 MOST_WORKERS d workers h) refl
 
 complete_cooperator : (d : Data) (c : Cooperator) → IsCooperator d c → cooperator_at d ≡ Some c
 unfolding cooperator_at fields_at
 complete_cooperator d c h =
     rw h.whole (rw h.only (rw (
       complete_key c.units (IsNumber 1 1000) (number_at 1 1000) (complete_number 1 1000) (get_member (codes "units") h.members) h.units,
-      complete_key c.delay (IsNumber 1 (10 ^ 12)) (number_at 1 (10 ^ 12)) (complete_number 1 (10 ^ 12)) (get_member (codes "delay") h.members) h.delay,
+      complete_key c.delay (IsNumber 1 MOST_DELAY) (number_at 1 MOST_DELAY) (complete_number 1 MOST_DELAY) (get_member (codes "delay") h.members) h.delay,
     ) refl))
 
 complete_callers : (table : List Class) (ms : Members) (callers : List (List Body)) → members_depth ms ≤ max_depth
@@ -266,7 +268,7 @@ complete_script d draft deep h =
     complete_events (table_of draft.declared) draft.script.events (get_member (codes "events") h.members) (within (codes "events")) (rw h.table at h.events) in
     let version = complete_key draft.version (IsNumber 1 2) (number_at 1 2) (complete_number 1 2) (get_member (codes "version") h.members) h.version in
     rw h.whole (rw version (rw h.only (rw (
-      complete_field 2000 draft.script.limit (IsNumber 0 200000) (number_at 0 200000) (complete_number 0 200000) (get_member (codes "limit") h.members) h.limit,
+      complete_field USUAL_LIMIT draft.script.limit (IsNumber 0 MOST_LIMIT) (number_at 0 MOST_LIMIT) (complete_number 0 MOST_LIMIT) (get_member (codes "limit") h.members) h.limit,
       complete_field plain_cooperator draft.script.cooperator IsCooperator cooperator_at complete_cooperator (get_member (codes "cooperator") h.members) h.cooperator,
       complete_field [] draft.script.pools (IsList IsPool) (list_at pool_at) (complete_list IsPool pool_at complete_pool) (get_member (codes "pools") h.members) h.pools,
       complete_field [] draft.declared (IsList IsDeclaration) (list_at declaration_at) (complete_list IsDeclaration declaration_at complete_declaration) (get_member (codes "classes") h.members) h.declared,

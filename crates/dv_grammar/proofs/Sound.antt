@@ -1,5 +1,5 @@
 -- What is read is in the grammar.
-use Rattle.std.proofs.Common.{◌≡◌, ◌^◌, ℕ, zero, suc, ◌≤◌, ℤ, Bool, true, ◌&&◌, nat_le, cond, List, [], ◌∷◌, Option, Some, None, option_and_then, bytes_eq, refl, sym, ap, ◌∙◌, codes, ◌⊎◌, inl, inr}
+use Rattle.std.proofs.Common.{◌≡◌, ℕ, zero, suc, ◌≤◌, ℤ, Bool, true, ◌&&◌, nat_le, cond, List, [], ◌∷◌, Option, Some, None, option_and_then, bytes_eq, refl, sym, ap, ◌∙◌, codes, ◌⊎◌, inl, inr}
 use Rattle.std.specs.Prelude.{⊤}
 use Rattle.std.proofs.lemmas.Slice.Eq.{bytes_eq-Decides}
 use Rattle.std.proofs.lemmas.Bool.{and_parts, leb-true}
@@ -23,6 +23,8 @@ use Rattle.dv_script.specs.declared.event.Event.{Event}
 use Rattle.dv_script.specs.declared.event.Event.TheVariants as happens
 use Rattle.dv_script.specs.declared.script.Cooperator.{Cooperator}
 use Rattle.dv_script.specs.declared.script.NamedPool.{NamedPool}
+use Rattle.dv_script.specs.declared.limits.TheConstants.{MOST_LIMIT, MOST_PLACES, MOST_SUM, MOST_WORKERS, USUAL_LIMIT}
+use Rattle.dv_clock.specs.declared.limits.TheConstants.{MOST_DELAY, MOST_TICKS}
 use Rattle.dv_forms.specs.declared.declaration.Declaration.{Declaration}
 use Rattle.dv_grammar.specs.declared.draft.Draft.{Draft}
 use Rattle.dv_grammar.specs.declared.words.NameWord.{NameWord}
@@ -181,7 +183,7 @@ number_is low high _ n e = cc
 
 bound_is : (d : Data) (bound : Option ℕ) → bound_at d ≡ Some bound → IsBound d bound
 bound_is null bound e = rw (← some_injective e) no_bound
-bound_is (number x) bound e = mapped (number_at 0 65536 (number x)) Some bound e (λ n n_is n_then. rw (← n_then) (a_bound (number x) n (number_is 0 65536 (number x) n n_is)))
+bound_is (number x) bound e = mapped (number_at 0 MOST_PLACES (number x)) Some bound e (λ n n_is n_then. rw (← n_then) (a_bound (number x) n (number_is 0 MOST_PLACES (number x) n n_is)))
 bound_is _ bound e = cc
 
 class_is : (table : List Class) (d : Data) (class : ℕ) → class_at table d ≡ Some class → IsClass table d class
@@ -295,7 +297,7 @@ sound_work_of table work_words.Raise ds x e =
     two_read (class_at table) text_at job.Raise ds x e (λ d f c t ds_is c_is t_is made.
     rw (ds_is, text_is f t t_is, ← made) (fails d c t (class_is table d c c_is)))
 sound_work_of table work_words.Sum ds x e =
-    one_read (number_at 0 1000000) job.Sum ds x e (λ d n ds_is n_is made. rw (ds_is, ← made) (sums d n (number_is 0 1000000 d n n_is)))
+    one_read (number_at 0 MOST_SUM) job.Sum ds x e (λ d n ds_is n_is made. rw (ds_is, ← made) (sums d n (number_is 0 MOST_SUM d n n_is)))
 
 sound_work : (table : List Class) (d : Data) (x : Work) → work_at table d ≡ Some x → IsWork table d x
 unfolding work_at
@@ -431,10 +433,10 @@ module _ (table : List Class) (r : Readers) (sound : AreSound table r) where
       bind (four ds) _ x e (λ p p_is p_then.
       bind (text_at p.0) _ x p_then (λ n n_is n_then.
       bind (text_at p.1) _ x n_then (λ m m_is m_then.
-      bind (number_at 0 (10 ^ 12) p.2) _ x m_then (λ k k_is k_then.
+      bind (number_at 0 MOST_DELAY p.2) _ x m_then (λ k k_is k_then.
       bind (work_at table p.3) _ x k_then (λ b b_is b_then.
       rw (four_is ds p p_is, text_is p.0 n n_is, text_is p.1 m m_is, ← some_injective b_then)
-      (thread_in n m p.2 p.3 k b (number_is 0 (10 ^ 12) p.2 k k_is) (sound_work table p.3 b b_is)))))))
+      (thread_in n m p.2 p.3 k b (number_is 0 MOST_DELAY p.2 k k_is) (sound_work table p.3 b b_is)))))))
 
   sound_plain_of : (word : PlainWord) (ds : Items) (x : Action) → plain_of table word ds ≡ Some x
       → IsAction table (array (item (string (plain_text word)) ds)) x
@@ -450,14 +452,14 @@ module _ (table : List Class) (r : Readers) (sound : AreSound table r) where
   sound_plain_of plain.Gather ds x e =
       named_with_two table (list_at text_at) (IsList IsText) (sound_list IsText text_at text_is) (list_at gather_flag_at) (IsList IsGatherFlag) (sound_list IsGatherFlag gather_flag_at gather_flag_is) Gather (codes "gather") gather ds x e
   sound_plain_of plain.Semaphore ds x e =
-      named_with table (number_at 1 65536) (IsNumber 1 65536) (number_is 1 65536) Semaphore (codes "semaphore") semaphore ds x e
+      named_with table (number_at 1 MOST_PLACES) (IsNumber 1 MOST_PLACES) (number_is 1 MOST_PLACES) Semaphore (codes "semaphore") semaphore ds x e
   sound_plain_of plain.Queue ds x e =
       named_with_two table bound_at IsBound bound_is bound_at IsBound bound_is Queue (codes "queue") queue ds x e
   sound_plain_of plain.Thread ds x e =
-      named_with_two table (number_at 0 (10 ^ 12)) (IsNumber 0 (10 ^ 12)) (number_is 0 (10 ^ 12)) (work_at table) (IsWork table) (sound_work table) Thread (codes "thread") thread ds x e
+      named_with_two table (number_at 0 MOST_DELAY) (IsNumber 0 MOST_DELAY) (number_is 0 MOST_DELAY) (work_at table) (IsWork table) (sound_work table) Thread (codes "thread") thread ds x e
   sound_plain_of plain.ThreadIn ds x e = thread_in_read ds x e
   sound_plain_of plain.AddTimeout ds x e =
-      named_with table (number_at 0 (10 ^ 12)) (IsNumber 0 (10 ^ 12)) (number_is 0 (10 ^ 12)) AddTimeout (codes "addTimeout") add_timeout ds x e
+      named_with table (number_at 0 MOST_DELAY) (IsNumber 0 MOST_DELAY) (number_is 0 MOST_DELAY) AddTimeout (codes "addTimeout") add_timeout ds x e
 
   loop_read : (ds : Items) (x : Action) → loop_of r.body ds ≡ Some x
       → IsAction table (array (item (string (codes "loop")) ds)) x
@@ -466,11 +468,11 @@ module _ (table : List Class) (r : Readers) (sound : AreSound table r) where
       bind (five ds) _ x e (λ p p_is p_then.
       bind (text_at p.0) _ x p_then (λ n n_is n_then.
       bind (text_at p.1) _ x n_then (λ m m_is m_then.
-      bind (number_at 1 (10 ^ 12) p.2) _ x m_then (λ k k_is k_then.
+      bind (number_at 1 MOST_DELAY p.2) _ x m_then (λ k k_is k_then.
       bind (as_bool p.3) _ x k_then (λ c c_is c_then.
       bind (r.body p.4) _ x c_then (λ b b_is b_then.
       rw (five_is ds p p_is, text_is p.0 n n_is, text_is p.1 m m_is, boolean_is p.3 c c_is, ← some_injective b_then)
-      (loop n m p.2 k c p.4 b (number_is 1 (10 ^ 12) p.2 k k_is) (sound.body p.4 b b_is))))))))
+      (loop n m p.2 k c p.4 b (number_is 1 MOST_DELAY p.2 k k_is) (sound.body p.4 b b_is))))))))
 
   sound_nesting_of : (word : NestingWord) (ds : Items) (x : Action) → nesting_of r.body r.statement word ds ≡ Some x
       → IsAction table (array (item (string (nesting_text word)) ds)) x
@@ -481,7 +483,7 @@ module _ (table : List Class) (r : Readers) (sound : AreSound table r) where
   sound_nesting_of nesting.RunWith ds x e =
       named_with_two table text_at IsText text_is r.body (IsBody table) sound.body RunWith (codes "runWith") (λ n c f l b c_is b_is. rw c_is (run_with n l f b b_is)) ds x e
   sound_nesting_of nesting.Later ds x e =
-      named_with_two table (number_at 0 (10 ^ 12)) (IsNumber 0 (10 ^ 12)) (number_is 0 (10 ^ 12)) r.body (IsBody table) sound.body Later (codes "later") later ds x e
+      named_with_two table (number_at 0 MOST_DELAY) (IsNumber 0 MOST_DELAY) (number_is 0 MOST_DELAY) r.body (IsBody table) sound.body Later (codes "later") later ds x e
   sound_nesting_of nesting.Loop ds x e = loop_read ds x e
   sound_nesting_of nesting.Cooperate ds x e =
       named_with table (list_at r.body) (IsBodies table) bodies_in Cooperate (codes "cooperate") (λ n d bs h. rw h.1 (cooperate n h.0 bs h.2)) ds x e
@@ -566,7 +568,7 @@ sound_event_of : (table : List Class) (word : EventWord) (ds : Items) (x : Event
     → IsEvent table (array (item (string (event_text word)) ds)) x
 unfolding event_of
 sound_event_of table event_words.Advance ds x e =
-    one_read (number_at 0 (10 ^ 15)) happens.Advance ds x e (λ d n ds_is n_is made. rw (ds_is, ← made) (advances d n (number_is 0 (10 ^ 15) d n n_is)))
+    one_read (number_at 0 MOST_TICKS) happens.Advance ds x e (λ d n ds_is n_is made. rw (ds_is, ← made) (advances d n (number_is 0 MOST_TICKS d n n_is)))
 sound_event_of table event_words.Drain ds x e =
     one_read (number_at 0 2048) happens.Drain ds x e (λ d n ds_is n_is made. rw (ds_is, ← made) (drains d n (number_is 0 2048 d n n_is)))
 
@@ -600,13 +602,13 @@ unfolding cooperator_at fields_at
 sound_cooperator (object ms) x e =
     bind (fields_at cooperator_keys (object ms)) _ x e (λ t t_is t_then.
     bind (option_and_then (number_at 1 1000) (get_member (codes "units") ms)) _ x t_then (λ u u_is u_then.
-    bind (option_and_then (number_at 1 (10 ^ 12)) (get_member (codes "delay") ms)) _ x u_then (λ v v_is v_then.
+    bind (option_and_then (number_at 1 MOST_DELAY) (get_member (codes "delay") ms)) _ x u_then (λ v v_is v_then.
     rw (← some_injective v_then) (record {
       members = ms;
       whole = refl;
       only = fields_is cooperator_keys ms t t_is;
       units = sound_key u (IsNumber 1 1000) (number_at 1 1000) (number_is 1 1000) (get_member (codes "units") ms) u_is;
-      delay = sound_key v (IsNumber 1 (10 ^ 12)) (number_at 1 (10 ^ 12)) (number_is 1 (10 ^ 12)) (get_member (codes "delay") ms) v_is;
+      delay = sound_key v (IsNumber 1 MOST_DELAY) (number_at 1 MOST_DELAY) (number_is 1 MOST_DELAY) (get_member (codes "delay") ms) v_is;
     }))))
 sound_cooperator _ x e = cc
 
@@ -614,8 +616,8 @@ sound_pool : (d : Data) (x : NamedPool) → pool_at d ≡ Some x → IsPool d x
 unfolding pool_at
 sound_pool d x e =
     bind (as_array d) _ x e (λ ds ds_is ds_then.
-    two_read text_at (number_at 0 16) _ ds x ds_then (λ c f n k items_are n_is k_is made.
-    rw (array_is d ds ds_is, items_are, text_is c n n_is, ← made) (pools n f k (number_is 0 16 f k k_is))))
+    two_read text_at (number_at 0 MOST_WORKERS) _ ds x ds_then (λ c f n k items_are n_is k_is made.
+    rw (array_is d ds ds_is, items_are, text_is c n n_is, ← made) (pools n f k (number_is 0 MOST_WORKERS f k k_is))))
 
 sound_caller : (table : List Class) (d : Data) (posts : List Body) → caller_at table d ≡ Some posts → IsList (IsBody table) d posts
 sound_caller table = sound_list (IsBody table) (body_at table max_depth) (sound_readers table max_depth).body
@@ -626,7 +628,7 @@ unfolding script_at fields_at table_for
 sound_script (object ms) draft e =
     bind (option_and_then (number_at 1 2) (get_member (codes "version") ms)) _ draft e (λ v v_is v_then.
     bind (fields_at (keys_of v) (object ms)) _ draft v_then (λ t t_is t_then.
-    bind (field 2000 (number_at 0 200000) (get_member (codes "limit") ms)) _ draft t_then (λ l l_is l_then.
+    bind (field USUAL_LIMIT (number_at 0 MOST_LIMIT) (get_member (codes "limit") ms)) _ draft t_then (λ l l_is l_then.
     bind (field plain_cooperator cooperator_at (get_member (codes "cooperator") ms)) _ draft l_then (λ o o_is o_then.
     bind (field [] (list_at pool_at) (get_member (codes "pools") ms)) _ draft o_then (λ q q_is q_then.
     bind (field [] (list_at declaration_at) (get_member (codes "classes") ms)) _ draft q_then (λ c c_is c_then.
@@ -640,7 +642,7 @@ sound_script (object ms) draft e =
       declared = sound_field [] c (IsList IsDeclaration) (list_at declaration_at) (sound_list IsDeclaration declaration_at sound_declaration) (get_member (codes "classes") ms) c_is;
       all_declared = refl;
       table = refl;
-      limit = sound_field 2000 l (IsNumber 0 200000) (number_at 0 200000) (number_is 0 200000) (get_member (codes "limit") ms) l_is;
+      limit = sound_field USUAL_LIMIT l (IsNumber 0 MOST_LIMIT) (number_at 0 MOST_LIMIT) (number_is 0 MOST_LIMIT) (get_member (codes "limit") ms) l_is;
       cooperator = sound_field plain_cooperator o IsCooperator cooperator_at sound_cooperator (get_member (codes "cooperator") ms) o_is;
       pools = sound_field [] q (IsList IsPool) (list_at pool_at) (sound_list IsPool pool_at sound_pool) (get_member (codes "pools") ms) q_is;
       callers = sound_field [] p (IsList (IsList (IsBody (table_of c)))) (list_at (caller_at (table_of c))) (sound_list (IsList (IsBody (table_of c))) (caller_at (table_of c)) (sound_caller (table_of c))) (get_member (codes "callers") ms) p_is;

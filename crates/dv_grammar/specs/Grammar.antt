@@ -1,5 +1,5 @@
 -- The grammar of scripts: which JSON stands for what, a rule a line (Twisted: the methods of `Deferred`, and of the objects round it).
-use Rattle.std.specs.Prelude.{◌≡◌, ◌^◌, ℕ, nat_eq, if◌then◌else◌, ℤ, Bool, true, List, [], ◌∷◌, Option, Some, None, codes}
+use Rattle.std.specs.Prelude.{◌≡◌, ℕ, nat_eq, if◌then◌else◌, ℤ, Bool, true, List, [], ◌∷◌, Option, Some, None, codes}
 use Rattle.serde_json.specs.Data.{Data, null, boolean, string, array, object, Items, no_items, item, Members}
 use Rattle.serde_json.specs.Find.{get_member}
 use Rattle.dv_value.specs.declared.value.Value.{Value}
@@ -19,6 +19,8 @@ use Rattle.dv_script.specs.declared.event.Event.{Event}
 use Rattle.dv_script.specs.declared.event.Event.TheVariants as event
 use Rattle.dv_script.specs.declared.script.Cooperator.{Cooperator}
 use Rattle.dv_script.specs.declared.script.NamedPool.{NamedPool}
+use Rattle.dv_script.specs.declared.limits.TheConstants.{MOST_LIMIT, MOST_PLACES, MOST_SUM, MOST_WORKERS, USUAL_LIMIT}
+use Rattle.dv_clock.specs.declared.limits.TheConstants.{MOST_DELAY, MOST_TICKS}
 use Rattle.dv_forms.specs.declared.declaration.Declaration.{Declaration}
 use Rattle.dv_grammar.specs.declared.draft.Draft.{Draft}
 use Rattle.dv_forms.specs.Leaving.{may_leave}
@@ -66,7 +68,7 @@ pub data IsWork (table : List Class) : Data → Work → Type 0 where
   fails : (c : Data) (class : ℕ) (text : List ℕ) → IsClass table c class
       → IsWork table (call (codes "raise") (c ∷ string text ∷ [])) (work.Raise class text)
   -- ["sum",N]
-  sums : (d : Data) (n : ℕ) → IsNumber 0 1000000 d n → IsWork table (call (codes "sum") (d ∷ [])) (work.Sum n)
+  sums : (d : Data) (n : ℕ) → IsNumber 0 MOST_SUM d n → IsWork table (call (codes "sum") (d ∷ [])) (work.Sum n)
 
 -- FLAG of a list
 pub data IsListFlag : Data → ListFlag → Type 0 where
@@ -83,7 +85,7 @@ pub data IsBound : Data → Option ℕ → Type 0 where
   -- null
   no_bound : IsBound null None
   -- 0 to 65,536
-  a_bound : (d : Data) (n : ℕ) → IsNumber 0 65536 d n → IsBound d (Some n)
+  a_bound : (d : Data) (n : ℕ) → IsNumber 0 MOST_PLACES d n → IsBound d (Some n)
 
 mutual
   -- ACTION: what a script does
@@ -120,7 +122,7 @@ mutual
     -- ["cancel",D]
     cancel : (name : List ℕ) → IsAction table (call (codes "cancel") (string name ∷ [])) (Cancel name)
     -- ["addTimeout",D,N]
-    add_timeout : (name : List ℕ) (d : Data) (delay : ℕ) → IsNumber 0 (10 ^ 12) d delay
+    add_timeout : (name : List ℕ) (d : Data) (delay : ℕ) → IsNumber 0 MOST_DELAY d delay
         → IsAction table (call (codes "addTimeout") (string name ∷ d ∷ [])) (AddTimeout name delay)
     -- ["note",TEXT]
     note : (text : List ℕ) → IsAction table (call (codes "note") (string text ∷ [])) (Note text)
@@ -136,7 +138,7 @@ mutual
     -- ["lock",L]
     lock : (name : List ℕ) → IsAction table (call (codes "lock") (string name ∷ [])) (Lock name)
     -- ["semaphore",L,N]
-    semaphore : (name : List ℕ) (d : Data) (n : ℕ) → IsNumber 1 65536 d n
+    semaphore : (name : List ℕ) (d : Data) (n : ℕ) → IsNumber 1 MOST_PLACES d n
         → IsAction table (call (codes "semaphore") (string name ∷ d ∷ [])) (Semaphore name n)
     -- ["acquire",D,L]
     acquire : (name lock : List ℕ) → IsAction table (call (codes "acquire") (string name ∷ string lock ∷ [])) (Acquire name lock)
@@ -154,13 +156,13 @@ mutual
     -- ["get",D,Q]
     get : (name queue : List ℕ) → IsAction table (call (codes "get") (string name ∷ string queue ∷ [])) (Get name queue)
     -- ["later",C,N,BODY]
-    later : (name : List ℕ) (c d : Data) (delay : ℕ) (body : Body) → IsNumber 0 (10 ^ 12) c delay → IsBody table d body
+    later : (name : List ℕ) (c d : Data) (delay : ℕ) (body : Body) → IsNumber 0 MOST_DELAY c delay → IsBody table d body
         → IsAction table (call (codes "later") (string name ∷ c ∷ d ∷ [])) (Later name delay body)
     -- ["cancelCall",C]
     cancel_call : (name : List ℕ) → IsAction table (call (codes "cancelCall") (string name ∷ [])) (CancelCall name)
     -- ["loop",P,D,N,NOW,BODY]
     loop : (name deferred : List ℕ) (c : Data) (interval : ℕ) (at_once : Bool) (d : Data) (body : Body)
-        → IsNumber 1 (10 ^ 12) c interval → IsBody table d body
+        → IsNumber 1 MOST_DELAY c interval → IsBody table d body
         → IsAction table (call (codes "loop") (string name ∷ string deferred ∷ c ∷ boolean at_once ∷ d ∷ [])) (Loop name deferred interval at_once body)
     -- ["stopLoop",P]
     stop_loop : (name : List ℕ) → IsAction table (call (codes "stopLoop") (string name ∷ [])) (StopLoop name)
@@ -179,10 +181,10 @@ mutual
     inline : (name : List ℕ) (ds : Items) (statements : List Statement) → AreStatements table ds statements
         → IsAction table (call (codes "inline") (string name ∷ array ds ∷ [])) (Inline name statements)
     -- ["thread",D,N,WORK]
-    thread : (name : List ℕ) (c d : Data) (delay : ℕ) (job : Work) → IsNumber 0 (10 ^ 12) c delay → IsWork table d job
+    thread : (name : List ℕ) (c d : Data) (delay : ℕ) (job : Work) → IsNumber 0 MOST_DELAY c delay → IsWork table d job
         → IsAction table (call (codes "thread") (string name ∷ c ∷ d ∷ [])) (Thread name delay job)
     -- ["threadIn",D,POOL,N,WORK]
-    thread_in : (name pool : List ℕ) (c d : Data) (delay : ℕ) (job : Work) → IsNumber 0 (10 ^ 12) c delay → IsWork table d job
+    thread_in : (name pool : List ℕ) (c d : Data) (delay : ℕ) (job : Work) → IsNumber 0 MOST_DELAY c delay → IsWork table d job
         → IsAction table (call (codes "threadIn") (string name ∷ string pool ∷ c ∷ d ∷ [])) (ThreadIn name pool delay job)
 
   -- the items of an array of actions
@@ -232,7 +234,7 @@ mutual
 pub data IsEvent (table : List Class) : Data → Event → Type 0 where
   acts : (d : Data) (a : Action) → IsAction table d a → IsEvent table d (event.Action a)
   -- ["advance",N]
-  advances : (d : Data) (n : ℕ) → IsNumber 0 (10 ^ 15) d n → IsEvent table (call (codes "advance") (d ∷ [])) (event.Advance n)
+  advances : (d : Data) (n : ℕ) → IsNumber 0 MOST_TICKS d n → IsEvent table (call (codes "advance") (d ∷ [])) (event.Advance n)
   -- ["drain",N]
   drains : (d : Data) (n : ℕ) → IsNumber 0 2048 d n → IsEvent table (call (codes "drain") (d ∷ [])) (event.Drain n)
 
@@ -242,7 +244,7 @@ pub data IsDeclaration : Data → Declaration → Type 0 where
 
 -- a pool: [NAME,WORKERS]
 pub data IsPool : Data → NamedPool → Type 0 where
-  pools : (name : List ℕ) (d : Data) (workers : ℕ) → IsNumber 0 16 d workers
+  pools : (name : List ℕ) (d : Data) (workers : ℕ) → IsNumber 0 MOST_WORKERS d workers
       → IsPool (array (item (string name) (item d no_items))) (record { name = name; workers = workers })
 
 -- an object with exactly the keys `units` and `delay`
@@ -251,7 +253,7 @@ pub record IsCooperator (d : Data) (c : Cooperator) : Type 0 where
   pub whole : d ≡ object members
   pub only : has_only cooperator_keys members ≡ true
   pub units : Key (IsNumber 1 1000) (get_member (codes "units") members) c.units
-  pub delay : Key (IsNumber 1 (10 ^ 12)) (get_member (codes "delay") members) c.delay
+  pub delay : Key (IsNumber 1 MOST_DELAY) (get_member (codes "delay") members) c.delay
 
 -- one step a tick, a tick of the cooperator each tick of the clock
 abbrev pub plain_cooperator : Cooperator
@@ -266,7 +268,7 @@ pub record IsScript (d : Data) (draft : Draft) : Type 0 where
   pub declared : Field [] (IsList IsDeclaration) (get_member (codes "classes") members) draft.declared
   pub all_declared : draft.all_declared ≡ all_declared draft.declared
   pub table : draft.script.classes ≡ table_of draft.declared
-  pub limit : Field 2000 (IsNumber 0 200000) (get_member (codes "limit") members) draft.script.limit
+  pub limit : Field USUAL_LIMIT (IsNumber 0 MOST_LIMIT) (get_member (codes "limit") members) draft.script.limit
   pub cooperator : Field plain_cooperator IsCooperator (get_member (codes "cooperator") members) draft.script.cooperator
   pub pools : Field [] (IsList IsPool) (get_member (codes "pools") members) draft.script.pools
   pub callers : Field [] (IsList (IsList (IsBody draft.script.classes))) (get_member (codes "callers") members) draft.script.callers

@@ -1,5 +1,5 @@
 -- What a JSON value reads as by its shape, step by step: the reader that the code follows.
-use Rattle.std.specs.Prelude.{ℕ, zero, suc, ◌^◌, List, [], Option, Some, None, if◌then◌else◌, codes}
+use Rattle.std.specs.Prelude.{ℕ, zero, suc, List, [], Option, Some, None, if◌then◌else◌, codes}
 use Rattle.serde_json.specs.Data.{Data, Items}
 use Rattle.serde_json.specs.Find.{as_array, as_bool, get}
 use Rattle.serde_json.specs.Read.{max_depth}
@@ -16,6 +16,8 @@ use Rattle.dv_script.specs.declared.event.Event.{Event}
 use Rattle.dv_script.specs.declared.event.Event.TheVariants as happens
 use Rattle.dv_script.specs.declared.script.Cooperator.{Cooperator}
 use Rattle.dv_script.specs.declared.script.NamedPool.{NamedPool}
+use Rattle.dv_script.specs.declared.limits.TheConstants.{MOST_LIMIT, MOST_PLACES, MOST_SUM, MOST_WORKERS, USUAL_LIMIT}
+use Rattle.dv_clock.specs.declared.limits.TheConstants.{MOST_DELAY, MOST_TICKS}
 use Rattle.dv_grammar.specs.declared.draft.Draft.{Draft}
 use Rattle.dv_grammar.specs.declared.words.NameWord.{NameWord}
 use Rattle.dv_grammar.specs.declared.words.NameWord.TheVariants as of_name
@@ -70,7 +72,7 @@ leave_at table d = do
 unfoldable pub work_of : List Class → WorkWord → Items → Option Work
 work_of table work.Value ds = one_of value_at job.Value ds
 work_of table work.Raise ds = two_of (class_at table) text_at job.Raise ds
-work_of table work.Sum ds = one_of (number_at 0 1000000) job.Sum ds
+work_of table work.Sum ds = one_of (number_at 0 MOST_SUM) job.Sum ds
 
 -- a work
 unfoldable pub work_at : List Class → Data → Option Work
@@ -121,7 +123,7 @@ thread_in_of table ds = do
   p ← four ds
   name ← text_at p.0
   pool ← text_at p.1
-  delay ← number_at 0 (10 ^ 12) p.2
+  delay ← number_at 0 MOST_DELAY p.2
   given ← work_at table p.3
   Some (ThreadIn name pool delay given)
 
@@ -132,11 +134,11 @@ plain_of table plain.Errback ds = three_of text_at (class_at table) text_at Errb
 plain_of table plain.Put ds = two_of text_at value_at Put ds
 plain_of table plain.List ds = three_of text_at (list_at text_at) (list_at list_flag_at) ListOf ds
 plain_of table plain.Gather ds = three_of text_at (list_at text_at) (list_at gather_flag_at) Gather ds
-plain_of table plain.Semaphore ds = two_of text_at (number_at 1 65536) Semaphore ds
+plain_of table plain.Semaphore ds = two_of text_at (number_at 1 MOST_PLACES) Semaphore ds
 plain_of table plain.Queue ds = three_of text_at bound_at bound_at Queue ds
-plain_of table plain.Thread ds = three_of text_at (number_at 0 (10 ^ 12)) (work_at table) Thread ds
+plain_of table plain.Thread ds = three_of text_at (number_at 0 MOST_DELAY) (work_at table) Thread ds
 plain_of table plain.ThreadIn ds = thread_in_of table ds
-plain_of table plain.AddTimeout ds = two_of text_at (number_at 0 (10 ^ 12)) AddTimeout ds
+plain_of table plain.AddTimeout ds = two_of text_at (number_at 0 MOST_DELAY) AddTimeout ds
 
 -- a loop, whose body is read so
 unfoldable pub loop_of : (Data → Option Body) → Items → Option Action
@@ -144,7 +146,7 @@ loop_of body ds = do
   p ← five ds
   name ← text_at p.0
   deferred ← text_at p.1
-  interval ← number_at 1 (10 ^ 12) p.2
+  interval ← number_at 1 MOST_DELAY p.2
   at_once ← as_bool p.3
   b ← body p.4
   Some (Loop name deferred interval at_once b)
@@ -154,7 +156,7 @@ unfoldable pub nesting_of : (Data → Option Body) → (Data → Option Statemen
 nesting_of body statement nesting.Deferred ds = new_deferred_of body ds
 nesting_of body statement nesting.AddCallbacks ds = three_of text_at body body AddCallbacks ds
 nesting_of body statement nesting.RunWith ds = three_of text_at text_at body RunWith ds
-nesting_of body statement nesting.Later ds = three_of text_at (number_at 0 (10 ^ 12)) body Later ds
+nesting_of body statement nesting.Later ds = three_of text_at (number_at 0 MOST_DELAY) body Later ds
 nesting_of body statement nesting.Loop ds = loop_of body ds
 nesting_of body statement nesting.Cooperate ds = two_of text_at (list_at body) Cooperate ds
 nesting_of body statement nesting.Inline ds = two_of text_at (list_at statement) Inline ds
@@ -227,7 +229,7 @@ action_at table levels = action_with table (readers table levels)
 
 -- an event that is no action, by its word
 unfoldable pub event_of : EventWord → Items → Option Event
-event_of event.Advance ds = one_of (number_at 0 (10 ^ 15)) happens.Advance ds
+event_of event.Advance ds = one_of (number_at 0 MOST_TICKS) happens.Advance ds
 event_of event.Drain ds = one_of (number_at 0 2048) happens.Drain ds
 
 -- an event that is no action
@@ -251,14 +253,14 @@ unfoldable pub cooperator_at : Data → Option Cooperator
 cooperator_at d = do
   _ ← fields_at cooperator_keys d
   units ← get (codes "units") d >>= number_at 1 1000
-  delay ← get (codes "delay") d >>= number_at 1 (10 ^ 12)
+  delay ← get (codes "delay") d >>= number_at 1 MOST_DELAY
   Some (record { units = units; delay = delay })
 
 -- a pool
 unfoldable pub pool_at : Data → Option NamedPool
 pool_at d = do
   ds ← as_array d
-  two_of text_at (number_at 0 16) (λ name workers. record { name = name; workers = workers }) ds
+  two_of text_at (number_at 0 MOST_WORKERS) (λ name workers. record { name = name; workers = workers }) ds
 
 -- the posts of a caller
 abbrev pub caller_at : List Class → Data → Option (List Body)
@@ -269,7 +271,7 @@ unfoldable pub script_at : Data → Option Draft
 script_at d = do
   version ← get (codes "version") d >>= number_at 1 2
   _ ← fields_at (keys_of version) d
-  limit ← field 2000 (number_at 0 200000) (get (codes "limit") d)
+  limit ← field USUAL_LIMIT (number_at 0 MOST_LIMIT) (get (codes "limit") d)
   cooperator ← field plain_cooperator cooperator_at (get (codes "cooperator") d)
   pools ← field [] (list_at pool_at) (get (codes "pools") d)
   declared ← field [] (list_at declaration_at) (get (codes "classes") d)

@@ -6,7 +6,7 @@ use Rattle.dv_posts.specs.Posts as inbox
 use Rattle.dv_posts.specs.Ring.{Ring}
 use Rattle.dv_posts.specs.declared.callers.Caller.{Caller}
 use Rattle.dv_posts.specs.declared.callers.Caller.TheVariants.{Running, Here}
-use Rattle.dv_posts.specs.declared.limits.TheConstants.{MOST_CALLERS, MOST_POSTS}
+use Rattle.dv_script.specs.declared.limits.TheConstants.{MOST_CALLERS, MOST_POSTS}
 
 -- no more callers, and no more posts of each, than an inbox has room for
 pub record AreFew (callers : Callers) : Type 0 where

@@ -3,7 +3,7 @@ ghost use Rattle.dv_posts.specs.Batches.{AreNext, Batch, posts_of};
 ghost use Rattle.dv_posts.specs.Callers.{AllServe, AreFew, HasAll, HasPosted, HavePosted, Serves, TookBatches};
 ghost use Rattle.dv_posts.specs.Posts.{AreOf, IsFresh, SameInbox, of};
 ghost use Rattle.dv_posts.specs.Ring.{Ring};
-ghost use Rattle.dv_posts.specs.declared.limits.TheConstants.{MOST_POSTS};
+ghost use Rattle.dv_script.specs.declared.limits.TheConstants.{MOST_POSTS};
 
 use crate::inbox::Inbox;
 use crate::posted::Posted;

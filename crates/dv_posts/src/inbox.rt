@@ -1,6 +1,6 @@
 ghost use Rattle.std.specs.Prelude.{◌≡◌, ◌<◌, ◌≤◌, length, All, IfNone, IfOk, IfSome};
 ghost use Rattle.dv_posts.specs.Receiving.{ArePassed, AreRead, TakesAt, inbox_of};
-ghost use Rattle.dv_posts.specs.declared.limits.TheConstants.{MOST_CALLERS, MOST_POSTS};
+ghost use Rattle.dv_script.specs.declared.limits.TheConstants.{MOST_CALLERS, MOST_POSTS};
 
 use crate::posted::Posted;
 use crate::poster::Poster;
@@ -23,7 +23,7 @@ impl Model for Inbox {
     ghost use Rattle.std.specs.Prelude.{◌≤◌, length};
     ghost use Rattle.std.specs.Coded.{codes};
     ghost use Rattle.dv_posts.specs.Posts.{Inbox as Seen};
-    ghost use Rattle.dv_posts.specs.declared.limits.TheConstants.{MOST_CALLERS};
+    ghost use Rattle.dv_script.specs.declared.limits.TheConstants.{MOST_CALLERS};
 
     ghost Value = { Seen };
 

@@ -4,7 +4,6 @@
 pub mod batches;
 pub mod callers;
 pub mod inbox;
-pub mod limits;
 pub mod posted;
 pub mod poster;
 mod receiver;

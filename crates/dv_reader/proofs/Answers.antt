@@ -5,10 +5,11 @@ use Rattle.std.proofs.lemmas.Bool.{and_parts, leb-true}
 use Rattle.serde_json.proofs.Nesting.{depth-read}
 use Rattle.dv_grammar.specs.declared.draft.Draft.{Draft}
 use Rattle.dv_script.specs.declared.script.Script.{Script}
+use Rattle.dv_script.specs.declared.limits.TheConstants.{MOST_LIMIT, MOST_NODES, MOST_POOLS, USUAL_LIMIT}
 use Rattle.dv_reader.specs.declared.error.ScriptFault.{ScriptFault}
 use Rattle.dv_reader.specs.declared.error.ScriptFault.TheVariants.{TooLong, NotJson, BadVersion, BadShape, TooMany, BadName, BadClass, OutOfMemory, BadPool}
 use Rattle.dv_forms.specs.Forms.{Field, IsNumber}
-use Rattle.dv_reader.specs.Limits.{most_nodes, most_limit, most_pools, nodes, is_small}
+use Rattle.dv_reader.specs.Limits.{nodes, is_small}
 use Rattle.dv_reader.specs.Refusal.{IsDocument, IsMisshapen, keeps_version, HasShape, Says, Refuses}
 use Rattle.dv_grammar.specs.Shape.{script_at}
 use Rattle.dv_reader.specs.Passes.{JudgedIn, Passes, is_version, shape_at}
@@ -78,20 +79,20 @@ refuses bytes (Err OutOfMemory) h = tt
 refuses bytes (Err BadPool) h =
     let j = h.4 in (h.0, j.0, shaped bytes h.0 j.0 (document bytes (Err BadPool) h) j.1 j.2, j.3, j.4, j.5, j.6)
 
-pub few : (bytes : List ℕ) (r : Result Script ScriptFault) → Passes bytes r → IfOk r (λ s. length s.events ≤ most_nodes)
+pub few : (bytes : List ℕ) (r : Result Script ScriptFault) → Passes bytes r → IfOk r (λ s. length s.events ≤ MOST_NODES)
 few bytes (Ok s) h =
     let j = h.4 in
     let same : length s.events ≡ length j.0.script.events = ap (λ (x : Script). length x.events) (sym j.3) in
     let few_events : length j.0.script.events ≤ nodes h.0 = events_few h.0 j.0 (sound_script h.0 j.0 (shape_is h.0 j.0 j.2).0) in
-    let few_nodes : nodes h.0 ≤ most_nodes = leb-true (nodes h.0) most_nodes (and_parts _ _ (and_parts _ _ (and_parts _ _ (and_parts _ _ (and_parts _ _ j.4).0).0).0).0).0 in
+    let few_nodes : nodes h.0 ≤ MOST_NODES = leb-true (nodes h.0) MOST_NODES (and_parts _ _ (and_parts _ _ (and_parts _ _ (and_parts _ _ (and_parts _ _ j.4).0).0).0).0).0 in
     omega (arith, same, few_events, few_nodes)
 few bytes (Err fault) h = tt
 
-limited_field : (o : Option Data) (n : ℕ) → Field 2000 (IsNumber 0 most_limit) o n → n ≤ most_limit
+limited_field : (o : Option Data) (n : ℕ) → Field USUAL_LIMIT (IsNumber 0 MOST_LIMIT) o n → n ≤ MOST_LIMIT
 limited_field None n h = omega (arith, h)
 limited_field (Some d) n h = h.2
 
-pub limited : (bytes : List ℕ) (r : Result Script ScriptFault) → Passes bytes r → IfOk r (λ s. s.limit ≤ most_limit)
+pub limited : (bytes : List ℕ) (r : Result Script ScriptFault) → Passes bytes r → IfOk r (λ s. s.limit ≤ MOST_LIMIT)
 limited bytes (Ok s) h =
     let j = h.4 in
     let same : s.limit ≡ j.0.script.limit = ap (λ (x : Script). x.limit) (sym j.3) in
@@ -99,10 +100,10 @@ limited bytes (Ok s) h =
 limited bytes (Err fault) h = tt
 
 -- what is small enough has few pools
-small_pools : (d : Data) (draft : Draft) → is_small d draft ≡ true → length draft.script.pools ≤ most_pools
-small_pools d draft e = leb-true (length draft.script.pools) most_pools (and_parts _ _ (and_parts _ _ (and_parts _ _ (and_parts _ _ e).0).0).0).1
+small_pools : (d : Data) (draft : Draft) → is_small d draft ≡ true → length draft.script.pools ≤ MOST_POOLS
+small_pools d draft e = leb-true (length draft.script.pools) MOST_POOLS (and_parts _ _ (and_parts _ _ (and_parts _ _ (and_parts _ _ e).0).0).0).1
 
-pub few_pools : (bytes : List ℕ) (r : Result Script ScriptFault) → Passes bytes r → IfOk r (λ s. length s.pools ≤ most_pools)
+pub few_pools : (bytes : List ℕ) (r : Result Script ScriptFault) → Passes bytes r → IfOk r (λ s. length s.pools ≤ MOST_POOLS)
 few_pools bytes (Ok s) h =
     let j = h.4 in
     let same : length s.pools ≡ length j.0.script.pools = ap (λ (x : Script). length x.pools) (sym j.3) in

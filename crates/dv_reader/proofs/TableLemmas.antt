@@ -7,7 +7,8 @@ use Rattle.dv_value.specs.Laws.{ParentsStandBefore}
 use Rattle.dv_value.proofs.Paths.{paths_go_up, builtin_ordered, declared_ordered}
 use Rattle.dv_forms.specs.declared.declaration.Declaration.{Declaration}
 use Rattle.dv_script.specs.declared.script.Script.{Script}
-use Rattle.dv_forms.specs.Table.{most_classes, can_declare, with_declared, table_after, table_of}
+use Rattle.dv_script.specs.declared.limits.TheConstants.{MOST_CLASSES}
+use Rattle.dv_forms.specs.Table.{can_declare, with_declared, table_after, table_of}
 use Rattle.dv_reader.specs.Laws.{ParentsOfScriptsStandBefore, PathsOfScriptsGoUp}
 
 either_ordered : (b : Bool) (table other : List Class) → ParentsStandBefore table → ParentsStandBefore other → ParentsStandBefore (cond b table other)
@@ -24,7 +25,7 @@ table_after_ordered table (c ∷ cs) h = table_after_ordered (with_declared tabl
 
 table_of_ordered : (cs : List Declaration) → ParentsStandBefore (table_of cs)
 table_of_ordered cs =
-    either_ordered (nat_le (length cs) most_classes) (table_after builtin cs) builtin (table_after_ordered builtin cs builtin_ordered) builtin_ordered
+    either_ordered (nat_le (length cs) MOST_CLASSES) (table_after builtin cs) builtin (table_after_ordered builtin cs builtin_ordered) builtin_ordered
 
 pub script_ordered : ParentsOfScriptsStandBefore
 script_ordered bytes s h =

@@ -4,12 +4,13 @@ use Rattle.serde_json.specs.Data.{Data}
 use Rattle.serde_json.specs.Find.{get, as_number, as_u64}
 use Rattle.serde_json.specs.Read.{read}
 use Rattle.dv_script.specs.declared.script.Script.{Script}
+use Rattle.dv_script.specs.declared.limits.TheConstants.{MOST_BYTES}
 use Rattle.dv_reader.specs.declared.error.ScriptFault.{ScriptFault}
 use Rattle.dv_reader.specs.declared.error.ScriptFault.TheVariants.{TooLong, NotJson, BadVersion, BadShape, TooMany, BadName, BadClass, OutOfMemory, BadPool}
 use Rattle.dv_forms.specs.declared.stop.Stop.{Stop}
 use Rattle.dv_forms.specs.declared.stop.Stop.TheVariants as stop
 use Rattle.dv_grammar.specs.declared.draft.Draft.{Draft}
-use Rattle.dv_reader.specs.Limits.{most_bytes, is_small}
+use Rattle.dv_reader.specs.Limits.{is_small}
 use Rattle.dv_reader.specs.Refusal.{keeps_version, are_named, are_known, are_pooled}
 use Rattle.dv_grammar.specs.Shape.{script_at}
 
@@ -66,13 +67,13 @@ Judged d (Err BadPool) =
 
 -- what they find of the value that the bytes are
 abbrev pub JudgedIn : List ℕ → Result Script ScriptFault → Type 0
-JudgedIn bytes answer = (d : Data) × (length bytes ≤ most_bytes) × IsUtf8 bytes × (read bytes ≡ Some d) × Judged d answer
+JudgedIn bytes answer = (d : Data) × (length bytes ≤ MOST_BYTES) × IsUtf8 bytes × (read bytes ≡ Some d) × Judged d answer
 
 -- what they find of bytes
 abbrev pub Passes : List ℕ → Result Script ScriptFault → Type 0
 Passes bytes (Ok s) = JudgedIn bytes (Ok s)
-Passes bytes (Err TooLong) = most_bytes < length bytes
-Passes bytes (Err NotJson) = (length bytes ≤ most_bytes) × (IsUtf8 bytes → read bytes ≡ None)
+Passes bytes (Err TooLong) = MOST_BYTES < length bytes
+Passes bytes (Err NotJson) = (length bytes ≤ MOST_BYTES) × (IsUtf8 bytes → read bytes ≡ None)
 Passes bytes (Err BadVersion) = JudgedIn bytes (Err BadVersion)
 Passes bytes (Err BadShape) = JudgedIn bytes (Err BadShape)
 Passes bytes (Err TooMany) = JudgedIn bytes (Err TooMany)

@@ -6,6 +6,7 @@ use Rattle.serde_json.specs.Find.{get}
 use Rattle.serde_json.specs.Read.{read}
 use Rattle.dv_script.specs.declared.script.NamedPool.{NamedPool}
 use Rattle.dv_script.specs.declared.script.Script.{Script}
+use Rattle.dv_script.specs.declared.limits.TheConstants.{MOST_BYTES}
 use Rattle.dv_forms.specs.declared.declaration.Declaration.{Declaration}
 use Rattle.dv_grammar.specs.declared.draft.Draft.{Draft}
 use Rattle.dv_reader.specs.declared.error.ScriptFault.{ScriptFault}
@@ -14,11 +15,11 @@ use Rattle.dv_reader.specs.declared.suits.Wanted.TheVariants.{Names, Classes, Po
 use Rattle.dv_grammar.specs.Grammar.{IsScript}
 use Rattle.dv_reader.specs.Names.{is_name}
 use Rattle.dv_reader.specs.Suits.{is_among, suits_script}
-use Rattle.dv_reader.specs.Limits.{most_bytes, is_small}
+use Rattle.dv_reader.specs.Limits.{is_small}
 
 -- the bytes are the JSON text of this value, and not too long
 pub record IsDocument (bytes : List ℕ) (d : Data) : Type 0 where
-  pub fits : length bytes ≤ most_bytes
+  pub fits : length bytes ≤ MOST_BYTES
   pub text : IsUtf8 bytes
   pub is : read bytes ≡ Some d
 
@@ -79,8 +80,8 @@ pub record Says (bytes : List ℕ) (script : Script) : Type 0 where
 
 -- why the bytes are refused, each reason where none before it holds; want of memory may come at any time
 abbrev pub Refuses : ScriptFault → List ℕ → Type 0
-Refuses TooLong bytes = most_bytes < length bytes
-Refuses NotJson bytes = (length bytes ≤ most_bytes) × (IsUtf8 bytes → read bytes ≡ None)
+Refuses TooLong bytes = MOST_BYTES < length bytes
+Refuses NotJson bytes = (length bytes ≤ MOST_BYTES) × (IsUtf8 bytes → read bytes ≡ None)
 Refuses BadVersion bytes = (d : Data) × IsDocument bytes d × (HasVersion d → ⊥)
 Refuses BadShape bytes = (d : Data) × IsDocument bytes d × HasVersion d × IsMisshapen d
 Refuses TooMany bytes = (d : Data) × (draft : Draft) × HasShape bytes d draft × (is_small d draft ≡ false)

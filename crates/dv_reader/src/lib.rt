@@ -3,10 +3,8 @@
 
 pub mod error;
 pub mod laws;
-mod limits;
-mod names;
+pub mod limits;
+pub mod names;
 mod passes;
 pub mod read_script;
 mod suits;
-
-pub use limits::MOST_BYTES;

@@ -1,29 +1,17 @@
 ghost use Rattle.std.specs.Prelude.{◌≡◌, ◌^◌, ◌-◌, min, nat_le};
 ghost use Rattle.std.specs.List.{list_all};
 ghost use Rattle.serde_json.specs.View.{view, items_view, members_view};
-ghost use Rattle.dv_reader.specs.Limits.{nodes, item_nodes, member_nodes, most_nodes, most_ticks, ticks_of, ticks_in, are_few, is_small};
+ghost use Rattle.dv_clock.specs.declared.limits.TheConstants.{MOST_TICKS};
+ghost use Rattle.dv_script.specs.declared.limits.TheConstants.{MOST_NODES};
+ghost use Rattle.dv_reader.specs.Limits.{nodes, item_nodes, member_nodes, ticks_of, ticks_in, are_few, is_small};
 
-use dv_forms::ranges::{MOST_CLASSES, MOST_TICKS};
+use dv_clock::limits::MOST_TICKS;
 use dv_grammar::draft::Draft;
 use dv_script::body::Body;
 use dv_script::event::Event;
+use dv_script::limits::{MOST_CALLERS, MOST_CLASSES, MOST_NODES, MOST_POOLS, MOST_POSTS};
 use dv_value::items::Items;
 use serde_json::{Map, Value as Json};
-
-/// The most bytes of a script.
-pub const MOST_BYTES: usize = 1_048_576;
-
-/// The most nodes of a script.
-pub const MOST_NODES: u64 = 65_536;
-
-/// The most callers of a script.
-pub const MOST_CALLERS: usize = 8;
-
-/// The most posts of a caller.
-pub const MOST_POSTS: usize = 256;
-
-/// The most pools of a script.
-pub const MOST_POOLS: usize = 4;
 
 /// How many nodes the value has, to the last number of 64 bits.
 #[cycle(nodes)]
@@ -59,8 +47,9 @@ fn member_nodes(members: &Map<String, Json>) -> u64
     count
 }
 
-fn has_few_nodes(json: &Json) -> bool
-    ensures { result ≡ nat_le (nodes (view json.now)) most_nodes }
+/// Whether a JSON value has few enough nodes for a script.
+pub fn has_few_nodes(json: &Json) -> bool
+    ensures { result ≡ nat_le (nodes (view json.now)) MOST_NODES }
 {
     nodes(json) <= MOST_NODES
 }
@@ -86,7 +75,7 @@ fn ticks_in(events: &[Event]) -> u64
 }
 
 fn has_few_ticks(events: &[Event]) -> bool
-    ensures { result ≡ nat_le (ticks_in events.now) most_ticks }
+    ensures { result ≡ nat_le (ticks_in events.now) MOST_TICKS }
 {
     ticks_in(events) <= MOST_TICKS
 }
@@ -94,7 +83,7 @@ fn has_few_ticks(events: &[Event]) -> bool
 fn are_few(posts: &Items<Body>) -> bool
     ensures { result ≡ are_few posts.now }
 {
-    posts.as_slice().len() <= MOST_POSTS
+    posts.as_slice().len() <= MOST_POSTS as usize
 }
 
 fn all_are_few(callers: &[Items<Body>]) -> bool
@@ -110,7 +99,7 @@ pub fn is_small(json: &Json, draft: &Draft) -> bool
     has_few_nodes(json)
         && draft.declared.as_slice().len() <= MOST_CLASSES
         && draft.script.pools.as_slice().len() <= MOST_POOLS
-        && draft.script.callers.as_slice().len() <= MOST_CALLERS
+        && draft.script.callers.as_slice().len() <= MOST_CALLERS as usize
         && all_are_few(draft.script.callers.as_slice())
         && has_few_ticks(draft.script.events.as_slice())
 }

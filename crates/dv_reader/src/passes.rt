@@ -4,14 +4,14 @@ ghost use Rattle.std.specs.Prelude.{◌≡◌, ◌≤◌, length, IfOk, IfErr};
 ghost use Rattle.std.specs.List.{list_all};
 ghost use Rattle.serde_json.specs.View.{view};
 ghost use Rattle.dv_forms.specs.Answer.{Reads};
-ghost use Rattle.dv_reader.specs.Limits.{most_nodes, most_limit, most_pools};
+ghost use Rattle.dv_script.specs.declared.limits.TheConstants.{MOST_LIMIT, MOST_NODES, MOST_POOLS};
 ghost use Rattle.dv_reader.specs.Refusal.{keeps_version, is_named, names_pool, are_named, are_known, are_distinct, are_pooled, Says, Refuses};
 ghost use Rattle.dv_reader.specs.declared.suits.Wanted.TheVariants.{Pools};
 ghost use Rattle.dv_reader.specs.Suits.{suits_script};
 ghost use Rattle.dv_reader.specs.Passes.{is_version, shape_at, Accepts, Judged, Passes};
 
 use crate::error::ScriptFault;
-use crate::limits::{MOST_BYTES, is_small};
+use crate::limits::is_small;
 use crate::names::is_name;
 use crate::suits::{Wanted, is_among, suits_script};
 use dv_forms::declaration::Declaration;
@@ -19,6 +19,7 @@ use dv_forms::stop::Stop;
 use dv_grammar::draft::Draft;
 use dv_grammar::reading::script::shape;
 use dv_script::lent::PoolsRef;
+use dv_script::limits::MOST_BYTES;
 use dv_script::script::{NamedPool, Script};
 use serde_json::Value as Json;
 use std::alloc::Global;
@@ -178,9 +179,9 @@ fn passed(alloc: Global, bytes: &[u8]) -> Result<Script, ScriptFault>
 pub fn read_script(alloc: Global, bytes: &[u8]) -> Result<Script, ScriptFault>
     ensures ok { IfOk result (λ script. Says bytes.now script) }
     ensures err { IfErr result (λ fault. Refuses fault bytes.now) }
-    ensures few { IfOk result (λ script. length script.events ≤ most_nodes) }
-    ensures limited { IfOk result (λ script. script.limit ≤ most_limit) }
-    ensures pools { IfOk result (λ script. length script.pools ≤ most_pools) }
+    ensures few { IfOk result (λ script. length script.events ≤ MOST_NODES) }
+    ensures limited { IfOk result (λ script. script.limit ≤ MOST_LIMIT) }
+    ensures pools { IfOk result (λ script. length script.pools ≤ MOST_POOLS) }
 {
     passed(alloc, bytes)
 }

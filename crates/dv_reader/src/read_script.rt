@@ -1,5 +1,5 @@
 ghost use Rattle.std.specs.Prelude.{◌≤◌, ℕ, List, length, IfOk, IfErr};
-ghost use Rattle.dv_reader.specs.Limits.{most_nodes, most_limit, most_pools};
+ghost use Rattle.dv_script.specs.declared.limits.TheConstants.{MOST_LIMIT, MOST_NODES, MOST_POOLS};
 ghost use Rattle.dv_reader.specs.Refusal.{Says, Refuses};
 
 use crate::error::ScriptFault;
@@ -24,9 +24,9 @@ impl ReadScript for Script {
     fn read(alloc: Global, bytes: &[u8]) -> Result<Script, ScriptFault>
         ensures ok { IfOk result (λ script. Says bytes.now script) }
         ensures err { IfErr result (λ fault. Refuses fault bytes.now) }
-        ensures few { IfOk result (λ script. length script.events ≤ most_nodes) }
-        ensures limited { IfOk result (λ script. script.limit ≤ most_limit) }
-        ensures pools { IfOk result (λ script. length script.pools ≤ most_pools) }
+        ensures few { IfOk result (λ script. length script.events ≤ MOST_NODES) }
+        ensures limited { IfOk result (λ script. script.limit ≤ MOST_LIMIT) }
+        ensures pools { IfOk result (λ script. length script.pools ≤ MOST_POOLS) }
     {
         read_script(alloc, bytes)
     }

@@ -1,10 +1,11 @@
 -- The headline: what a run over threads reports and prints.
-use Rattle.std.specs.Prelude.{ℕ, List, Option}
+use Rattle.std.specs.Prelude.{ℕ, ◌+◌, List, Option}
 use Rattle.std.specs.Io.KnownBytes.{Appends}
 use Rattle.dv_posts.specs.Batches.{AreComplete}
 use Rattle.dv_engine.specs.Report.{Reports}
 use Rattle.dv_engine.specs.declared.report.Report.{Report}
 use Rattle.dv_reader.specs.Refusal.{Says}
+use Rattle.dv_script.specs.declared.limits.TheConstants.{MOST_BYTES}
 use Rattle.dv_script.specs.declared.script.Script.{Script}
 use Rattle.dv_output.specs.Output.{report_text}
 use Rattle.dv_source.specs.Source.{IsFrontOf}
@@ -20,7 +21,7 @@ Told = Option (List ℕ)
 
 -- how many bytes are read at most: one more than a script may have
 abbrev pub most_read : ℕ
-most_read = 1048577
+most_read = MOST_BYTES + 1
 
 -- the input says a script, and this is the report of a run of it
 pub record SaysReport (input : Told) (script : Script) (report : Report) : Type 0 where

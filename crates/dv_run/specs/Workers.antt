@@ -1,6 +1,6 @@
 -- The words after the program's name.
 use Rattle.std.specs.Prelude.{Bool, ℕ, ◌+◌, ◌*◌, ◌-◌, nat_le, ◌&&◌, if◌then◌else◌, List, [], ◌∷◌, Option, None, Some}
-use Rattle.dv_threads.specs.declared.limits.TheConstants.{MOST_WORKERS}
+use Rattle.dv_script.specs.declared.limits.TheConstants.{MOST_WORKERS}
 
 -- whether a byte is a decimal digit
 abbrev pub is_digit : ℕ → Bool

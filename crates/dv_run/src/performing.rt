@@ -1,6 +1,6 @@
 ghost use Rattle.std.specs.Prelude.{◌≡◌, ◌<◌, ◌≤◌, ◌^◌, ◌-◌, [], length, All, IfOk};
 ghost use Rattle.dv_posts.specs.Callers.{AllServe, AreFew, TookBatches};
-ghost use Rattle.dv_threads.specs.declared.limits.TheConstants.{MOST_POOLS, MOST_WORKERS};
+ghost use Rattle.dv_script.specs.declared.limits.TheConstants.{MOST_POOLS, MOST_WORKERS};
 ghost use Rattle.dv_run.specs.Headline.{IsRun};
 
 use crate::driving::drive;
@@ -12,9 +12,8 @@ use dv_jobs::one_thread::OneThread;
 use dv_jobs::source::JobSource;
 use dv_posts::callers::{Caller, start_all};
 use dv_posts::inbox::Inbox;
-use dv_posts::limits::MOST_POSTS;
+use dv_script::limits::{MOST_POSTS, MOST_WORKERS};
 use dv_script::script::{NamedPool, Script};
-use dv_threads::limits::MOST_WORKERS;
 use dv_threads::pools::Pools;
 use std::alloc::{AllocError, AllocGlobal, Global};
 use std::random::RandomSource;

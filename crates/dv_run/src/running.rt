@@ -1,7 +1,6 @@
 ghost use Rattle.std.specs.Prelude.{◌≡◌, ◌≤◌, length, OnOk, IfOk, IfErr};
-ghost use Rattle.dv_reader.specs.Limits.{most_limit};
 ghost use Rattle.dv_posts.specs.Callers.{AreFew};
-ghost use Rattle.dv_threads.specs.declared.limits.TheConstants.{MOST_POOLS, MOST_WORKERS};
+ghost use Rattle.dv_script.specs.declared.limits.TheConstants.{MOST_LIMIT, MOST_POOLS, MOST_WORKERS};
 ghost use Rattle.dv_run.specs.Headline.{Prints};
 ghost use Rattle.dv_run.specs.Run.{SaysScript, GivesNoScript, GivesUp, ReaderFailed, WriterFailed};
 
@@ -11,8 +10,8 @@ use dv_jobs::gate::Gate;
 use dv_journal::sink::Sink;
 use dv_output::error::RunFault;
 use dv_output::output::print_report;
-use dv_reader::MOST_BYTES;
 use dv_reader::read_script::ReadScript;
+use dv_script::limits::MOST_BYTES;
 use dv_script::script::Script;
 use dv_source::source::{Source, read_up_to};
 use std::alloc::{AllocGlobal, Global};
@@ -78,7 +77,7 @@ fn script_of<R: Source>(alloc: Global, reader: &mut R) -> Result<Script, RunFaul
     ensures ok { IfOk result (λ script. SaysScript (R.left reader.old) script) }
     ensures few { IfOk result (λ script. AreFew script.callers) }
     ensures pools { IfOk result (λ script. length script.pools ≤ MOST_POOLS) }
-    ensures limited { IfOk result (λ script. script.limit ≤ most_limit) }
+    ensures limited { IfOk result (λ script. script.limit ≤ MOST_LIMIT) }
     ensures kept { OnOk result (R.failures reader.new ≡ R.failures reader.old) }
     ensures err { IfErr result (λ fault. GivesNoScript fault (R.left reader.old) (R.failures reader.old) (R.failures reader.new)) }
 {

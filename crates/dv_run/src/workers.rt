@@ -1,8 +1,8 @@
 ghost use Rattle.std.specs.Prelude.{◌≡◌, ◌≤◌, map, string_bytes, IfSome};
 ghost use Rattle.dv_run.specs.Workers.{few_workers, is_digit, number_in, workers_in};
-ghost use Rattle.dv_threads.specs.declared.limits.TheConstants.{MOST_WORKERS};
+ghost use Rattle.dv_script.specs.declared.limits.TheConstants.{MOST_WORKERS};
 
-use dv_threads::limits::MOST_WORKERS;
+use dv_script::limits::MOST_WORKERS;
 
 /// How many workers the words after the program's name ask for: none without a word, and otherwise the number that one word
 /// of one or two decimal digits is, from 0 to `MOST_WORKERS`. None for any other words.

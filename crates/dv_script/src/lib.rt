@@ -5,6 +5,7 @@ pub mod action;
 pub mod body;
 pub mod event;
 pub mod lent;
+pub mod limits;
 pub mod same;
 pub mod script;
 pub mod work;

@@ -1,7 +1,6 @@
 //! Jobs on worker threads.
 #![tactic(auto)]
 
-pub mod limits;
 pub mod pool;
 pub mod pools;
 

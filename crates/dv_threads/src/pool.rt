@@ -4,7 +4,7 @@ ghost use Rattle.crossbeam_deque.specs.Handles.{worker_view};
 ghost use Rattle.dv_jobs.specs.Jobs.{numbered};
 ghost use Rattle.dv_script.specs.declared.work.TheConstants.{MOST_JOBS};
 ghost use Rattle.dv_threads.specs.Parts.{jobs_in, AreBelow, IsOrderly, HasPlaced, HasSubmitted};
-ghost use Rattle.dv_threads.specs.declared.limits.TheConstants.{MOST_WORKERS};
+ghost use Rattle.dv_script.specs.declared.limits.TheConstants.{MOST_WORKERS};
 
 use crate::pool::closing::{collect_all, gather, help_all};
 use crate::pool::crew::Crew;

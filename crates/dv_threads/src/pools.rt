@@ -3,7 +3,7 @@ ghost use Rattle.std.specs.Prelude.{map};
 ghost use Rattle.dv_jobs.specs.Jobs.{jobs_from};
 ghost use Rattle.dv_jobs.specs.Sources.{jobs_of};
 ghost use Rattle.dv_threads.specs.Routes.{has_failed, HaveRouted, AreDone, LeadBelow};
-ghost use Rattle.dv_threads.specs.declared.limits.TheConstants.{MOST_POOLS, MOST_WORKERS};
+ghost use Rattle.dv_script.specs.declared.limits.TheConstants.{MOST_POOLS, MOST_WORKERS};
 
 use crate::pool::Pool;
 use dv_jobs::error::JobFault;

@@ -6,15 +6,15 @@ use Rattle.dv_source.specs.declared.source.ReadError.{ReadError}
 use Rattle.dv_source.specs.declared.source.ReadError.TheVariants as read
 use Rattle.dv_reader.specs.declared.error.ScriptFault.{ScriptFault}
 use Rattle.dv_reader.specs.declared.error.ScriptFault.TheVariants as script
-use Rattle.dv_reader.specs.Limits.{most_bytes}
 use Rattle.dv_why.specs.declared.explaining.WhyFault.{WhyFault}
 use Rattle.dv_why.specs.declared.explaining.WhyFault.TheVariants.{OutOfMemory, ReadFault, WriteFault}
 use Rattle.dv_why.specs.Why.{Answers}
+use Rattle.dv_script.specs.declared.limits.TheConstants.{MOST_BYTES}
 
 -- the line of the script that the source gives was written, and the answer is the line's
 abbrev pub Explains : Option (List ℕ) → Option (List ℕ) → Option (List ℕ) → Option ScriptFault → Type 0
 Explains left before after fault =
-    (bytes line : List ℕ) × IsFrontOf left (most_bytes + 1) bytes × Answers bytes fault line × Appends before after (line ++ 10 ∷ [])
+    (bytes line : List ℕ) × IsFrontOf left (MOST_BYTES + 1) bytes × Answers bytes fault line × Appends before after (line ++ 10 ∷ [])
 
 -- the fault of a reader
 abbrev pub of_read_error : ReadError → WhyFault

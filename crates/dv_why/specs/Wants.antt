@@ -1,5 +1,5 @@
 -- What the parts of what a place asks for are asked to be: the grammar as a table.
-use Rattle.std.specs.Prelude.{◌^◌, ℕ, nat_eq, if◌then◌else◌, List, [], ◌∷◌, Option, Some, None, option_map, option_and_then, bytes_eq, codes}
+use Rattle.std.specs.Prelude.{ℕ, nat_eq, if◌then◌else◌, List, [], ◌∷◌, Option, Some, None, option_map, option_and_then, bytes_eq, codes}
 use Rattle.dv_grammar.specs.Words.{or_else, action_word, event_word, statement_word, end_word, work_word}
 use Rattle.dv_grammar.specs.declared.words.NameWord.{NameWord}
 use Rattle.dv_grammar.specs.declared.words.NameWord.TheVariants as of_name
@@ -32,6 +32,8 @@ use Rattle.dv_why.specs.declared.want.Item.{Item}
 use Rattle.dv_why.specs.declared.want.Item.TheVariants as item
 use Rattle.dv_why.specs.declared.want.Want.{Want}
 use Rattle.dv_why.specs.declared.want.Want.TheVariants as want
+use Rattle.dv_clock.specs.declared.limits.TheConstants.{MOST_DELAY, MOST_TICKS}
+use Rattle.dv_script.specs.declared.limits.TheConstants.{MOST_LIMIT, MOST_PLACES, MOST_SUM, MOST_WORKERS}
 
 -- the name of an object
 abbrev pub a_name : Want
@@ -51,7 +53,7 @@ a_text = want.Leaf leaf.Text
 
 -- a delay
 abbrev pub a_delay : Want
-a_delay = want.Leaf (leaf.Number 0 (10 ^ 12))
+a_delay = want.Leaf (leaf.Number 0 MOST_DELAY)
 
 -- a body
 abbrev pub a_body : Want
@@ -81,7 +83,7 @@ abbrev pub script_want : ℕ → List ℕ → Want
 script_want version key =
     if bytes_eq key (codes "version") then want.Leaf (leaf.Number 1 2) else
     if bytes_eq key (codes "events") then want.Array item.Event else
-    if bytes_eq key (codes "limit") then want.Leaf (leaf.Number 0 200000) else
+    if bytes_eq key (codes "limit") then want.Leaf (leaf.Number 0 MOST_LIMIT) else
     if bytes_eq key (codes "classes") then want.Array item.Declaration else
     if bytes_eq key (codes "cooperator") then want.Keyed keyed.Cooperator else
     if bytes_eq key (codes "callers") then want.Array item.Caller else
@@ -92,7 +94,7 @@ script_want version key =
 abbrev pub cooperator_want : List ℕ → Want
 cooperator_want key =
     if bytes_eq key (codes "units") then want.Leaf (leaf.Number 1 1000) else
-    if bytes_eq key (codes "delay") then want.Leaf (leaf.Number 1 (10 ^ 12)) else want.Other keyed.Cooperator
+    if bytes_eq key (codes "delay") then want.Leaf (leaf.Number 1 MOST_DELAY) else want.Other keyed.Cooperator
 
 -- what the value of a body's key is
 abbrev pub body_want : List ℕ → Want
@@ -141,7 +143,7 @@ plain_wants plain.Errback = a_deferred ∷ a_class ∷ a_text ∷ []
 plain_wants plain.Put = a_name ∷ want.Value ∷ []
 plain_wants plain.List = a_name ∷ want.Array item.Deferred ∷ want.Array item.ListFlag ∷ []
 plain_wants plain.Gather = a_name ∷ want.Array item.Deferred ∷ want.Array item.GatherFlag ∷ []
-plain_wants plain.Semaphore = a_name ∷ want.Leaf (leaf.Number 1 65536) ∷ []
+plain_wants plain.Semaphore = a_name ∷ want.Leaf (leaf.Number 1 MOST_PLACES) ∷ []
 plain_wants plain.Queue = a_name ∷ want.Leaf leaf.Bound ∷ want.Leaf leaf.Bound ∷ []
 plain_wants plain.Thread = a_name ∷ a_delay ∷ a_work ∷ []
 plain_wants plain.ThreadIn = a_name ∷ want.Leaf leaf.Pool ∷ a_delay ∷ a_work ∷ []
@@ -157,7 +159,7 @@ nesting_wants nesting.Deferred given = deferred_wants given
 nesting_wants nesting.AddCallbacks given = a_deferred ∷ a_body ∷ a_body ∷ []
 nesting_wants nesting.RunWith given = a_name ∷ a_name ∷ a_body ∷ []
 nesting_wants nesting.Later given = a_name ∷ a_delay ∷ a_body ∷ []
-nesting_wants nesting.Loop given = a_name ∷ a_name ∷ want.Leaf (leaf.Number 1 (10 ^ 12)) ∷ want.Leaf leaf.Boolean ∷ a_body ∷ []
+nesting_wants nesting.Loop given = a_name ∷ a_name ∷ want.Leaf (leaf.Number 1 MOST_DELAY) ∷ want.Leaf leaf.Boolean ∷ a_body ∷ []
 nesting_wants nesting.Cooperate given = a_name ∷ want.Array item.Body ∷ []
 nesting_wants nesting.Inline given = a_name ∷ want.Array item.Statement ∷ []
 
@@ -171,7 +173,7 @@ action_wants (Nesting word) given = nesting_wants word given
 
 -- the argument of an event that is no action
 abbrev pub event_wants : EventWord → List Want
-event_wants event.Advance = want.Leaf (leaf.Number 0 (10 ^ 15)) ∷ []
+event_wants event.Advance = want.Leaf (leaf.Number 0 MOST_TICKS) ∷ []
 event_wants event.Drain = want.Leaf (leaf.Number 0 2048) ∷ []
 
 -- the arguments of a statement
@@ -203,7 +205,7 @@ leaving_wants end.Wait = None
 abbrev pub work_wants : WorkWord → List Want
 work_wants work.Value = want.Value ∷ []
 work_wants work.Raise = a_class ∷ a_text ∷ []
-work_wants work.Sum = want.Leaf (leaf.Number 0 1000000) ∷ []
+work_wants work.Sum = want.Leaf (leaf.Number 0 MOST_SUM) ∷ []
 
 -- the arguments that go with the word of an action, of which so many are given
 abbrev pub action_form : List ℕ → ℕ → Option (List Want)
@@ -241,7 +243,7 @@ form_of call.Work word given = work_form word
 -- the parts of a pair
 abbrev pub pair_wants : Pair → List Want
 pair_wants pair.Declaration = a_name ∷ a_text ∷ []
-pair_wants pair.Pool = a_name ∷ want.Leaf (leaf.Number 0 16) ∷ []
+pair_wants pair.Pool = a_name ∷ want.Leaf (leaf.Number 0 MOST_WORKERS) ∷ []
 
 -- the callers of a script
 abbrev pub all_callers : Want

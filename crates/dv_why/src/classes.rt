@@ -9,7 +9,7 @@ ghost use Rattle.dv_why.specs.Finds.{Leads};
 use crate::expected::Expected;
 use crate::misfit::{Misfit, Step};
 use crate::want::{Leaf, Want};
-use dv_forms::ranges::MOST_CLASSES;
+use dv_script::limits::MOST_CLASSES;
 use dv_value::class_fault::ClassFault;
 use dv_value::classes::Classes;
 use serde_json::Value as Json;

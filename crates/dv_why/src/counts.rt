@@ -10,46 +10,11 @@ use crate::document::{value_of, whole};
 use crate::expected::Expected;
 use crate::misfit::{Misfit, Step};
 use crate::want::Item;
-use dv_forms::ranges::{MOST_CLASSES, MOST_TICKS};
+use dv_clock::limits::MOST_TICKS;
+use dv_reader::limits::has_few_nodes;
+use dv_script::limits::{MOST_CALLERS, MOST_CLASSES, MOST_POOLS, MOST_POSTS};
 use serde_json::Value as Json;
 use std::alloc::{AllocError, Global};
-
-/// The most nodes of a script.
-const MOST_NODES: u64 = 65_536;
-
-/// The most pools of a script.
-const MOST_POOLS: usize = 4;
-
-/// The most callers of a script.
-const MOST_CALLERS: usize = 8;
-
-/// The most posts of a caller.
-const MOST_POSTS: usize = 256;
-
-/// How many nodes the value has, to the last number of 64 bits.
-#[cycle(nodes)]
-fn nodes(json: &Json) -> u64 {
-    match json {
-        Json::Null | Json::Bool(_) | Json::Number(_) | Json::String(_) => 1,
-        Json::Array(items) => item_nodes(items.as_slice()).saturating_add(1),
-        Json::Object(members) => {
-            let mut count = 1u64;
-            for (_, json) in members.iter() {
-                count = count.saturating_add(nodes(json));
-            }
-            count
-        }
-    }
-}
-
-#[cycle(nodes)]
-fn item_nodes(items: &[Json]) -> u64 {
-    let mut count = 0u64;
-    for item in items {
-        count = count.saturating_add(nodes(item));
-    }
-    count
-}
 
 /// By how many ticks an event advances the clock, to the last number of 64 bits.
 fn ticks_of(event: &Json) -> u64 {
@@ -104,7 +69,7 @@ fn busy_caller(alloc: Global, callers: &Json) -> Result<Option<Misfit<'_>>, Allo
 
 fn is_busy(posts: &Json) -> bool {
     match posts {
-        Json::Array(items) => items.len() > MOST_POSTS,
+        Json::Array(items) => items.len() > MOST_POSTS as usize,
         Json::Null | Json::Bool(_) | Json::Number(_) | Json::String(_) | Json::Object(_) => false,
     }
 }
@@ -126,7 +91,7 @@ fn busy_one(alloc: Global, json: &Json) -> Result<Option<Misfit<'_>>, AllocError
 pub fn too_many(alloc: Global, json: &Json) -> Result<(Misfit<'_>, Expected), AllocError>
     ensures { IfOk result (λ found. Leads (script_in (view json.now)) (view json.now) found.0) }
 {
-    if nodes(json) > MOST_NODES {
+    if !has_few_nodes(json) {
         return Ok((whole(alloc, json), Expected::FewNodes));
     }
     if is_long(json, "classes", MOST_CLASSES) {
@@ -135,7 +100,7 @@ pub fn too_many(alloc: Global, json: &Json) -> Result<(Misfit<'_>, Expected), Al
     if is_long(json, "pools", MOST_POOLS) {
         return Ok((value_of(alloc, json, "pools")?, Expected::FewPools));
     }
-    if is_long(json, "callers", MOST_CALLERS) {
+    if is_long(json, "callers", MOST_CALLERS as usize) {
         return Ok((value_of(alloc, json, "callers")?, Expected::FewCallers));
     }
     if let Some(misfit) = busy_one(alloc, json)? {

@@ -6,8 +6,8 @@ ghost use Rattle.dv_why.specs.Explaining.{Explains, fault_status, fault_text, re
 
 use crate::why::tell;
 use dv_journal::sink::{Sink, SinkFault, write_all};
-use dv_reader::MOST_BYTES;
 use dv_reader::error::ScriptFault;
+use dv_script::limits::MOST_BYTES;
 use dv_source::source::{ReadError, Source, read_up_to};
 use std::alloc::{AllocError, Global};
 

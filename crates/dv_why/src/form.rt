@@ -4,10 +4,12 @@ ghost use Rattle.std.specs.Prelude.{◌≡◌, option_map};
 ghost use Rattle.dv_why.specs.Wants.{name_wants, names_wants, body_wants, plain_wants, nesting_wants, deferred_wants, action_wants, event_wants, statement_wants, end_wants, leaving_wants, work_wants, event_form, action_form, statement_form, end_form, leaving_form, work_form, form_of, pair_wants};
 
 use crate::want::{Call, Item, Keyed, Leaf, Pair, Want};
+use dv_clock::limits::{MOST_DELAY, MOST_TICKS};
 use dv_grammar::words::{
     ActionWord, BodyWord, EndWord, EventWord, NameWord, NamesWord, NestingWord, PlainWord,
     StatementWord, WorkWord,
 };
+use dv_script::limits::{MOST_PLACES, MOST_SUM, MOST_WORKERS};
 
 /// How a word and its arguments stand.
 #[derive(Clone, Copy, Drop)]
@@ -28,9 +30,9 @@ const CLASS: Want = Want::Leaf(Leaf::Class);
 
 const TEXT: Want = Want::Leaf(Leaf::Text);
 
-const DELAY: Want = Want::Leaf(Leaf::Number(0, 1_000_000_000_000));
+const DELAY: Want = Want::Leaf(Leaf::Number(0, MOST_DELAY));
 
-const INTERVAL: Want = Want::Leaf(Leaf::Number(1, 1_000_000_000_000));
+const INTERVAL: Want = Want::Leaf(Leaf::Number(1, MOST_DELAY));
 
 const BODY: Want = Want::Keyed(Keyed::Body);
 
@@ -167,7 +169,7 @@ fn plain(word: PlainWord) -> Form
         },
         PlainWord::Semaphore => Form {
             shown: "[\"semaphore\",L,N]",
-            wants: &[NAME, Want::Leaf(Leaf::Number(1, 65_536))],
+            wants: &[NAME, Want::Leaf(Leaf::Number(1, MOST_PLACES as u64))],
         },
         PlainWord::Queue => Form {
             shown: "[\"queue\",Q,SIZE,BACKLOG]",
@@ -257,7 +259,7 @@ fn of_event(word: EventWord) -> Form
     match word {
         EventWord::Advance => Form {
             shown: "[\"advance\",N]",
-            wants: &[Want::Leaf(Leaf::Number(0, 1_000_000_000_000_000))],
+            wants: &[Want::Leaf(Leaf::Number(0, MOST_TICKS))],
         },
         EventWord::Drain => Form {
             shown: "[\"drain\",N]",
@@ -348,7 +350,7 @@ fn of_work(word: WorkWord) -> Form
         },
         WorkWord::Sum => Form {
             shown: "[\"sum\",N]",
-            wants: &[Want::Leaf(Leaf::Number(0, 1_000_000))],
+            wants: &[Want::Leaf(Leaf::Number(0, MOST_SUM as u64))],
         },
     }
 }
@@ -435,7 +437,7 @@ impl Pair {
             },
             Pair::Pool => Form {
                 shown: "[NAME,WORKERS]",
-                wants: &[NAME, Want::Leaf(Leaf::Number(0, 16))],
+                wants: &[NAME, Want::Leaf(Leaf::Number(0, MOST_WORKERS as u64))],
             },
         }
     }

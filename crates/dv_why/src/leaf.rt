@@ -6,6 +6,7 @@ ghost use Rattle.dv_forms.specs.Parts.{number_at, bound_at, list_flag_at, gather
 ghost use Rattle.dv_why.specs.Fits.{leaf_fits};
 
 use crate::want::Leaf;
+use dv_script::limits::MOST_PLACES;
 use serde_json::Value as Json;
 
 fn is_number(json: &Json, low: u64, high: u64) -> bool
@@ -22,7 +23,7 @@ fn is_bound(json: &Json) -> bool
 {
     match json {
         Json::Null => true,
-        Json::Number(_) => is_number(json, 0, 65_536),
+        Json::Number(_) => is_number(json, 0, u64::from(MOST_PLACES)),
         Json::Bool(_) | Json::String(_) | Json::Array(_) | Json::Object(_) => false,
     }
 }

@@ -12,7 +12,6 @@ mod form;
 mod leaf;
 mod line;
 mod misfit;
-mod names;
 mod place;
 mod pools;
 mod question;

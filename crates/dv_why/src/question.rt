@@ -4,8 +4,8 @@ ghost use Rattle.serde_json.specs.Find.{as_str, at};
 ghost use Rattle.dv_why.specs.Fits.{is_named, is_class, is_pool, has_name, is_declared, name_suits, leaf_suits, names_suit, suits};
 
 use crate::fits::fits;
-use crate::names::{is_name, names_one};
 use crate::want::{Leaf, Want};
+use dv_reader::names::{is_name, names_one};
 use dv_value::classes::Classes;
 use serde_json::Value as Json;
 

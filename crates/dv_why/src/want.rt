@@ -3,6 +3,9 @@
 ghost use Rattle.std.specs.Prelude.{◌≡◌};
 ghost use Rattle.dv_why.specs.Wants.{item_want, key_want, script_want, cooperator_want, body_want};
 
+use dv_clock::limits::MOST_DELAY;
+use dv_script::limits::MOST_LIMIT;
+
 /// What stands at a place, where nothing is looked for in it.
 #[derive(Clone, Copy, Drop)]
 pub enum Leaf {
@@ -115,7 +118,7 @@ fn script_want(version: u32, key: &str) -> Want
     match key {
         "version" => Want::Leaf(Leaf::Number(1, 2)),
         "events" => Want::Array(Item::Event),
-        "limit" => Want::Leaf(Leaf::Number(0, 200_000)),
+        "limit" => Want::Leaf(Leaf::Number(0, MOST_LIMIT)),
         "classes" => Want::Array(Item::Declaration),
         "cooperator" => Want::Keyed(Keyed::Cooperator),
         "callers" => Want::Array(Item::Caller),
@@ -133,7 +136,7 @@ fn cooperator_want(key: &str) -> Want
 {
     match key {
         "units" => Want::Leaf(Leaf::Number(1, 1_000)),
-        "delay" => Want::Leaf(Leaf::Number(1, 1_000_000_000_000)),
+        "delay" => Want::Leaf(Leaf::Number(1, MOST_DELAY)),
         _ => Want::Other(Keyed::Cooperator),
     }
 }

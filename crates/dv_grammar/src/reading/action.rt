@@ -1,5 +1,6 @@
-ghost use Rattle.std.specs.Prelude.{◌^◌, option_map};
+ghost use Rattle.std.specs.Prelude.{option_map};
 ghost use Rattle.serde_json.specs.View.{view, items_view};
+ghost use Rattle.dv_clock.specs.declared.limits.TheConstants.{MOST_DELAY};
 ghost use Rattle.dv_forms.specs.Answer.{Reads};
 ghost use Rattle.dv_forms.specs.Parts.{text_at, number_at, list_at, two_of, pair, triple, each, if_there};
 ghost use Rattle.dv_grammar.specs.Shape.{action_at, action_of, with_body, new_deferred_of, loop_of, nesting_of, body_at, statement_at};
@@ -8,8 +9,8 @@ use crate::reading::body::{bodies, body};
 use crate::reading::plain::{name_of, names_of, plain_of};
 use crate::reading::statement::statements;
 use crate::words::{ActionWord, BodyWord, NestingWord};
+use dv_clock::limits::MOST_DELAY;
 use dv_forms::leaf::{array, boolean, call, five, number, one_or_two, text, three, two};
-use dv_forms::ranges::MOST_DELAY;
 use dv_forms::stop::Stop;
 use dv_script::action::Action;
 use dv_script::body::{Body, Statement};
@@ -219,7 +220,7 @@ fn delayed_body(
     levels: u32,
     arguments: &[Json],
 ) -> Result<(Text, u64, Body), Stop>
-    ensures { Reads result (triple text_at (number_at 0 (10 ^ 12)) (body_at classes.now levels) (items_view arguments.now)) }
+    ensures { Reads result (triple text_at (number_at 0 MOST_DELAY) (body_at classes.now levels) (items_view arguments.now)) }
 {
     let (name, delay, json) = three(arguments)?;
     let name = text(alloc, name)?;

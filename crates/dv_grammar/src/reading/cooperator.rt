@@ -1,12 +1,13 @@
-ghost use Rattle.std.specs.Prelude.{option_map, option_and_then, ◌^◌};
+ghost use Rattle.std.specs.Prelude.{option_map, option_and_then};
 ghost use Rattle.serde_json.specs.View.{view};
+ghost use Rattle.dv_clock.specs.declared.limits.TheConstants.{MOST_DELAY};
 ghost use Rattle.dv_forms.specs.Answer.{Reads};
 ghost use Rattle.dv_forms.specs.Parts.{number_at, field};
 ghost use Rattle.dv_grammar.specs.Shape.{cooperator_at};
 ghost use Rattle.dv_grammar.specs.Grammar.{plain_cooperator};
 
+use dv_clock::limits::MOST_DELAY;
 use dv_forms::leaf::{fields, number, small};
-use dv_forms::ranges::MOST_DELAY;
 use dv_forms::stop::Stop;
 use dv_script::script::Cooperator;
 use serde_json::Value as Json;
@@ -41,7 +42,7 @@ fn units(json: Option<&Json>) -> Result<u32, Stop>
 }
 
 fn delay(json: Option<&Json>) -> Result<u64, Stop>
-    ensures { Reads result (option_and_then (number_at 1 (10 ^ 12)) (option_map (λ d. view d.now) json.entry)) }
+    ensures { Reads result (option_and_then (number_at 1 MOST_DELAY) (option_map (λ d. view d.now) json.entry)) }
 {
     match json {
         None => Err(Stop::BadShape),

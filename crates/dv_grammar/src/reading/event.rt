@@ -5,11 +5,12 @@ ghost use Rattle.dv_grammar.specs.Shape.{event_at, event_of, other_event};
 
 use crate::reading::action::action;
 use crate::words::EventWord;
+use dv_clock::limits::MOST_TICKS;
 use dv_forms::arguments::{one_number, one_small};
 use dv_forms::leaf::call;
-use dv_forms::ranges::{MOST_LEVELS, MOST_TICKS};
 use dv_forms::stop::Stop;
 use dv_script::event::Event;
+use dv_script::limits::MOST_LEVELS;
 use dv_value::classes::Classes;
 use dv_value::items::Items;
 use serde_json::Value as Json;

@@ -1,5 +1,6 @@
 ghost use Rattle.std.specs.Prelude.{[], option_map, option_and_then};
 ghost use Rattle.serde_json.specs.View.{view, items_view};
+ghost use Rattle.dv_script.specs.declared.limits.TheConstants.{MOST_LIMIT, USUAL_LIMIT};
 ghost use Rattle.dv_forms.specs.Answer.{Reads, Gives};
 ghost use Rattle.dv_forms.specs.Parts.{each, field, fields_at, list_at, number_at};
 ghost use Rattle.dv_grammar.specs.Grammar.{keys_of};
@@ -10,11 +11,11 @@ use crate::reading::body::bodies;
 use crate::reading::cooperator::cooperator_or_plain;
 use crate::reading::event::events;
 use dv_forms::leaf::{array, fields, number, small, text, two};
-use dv_forms::ranges::{MOST_LEVELS, MOST_LIMIT, MOST_WORKERS};
 use dv_forms::stop::Stop;
 use dv_forms::table::{declarations, table};
 use dv_script::body::Body;
 use dv_script::event::Event;
+use dv_script::limits::{MOST_LEVELS, MOST_LIMIT, MOST_WORKERS, USUAL_LIMIT};
 use dv_script::script::{NamedPool, Script};
 use dv_value::classes::Classes;
 use dv_value::items::Items;
@@ -22,10 +23,10 @@ use serde_json::Value as Json;
 use std::alloc::Global;
 
 fn limit(json: Option<&Json>) -> Result<u64, Stop>
-    ensures { Reads result (field 2000 (number_at 0 200000) (option_map (λ d. view d.now) json.entry)) }
+    ensures { Reads result (field USUAL_LIMIT (number_at 0 MOST_LIMIT) (option_map (λ d. view d.now) json.entry)) }
 {
     match json {
-        None => Ok(2_000),
+        None => Ok(USUAL_LIMIT),
         Some(json) => number(json, 0, MOST_LIMIT),
     }
 }

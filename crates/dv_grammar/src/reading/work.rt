@@ -1,15 +1,16 @@
-ghost use Rattle.std.specs.Prelude.{◌^◌};
 ghost use Rattle.serde_json.specs.View.{view, items_view};
+ghost use Rattle.dv_clock.specs.declared.limits.TheConstants.{MOST_DELAY};
 ghost use Rattle.dv_forms.specs.Answer.{Reads};
 ghost use Rattle.dv_forms.specs.Parts.{text_at, number_at, triple};
 ghost use Rattle.dv_grammar.specs.Shape.{work_at, work_of, thread_in_of};
 
 use crate::words::WorkWord;
+use dv_clock::limits::MOST_DELAY;
 use dv_forms::arguments::{class_and_message, one_small, one_value};
 use dv_forms::leaf::{call, four, number, text, three};
-use dv_forms::ranges::MOST_DELAY;
 use dv_forms::stop::Stop;
 use dv_script::action::Action;
+use dv_script::limits::MOST_SUM;
 use dv_script::work::Work;
 use dv_value::classes::Classes;
 use dv_value::text::Text;
@@ -43,7 +44,7 @@ fn work_of(
             let (class, message) = class_and_message(alloc, classes, arguments)?;
             Ok(Work::Raise(class, message))
         }
-        WorkWord::Sum => Ok(Work::Sum(one_small(arguments, 0, 1_000_000)?)),
+        WorkWord::Sum => Ok(Work::Sum(one_small(arguments, 0, MOST_SUM)?)),
     }
 }
 
@@ -54,7 +55,7 @@ pub fn named_work(
     classes: &Classes,
     arguments: &[Json],
 ) -> Result<(Text, u64, Work), Stop>
-    ensures { Reads result (triple text_at (number_at 0 (10 ^ 12)) (work_at classes.now) (items_view arguments.now)) }
+    ensures { Reads result (triple text_at (number_at 0 MOST_DELAY) (work_at classes.now) (items_view arguments.now)) }
 {
     let (name, delay, json) = three(arguments)?;
     let name = text(alloc, name)?;

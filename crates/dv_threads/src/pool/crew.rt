@@ -4,7 +4,7 @@ ghost use Rattle.crossbeam_deque.specs.Handles.{worker_view};
 ghost use Rattle.dv_workers.specs.Rules.{all_parts};
 ghost use Rattle.dv_threads.specs.Parts.{IsOrderly, StaysPlaced, IsSamePool};
 ghost use Rattle.dv_threads.specs.Pool.{AreOf};
-ghost use Rattle.dv_threads.specs.declared.limits.TheConstants.{MOST_WORKERS};
+ghost use Rattle.dv_script.specs.declared.limits.TheConstants.{MOST_WORKERS};
 
 use crate::pool::parts::Parts;
 use crate::pool::threads::{Handle, finish, start};

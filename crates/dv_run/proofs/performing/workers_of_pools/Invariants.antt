@@ -1,6 +1,6 @@
 use Rattle.std.proofs.Common.{◌≡◌, ◌≤◌, length, All}
 use Rattle.std.specs.Prelude.{vec_len, vec_capacity}
-use Rattle.dv_threads.specs.declared.limits.TheConstants.{MOST_WORKERS}
+use Rattle.dv_script.specs.declared.limits.TheConstants.{MOST_WORKERS}
 use Rattle.dv_run.proofs.performing.workers_of_pools.Given as goal
 
 -- a number stands for each pool that was passed, and there is room for the others
