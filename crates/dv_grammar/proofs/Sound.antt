@@ -47,7 +47,7 @@ use Rattle.dv_grammar.specs.declared.words.StatementWord.{StatementWord}
 use Rattle.dv_grammar.specs.declared.words.StatementWord.TheVariants as statement_words
 use Rattle.dv_grammar.specs.declared.words.WorkWord.{WorkWord}
 use Rattle.dv_grammar.specs.declared.words.WorkWord.TheVariants as work_words
-use Rattle.dv_grammar.specs.Words.{action_word, event_word, end_word, statement_word, work_word}
+use Rattle.dv_grammar.specs.Words.{name_text, names_text, body_text, plain_text, nesting_text, action_text, action_word, event_text, event_words, event_word, end_text, end_words, end_word, statement_text, statement_words, statement_word, work_text, work_words, work_word}
 use Rattle.dv_forms.specs.Forms.{call, Each, IsList, Field, Key, has_only, IsText, IsInteger, IsNumber, IsClass, IsValue, a_null, a_bool, an_int, a_text, a_list, AreValues, no_values, more_values}
 use Rattle.dv_forms.specs.Table.{table_of}
 use Rattle.dv_forms.specs.Leaving.{may_leave}
@@ -55,7 +55,7 @@ use Rattle.dv_grammar.specs.Grammar.{body_keys, cooperator_keys, keys_of, plain_
 use Rattle.dv_forms.specs.Parts.{value_at, values_at, each, list_at, text_at, integer_at, number_at, within, bound_at, class_at, list_flag_at, gather_flag_at, call_at, none, first, if_any, one, one_or_two, two, three, four, five, sole, pair, triple, one_of, two_of, three_of, fields_at, field, if_there, declaration_at, table_for}
 use Rattle.dv_grammar.specs.Shape.{end_at, end_of, leave_at, work_at, work_of, Readers, action_with, action_by, action_of, with_name, with_names, with_body, new_deferred_of, thread_in_of, plain_of, loop_of, nesting_of, body_by, statement_by, statement_of, readers, body_at, action_at, event_by, event_at, event_of, other_event, cooperator_at, pool_at, caller_at, script_at}
 use Rattle.dv_grammar.proofs.Steps.{some_injective, bind, mapped, chosen}
-use Rattle.dv_grammar.proofs.WordsLemmas.{name_text, names_text, body_text, plain_text, nesting_text, action_text, action_word_is, event_text, event_word_is, end_text, end_word_is, statement_text, statement_word_is, work_text, work_word_is}
+use Rattle.dv_grammar.proofs.WordsLemmas.{action_word_is, word_is}
 
 -- ---- items
 
@@ -279,7 +279,7 @@ unfolding end_at
 sound_end table d x e =
     bind (call_at d) _ x e (λ c c_is c_then.
     bind (end_word c.0) _ x c_then (λ w w_is w_then.
-    rw (call_is d c c_is, end_word_is c.0 w w_is) (sound_end_of table w c.1 x w_then)))
+    rw (call_is d c c_is, word_is end_text end_words c.0 w w_is) (sound_end_of table w c.1 x w_then)))
 
 sound_leave : (table : List Class) (d : Data) (x : End) → leave_at table d ≡ Some x → IsEnd table d x × (may_leave x ≡ true)
 unfolding leave_at
@@ -304,7 +304,7 @@ unfolding work_at
 sound_work table d x e =
     bind (call_at d) _ x e (λ c c_is c_then.
     bind (work_word c.0) _ x c_then (λ w w_is w_then.
-    rw (call_is d c c_is, work_word_is c.0 w w_is) (sound_work_of table w c.1 x w_then)))
+    rw (call_is d c c_is, word_is work_text work_words c.0 w w_is) (sound_work_of table w c.1 x w_then)))
 
 -- ---- actions, by their forms
 
@@ -552,7 +552,7 @@ module _ (table : List Class) (r : Readers) (sound : AreSound table r) where
   sound_statement_by d x e =
       bind (call_at d) _ x e (λ c c_is c_then.
       bind (statement_word c.0) _ x c_then (λ w w_is w_then.
-      rw (call_is d c c_is, statement_word_is c.0 w w_is) (sound_statement_of w c.1 x w_then)))
+      rw (call_is d c c_is, word_is statement_text statement_words c.0 w w_is) (sound_statement_of w c.1 x w_then)))
 
 sound_readers : (table : List Class) (n : ℕ) → AreSound table (readers table n)
 unfolding readers
@@ -577,7 +577,7 @@ unfolding other_event
 sound_other table d x e =
     bind (call_at d) _ x e (λ c c_is c_then.
     bind (event_word c.0) _ x c_then (λ w w_is w_then.
-    rw (call_is d c c_is, event_word_is c.0 w w_is) (sound_event_of table w c.1 x w_then)))
+    rw (call_is d c c_is, word_is event_text event_words c.0 w w_is) (sound_event_of table w c.1 x w_then)))
 
 sound_event_by : (table : List Class) (d : Data) (x : Event) (o : Option Action) (other : Option Event) → ((a : Action) → o ≡ Some a → IsAction table d a)
     → ((y : Event) → other ≡ Some y → IsEvent table d y) → event_by o other ≡ Some x → IsEvent table d x
