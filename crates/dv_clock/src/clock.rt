@@ -192,6 +192,13 @@ impl Clock {
         Ok(self.end(number, CallState::Called))
     }
 
+    /// Lets it go, and tells all calls that were scheduled, in order of number.
+    pub fn into_calls(self) -> Vec<Call>
+        ensures { result.items ≡ self.calls }
+    {
+        self.calls
+    }
+
     /// The number of what is to run next, and what it is, where something is due.
     fn next(&self) -> Option<(usize, &Due)>
         ensures next { option_map (λ found. with_number found.0 found.1.now) result ≡ option_map numbered (next_call self.now) }

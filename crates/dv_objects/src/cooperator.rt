@@ -183,6 +183,13 @@ impl<'s> Cooperator<'s> {
         Ok(())
     }
 
+    /// Lets it go, and tells all its tasks, in order of making.
+    pub fn into_tasks(self) -> Vec<Task<'s>>
+        ensures { result.items ≡ self.entry.tasks }
+    {
+        self.tasks
+    }
+
     /// Whether a tick is to be scheduled: somebody takes turns, and no tick is scheduled or under way.
     pub fn wants_tick(&self) -> bool
         ensures { result ≡ wants_tick self.now }

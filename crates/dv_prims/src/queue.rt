@@ -7,10 +7,22 @@ use dv_journal::entry::Entry;
 use dv_journal::error::Stop;
 use dv_journal::journal::Journal;
 use dv_value::deque::Deque;
+use dv_value::items::Items;
 use dv_value::text::Text;
 use dv_value::value::Value;
 use std::alloc::{AllocError, Global};
 use std::marker::Model;
+
+/// What a queue has when it is let go.
+#[derive(Drop)]
+pub struct QueueParts {
+    /// Its name at its making.
+    pub name: Text,
+    /// The values that are stored, from the one that was put first.
+    pub stored: Deque<Value>,
+    /// The Deferreds that wait for a value, from who has waited longest.
+    pub waiting: Items<DeferredId>,
+}
 
 /// A queue of values (Twisted: `DeferredQueue`). Those that wait for a value get it in the order in which they asked; one
 /// that asks twice waits twice.
@@ -161,6 +173,27 @@ impl Queue {
         ensures rest { self.new ≡ withdrawn id self.old }
     {
         self.waiting.remove(id)
+    }
+
+    /// Lets it go, and tells what it had.
+    pub fn into_parts(self) -> Result<QueueParts, AllocError>
+        ensures name { IfOk result (λ parts. parts.name ≡ self.name) }
+        ensures stored { IfOk result (λ parts. parts.stored ≡ self.stored) }
+        ensures waiting { IfOk result (λ parts. parts.waiting ≡ self.waiting) }
+    {
+        let Queue {
+            alloc,
+            name,
+            size: _,
+            backlog: _,
+            stored,
+            waiting,
+        } = self;
+        Ok(QueueParts {
+            name,
+            stored,
+            waiting: waiting.into_items(alloc)?,
+        })
     }
 
     /// Values are stored, or Deferreds wait, or neither.

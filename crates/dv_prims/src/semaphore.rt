@@ -1,4 +1,4 @@
-ghost use Rattle.std.specs.Prelude.{◌≡◌};
+ghost use Rattle.std.specs.Prelude.{◌≡◌, IfOk};
 
 use crate::error::ReleaseFault;
 use crate::waiting_list::{WaitingList, join};
@@ -6,8 +6,9 @@ use dv_journal::deferred_id::DeferredId;
 use dv_journal::entry::Entry;
 use dv_journal::error::Stop;
 use dv_journal::journal::Journal;
+use dv_value::items::Items;
 use dv_value::text::Text;
-use std::alloc::Global;
+use std::alloc::{AllocError, Global};
 use std::marker::Model;
 
 /// Whether a Deferred that asks for a token gets one.
@@ -17,6 +18,19 @@ pub enum Grant {
     Now,
     /// It waits for one.
     Waits,
+}
+
+/// What a semaphore has when it is let go.
+#[derive(Drop)]
+pub struct SemaphoreParts {
+    /// Its name at its making.
+    pub name: Text,
+    /// How many tokens it has.
+    pub tokens: u32,
+    /// How many of them are given.
+    pub given: u32,
+    /// The Deferreds that wait for a token, from who has waited longest.
+    pub waiting: Items<DeferredId>,
 }
 
 /// A semaphore, or a lock, which is one of one token (Twisted: `DeferredSemaphore`, `DeferredLock`). Those that wait for a
@@ -163,6 +177,28 @@ impl Semaphore {
         ensures rest { self.new ≡ forgotten id self.old }
     {
         self.waiting.remove(id)
+    }
+
+    /// Lets it go, and tells what it had.
+    pub fn into_parts(self) -> Result<SemaphoreParts, AllocError>
+        ensures name { IfOk result (λ parts. parts.name ≡ self.name) }
+        ensures tokens { IfOk result (λ parts. parts.tokens ≡ self.tokens) }
+        ensures given { IfOk result (λ parts. parts.given ≡ self.given) }
+        ensures waiting { IfOk result (λ parts. parts.waiting ≡ self.waiting) }
+    {
+        let Semaphore {
+            alloc,
+            name,
+            tokens,
+            given,
+            waiting,
+        } = self;
+        Ok(SemaphoreParts {
+            name,
+            tokens,
+            given,
+            waiting: waiting.into_items(alloc)?,
+        })
     }
 }
 

@@ -1,9 +1,10 @@
-ghost use Rattle.std.specs.Prelude.{◌≡◌, ◌-◌, ◌↔◌, IsTrue, OnOk, OnErr, [], ◌∷◌, ◌++◌, length, slice_get, take, drop};
+ghost use Rattle.std.specs.Prelude.{◌≡◌, ◌-◌, ◌↔◌, IsTrue, IfOk, OnOk, OnErr, [], ◌∷◌, ◌++◌, length, slice_get, take, drop};
 
 use dv_journal::deferred_id::DeferredId;
 use dv_journal::entry::Entry;
 use dv_journal::error::Stop;
 use dv_journal::journal::Journal;
+use dv_value::items::Items;
 use std::alloc::{AllocError, Global};
 use std::collections::{BTreeMap, BTreeSet};
 use std::marker::Model;
@@ -67,6 +68,17 @@ impl WaitingList {
             Some((_, number)) => Some(DeferredId::new(*number)),
             None => None,
         }
+    }
+
+    /// All that wait, from who has waited longest.
+    pub fn into_items(self, alloc: Global) -> Result<Items<DeferredId>, AllocError>
+        ensures { IfOk result (λ items. items ≡ self) }
+    {
+        let mut items = Items::new(alloc);
+        for number in self.order.into_values() {
+            items.push(DeferredId::new(number))?;
+        }
+        Ok(items)
     }
 
     /// A Deferred waits, last. Where it is refused memory, or as the 2^64th of this list, it doesn't.

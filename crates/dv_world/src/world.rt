@@ -1,5 +1,6 @@
 ghost use Rattle.std.specs.Prelude.{◌≡◌, ◌<◌, ◌^◌, ◌-◌, Some, length, slice_get, IfOk, OnOk, OnErr};
 
+use dv_clock::call::Call;
 use dv_clock::call_id::CallId;
 use dv_clock::clock::Clock;
 use dv_clock::loop_id::LoopId;
@@ -17,6 +18,7 @@ use dv_objects::pair::Pair;
 use dv_objects::reached::Reached;
 use dv_objects::refusals::{cancelled, refused};
 use dv_objects::stopping::stopped;
+use dv_objects::task::Task;
 use dv_objects::works::Works;
 use dv_prims::error::{PutFault, ReleaseFault};
 use dv_prims::gather::{Came, Flags, Gather};
@@ -71,6 +73,28 @@ pub struct World<'s> {
     store: Store<Pair<'s>, Canceller<'s>>,
     journal: Journal,
     stopped: bool,
+}
+
+/// What a world has when it is let go: its journal, and all that was made.
+#[derive(Drop)]
+pub struct Parts<'s> {
+    pub journal: Journal,
+    /// Whether an entry didn't fit into the journal, so that the run stopped there.
+    pub stopped: bool,
+    /// The Deferreds, in order of making.
+    pub records: Vec<Record<Pair<'s>, Canceller<'s>>>,
+    /// The locks and semaphores, in order of making.
+    pub semaphores: Vec<Semaphore>,
+    /// The queues, in order of making.
+    pub queues: Vec<Queue>,
+    /// All calls that were scheduled, in order of scheduling.
+    pub calls: Vec<Call>,
+    /// The loops, in order of making.
+    pub loops: Vec<LoopingCall<'s>>,
+    /// The tasks, in order of making.
+    pub tasks: Vec<Task<'s>>,
+    /// What inline bodies wait for, in order of making.
+    pub inlines: Inlines<'s>,
 }
 
 impl<'s> Model for World<'s> {
@@ -139,6 +163,13 @@ impl<'s> World<'s> {
         ensures { result ≡ self.now.stopped }
     {
         self.stopped
+    }
+
+    /// How many entries the journal has.
+    pub fn told(&self) -> usize
+        ensures { result ≡ length self.now.journal.entries }
+    {
+        self.journal.entries().len()
     }
 
     /// The Deferred that a name stands for; `@` is the one that is given, where one is.
@@ -695,6 +726,52 @@ impl<'s> World<'s> {
         let stopped = world.stopped;
         world.discard();
         (journal, stopped, store.into_records())
+    }
+
+    /// Lets it go, and tells all that it had, but for names, bodies, lists and works.
+    pub fn into_all(self) -> Parts<'s>
+        ensures journal { result.journal ≡ self.entry.journal }
+        ensures stopped { result.stopped ≡ self.entry.stopped }
+        ensures records { result.records.items ≡ self.entry.records }
+        ensures semaphores { result.semaphores.items ≡ self.entry.objects.semaphores }
+        ensures queues { result.queues.items ≡ self.entry.objects.queues }
+        ensures calls { result.calls.items ≡ self.entry.objects.clock.calls }
+        ensures loops { result.loops.items ≡ self.entry.objects.loops }
+        ensures tasks { result.tasks.items ≡ self.entry.objects.cooperator.tasks }
+        ensures inlines { result.inlines ≡ self.entry.objects.inlines }
+    {
+        let World {
+            alloc: _,
+            classes: _,
+            names: _,
+            locks: _,
+            semaphores,
+            queue_names: _,
+            queues,
+            lists: _,
+            clock,
+            call_names: _,
+            bodies: _,
+            loop_names: _,
+            loops,
+            cooperator,
+            inlines,
+            works: _,
+            store,
+            journal,
+            stopped,
+        } = self;
+        Parts {
+            journal,
+            stopped,
+            records: store.into_records(),
+            semaphores,
+            queues,
+            calls: clock.into_calls(),
+            loops,
+            tasks: cooperator.into_tasks(),
+            inlines,
+        }
     }
 }
 
