@@ -29,7 +29,11 @@ use dv_world::world::World;
 use std::alloc::{AllocError, Global};
 
 /// Notes a text.
-pub fn note<'s>(alloc: Global, world: &mut World<'s>, text: &Text) -> Result<Performed<'s>, AllocError>
+pub fn note<'s>(
+    alloc: Global,
+    world: &mut World<'s>,
+    text: &Text,
+) -> Result<Performed<'s>, AllocError>
     ensures { IfOk result (λ performed. ([], performed, world.new) ≡ noted text.now world.old) }
 {
     let noted = text.copy(alloc)?;

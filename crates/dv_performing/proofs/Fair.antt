@@ -298,13 +298,7 @@ stopped_fair m l None w q = now_fair m Done w
 stopped_fair m l (Some x) w q =
     if_fair m x.running w _ _ (then_fair m w (stop_loop l w) _ (loop_stopped_comes l (slice_get w.objects.loops l) w) (over_where_fair m (is_scheduled x w.objects.clock) x.of x.name (stop_loop l w) q)) (now_fair m _ w)
 
-turn_fire_named_fair : (m : ℕ) (itself : Option ℕ) (name : List ℕ) (value : Value) (w : World) → 0 < m → Fair w m (fire_named itself name value w)
-fire_named_fair m itself name value w q = with_fair m itself name w _ (λ d. next_fair m d (fire d value w).0 w (fire d value w).1 q (by_fire d value w))
-
-add_named_fair : (m : ℕ) (itself : Option ℕ) (name : List ℕ) (pair : Pair) (w : World) → 0 < m → Fair w m (add_named itself name pair w)
-add_named_fair m itself name pair w q = with_fair m itself name w _ (λ d. settling_fair m d w (append d pair w) q (record { keeps = λ R l. l.by_append d pair w }))
-
-begun_fair : (m : ℕ) (b : Bool) (name : List ℕ) (l : ℕ) (body : body_of.Body) (w : World) → 1 + body_size body < m → Fair w m (turn_begun b name l body w)
+turn_begun_fair : (m : ℕ) (b : Bool) (name : List ℕ) (l : ℕ) (body : body_of.Body) (w : World) → 1 + body_size body < m → Fair w m (turn_begun b name l body w)
 turn_begun_fair m true name l body w q = record { comes = by_aside (entry.Turn name) _ w refl; falls = lighter (omega (arith, q, body_size_out body), (omega (arith, q, body_size_out body), tt)) }
 turn_begun_fair m false name l body w q = done_fair m w _ (scheduled_comes l (slice_get w.objects.loops l) w)
 
@@ -628,6 +622,12 @@ timer_fair m d delay w q =
     (then_fair m w started _ (by_aside (entry.LaterTimeout d _) _ w refl)
     (settling_fair m d started (append d (timing t) started) (omega (arith, q)) (record { keeps = λ R l. l.by_append d (timing t) started })))
 
+fire_named_fair : (m : ℕ) (itself : Option ℕ) (name : List ℕ) (value : Value) (w : World) → 0 < m → Fair w m (fire_named itself name value w)
+fire_named_fair m itself name value w q = with_fair m itself name w _ (λ d. next_fair m d (fire d value w).0 w (fire d value w).1 q (by_fire d value w))
+
+add_named_fair : (m : ℕ) (itself : Option ℕ) (name : List ℕ) (pair : Pair) (w : World) → 0 < m → Fair w m (add_named itself name pair w)
+add_named_fair m itself name pair w q = with_fair m itself name w _ (λ d. settling_fair m d w (append d pair w) q (record { keeps = λ R l. l.by_append d pair w }))
+
 begun_fair : (m : ℕ) (itself : Option ℕ) (action : Action-F Action Statement body_of.Body) (w : World) → begun_size action < m → Fair w m (begun itself action w)
 begun_fair m itself (Action-F.Note text) w q = done_fair m w _ (record { keeps = λ R l. l.by_aside (entry.Note text) _ w refl })
 begun_fair m itself (Action-F.Deferred name canceller) w q = done_fair m w _ (record { keeps = λ R l. l.by_make (Some name) (option_map Body canceller) w })
@@ -665,7 +665,6 @@ begun_fair m itself (Action-F.ResumeTask name) w q = found_fair m (number_of nam
 begun_fair m itself (Action-F.Inline name statements) w q = inline_begun_fair m name statements w q
 begun_fair m itself (Action-F.Thread name delay work) w q = threaded_fair m name None delay work w
 begun_fair m itself (Action-F.ThreadIn name pool delay work) w q = threaded_fair m name (Some pool) delay work w
-
 
 pub begun_comes : (itself : Option ℕ) (action : Action-F Action Statement body_of.Body) (w : World) → Comes w (begun itself action w).2
 begun_comes itself action w = (begun_fair (1 + begun_size action) itself action w (omega arith)).comes

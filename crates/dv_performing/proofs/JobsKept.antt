@@ -1,5 +1,5 @@
 -- The works that were submitted only grow.
-use Rattle.std.proofs.Common.{◌≡◌, ℕ, Bool, true, false, cond, List, [], ◌∷◌, ◌++◌, Option, Result, Ok, Err, refl, sym, subst, ap, ◌∙◌, append-nil, append_assoc, length}
+use Rattle.std.proofs.Common.{◌≡◌, ℕ, Bool, true, false, cond, List, [], ◌∷◌, ◌++◌, Option, None, Some, Result, Ok, Err, refl, sym, subst, ap, ◌∙◌, append-nil, append_assoc, length}
 use Rattle.dv_journal.specs.Journal.{fits}
 use Rattle.dv_journal.specs.declared.entry.Entry.TheVariants as entry
 use Rattle.dv_journal.specs.declared.error.Stop.{Stop}
@@ -16,10 +16,16 @@ use Rattle.dv_performing.proofs.Fair.{happening_comes, turned_fair}
 use Rattle.dv_performing.proofs.Lasting.{Lasting}
 use Rattle.dv_performing.specs.Turning.{turned}
 use Rattle.dv_performing.specs.Beginning.{happening, Occurrence}
-use Rattle.dv_bodies.specs.Threading.{GoesOn}
-use Rattle.dv_frames.specs.Turn.{Turned, ◌over◌}
+use Rattle.dv_bodies.specs.Threading.{GoesOn, delivered, job_result}
+use Rattle.dv_performing.specs.TurnEnds.{ended_with}
+use Rattle.dv_performing.specs.declared.turn_end.TurnEnd.{TurnEnd}
+use Rattle.dv_performing.specs.declared.turn_end.TurnEnd.TheVariants.{Came, Delivers}
+use Rattle.dv_frames.specs.Turn.{Turned, ◌over◌, settle_next}
 use Rattle.dv_frames.specs.declared.frame.Frame.{Frame}
 use Rattle.dv_objects.specs.Works.{is_full}
+use Rattle.dv_objects.specs.declared.follow.Follow.{Follow}
+use Rattle.dv_objects.specs.declared.follow.Follow.TheVariants as follow
+use Rattle.dv_value.specs.declared.value.Value.{Value}
 use Rattle.dv_world.specs.World.{World, after, moved, named, fired, unpaused, guarded, step, put, put_deferred, append, make, fire, fire_guarded, cancel, pause, unpause, arrange, submit}
 use Rattle.dv_objects.specs.declared.canceller.Canceller.{Canceller}
 use Rattle.dv_objects.specs.declared.pair.Pair.{Pair}
@@ -110,9 +116,35 @@ grow = record {
   by_submit = λ d pool work w. either w.stopped w w _ (same w w refl) (either (is_full w.works) w w _ (same w w refl) (either (fits w.journal (entry.Job (length w.works) d)) w _ _ (record { goes_on = record { more = work ∷ []; same = refl } }) (same w _ refl)));
 }
 
+-- a Deferred that is fired submits nothing
+kept_and : {A : Type 0} (b : Bool) (x : A) (p : A × World) (w : World) → p.1.works ≡ w.works → (cond {A = A × World} b (x, w) p).1.works ≡ w.works
+kept_and true x p w e = refl
+kept_and false x p w e = e
+
+fire_same : (d : ℕ) (value : Value) (w : World) → (fire d value w).1.works ≡ w.works
+unfolding fire
+fire_same d value w = kept_and w.stopped _ _ w (fired_same _ _ w)
+
+settle_same : (d : ℕ) (o : Follow) (w : World) → (settle_next d o w).2 ≡ w
+settle_same d follow.Settle w = refl
+settle_same d follow.Nothing w = refl
+settle_same d (follow.Raise failure) w = refl
+
+delivered_same : (d : ℕ) (o : Option Value) (w : World) → (delivered d o w).2.works ≡ w.works
+delivered_same d None w = refl
+delivered_same d (Some value) w = ap (λ (u : World). u.works) (settle_same d (fire d value w).0 (fire d value w).1) ∙ fire_same d value w
+
+ended_same : (end : TurnEnd) (w : World) → (ended_with end w).2.works ≡ w.works
+ended_same (Came p) w = refl
+ended_same (Delivers job d) w = delivered_same d (job_result job w.works) w
+
+pub delivered_works : (d : ℕ) (o : Option Value) (below : List Frame) (w : World) (t : Turned) → t ≡ (delivered d o w over below) → t.2.works ≡ w.works
+delivered_works d o below w t e = subst (λ (x : Turned). x.2.works ≡ w.works) (sym e) (delivered_same d o w)
+
 -- they go on by a turn, and when an event begins
-pub turned_goes_on : (below : List Frame) (f : Frame) (o : Performed) (w : World) (t : Turned) → t ≡ (turned f o w over below) → GoesOn w.works t.2.works
-turned_goes_on below f o w t e = subst (λ (x : Turned). GoesOn w.works x.2.works) (sym e) (((turned_fair f o w).comes.keeps Grows grow).goes_on)
+pub turned_goes_on : (below left : List Frame) (f : Frame) (o : Performed) (w u : World) (end : TurnEnd) → ◌≡◌ {A = Turned} (ended_with end u over left) (turned f o w over below) → GoesOn w.works u.works
+turned_goes_on below left f o w u end e =
+    subst (λ works. GoesOn w.works works) (ended_same end u) (subst (λ (x : Turned). GoesOn w.works x.2.works) (sym e) (((turned_fair f o w).comes.keeps Grows grow).goes_on))
 
 pub happening_goes_on : (occurrence : Occurrence) (below : List Frame) (w : World) (t : Turned) → t ≡ (happening occurrence w over below) → GoesOn w.works t.2.works
 happening_goes_on occurrence below w t e = subst (λ (x : Turned). GoesOn w.works x.2.works) (sym e) (((happening_comes occurrence w).keeps Grows grow).goes_on)

@@ -2,6 +2,7 @@ pub mod Acting
 pub mod Beginning
 pub mod Wanting
 pub mod ComingDue
+pub mod TurnEnds
 pub mod Settling
 pub mod Performing
 pub mod Turning

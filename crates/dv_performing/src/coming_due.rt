@@ -1,15 +1,15 @@
-ghost use Rattle.std.specs.Prelude.{◌≡◌, IfOk};
+ghost use Rattle.std.specs.Prelude.{◌≡◌, ◌∷◌, IfOk, OnOk};
 ghost use Rattle.dv_performing.specs.ComingDue.{body_called, timed_of, timed_out, come_due_with};
+ghost use Rattle.dv_performing.specs.TurnEnds.{ended_with};
+ghost use Rattle.dv_frames.specs.declared.frame.Frame.TheVariants.{Tell, Due as DueNext};
 ghost use Rattle.dv_frames.specs.Turn.{◌over◌};
 ghost use Rattle.dv_world.specs.World.{World as Seen, come_due};
 
-use dv_bodies::submissions::Submissions;
-use dv_bodies::threading::deliver;
+use crate::turn_end::{TurnEnd, came};
 use dv_clock::due::Due;
 use dv_clock::loop_id::LoopId;
 use dv_frames::following::{done, whole};
 use dv_frames::frame::Frame;
-use dv_jobs::source::JobSource;
 use dv_journal::deferred_id::DeferredId;
 use dv_objects::performed::Performed;
 use dv_script::lent::BodyRef;
@@ -17,69 +17,57 @@ use dv_timing::looping::take_turn;
 use dv_value::stack::Stack;
 use dv_value::value::Value;
 use dv_world::world::World;
-use std::alloc::{AllocError, AllocGlobal, Global};
-use std::random::RandomSource;
-use std::sync::Wait;
+use std::alloc::AllocError;
 
-/// What is due next is run, where something is, and then what is due after it (Twisted: `Clock.advance`). It may wait for a
-/// job.
-#[tactic(auto, using(crate::proofs::DueLemmas::come_due_works))]
-pub fn run_due<'s, R, J>(
-    rt: &R,
-    alloc: Global,
-    jobs: &mut Submissions<'s, J>,
+/// What is due next is run, where something is, and then what is due after it (Twisted: `Clock.advance`).
+pub fn run_due<'s>(
     world: &mut World<'s>,
     stack: &mut Stack<Frame<'s>>,
-) -> Result<Performed<'s>, AllocError>
-where
-    R: Wait + RandomSource + AllocGlobal,
-    J: JobSource,
-    requires { jobs.old ≡ world.old.works }
-    ensures performed { IfOk result (λ performed. (stack.new, performed, world.new) ≡ come_due_with (come_due world.old).0 (come_due world.old).1 over stack.old) }
-    ensures jobs { jobs.new ≡ jobs.old }
+) -> Result<TurnEnd<'s>, AllocError>
+    ensures { IfOk result (λ end. (ended_with end world.new over stack.new) ≡ (come_due_with (come_due world.old).0 (come_due world.old).1 over stack.old)) }
 {
     let what = world.come_due()?;
-    run_what(rt, alloc, jobs, world, stack, what)
+    run_what(world, stack, what)
 }
 
 /// This is run, and then what is due after it.
-fn run_what<'s, R, J>(
-    rt: &R,
-    alloc: Global,
-    jobs: &mut Submissions<'s, J>,
+fn run_what<'s>(
     world: &mut World<'s>,
     stack: &mut Stack<Frame<'s>>,
     what: Option<Due>,
-) -> Result<Performed<'s>, AllocError>
-where
-    R: Wait + RandomSource + AllocGlobal,
-    J: JobSource,
-    requires { jobs.old ≡ world.old.works }
-    ensures performed { IfOk result (λ performed. (stack.new, performed, world.new) ≡ come_due_with what world.old over stack.old) }
-    ensures jobs { jobs.new ≡ jobs.old }
+) -> Result<TurnEnd<'s>, AllocError>
+    ensures { IfOk result (λ end. (ended_with end world.new over stack.new) ≡ (come_due_with what world.old over stack.old)) }
 {
     let timed = timed_of(&what);
     match what {
-        None => Ok(Performed::Done),
+        None => Ok(TurnEnd::Came(Performed::Done)),
         Some(Due::Call(name, key)) => {
             drop(name);
-            call_body(stack, world.body(key))
+            came(call_body(stack, world.body(key)))
         }
         Some(Due::Turn(name, key)) => {
             drop(name);
             stack.push(Frame::Due)?;
-            done(take_turn(world, stack, LoopId::new(key)))
+            came(done(take_turn(world, stack, LoopId::new(key))))
         }
         Some(Due::Tick) => {
             stack.push(Frame::Due)?;
-            done(stack.push(Frame::Tick(world.begin_tick())))
+            came(done(stack.push(Frame::Tick(world.begin_tick()))))
         }
         Some(Due::Delivery(job, key)) => {
-            stack.push(Frame::Due)?;
-            deliver(rt, alloc, jobs, world, stack, job, DeferredId::new(key))
+            tell_and_go_on(stack)?;
+            Ok(TurnEnd::Delivers(job, DeferredId::new(key)))
         }
-        Some(Due::Timeout(_)) => time_out(stack, timed),
+        Some(Due::Timeout(_)) => came(time_out(stack, timed)),
     }
+}
+
+/// A refusal is told, and then what is due next follows.
+fn tell_and_go_on<'s>(stack: &mut Stack<Frame<'s>>) -> Result<(), AllocError>
+    ensures { OnOk result (stack.new ≡ Tell ∷ DueNext ∷ stack.old) }
+{
+    stack.push(Frame::Due)?;
+    stack.push(Frame::Tell)
 }
 
 /// The body of a delayed call is to be performed, and then what is due next.

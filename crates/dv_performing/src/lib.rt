@@ -8,5 +8,6 @@ mod coming_due;
 pub mod laws;
 pub mod runner;
 mod settling;
+mod turn_end;
 mod turning;
 mod wanting;

@@ -2,12 +2,15 @@ ghost use Rattle.std.specs.Prelude.{◌≡◌, IfOk, OnOk};
 ghost use Rattle.dv_performing.specs.Beginning.{Occurs, Comes};
 ghost use Rattle.dv_frames.specs.Bounds.{Bounded};
 ghost use Rattle.dv_frames.specs.Turn.{◌over◌};
+ghost use Rattle.dv_performing.specs.TurnEnds.{ended_with};
 ghost use Rattle.dv_performing.specs.Turning.{turned};
 ghost use Rattle.dv_performing.specs.Meaning.{Ends, Happens};
 
 use crate::beginning::{begin_event, begin_post};
+use crate::turn_end::TurnEnd;
 use crate::turning::turn;
 use dv_bodies::submissions::Submissions;
+use dv_bodies::threading::deliver;
 use dv_frames::frame::Frame;
 use dv_inline::poller::Poller;
 use dv_jobs::source::JobSource;
@@ -136,10 +139,36 @@ where
     ensures turned { IfOk result (λ next. (stack.new, next, world.new) ≡ turned frame.entry performed.entry world.old over stack.old) }
     ensures jobs { OnOk result (jobs.new ≡ world.new.works) }
 {
-    let next = turn(rt, alloc, poller, jobs, world, stack, frame, performed)?;
+    let end = turn(alloc, poller, world, stack, frame, performed)?;
     let Ok(()) = jobs.submit_all(alloc, world.works()) else {
-        drop(next);
+        drop(end);
         return Err(AllocError);
     };
-    Ok(next)
+    finish_turn(rt, alloc, jobs, world, stack, end)
+}
+
+/// What a turn has come to; where that is a job's result, the Deferred is fired with it, and it may wait for the job.
+#[tactic(auto, using(crate::proofs::JobsKept::delivered_works))]
+fn finish_turn<'s, R, J>(
+    rt: &R,
+    alloc: Global,
+    jobs: &mut Submissions<'s, J>,
+    world: &mut World<'s>,
+    stack: &mut Stack<Frame<'s>>,
+    end: TurnEnd<'s>,
+) -> Result<Performed<'s>, AllocError>
+where
+    R: Wait + RandomSource + AllocGlobal,
+    J: JobSource,
+    requires { jobs.old ≡ world.old.works }
+    ensures ended { IfOk result (λ next. (stack.new, next, world.new) ≡ ended_with end.entry world.old over stack.old) }
+    ensures jobs { OnOk result (jobs.new ≡ world.new.works) }
+{
+    match end {
+        TurnEnd::Came(performed) => Ok(performed),
+        TurnEnd::Delivers(job, id) => {
+            let value = jobs.outcome(rt, alloc, job)?;
+            deliver(world, stack, id, value)
+        }
+    }
 }

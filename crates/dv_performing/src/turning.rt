@@ -2,6 +2,7 @@
 
 ghost use Rattle.std.specs.Prelude.{◌≡◌, IfOk};
 ghost use Rattle.dv_frames.specs.Bounds.{Bounded};
+ghost use Rattle.dv_performing.specs.TurnEnds.{ended_with};
 ghost use Rattle.dv_performing.specs.Performing.{gone_on, rest_turned};
 ghost use Rattle.dv_frames.specs.Turn.{◌over◌};
 ghost use Rattle.dv_performing.specs.Turning.{turned};
@@ -9,77 +10,67 @@ ghost use Rattle.dv_performing.specs.Turning.{turned};
 use crate::acting::begin;
 use crate::coming_due::run_due;
 use crate::settling::{end_side, settle};
+use crate::turn_end::{TurnEnd, came};
 use crate::wanting;
-use dv_bodies::submissions::Submissions;
 use dv_frames::cancelling::{cancel, end_canceller};
 use dv_frames::following::add_and_settle;
 use dv_frames::frame::{Frame, Rest};
 use dv_frames::maybe::{end_maybe, give_after};
 use dv_frames::raising::{raised_by, tell_failure};
 use dv_inline::poller::Poller;
-use dv_jobs::source::JobSource;
 use dv_objects::performed::Performed;
 use dv_timing::cooperating::{end_step, go_on_ticking, notify};
 use dv_value::stack::Stack;
 use dv_world::ending::ended;
 use dv_world::world::World;
-use std::alloc::{AllocError, AllocGlobal, Global};
-use std::random::RandomSource;
-use std::sync::Wait;
+use std::alloc::{AllocError, Global};
 
 /// Goes on with the frame that was on top, which gets what was come to above it.
-pub fn turn<'s, R, J>(
-    rt: &R,
+pub fn turn<'s>(
     alloc: Global,
     poller: &Poller,
-    jobs: &mut Submissions<'s, J>,
     world: &mut World<'s>,
     stack: &mut Stack<Frame<'s>>,
     frame: Frame<'s>,
     performed: Performed<'s>,
-) -> Result<Performed<'s>, AllocError>
-where
-    R: Wait + RandomSource + AllocGlobal,
-    J: JobSource,
+) -> Result<TurnEnd<'s>, AllocError>
     requires bounded { Bounded world.old }
-    requires jobs { jobs.old ≡ world.old.works }
-    ensures turned { IfOk result (λ next. (stack.new, next, world.new) ≡ turned frame.entry performed.entry world.old over stack.old) }
-    ensures jobs { jobs.new ≡ jobs.old }
+    ensures { IfOk result (λ end. (ended_with end world.new over stack.new) ≡ (turned frame.entry performed.entry world.old over stack.old)) }
 {
     match frame {
         Frame::Settle(id) => {
             drop(performed);
-            settle(alloc, world, stack, id)
+            came(settle(alloc, world, stack, id))
         }
-        Frame::Place(id) => end_side(alloc, world, stack, id, performed),
-        Frame::Rest(rest) => go_on_unless_raised(alloc, world, stack, rest, performed),
-        Frame::Canceller(id) => end_canceller(alloc, world, stack, id, performed),
-        Frame::Maybe(purpose) => end_maybe(alloc, world, stack, purpose, performed),
+        Frame::Place(id) => came(end_side(alloc, world, stack, id, performed)),
+        Frame::Rest(rest) => came(go_on_unless_raised(alloc, world, stack, rest, performed)),
+        Frame::Canceller(id) => came(end_canceller(alloc, world, stack, id, performed)),
+        Frame::Maybe(purpose) => came(end_maybe(alloc, world, stack, purpose, performed)),
         Frame::Add(id, pair) => {
             drop(performed);
-            add_and_settle(world, stack, id, pair)
+            came(add_and_settle(world, stack, id, pair))
         }
         Frame::Cancel(id) => {
             drop(performed);
-            cancel(alloc, world, stack, id)
+            came(cancel(alloc, world, stack, id))
         }
-        Frame::Give(given) => Ok(give_after(given, performed)),
+        Frame::Give(given) => Ok(TurnEnd::Came(give_after(given, performed))),
         Frame::Notify(id, task) => {
             drop(performed);
-            notify(alloc, world, stack, id, task)
+            came(notify(alloc, world, stack, id, task))
         }
-        Frame::Stepped(task) => end_step(alloc, world, stack, task, performed),
+        Frame::Stepped(task) => came(end_step(alloc, world, stack, task, performed)),
         Frame::Tick(units) => {
             drop(performed);
-            go_on_ticking(world, stack, units)
+            came(go_on_ticking(world, stack, units))
         }
-        Frame::Tell => tell_failure(alloc, world, performed),
+        Frame::Tell => came(tell_failure(alloc, world, performed)),
         Frame::Due => {
             drop(performed);
-            run_due(rt, alloc, jobs, world, stack)
+            run_due(world, stack)
         }
         Frame::Inline(inlining) => {
-            wanting::go_on(alloc, poller, world, stack, inlining, performed)
+            came(wanting::go_on(alloc, poller, world, stack, inlining, performed))
         }
     }
 }

@@ -18,8 +18,8 @@ use dv_threads::pools::Pools;
 use std::alloc::{AllocError, AllocGlobal, Global};
 use std::random::RandomSource;
 use std::sync::Wait;
-use std::thread::Threads;
 use std::thread;
+use std::thread::Threads;
 
 /// How many workers each of these pools has, and no more than pools have, as none has of a script that is read.
 fn workers_of_pools(alloc: Global, pools: &[NamedPool]) -> Result<Vec<u32>, AllocError>
