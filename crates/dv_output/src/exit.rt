@@ -19,13 +19,15 @@ pub fn exit_of(ended: &Result<Report, RunFault>) -> (u8, &'static str)
     }
 }
 
-fn status_of(stopped: bool) -> u8
+/// The exit status of a run that has ended.
+pub fn status_of(stopped: bool) -> u8
     ensures { result ≡ if stopped then 1 else 0 }
 {
     if stopped { 1 } else { 0 }
 }
 
-fn fault_status(fault: RunFault) -> u8
+/// The exit status of a run that gave up.
+pub fn fault_status(fault: RunFault) -> u8
     ensures { result ≡ fault_status fault }
 {
     match fault {
@@ -35,7 +37,8 @@ fn fault_status(fault: RunFault) -> u8
     }
 }
 
-fn fault_text(fault: RunFault) -> &'static str
+/// What goes to standard error where a run gave up: a line of this text.
+pub fn fault_text(fault: RunFault) -> &'static str
     ensures { result.now ≡ fault_text fault }
 {
     match fault {

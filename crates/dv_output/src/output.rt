@@ -33,7 +33,8 @@ fn write_state(
     }
 }
 
-fn write_line(
+/// Adds the line of the outcome of a number. After an error, `line` ends anyhow.
+pub fn write_line(
     alloc: Global,
     classes: &Classes,
     line: &mut String,

@@ -23,7 +23,63 @@ use std::thread::Threads;
 
 /// Has an engine perform its script, while the callers post: at each drain it takes what is there, up to as many as that takes,
 /// and after the last event, when the callers have ended, what is left.
-pub fn drive<'s, R, J>(
+pub trait Driver {
+    /// What is kept of the run.
+    type End: Drop;
+
+    ghost use Rattle.dv_script.specs.declared.script.Script.{Script};
+
+    /// What is known of that, by the script.
+    ghost ends: { Script → End → Type 0 };
+
+    /// Has the engine perform its script, of whose callers these are the bodies. AllocError where memory is refused.
+    fn drive<'s, R, J>(
+        &self,
+        rt: &R,
+        alloc: Global,
+        engine: Engine<'s, J>,
+        bodies: &[Items<Body>],
+        inbox: Inbox,
+        callers: Vec<Caller>,
+    ) -> Result<Self::End, AllocError>
+    where
+        R: Threads + Wait + RandomSource + AllocGlobal,
+        J: JobSource,
+        requires first { engine ≡ first_engine engine.script }
+        requires bodies { bodies.now ≡ engine.script.callers }
+        requires serve { AllServe bodies.now inbox callers.items }
+        requires untaken { TookBatches inbox [] }
+        ensures { IfOk result (ends engine.entry.script) };
+}
+
+/// Keeps the report of a run.
+pub struct Reporting;
+
+impl Driver for Reporting {
+    type End = Report;
+
+    ghost ends = { IsRun };
+
+    fn drive<'s, R, J>(
+        &self,
+        rt: &R,
+        alloc: Global,
+        engine: Engine<'s, J>,
+        bodies: &[Items<Body>],
+        inbox: Inbox,
+        callers: Vec<Caller>,
+    ) -> Result<Report, AllocError>
+    where
+        R: Threads + Wait + RandomSource + AllocGlobal,
+        J: JobSource,
+    {
+        drive(rt, alloc, engine, bodies, inbox, callers)
+    }
+}
+
+/// Has an engine perform its script, while the callers post: at each drain it takes what is there, up to as many as that takes,
+/// and after the last event, when the callers have ended, what is left.
+fn drive<'s, R, J>(
     rt: &R,
     alloc: Global,
     engine: Engine<'s, J>,
@@ -91,7 +147,7 @@ where
 
 /// Has an engine take what is there at a drain. Answers whether each post is the next one of its caller; where not, the engine
 /// takes none.
-fn drain<'s, R, J>(
+pub fn drain<'s, R, J>(
     rt: &R,
     alloc: Global,
     engine: &mut Engine<'s, J>,
@@ -117,7 +173,7 @@ where
 }
 
 /// Has an engine take the last batch, with which it has taken all posts.
-fn take_rest<'s, R, J>(
+pub fn take_rest<'s, R, J>(
     rt: &R,
     engine: &mut Engine<'s, J>,
     rest: Items<Posted>,

@@ -1,9 +1,9 @@
 //! Runs a script: reads it, performs it, and prints its journal and its outcomes.
 #![tactic(auto)]
 
-mod driving;
-mod performing;
-mod running;
+pub mod driving;
+pub mod performing;
+pub mod running;
 mod workers;
 
 pub use dv_output::error::RunFault;

@@ -1,11 +1,9 @@
 ghost use Rattle.std.specs.Prelude.{◌≡◌, ◌<◌, ◌≤◌, ◌^◌, ◌-◌, [], length, All, IfOk};
 ghost use Rattle.dv_posts.specs.Callers.{AllServe, AreFew, TookBatches};
 ghost use Rattle.dv_script.specs.declared.limits.TheConstants.{MOST_POOLS, MOST_WORKERS};
-ghost use Rattle.dv_run.specs.Headline.{IsRun};
 
-use crate::driving::drive;
+use crate::driving::Driver;
 use dv_engine::engine::Engine;
-use dv_engine::report::Report;
 use dv_inline::poller::Poller;
 use dv_jobs::gate::Gate;
 use dv_jobs::one_thread::OneThread;
@@ -36,15 +34,22 @@ fn workers_of_pools(alloc: Global, pools: &[NamedPool]) -> Result<Vec<u32>, Allo
 /// Performs a script, with a thread for each caller, so many for the jobs of the default pool, and as many as the script says for those
 /// of each other pool. Where there is no worker and no pool is named, no thread is started for jobs. A poller for inline bodies that can't be made counts as
 /// want of memory.
-pub fn perform<S, G>(rt: &S, script: &Script, workers: u32, gate: &G) -> Result<Report, AllocError>
+pub fn perform<S, G, D>(
+    rt: &S,
+    script: &Script,
+    workers: u32,
+    gate: &G,
+    driver: &D,
+) -> Result<D::End, AllocError>
 where
     S: Threads + Wait + RandomSource + AllocGlobal + Sync,
     G: Gate + Sync,
+    D: Driver + Sync,
     requires workers { workers ≤ MOST_WORKERS }
     requires limited { script.now.limit < 2 ^ 32 - 1 }
     requires few { AreFew script.now.callers }
     requires pools { length script.now.pools ≤ MOST_POOLS }
-    ensures { IfOk result (IsRun script.now) }
+    ensures { IfOk result (D.ends script.now) }
 {
     let Ok(poller) = Poller::new(rt) else {
         return Err(AllocError);
@@ -53,12 +58,12 @@ where
     thread::scope(
         thread::scope_env(),
         rt,
-        |scope| -> Result<Report, AllocError>
+        |scope| -> Result<D::End, AllocError>
             requires workers { workers ≤ MOST_WORKERS }
             requires limited { script.now.limit < 2 ^ 32 - 1 }
             requires few { AreFew script.now.callers }
             requires pools { length script.now.pools ≤ MOST_POOLS }
-            ensures { IfOk result (IsRun script.entry.now) }
+            ensures { IfOk result (D.ends script.entry.now) }
         {
             let bodies = script.callers.as_slice();
             let (inbox, posters) = Inbox::open(alloc, bodies.len() as u32, MOST_POSTS)?;
@@ -66,17 +71,17 @@ where
             let named = workers_of_pools(alloc, script.pools.as_slice())?;
             if workers == 0 && named.is_empty() {
                 let jobs = OneThread::new(alloc, 0, gate);
-                perform_with(rt, alloc, poller, jobs, script, inbox, callers)
+                perform_with(rt, alloc, poller, jobs, script, inbox, callers, driver)
             } else {
                 let jobs = Pools::open(rt, alloc, scope, workers, named.as_slice(), gate)?;
-                perform_with(rt, alloc, poller, jobs, script, inbox, callers)
+                perform_with(rt, alloc, poller, jobs, script, inbox, callers, driver)
             }
         },
     )
 }
 
 /// Performs a script whose callers post, with this source for its jobs, to which nothing was submitted yet, and which has the pools that the script names.
-fn perform_with<S, J>(
+fn perform_with<S, J, D>(
     rt: &S,
     alloc: Global,
     poller: Poller,
@@ -84,17 +89,19 @@ fn perform_with<S, J>(
     script: &Script,
     inbox: Inbox,
     callers: Vec<Caller>,
-) -> Result<Report, AllocError>
+    driver: &D,
+) -> Result<D::End, AllocError>
 where
     S: Threads + Wait + RandomSource + AllocGlobal,
     J: JobSource,
+    D: Driver,
     requires limited { script.now.limit < 2 ^ 32 - 1 }
     requires unused { J.jobs jobs ≡ [] }
     requires declared { length script.now.pools ≤ J.pools jobs }
     requires serve { AllServe script.now.callers inbox callers.items }
     requires untaken { TookBatches inbox [] }
-    ensures { IfOk result (IsRun script.now) }
+    ensures { IfOk result (D.ends script.now) }
 {
     let engine = Engine::new(alloc, poller, jobs, script)?;
-    drive(rt, alloc, engine, script.callers.as_slice(), inbox, callers)
+    driver.drive(rt, alloc, engine, script.callers.as_slice(), inbox, callers)
 }

@@ -4,6 +4,7 @@ ghost use Rattle.dv_script.specs.declared.limits.TheConstants.{MOST_LIMIT, MOST_
 ghost use Rattle.dv_run.specs.Headline.{Prints};
 ghost use Rattle.dv_run.specs.Run.{SaysScript, GivesNoScript, GivesUp, ReaderFailed, WriterFailed};
 
+use crate::driving::Reporting;
 use crate::performing::perform;
 use dv_engine::report::Report;
 use dv_jobs::gate::Gate;
@@ -56,7 +57,7 @@ where
 {
     let alloc = rt.alloc();
     let script = script_of(alloc, reader)?;
-    let Ok(report) = perform(rt, &script, workers, gate) else {
+    let Ok(report) = perform(rt, &script, workers, gate, &Reporting) else {
         script.discard();
         return Err(RunFault::OutOfMemory);
     };
@@ -73,7 +74,7 @@ where
 
 /// The script that the input says.
 #[tactic(auto, using(crate::proofs::RunLemmas::script_rules))]
-fn script_of<R: Source>(alloc: Global, reader: &mut R) -> Result<Script, RunFault>
+pub fn script_of<R: Source>(alloc: Global, reader: &mut R) -> Result<Script, RunFault>
     ensures ok { IfOk result (λ script. SaysScript (R.left reader.old) script) }
     ensures few { IfOk result (λ script. AreFew script.callers) }
     ensures pools { IfOk result (λ script. length script.pools ≤ MOST_POOLS) }

@@ -1,0 +1,193 @@
+-- What is left at the end of a run: `left_of`.
+use Rattle.std.specs.Prelude.{ℕ, suc, Bool, true, false, not, ◌&&◌, is_none, is_some, nat_eq, if◌then◌else◌, List, [], ◌∷◌, ◌++◌, length, Option, None, Some, slice_get}
+use Rattle.std.specs.List.{flat_map}
+use Rattle.std.specs.Option.{option_map_or, option_and_then}
+use Rattle.dv_clock.specs.Clock.{due_of}
+use Rattle.dv_clock.specs.declared.call.Call.{Call}
+use Rattle.dv_clock.specs.declared.call.CallState.{CallState}
+use Rattle.dv_clock.specs.declared.call.CallState.TheVariants.{Waiting, Called, Cancelled, Dropped}
+use Rattle.dv_clock.specs.declared.due.Due.TheVariants as what
+use Rattle.dv_journal.specs.declared.entry.Entry.{Entry}
+use Rattle.dv_journal.specs.declared.entry.Entry.TheVariants as entry
+use Rattle.dv_objects.specs.declared.canceller.Canceller.{Canceller}
+use Rattle.dv_objects.specs.declared.looping_call.LoopingCall.{LoopingCall}
+use Rattle.dv_objects.specs.declared.pair.Pair.{Pair}
+use Rattle.dv_objects.specs.declared.task.Task.{Task}
+use Rattle.dv_prims.specs.Queue.{Queue}
+use Rattle.dv_prims.specs.Tokens.{Semaphore, is_unheld}
+use Rattle.dv_store.specs.declared.record.Record.{Record}
+use Rattle.dv_value.specs.Failure.{is_fault}
+use Rattle.dv_value.specs.declared.value.Value.{Value}
+use Rattle.dv_world.specs.World.{Records, World}
+use Rattle.dv_left.specs.Hanging.{Links, hung, turns_held, tasks_held}
+use Rattle.dv_left.specs.Lists.{items_of}
+use Rattle.dv_left.specs.declared.left.Hang.{Hang}
+use Rattle.dv_left.specs.declared.left.Hang.TheVariants as hang
+use Rattle.dv_left.specs.declared.left.Left.{Left}
+use Rattle.dv_left.specs.declared.left.Left.TheVariants as left
+use Rattle.dv_left.specs.declared.left.Stage.{Stage}
+use Rattle.dv_left.specs.declared.left.Stage.TheVariants as stage
+
+-- 1. Deferreds.
+
+-- whether a Deferred is unfired, waits, or has a value
+abbrev pub stage_of : Record Pair Canceller → Stage
+stage_of r = if r.fired then (if is_some r.waits_for then stage.Waiting else stage.Fired) else stage.Unfired
+
+-- nothing is left of a Deferred that is fired, doesn't wait, isn't paused, and no side of which runs
+abbrev pub is_settled : Record Pair Canceller → Bool
+is_settled r = r.fired && is_none r.waits_for && nat_eq r.pauses 0 && not r.running
+
+-- a Deferred that waits hangs at that one
+abbrev pub waits_at : Option ℕ → List Hang
+waits_at None = []
+waits_at (Some e) = hang.Waits e ∷ []
+
+-- one that is unfired hangs at all that is to fire it
+abbrev pub hangs_of : List Hang → Record Pair Canceller → List Hang
+hangs_of unfired r = if r.fired then waits_at r.waits_for else unfired
+
+abbrev pub left_deferred : ℕ → List Hang → Record Pair Canceller → List Left
+left_deferred d unfired r =
+    if is_settled r then []
+    else left.Deferred (record { id = d; stage = stage_of r; pauses = r.pauses; running = r.running; hangs = hangs_of unfired r }) ∷ []
+
+-- nobody trapped the failure that a Deferred ends with
+abbrev pub has_failed : Record Pair Canceller → Bool
+has_failed r = r.fired && is_none r.waits_for && is_fault r.value
+
+abbrev pub left_failure : ℕ → Record Pair Canceller → List Left
+left_failure d r = if has_failed r then left.Failure d ∷ [] else []
+
+-- from the Deferred of this number on
+abbrev pub left_deferreds : Links Hang → ℕ → Records → List Left
+left_deferreds links d [] = []
+left_deferreds links d (r ∷ rs) = left_deferred d (items_of d links) r ++ left_failure d r ++ left_deferreds links (suc d) rs
+
+-- 2. The clock: what waits for its time, but for turns of loops.
+
+abbrev pub left_call : ℕ → CallState → List Left
+left_call due (Waiting (what.Call name number)) = left.Call number due ∷ []
+left_call due (Waiting (what.Turn name key)) = []
+left_call due (Waiting what.Tick) = left.Tick due ∷ []
+left_call due (Waiting (what.Delivery job d)) = left.Delivery job d due ∷ []
+left_call due (Waiting (what.Timeout d)) = left.Timeout d due ∷ []
+left_call due Called = []
+left_call due Cancelled = []
+left_call due Dropped = []
+
+abbrev pub left_calls : List Call → List Left
+left_calls calls = flat_map (λ call. left_call call.due call.state) calls
+
+-- 3. Loops that go on, each with the time of its next turn, where one is scheduled.
+
+abbrev pub next_turn : List Call → LoopingCall → Option ℕ
+next_turn calls x = option_and_then (λ number. due_of number calls) x.turn
+
+abbrev pub left_loop : ℕ → List Call → List ℕ → LoopingCall → List Left
+left_loop l calls held_by x =
+    if x.running then left.Loop (record { number = l; of = x.of; due = next_turn calls x; waits_for = held_by }) ∷ [] else []
+
+abbrev pub left_loops : Links ℕ → List Call → ℕ → List LoopingCall → List Left
+left_loops held calls l [] = []
+left_loops held calls l (x ∷ xs) = left_loop l calls (items_of l held) x ++ left_loops held calls (suc l) xs
+
+-- 4. Tasks that haven't ended.
+
+abbrev pub left_task : ℕ → List ℕ → Task → List Left
+left_task t held_by x =
+    if is_some x.end then [] else left.Task (record { number = t; pauses = x.pauses; bodies = length x.bodies; waits_for = held_by }) ∷ []
+
+abbrev pub left_tasks : Links ℕ → ℕ → List Task → List Left
+left_tasks held t [] = []
+left_tasks held t (x ∷ xs) = left_task t (items_of t held) x ++ left_tasks held (suc t) xs
+
+-- 5. Locks and semaphores of which tokens are given.
+
+abbrev pub left_tokens : ℕ → Semaphore → List Left
+left_tokens l s = if is_unheld s then [] else left.Tokens (record { number = l; given = s.given; tokens = s.tokens; waiting = s.waiting }) ∷ []
+
+abbrev pub left_locks : ℕ → List Semaphore → List Left
+left_locks l [] = []
+left_locks l (s ∷ ss) = left_tokens l s ++ left_locks (suc l) ss
+
+-- 6. Queues: who waits for a value, and values that nobody got.
+
+abbrev pub left_getters : ℕ → List ℕ → List Left
+left_getters k [] = []
+left_getters k (d ∷ ds) = left.Getters k (d ∷ ds) ∷ []
+
+abbrev pub left_values : ℕ → List Value → List Left
+left_values k [] = []
+left_values k (v ∷ vs) = left.Values k (v ∷ vs) ∷ []
+
+abbrev pub left_queues : ℕ → List Queue → List Left
+left_queues k [] = []
+left_queues k (q ∷ qs) = left_getters k q.waiting ++ left_values k q.stored ++ left_queues (suc k) qs
+
+-- 7. Failures that were told as unhandled, by their places in the journal.
+
+abbrev pub is_unhandled : Entry → Bool
+is_unhandled (entry.New d name) = false
+is_unhandled (entry.Name d name) = false
+is_unhandled (entry.Add d) = false
+is_unhandled (entry.Fire d v) = false
+is_unhandled (entry.Swallow d) = false
+is_unhandled (entry.Refuse d) = false
+is_unhandled (entry.Run d) = false
+is_unhandled (entry.Set d v) = false
+is_unhandled (entry.Take d e v) = false
+is_unhandled (entry.Wait d e) = false
+is_unhandled (entry.Hand e d v) = false
+is_unhandled (entry.Pause d) = false
+is_unhandled (entry.Unpause d) = false
+is_unhandled (entry.Cancel d) = false
+is_unhandled (entry.Note text) = false
+is_unhandled (entry.Unhandled failure) = true
+is_unhandled (entry.Lock name) = false
+is_unhandled (entry.Semaphore name tokens) = false
+is_unhandled (entry.Acquire name d) = false
+is_unhandled (entry.Release name) = false
+is_unhandled (entry.Queue name size backlog) = false
+is_unhandled (entry.Put name v) = false
+is_unhandled (entry.Get name d) = false
+is_unhandled (entry.LaterCall name due) = false
+is_unhandled (entry.LaterLoop name due) = false
+is_unhandled (entry.LaterTick due) = false
+is_unhandled (entry.LaterJob job due) = false
+is_unhandled (entry.LaterTimeout d due) = false
+is_unhandled (entry.Uncall name) = false
+is_unhandled (entry.Call name) = false
+is_unhandled entry.Tick = false
+is_unhandled (entry.Deliver job) = false
+is_unhandled (entry.Timeout d) = false
+is_unhandled (entry.Loop name d) = false
+is_unhandled (entry.Turn name) = false
+is_unhandled (entry.Stop name) = false
+is_unhandled (entry.Task name) = false
+is_unhandled (entry.Step name) = false
+is_unhandled (entry.Hold name d) = false
+is_unhandled (entry.End name v) = false
+is_unhandled (entry.PauseTask name) = false
+is_unhandled (entry.ResumeTask name) = false
+is_unhandled (entry.WhenDone name d) = false
+is_unhandled (entry.Await d e) = false
+is_unhandled (entry.Job job d) = false
+is_unhandled (entry.Advance time) = false
+is_unhandled entry.Drain = false
+is_unhandled (entry.Post caller index) = false
+
+abbrev pub left_unhandled : ℕ → List Entry → List Left
+left_unhandled n [] = []
+left_unhandled n (e ∷ es) = (if is_unhandled e then left.Unhandled n ∷ [] else []) ++ left_unhandled (suc n) es
+
+-- 8. What is left of a world, in this order.
+abbrev pub left_of : World → List Left
+left_of w =
+    left_deferreds (hung w) 0 w.records
+    ++ left_calls w.objects.clock.calls
+    ++ left_loops (turns_held w) w.objects.clock.calls 0 w.objects.loops
+    ++ left_tasks (tasks_held w) 0 w.objects.cooperator.tasks
+    ++ left_locks 0 w.objects.semaphores
+    ++ left_queues 0 w.objects.queues
+    ++ left_unhandled 0 w.journal.entries

@@ -1,0 +1,4 @@
+pub mod Lists
+pub mod Hanging
+pub mod Left
+pub mod Remains
