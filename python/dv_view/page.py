@@ -36,12 +36,13 @@ _LEGEND_SIGNS: Dict[State, str] = {
     State.WAIT: "… ",
 }
 _LEGEND_ARROWS = (
-    (ArrowKind.FIRE, "fires, hands over"),
-    (ArrowKind.WAIT, "waits for"),
-    (ArrowKind.CANCEL, "cancels"),
-    (ArrowKind.REFUSE, "is refused"),
-    (ArrowKind.SWALLOW, "is swallowed"),
-    (ArrowKind.PAUSE, "pauses, unpauses"),
+    (ArrowKind.FIRE, False, "fires, hands over"),
+    (ArrowKind.FIRE, True, "the same with a failure"),
+    (ArrowKind.WAIT, False, "waits for"),
+    (ArrowKind.CANCEL, False, "cancels"),
+    (ArrowKind.REFUSE, False, "is refused"),
+    (ArrowKind.SWALLOW, False, "is swallowed"),
+    (ArrowKind.PAUSE, False, "pauses, unpauses"),
 )
 
 
@@ -191,8 +192,8 @@ class Page:
             yield Html(f"<span><svg width=16 height=18>{drawn}</svg>{_LEGEND_SIGNS[state]}{SAYS[state]}</span>")
         drawn = bar(8, 0, 18, Look(State.OK, True))
         yield Html(f"<span><svg width=16 height=18>{drawn}</svg>‖ paused</span>")
-        for kind, word in _LEGEND_ARROWS:
-            yield Html(f"<span><svg width=44 height=16>{arrow(kind, False, 2, 40, 8, 0)}</svg>{word}</span>")
+        for kind, fails, word in _LEGEND_ARROWS:
+            yield Html(f"<span><svg width=44 height=16>{arrow(kind, fails, 2, 40, 8, 0)}</svg>{word}</span>")
         yield Html("</div><p class=\"facts small\">A run holds the lines below it, up to the <b>set</b>, <b>take</b> or <b>wait</b> that ")
         yield Html("ends it. Time stands on the left, with a bracket from each scheduling to its coming. Choose a number, as #0, to ")
         yield Html("follow that Deferred.</p>")

@@ -64,7 +64,10 @@ def arrow_class(kind: ArrowKind, fails: bool) -> str:
 
 
 def arrow(kind: ArrowKind, fails: bool, start: float, end: float, y: float, gap: float) -> Html:
-    """An arrow from one lane to another, which begins beside the bar of the one and ends beside that of the other."""
+    """An arrow from one lane to another, which begins beside the bar of the one and ends beside that of the other.
+
+    What it does is told by its head and its stroke; one of a failure has a stroke across.
+    """
     way, name = (1 if end > start else -1), arrow_class(kind, fails)
     tail, head = start + way * (gap + 1), end - way * 6
     shaft = f'<path class="a a-{name}" d="M{tail:g} {y:g}H{head - (0 if kind is ArrowKind.REFUSE else way * 3):g}" />'
@@ -72,13 +75,17 @@ def arrow(kind: ArrowKind, fails: bool, start: float, end: float, y: float, gap:
         return Html(f'{shaft}<path class="a a-refuse" d="M{head - 3:g} {y - 3:g}l6 6m0 -6l-6 6" />')
     if kind is ArrowKind.SWALLOW:
         return Html(f'{shaft}<circle class="a a-swallow" cx="{head:g}" cy="{y:g}" r=3.5 />')
-    return Html(f'{shaft}<path class=h-{name} d="M{head + way * 2:g} {y:g}l{-way * 7} -4v8z" />')
+    if kind is ArrowKind.PAUSE:
+        return Html(f'{shaft}<path class="a a-pause" d="M{head - way * 3:g} {y - 4:g}v8m{way * 3} -8v8" />')
+    across = f'<path class="a a-fail" d="M{head - way * 9:g} {y - 4:g}v8" />' if name == "fail" else ""
+    return Html(f'{shaft}{across}<path class=h-{name} d="M{head + way * 2:g} {y:g}l{-way * 7} -4v8z" />')
 
 
 def hook(kind: ArrowKind, fails: bool, x: float, y: float) -> Html:
     """An arrow from a lane to itself."""
     name = arrow_class(kind, fails)
-    head = f"h-{name}" if kind not in (ArrowKind.REFUSE, ArrowKind.SWALLOW) else f"a a-{name}"
+    open_ = kind in (ArrowKind.REFUSE, ArrowKind.SWALLOW, ArrowKind.PAUSE)
+    head = f"a a-{name}" if open_ else f"h-{name}"
     return Html(
         f'<path class="a a-{name}" d="M{x + 5:g} {y - 3:g}h10v6h-5" /><path class="{head}" d="M{x + 7:g} {y + 3:g}l5 -3v6z" />'
     )

@@ -6,6 +6,7 @@ import base64
 import fcntl
 import json
 import os
+import select
 import shutil
 import signal
 import tempfile
@@ -105,6 +106,8 @@ class Browser:
 
     def _next(self) -> Json:
         while b"\0" not in self._answers:
+            if not select.select([self._reader], [], [], _SECONDS)[0]:
+                raise Broken(f"the browser has told nothing for {_SECONDS} seconds")
             part = os.read(self._reader, 1 << 20)
             if not part:
                 raise Broken("the browser has ended")
