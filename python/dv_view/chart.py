@@ -7,7 +7,7 @@ from typing import Dict, Iterator, List, NamedTuple, Sequence, Tuple
 from .events import Events
 from .layout import CHUNK, SLOT, Lane, Lanes, Rows, Slot, SlotKind, chunks, text_width
 from .markup import Markup, attribute, isolated
-from .records import ArrowKind, By, Look, Row, ended
+from .records import ArrowKind, By, Look, Record, Row, ended
 from .ruler import WIDTH as RULER
 from .ruler import Drawn, Ruler, drawn_in, shown_time
 from .run import Run
@@ -203,7 +203,7 @@ class Chart:
             return
         if row.entry.word == "new":
             lane = self._lanes.lanes[number]
-            label = escaped(clipped(_label(lane, self._lanes), max(4, (self._lanes.width - 20) // 7)))
+            label = escaped(_short(lane.record, self._lanes.room(lane)))
             top = self._rows.slot(row.place) * SLOT
             where = f"data-x={x} data-y={top} data-h={self._bottom_of(lane) - top}"
             yield Html(
@@ -211,7 +211,7 @@ class Chart:
                 f"<text x={x + 8} y={y + 4}>{label}</text></g>"
             )
         elif row.entry.word == "add":
-            yield Html(f'<path class=tick d="M{x - 4} {y}h8" />')
+            yield Html(f'<path class="tick lane" data-d={number} d="M{x - 4} {y}h8" />')
 
     def _drawn(self, slots: range, bars: Sequence[Bar]) -> Iterator[Html]:
         """The bars of a chunk; where there are many lanes, those that go through it without a change are drawn as one."""
@@ -235,7 +235,7 @@ class Chart:
         says = ""
         if not self._lanes.many:
             paused = "paused, " if one.look.paused else ""
-            says = f"<title>{escaped(_label(one.lane, self._lanes, True))}: {paused}{SAYS[one.look.state]}</title>"
+            says = f"<title>{escaped(_label(one.lane.record))}: {paused}{SAYS[one.look.state]}</title>"
         return Html(f"<g{quiet} data-d={number}>{bar(self._x(one.lane), start, end, one.look)}{says}</g>")
 
     def _numbers(self, slots: range, bars: Sequence[Bar], free: List[bool]) -> Iterator[Html]:
@@ -247,13 +247,18 @@ class Chart:
         for one in bars:
             if one.top < slots.start * SLOT and one.top < height < one.bottom:
                 number = one.lane.record.number
-                yield Html(f"<text class=dim x={self._x(one.lane) + 8} y={y}>#{number}</text>")
+                yield Html(f'<text class="dim lane" data-d={number} x={self._x(one.lane) + 8} y={y}>#{number}</text>')
 
 
-def _label(lane: Lane, lanes: Lanes, whole: bool = False) -> str:
-    """The number of a Deferred, with its name where there is room."""
-    record = lane.record
-    return f"#{record.number} {record.name}".rstrip() if whole or lanes.width >= 60 else f"#{record.number}"
+def _label(record: Record) -> str:
+    """The number of a Deferred, with its name."""
+    return f"#{record.number} {record.name}".rstrip()
+
+
+def _short(record: Record, room: int) -> str:
+    """The same, cut to so many characters; a name of which no more than a letter or two would be left is left out."""
+    number = f"#{record.number}"
+    return clipped(_label(record), room) if room >= len(number) + 4 else number
 
 
 def _shows_cause(row: Row) -> bool:

@@ -18,7 +18,7 @@ import subprocess
 import sys
 import webbrowser
 from pathlib import Path
-from typing import List, Optional
+from typing import List, Optional, Tuple
 
 from .facts import NotFacts, read_facts
 from .page import Page
@@ -94,15 +94,25 @@ def _script(data: bytes) -> Script:
 
 
 def run_script(name: str) -> Run:
-    """Runs a script, and takes the journal and the outcomes that `./deferreds` prints."""
+    """Runs a script, and takes what `./deferreds --json` tells of the run; the journal alone, where that word isn't known."""
     data = _read(name)
+    status, told = _deferreds(data, "--json")
+    is_exact = status != _USAGE
+    if not is_exact:
+        status, told = _deferreds(data)
+    if status not in (0, _STOPPED):
+        raise Failed(status, f"{name} was not run to its end")
+    script, title = _script(data), _title(name)
+    return _facts(told, name, script) if is_exact else run_of_journal(_text(told, name), title, script, status == _STOPPED)
+
+
+def _deferreds(data: bytes, *words: str) -> Tuple[int, bytes]:
+    """The status and the output of `./deferreds` with these words."""
     try:
-        ran = subprocess.run([os.fspath(TOP / "deferreds")], input=data, stdout=subprocess.PIPE, check=False)
+        ran = subprocess.run([os.fspath(TOP / "deferreds"), *words], input=data, stdout=subprocess.PIPE, check=False)
     except OSError as error:
         raise Failed(70, f"./deferreds can't be run: {error.strerror}") from None
-    if ran.returncode not in (0, _STOPPED):
-        raise Failed(ran.returncode, f"{name} was not run to its end")
-    return run_of_journal(_text(ran.stdout, name), _title(name), _script(data), ran.returncode == _STOPPED)
+    return ran.returncode, ran.stdout
 
 
 def _facts(data: bytes, name: str, script: Script) -> Run:

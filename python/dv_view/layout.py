@@ -2,6 +2,7 @@
 
 from __future__ import annotations
 
+import bisect
 import enum
 from typing import Dict, List, NamedTuple, Optional, Sequence
 
@@ -18,10 +19,11 @@ _FEWEST_SAME = 5
 #: to how many Deferreds each has a column of its own, and to how many what isn't a value stays to the bottom
 _OWN, _STAY = 10, 24
 
-#: how many lanes stand beside each other at most
-_MOST_COLUMNS = 100
+#: how many lanes stand beside each other at most, and from how many lanes in chunks on those without a change are drawn as one
+_MOST_COLUMNS, _MANY = 100, 5_000
 
-LEFT_EDGE = 30
+#: where the first lane stands, and how wide all are at least: the words above them have room
+LEFT_EDGE, _LEAST_WIDTH = 30, 440
 
 
 class SlotKind(enum.Enum):
@@ -115,8 +117,10 @@ class Lanes:
         shown = _shown(fold, rows.window)
         self.shown = len(shown)
         self.own = len(shown) <= _OWN
-        self.many = len(shown) > _STAY
+        self._stay = len(shown) <= _STAY
+        self.many = len(shown) * rows.total > _MANY * CHUNK
         self.lanes: Dict[int, Lane] = {}
+        self._columns: List[List[Lane]] = []
         free: List[int] = []
         for record in shown:
             top = rows.slot(max(record.row, rows.window.start))
@@ -127,12 +131,13 @@ class Lanes:
             free[column] = bottom + 1
             quiet = rows.slot(record.last) + 1 if record.last >= rows.window.start else 0
             self.lanes[record.number] = Lane(record, column, top, bottom, min(quiet, rows.total))
+            self._columns[column].append(self.lanes[record.number])
         self.columns = max(1, len(free))
         widest = max((len(str(number)) for number in self.lanes), default=1)
         self.width = _width(self.columns, widest)
 
     def _bottom(self, record: Record, rows: Rows) -> int:
-        if not self.many and ended(record.end) is not Ended.OK:
+        if self._stay and ended(record.end) is not Ended.OK:
             return rows.total
         return min(rows.total, rows.slot(min(record.last, rows.window.stop - 1)) + 2)
 
@@ -145,6 +150,7 @@ class Lanes:
             return None
         if column == len(free):
             free.append(0)
+            self._columns.append([])
         return column
 
     def x(self, number: Optional[int]) -> Optional[int]:
@@ -152,10 +158,23 @@ class Lanes:
         lane = self.lanes.get(number) if number is not None else None
         return LEFT_EDGE + lane.column * self.width if lane is not None else None
 
+    def room(self, lane: Lane) -> int:
+        """How many characters have room beside the beginning of a lane: up to the next lane that is there."""
+        after = lane.column + 1
+        while after < self.columns and not self._is_taken(after, lane.top):
+            after += 1
+        return ((after - lane.column) * self.width - 18) // 7
+
+    def _is_taken(self, column: int, slot: int) -> bool:
+        """Whether the column has a lane in this slot."""
+        lanes = self._columns[column]
+        place = bisect.bisect_right([lane.top for lane in lanes], slot) - 1
+        return place >= 0 and lanes[place].bottom >= slot
+
     @property
     def full_width(self) -> int:
         """The width of all lanes."""
-        return 40 + self.columns * self.width + 80
+        return max(_LEAST_WIDTH, 40 + self.columns * self.width + 80)
 
 
 def _shown(fold: Fold, window: range) -> List[Record]:

@@ -31,8 +31,8 @@ class Markup:
     def line(self, row: int) -> Html:
         """A line of the journal."""
         if row not in self._window:
-            return Html(f"line {row + 1}")
-        return Html(f"<a href=#r{self._folded.get(row, row) + 1}>line {row + 1}</a>")
+            return Html(f"line&nbsp;{row + 1}")
+        return Html(f"<a href=#r{self._folded.get(row, row) + 1}>line&nbsp;{row + 1}</a>")
 
     def deferred(self, number: int, named: bool = True) -> Html:
         """A Deferred, with its name or without: a link to the row in which it was made, or to its outcome."""

@@ -104,11 +104,8 @@ class Page:
         if report.is_clean:
             yield Html('<span class="verdict clean">clean: nothing is left</span>')
         yield Html(f"<span class=facts>{escaped(self._run.counts)}</span></p>")
-        if not self._run.fold.knows_events:
-            yield Html(
-                "<p class=facts>Read from a journal alone. It doesn't tell where an event of the script begins, and where a call, a"
-                " turn or a post ends: rows are nested by the sides that run.</p>"
-            )
+        if self._run.limits:
+            yield Html(f"<p class=facts>{escaped(self._run.limits)}</p>")
         for problem in self._run.problems:
             yield Html(f'<p><span class="verdict bad">{self._markup.said(problem)}</span></p>')
 
@@ -179,7 +176,7 @@ class Page:
             fired = Html(f"{self._markup.line(record.fired)}{why}")
         return Html(
             f"<tr id=o{record.number} data-d={record.number}><td class=mono>{self._markup.deferred(record.number, named=False)}</td>"
-            f'<td class=mono>{escaped(", ".join(record.names))}</td>'
+            f'<td class="mono name">{escaped(", ".join(record.names))}</td>'
             f'<td class="state t-{CLASSES[end]}">{SIGNS[end]} {end.value}</td><td class="mono value">{shown}</td><td>{fired}</td></tr>'
         )
 

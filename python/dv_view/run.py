@@ -2,7 +2,7 @@
 
 from __future__ import annotations
 
-from typing import List, Optional
+from typing import List, Optional, Sequence
 
 from .facts import Facts
 from .fold import Fold
@@ -11,6 +11,7 @@ from .lines import read_end, read_line, split
 from .phrases import Phrase, several
 from .report import Report
 from .scripts import Script
+from .sections import places_of
 
 
 class Run:
@@ -24,6 +25,9 @@ class Run:
         self.stopped = any(isinstance(one, LeftDeferred) and one.running for one in left)
         #: what can't be relied on: of the text that was read, and of the view of it
         self.problems: List[Phrase] = list(fold.problems)
+        #: whether what is left was told, and isn't found in the lines
+        self.is_exact = True
+        self.knows_stop = True
         #: the weight of the journal, and its limit
         self.weight: Optional[str] = None
         self._report: Optional[Report] = None
@@ -34,6 +38,20 @@ class Run:
         if self._report is None:
             self._report = Report(self.fold, self.left, self.stopped, self.script)
         return self._report
+
+    @property
+    def limits(self) -> str:
+        """What the view can't tell, since it wasn't told."""
+        if self.is_exact:
+            return ""
+        untold = "the children of a list, chains, and which of several objects of one name is meant"
+        stopped = "" if self.knows_stop else ", and whether the run stopped at its limit"
+        if self.fold.knows_events:
+            return f"What is left is read from the lines of the journal, which don't tell {untold}{stopped}."
+        return (
+            "Read from a journal alone: rows are nested by the sides that run. It doesn't tell where events begin, and where calls, "
+            f"turns and posts end. Nor does it tell {untold}{stopped}."
+        )
 
     @property
     def counts(self) -> str:
@@ -61,12 +79,21 @@ def run_of_facts(facts: Facts, script: Script, title: str) -> Run:
     return run
 
 
-def run_of_journal(text: str, title: str, script: Optional[Script] = None, stopped: Optional[bool] = None) -> Run:
-    """A run as its journal and its outcomes tell it; whether it stopped at its limit, where that is known."""
+def run_of_journal(
+    text: str,
+    title: str,
+    script: Optional[Script] = None,
+    stopped: Optional[bool] = None,
+    begins: Optional[Sequence[int]] = None,
+) -> Run:
+    """A run as its journal and its outcomes tell it; whether it stopped at its limit, and at which line each event of the script
+    begins, where that is known."""
     lines, outcomes = split(text)
     ends = [end for end in map(read_end, outcomes) if end is not None]
-    fold = Fold([read_line(row, line) for row, line in enumerate(lines)], ends)
+    entries = [read_line(row, line) for row, line in enumerate(lines)]
+    fold = Fold(entries, ends, places_of(entries, begins) if begins is not None else None)
     run = Run(fold, left_of(fold), script if script is not None else Script(), title)
+    run.is_exact, run.knows_stop = False, stopped is not None or run.stopped
     run.stopped = run.stopped if stopped is None else stopped
     if len(ends) < len(outcomes):
         run.problems.append((several(len(outcomes) - len(ends), "line isn't an outcome", "lines aren't outcomes"),))

@@ -76,8 +76,8 @@ class Terminal:
         tone = "bad" if report.count(Severity.BAD) else "wait" if parts else "good"
         yield f"{visible(self._run.title)}: {self._toned(tone, verdict)}"
         yield self._run.counts
-        if not self._run.fold.knows_events:
-            yield "read from a journal alone: what isn't told is where events begin, and where calls, turns and posts end"
+        if self._run.limits:
+            yield self._run.limits
         for problem in self._run.problems:
             yield self._toned("bad", f"warning: {self._said(problem)}")
 

@@ -3,9 +3,10 @@
 from __future__ import annotations
 
 import json
-from typing import Any, Dict, List, Optional, Sequence, Tuple
+from typing import Any, Dict, List, Optional, Sequence
 
 from dv_view.lines import read_end, read_line, split
+from dv_view.sections import places_of
 
 Json = Dict[str, Any]
 
@@ -18,49 +19,6 @@ _KINDS = {
 }
 _KIND_OF = {word: kind for kind, words in _KINDS.items() for word in words.split()}
 _MAKERS = frozenset({"lock", "semaphore", "queue", "later call", "loop", "task"})
-_SECTIONS = frozenset({"call", "turn", "tick", "step", "deliver", "timeout", "post"})
-
-
-class _Nesting:
-    """Which line lies in which, where it is known which event each belongs to."""
-
-    def __init__(self) -> None:
-        self._open: List[Tuple[int, str]] = []
-        self._before = ""
-
-    def begin(self) -> None:
-        """An event begins."""
-        self._open.clear()
-        self._before = ""
-
-    def under(self, row: int, line: str) -> Tuple[Optional[int], int, Optional[int]]:
-        """In which line this one lies directly, and in how many; and the `run` that it ends."""
-        word = line.split(" ")[0]
-        ends = self._closed(word)
-        in_side = bool(self._open) and self._open[-1][1] == "run"
-        if not in_side:
-            self._leave(word, line)
-        place = self._open[-1][0] if self._open else None
-        depth = len(self._open)
-        at_once = word == "turn" and self._before == "loop"
-        if word in ("run", "advance", "drain") or (word in _SECTIONS and not at_once and not in_side):
-            self._open.append((row, word))
-        self._before = word
-        return place, depth, ends
-
-    def _closed(self, word: str) -> Optional[int]:
-        if word not in ("set", "take", "wait") or not self._open or self._open[-1][1] != "run":
-            return None
-        return self._open.pop()[0]
-
-    def _leave(self, word: str, line: str) -> None:
-        """What comes due next ends what came due before; a step ends only the step before it."""
-        if word == "step" or line.startswith("later tick"):
-            if self._open and self._open[-1][1] == "step":
-                self._open.pop()
-        elif word in _SECTIONS and not (word == "turn" and self._before == "loop"):
-            while self._open and self._open[-1][1] in _SECTIONS:
-                self._open.pop()
 
 
 def told(output: str, begins: Sequence[int], left: Sequence[Json] = (), stopped: bool = False) -> str:
@@ -68,26 +26,21 @@ def told(output: str, begins: Sequence[int], left: Sequence[Json] = (), stopped:
     lines, outcomes = split(output)
     names: Dict[int, Optional[str]] = {}
     made: Dict[str, List[str]] = {}
-    nesting, time, event = _Nesting(), 0, -1
+    entries, time = [read_line(row, line) for row, line in enumerate(lines)], 0
     written: List[Json] = [{"type": "start", "version": 1}]
-    for row, line in enumerate(lines):
-        while event + 1 < len(begins) and begins[event + 1] <= row:
-            event += 1
-            nesting.begin()
-        entry = read_line(row, line)
+    for row, (line, entry, place) in enumerate(zip(lines, entries, places_of(entries, begins))):
         if entry.word == "new":
             names[entry.deferred] = None if entry.name == "-" else entry.name
         time = entry.number if entry.word == "advance" else time
         kind = f"later {entry.what}" if entry.word == "later" else entry.word
-        place, depth, ends = nesting.under(row, line)
         numbers = [int(word[1:]) for word in line[: entry.head].split() if word.startswith("#")]
         written.append(
             {
                 "deferreds": [{"name": names[number], "number": number} for number in numbers],
-                "depth": depth,
+                "depth": place.depth,
                 "due": None,
-                "ends": ends,
-                "event": event,
+                "ends": None,
+                "event": place.event,
                 "kind": kind,
                 "line": line,
                 "number": row,
@@ -95,7 +48,7 @@ def told(output: str, begins: Sequence[int], left: Sequence[Json] = (), stopped:
                 "section": None,
                 "time": time,
                 "type": "entry",
-                "under": place,
+                "under": place.under,
                 "value": None,
                 "weight": 1,
             }

@@ -240,7 +240,7 @@ class Geometry(InBrowser):
                 self.assertEqual(self.asked("document.scrollingElement.scrollWidth"), max(width, wide))
 
     def test_a_page_of_five_thousand_lines_is_there_in_a_second(self) -> None:
-        self.assertLess(min(self.show(samples.long(5_000)) for _ in range(3)), 1.0)
+        self.assertLess(min(self.show(samples.long(5_000)) for _ in range(5)), 1.0)
 
 
 class Focus(InBrowser):

@@ -88,7 +88,8 @@ class Command(unittest.TestCase):
 
     def test_a_script_that_is_refused_ends_with_its_status_and_the_next_is_shown(self) -> None:
         stand_in = self.folder / "deferreds"
-        stand_in.write_text("#!/bin/sh\ngrep -q bad && exit 2\nprintf 'new #0 d\\n#0 d unfired\\n'\n")
+        (self.folder / "facts").write_text(told("new #0 d\n#0 d unfired\n", [0]))
+        stand_in.write_text('#!/bin/sh\ngrep -q bad && exit 2\n[ "$1" = --json ] && cat "${0%deferreds}facts"\n')
         stand_in.chmod(0o755)
         for name in ("bad", "good"):
             (self.folder / f"{name}.json").write_text(f'{{"version":1,"events":[["deferred","{name}"]]}}')
@@ -97,6 +98,17 @@ class Command(unittest.TestCase):
         self.assertEqual(status, 2)
         self.assertIn("bad.json was not run to its end", errors)
         self.assertEqual(os.listdir(self.folder / "pages"), ["good.html"])
+
+    def test_a_program_that_tells_no_facts_tells_a_journal(self) -> None:
+        stand_in = self.folder / "deferreds"
+        stand_in.write_text("#!/bin/sh\n[ $# -eq 0 ] || exit 64\nprintf 'new #0 d\\n#0 d unfired\\n'\nexit 1\n")
+        stand_in.chmod(0o755)
+        (self.folder / "s.json").write_text("{}")
+        with mock.patch.object(command, "TOP", self.folder):
+            status, output, _ = self.run_view("--text", self.folder / "s.json")
+        self.assertEqual(status, 0)
+        self.assertIn("Read from a journal alone", output)
+        self.assertIn("the run stopped at the limit", output)
 
     def test_it_runs_from_the_top_and_ends_where_its_reader_does(self) -> None:
         view = subprocess.run(
