@@ -2,8 +2,8 @@
 
 Compared are which side each line lies in, what each Deferred has come to, and what is left. Left out of this is what lines don't
 tell: children of lists, who is chained to whom, for whom a loop's turn waits; a timer whose Deferred was fired and hasn't used all of
-its pairs; a loop between its turns whose Deferred somebody has fired. Where a name of a lock, queue, call, loop or task was
-bound more than once the lines don't tell which object is meant, and only the Deferreds are compared.
+its pairs; a loop whose turn isn't over, where somebody has fired its Deferred, or the run has stopped. Where a name of a lock, queue,
+call, loop or task was bound more than once the lines don't tell which object is meant, and only the Deferreds are compared.
 """
 
 from __future__ import annotations
@@ -41,11 +41,22 @@ def agreement(facts: Facts) -> Agreement:
     lines = [read_line(entry.row, entry.line) for entry in facts.entries]
     fold = Fold(lines, facts.ends)
     world = fold.world
-    ambiguous = [world.locks.ambiguous, world.queues.ambiguous, world.loops.ambiguous, world.tasks.ambiguous, world.calls.ambiguous]
+    ambiguous = [
+        world.locks.ambiguous,
+        world.queues.ambiguous,
+        world.loops.ambiguous,
+        world.tasks.ambiguous,
+        world.calls.ambiguous,
+    ]
     is_whole = not any(ambiguous)
-    found = [*(f"outcome: {problem}" for problem in fold.problems), *_sides(fold, lines, facts), *_places(lines, facts)]
-    told = list(_comparable(fold, facts.left, is_whole))
-    folded = list(_comparable(fold, left_of(fold), is_whole))
+    found = [
+        *(f"outcome: {problem}" for problem in fold.problems),
+        *_sides(fold, lines, facts),
+        *_places(lines, facts),
+    ]
+    stopped = facts.ending is None or facts.ending.stopped
+    told = list(_comparable(fold, facts.left, is_whole, stopped))
+    folded = list(_comparable(fold, left_of(fold), is_whole, stopped))
     found += [f"only the facts: {one}" for one in told if one not in folded]
     found += [f"only the fold: {one}" for one in folded if one not in told]
     return Agreement(found, is_whole)
@@ -75,8 +86,8 @@ def _places(lines: List[Entry], facts: Facts) -> Iterator[str]:
             yield f"a line lies in {told.under}, and by where events begin in {found.under}"
 
 
-def _comparable(fold: Fold, left: List[Left], is_whole: bool) -> Iterator[Left]:
-    """What the lines can tell of what is left."""
+def _comparable(fold: Fold, left: List[Left], is_whole: bool, stopped: bool) -> Iterator[Left]:
+    """What the lines can tell of what is left, in a run that has stopped at its limit or not."""
     for one in left:
         if isinstance(one, LeftDeferred):
             untold = _UNTOLD if is_whole else _UNTOLD | _OF_OBJECTS
@@ -87,7 +98,7 @@ def _comparable(fold: Fold, left: List[Left], is_whole: bool) -> Iterator[Left]:
         elif not is_whole:
             continue
         elif isinstance(one, LeftLoop):
-            if one.due is not None or fold.records[one.deferred].fired is None:
+            if one.due is not None or not (stopped or fold.records[one.deferred].fired is not None):
                 yield one._replace(waits_for=())
         elif isinstance(one, LeftTask):
             yield one._replace(waits_for=())

@@ -53,7 +53,9 @@ class Causes:
         )
 
     def _by_end_of_task(self, row: Row) -> Phrase:
-        while self._endings and (not self._endings[-1].waiters or self._endings[-1].row.sides > row.sides):
+        while self._endings and (
+            not self._endings[-1].waiters or self._endings[-1].row.sides > row.sides
+        ):
             self._endings.pop()
         if not self._endings:
             return ()

@@ -43,10 +43,12 @@ class Chart:
         self._events = events
         self._markup = markup
         self.ruler = Ruler(run.fold, run.left, rows)
-        self.side = NUMBER + RULER + text_width(run.fold, rows)
+        self.side = NUMBER + RULER + text_width(run.fold, rows, events)
         self.width = self.side + lanes.full_width
         self._titles = 0
-        characters = sum(len(run.fold.rows[row].entry.line) for row in rows.window if row not in rows.folded)
+        characters = sum(
+            len(run.fold.rows[row].entry.line) for row in rows.window if row not in rows.folded
+        )
         self._most = _MOST_ROW if characters <= _MANY_CHARACTERS else _LEAST_ROW
 
     def pieces(self) -> Iterator[Html]:
@@ -72,7 +74,9 @@ class Chart:
         if slot.kind is SlotKind.HEAD:
             head, _, text = slot.text.partition("  ")
             shown = Html(f"  <b>{isolated(clipped(text, 160))}</b>") if text else Html("")
-            return Html(f'<div class="row ev"><span class=n></span><span class=t>{escaped(head)}{shown}</span></div>')
+            return Html(
+                f'<div class="row ev"><span class=n></span><span class=t>{escaped(head)}{shown}</span></div>'
+            )
         if slot.kind is SlotKind.SAME:
             text = f"the same line {slot.more} times more, up to line {slot.row + slot.more + 1}"
             return Html(f'<div class="row same"><span class=n>⋮</span><span class=t>{text}</span></div>')
@@ -93,14 +97,18 @@ class Chart:
     def _title(self, line: str) -> Html:
         """The line in full, as long as there is room for such texts on the page."""
         self._titles += min(len(line), _MOST_TITLE)
-        return attribute("title", clipped(line, _MOST_TITLE)) if self._titles <= _MOST_TITLES else Html("")
+        return (
+            attribute("title", clipped(line, _MOST_TITLE)) if self._titles <= _MOST_TITLES else Html("")
+        )
 
     def _why(self, row: Row) -> Html:
         """Why it happened, unless the rows round it show that, and the event that is told by the row."""
         tail = self._events.tail(row)
         cause = self._markup.said(row.cause, 80) if row.cause and not _shows_cause(row) else Html("")
         arrow_ = Html(f"← {cause}") if cause else Html("")
-        return Html("   ".join(filter(None, [arrow_, isolated(clipped(tail, _MOST_WHY)) if tail else Html("")])))
+        return Html(
+            "   ".join(filter(None, [arrow_, isolated(clipped(tail, _MOST_WHY)) if tail else Html("")]))
+        )
 
     # the ruler
 
@@ -165,15 +173,23 @@ class Chart:
                 continue
             row = self._run.fold.rows[slot.row]
             if row.entry.word == "advance":
-                ground.append(Html(f"<rect class=band x=0 y={y} width={self._lanes.full_width} height={SLOT} />"))
+                ground.append(
+                    Html(f"<rect class=band x=0 y={y} width={self._lanes.full_width} height={SLOT} />")
+                )
             free[at - slots.start] = not row.arrows and row.entry.word not in ("new", "add")
             arrows += self._arrows(row, y + SLOT // 2)
             marks += self._marks(row, y + SLOT // 2)
         for lane in caps:
             y = self._bottom_of(lane) - slots.start * SLOT
-            marks.append(Html(f"<g class=lane data-d={lane.record.number}>{cap(self._x(lane), y, ended(lane.record.end))}</g>"))
+            marks.append(
+                Html(
+                    f"<g class=lane data-d={lane.record.number}>{cap(self._x(lane), y, ended(lane.record.end))}</g>"
+                )
+            )
             free[min(len(slots) - 1, max(0, y // SLOT))] = False
-        numbers = self._numbers(slots, bars, free) if slots.start and slots.start % (2 * CHUNK) == 0 else []
+        numbers = (
+            self._numbers(slots, bars, free) if slots.start and slots.start % (2 * CHUNK) == 0 else []
+        )
         return joined([*ground, *arrows, *self._drawn(slots, bars), *numbers, *marks])
 
     def _x(self, lane: Lane) -> int:
@@ -192,7 +208,9 @@ class Chart:
             if start == end:
                 drawn = hook(one.kind, row.entry.fails, end, y)
             else:
-                drawn = arrow(one.kind, row.entry.fails, start or 0, end, y, 5 if start is not None else 0)
+                drawn = arrow(
+                    one.kind, row.entry.fails, start or 0, end, y, 5 if start is not None else 0
+                )
             yield Html(f'<g class=arrow data-d="{named}" data-to={one.target}>{drawn}</g>')
 
     def _marks(self, row: Row, y: int) -> Iterator[Html]:
@@ -222,7 +240,9 @@ class Chart:
             end = min(one.bottom, bottom + _OVER) - top
             name = strokes(one.look)
             if self._lanes.many and name and one.top < top and one.bottom > bottom:
-                through.setdefault((name, one.is_quiet), []).append(f"M{self._x(one.lane)} {start}V{end}")
+                through.setdefault((name, one.is_quiet), []).append(
+                    f"M{self._x(one.lane)} {start}V{end}"
+                )
                 continue
             yield self._bar(one, start, end)
         for (name, is_quiet), paths in through.items():
@@ -236,7 +256,9 @@ class Chart:
         if not self._lanes.many:
             paused = "paused, " if one.look.paused else ""
             says = f"<title>{escaped(_label(one.lane.record))}: {paused}{SAYS[one.look.state]}</title>"
-        return Html(f"<g{quiet} data-d={number}>{bar(self._x(one.lane), start, end, one.look)}{says}</g>")
+        return Html(
+            f"<g{quiet} data-d={number}>{bar(self._x(one.lane), start, end, one.look)}{says}</g>"
+        )
 
     def _numbers(self, slots: range, bars: Sequence[Bar], free: List[bool]) -> Iterator[Html]:
         """The numbers of the lanes that come from above, in a row where nothing else stands."""
@@ -247,7 +269,9 @@ class Chart:
         for one in bars:
             if one.top < slots.start * SLOT and one.top < height < one.bottom:
                 number = one.lane.record.number
-                yield Html(f'<text class="dim lane" data-d={number} x={self._x(one.lane) + 8} y={y}>#{number}</text>')
+                yield Html(
+                    f'<text class="dim lane" data-d={number} x={self._x(one.lane) + 8} y={y}>#{number}</text>'
+                )
 
 
 def _label(record: Record) -> str:

@@ -49,7 +49,9 @@ def check(scripts: List[str], command: List[str]) -> int:
 def main(words: List[str]) -> int:
     """The command."""
     parser = argparse.ArgumentParser(prog="view_check", description=__doc__.split("\n", 1)[0])
-    parser.add_argument("--random", type=int, metavar="N", default=2_000, help="how many random scripts (2000)")
+    parser.add_argument(
+        "--random", type=int, metavar="N", default=2_000, help="how many random scripts (2000)"
+    )
     parser.add_argument("--seed", type=int, metavar="S", default=1, help="which random scripts (1)")
     parser.add_argument("--ours", metavar="COMMAND", help="what tells a run (./deferreds --json)")
     try:

@@ -46,12 +46,25 @@ def _arguments(words: List[str]) -> argparse.Namespace:
         prog="view", description=__doc__, formatter_class=argparse.RawDescriptionHelpFormatter
     )
     add = parser.add_argument
-    add("-o", dest="output", metavar="FILE", help="write the page to FILE; with several scripts, into the folder FILE")
+    add(
+        "-o",
+        dest="output",
+        metavar="FILE",
+        help="write the page to FILE; with several scripts, into the folder FILE",
+    )
     add("--open", action="store_true", help="open the page in the browser")
     add("--text", action="store_true", help="print the view for a terminal")
     source = parser.add_mutually_exclusive_group()
-    source.add_argument("--journal", metavar="FILE", help="show a journal with its outcomes; SCRIPT may be the script of it")
-    source.add_argument("--json", metavar="FILE", help="show what ./deferreds --json has told; SCRIPT may be the script of it")
+    source.add_argument(
+        "--journal",
+        metavar="FILE",
+        help="show a journal with its outcomes; SCRIPT may be the script of it",
+    )
+    source.add_argument(
+        "--json",
+        metavar="FILE",
+        help="show what ./deferreds --json has told; SCRIPT may be the script of it",
+    )
     add("--from", dest="first", type=int, metavar="N", help="the first line that the chart shows (1)")
     add("--to", dest="last", type=int, metavar="N", help="the last line (5000 lines at most)")
     add("scripts", nargs="*", metavar="SCRIPT", help="a script")
@@ -103,13 +116,19 @@ def run_script(name: str) -> Run:
     if status not in (0, _STOPPED):
         raise Failed(status, f"{name} was not run to its end")
     script, title = _script(data), _title(name)
-    return _facts(told, name, script) if is_exact else run_of_journal(_text(told, name), title, script, status == _STOPPED)
+    return (
+        _facts(told, name, script)
+        if is_exact
+        else run_of_journal(_text(told, name), title, script, status == _STOPPED)
+    )
 
 
 def _deferreds(data: bytes, *words: str) -> Tuple[int, bytes]:
     """The status and the output of `./deferreds` with these words."""
     try:
-        ran = subprocess.run([os.fspath(TOP / "deferreds"), *words], input=data, stdout=subprocess.PIPE, check=False)
+        ran = subprocess.run(
+            [os.fspath(TOP / "deferreds"), *words], input=data, stdout=subprocess.PIPE, check=False
+        )
     except OSError as error:
         raise Failed(70, f"./deferreds can't be run: {error.strerror}") from None
     return ran.returncode, ran.stdout
@@ -128,7 +147,11 @@ def _title(name: str) -> str:
 
 def _given(arguments: argparse.Namespace, script: Optional[str]) -> Run:
     """The run of a script, of a journal or of facts."""
-    said = _script(_read(script)) if script is not None and (arguments.journal or arguments.json) else Script()
+    said = (
+        _script(_read(script))
+        if script is not None and (arguments.journal or arguments.json)
+        else Script()
+    )
     if arguments.journal:
         data = _read(arguments.journal)
         return run_of_journal(_text(data, arguments.journal), _title(arguments.journal), said)
@@ -159,14 +182,20 @@ def write_page(page: Page, path: Path) -> None:
 def _show(arguments: argparse.Namespace, script: Optional[str]) -> None:
     run = _given(arguments, script)
     if arguments.text:
-        color = sys.stdout.isatty() and not os.environ.get("NO_COLOR") and os.environ.get("TERM") != "dumb"
+        color = (
+            sys.stdout.isatty() and not os.environ.get("NO_COLOR") and os.environ.get("TERM") != "dumb"
+        )
         for line in Terminal(run, color).lines():
             print(line)
         return
     page, path = Page(run, arguments.first, arguments.last), _target(arguments, script)
     write_page(page, path)
     rows = len(run.fold.rows)
-    part = f", of which the chart shows {page.window.start + 1} to {page.window.stop}" if len(page.window) < rows else ""
+    part = (
+        f", of which the chart shows {page.window.start + 1} to {page.window.stop}"
+        if len(page.window) < rows
+        else ""
+    )
     _say(f"{path}: {run.counts}{part}")
     if arguments.open:
         webbrowser.open(path.resolve().as_uri())

@@ -59,7 +59,11 @@ def read_facts(text: str) -> Facts:
     lines = text.split("\n")
     try:
         start = json.loads(lines[0])
-        if not isinstance(start, dict) or start.get("type") != "start" or start.get("version") != _VERSION:
+        if (
+            not isinstance(start, dict)
+            or start.get("type") != "start"
+            or start.get("version") != _VERSION
+        ):
             raise NotFacts(f"it isn't version {_VERSION} of what ./deferreds --json tells")
         facts = Facts()
         for line in lines[1:-1]:
@@ -110,7 +114,9 @@ def _take_entry(facts: Facts, told: Json) -> None:
         raise ValueError("the number of an entry")
     thing = objects[0]["number"] if objects else None
     facts.entries.append(read_line(row, told["line"], -1 if thing is None else _number(thing)))
-    facts.places.append(Place(LAST_POSTS if event is None else _number(event), under, _number(told["depth"])))
+    facts.places.append(
+        Place(LAST_POSTS if event is None else _number(event), under, _number(told["depth"]))
+    )
 
 
 def _hang(told: Json) -> Hang:
@@ -126,7 +132,9 @@ def _deferred(told: Json) -> Left:
     state = told["state"]
     if state not in ("unfired", "waiting", "fired"):
         raise ValueError("a state")
-    return LeftDeferred(_of(told, "deferred"), state, _number(told["pauses"]), bool(told["running"]), hangs)
+    return LeftDeferred(
+        _of(told, "deferred"), state, _number(told["pauses"]), bool(told["running"]), hangs
+    )
 
 
 _LEFT: Dict[str, Callable[[Json], Left]] = {
@@ -134,9 +142,13 @@ _LEFT: Dict[str, Callable[[Json], Left]] = {
     "failure": lambda told: LeftFailure(_of(told, "deferred")),
     "call": lambda told: LeftCall(_of(told, "object"), _number(told["due"])),
     "tick": lambda told: LeftTick(_number(told["due"])),
-    "delivery": lambda told: LeftDelivery(_of(told, "object"), _of(told, "deferred"), _number(told["due"])),
+    "delivery": lambda told: LeftDelivery(
+        _of(told, "object"), _of(told, "deferred"), _number(told["due"])
+    ),
     "timeout": lambda told: LeftTimeout(_of(told, "deferred"), _number(told["due"])),
-    "loop": lambda told: LeftLoop(_of(told, "object"), _of(told, "deferred"), _due(told), _numbers(told["waits_for"])),
+    "loop": lambda told: LeftLoop(
+        _of(told, "object"), _of(told, "deferred"), _due(told), _numbers(told["waits_for"])
+    ),
     "task": lambda told: LeftTask(_of(told, "object"), int(told["pauses"]), _numbers(told["waits_for"])),
     "tokens": lambda told: LeftTokens(
         _of(told, "object"), _number(told["given"]), _number(told["tokens"]), _numbers(told["waiting"])

@@ -20,7 +20,9 @@ _FIRINGS = frozenset({"fire", "refuse", "swallow"})
 class Fold:
     """What a run has come to, after its last line; with the place of each line, where the facts tell it."""
 
-    def __init__(self, entries: Sequence[Entry], ends: Sequence[End], places: Optional[Sequence[Place]] = None) -> None:
+    def __init__(
+        self, entries: Sequence[Entry], ends: Sequence[End], places: Optional[Sequence[Place]] = None
+    ) -> None:
         self.rows: List[Row] = []
         self.records: Dict[int, Record] = {}
         self.world = World()
@@ -95,11 +97,15 @@ class Fold:
         for end in ends:
             record = self.records.get(end.number)
             if record is None:
-                self.problems.append((f"there is an outcome of #{end.number}, and no line in which it was made",))
+                self.problems.append(
+                    (f"there is an outcome of #{end.number}, and no line in which it was made",)
+                )
                 continue
             record.end = end.state
             if record.tells() != end.state:
-                self.problems.append(("the lines tell of ", OfDeferred(end.number), " otherwise than its outcome does"))
+                self.problems.append(
+                    ("the lines tell of ", OfDeferred(end.number), " otherwise than its outcome does")
+                )
         for record in self.records.values():
             record.end = record.end or record.tells()
 
@@ -208,7 +214,9 @@ class Fold:
 
     def _set(self, row: Row, entry: Entry, before: Optional[Row]) -> None:
         record = self._touch(row, entry.deferred)
-        passed_on = entry.outcome == record.value and entry.outcome is not None and entry.outcome.is_failure
+        passed_on = (
+            entry.outcome == record.value and entry.outcome is not None and entry.outcome.is_failure
+        )
         record.origin = record.origin if passed_on else row.place
         record.value = entry.outcome
 
@@ -426,7 +434,9 @@ class Fold:
         task = self.world.task_of(entry)
         if task is not None:
             self.world.change_task(task, -1)
-            if task.held is not None and any(side.deferred == task.held[0] for side in self.nesting.sides):
+            if task.held is not None and any(
+                side.deferred == task.held[0] for side in self.nesting.sides
+            ):
                 task.held = None
 
     def _end(self, row: Row, entry: Entry, before: Optional[Row]) -> None:

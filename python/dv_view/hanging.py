@@ -67,7 +67,11 @@ class Hanging:
     def _holder(self, hang: Hang) -> Optional[int]:
         """The Deferred for which a loop's turn or a task waits."""
         one = self._loops.get(hang.number) if hang.at is At.LOOP else self._tasks.get(hang.number)
-        return next((number for number in one.waits_for if number in self._stuck), None) if one is not None else None
+        return (
+            next((number for number in one.waits_for if number in self._stuck), None)
+            if one is not None
+            else None
+        )
 
     def _end(self, number: int) -> End:
         """What the Deferred hangs on in the end, with all between them in one walk."""
@@ -100,7 +104,13 @@ class Hanging:
         if hang.at is At.DEFERRED:
             return (me, " waits for ", OfDeferred(hang.number), *_since(record.waits_at))
         if hang.at is At.AWAIT:
-            return ("the inline body of ", me, " awaits ", OfDeferred(hang.number), *_since(record.awaits_at))
+            return (
+                "the inline body of ",
+                me,
+                " awaits ",
+                OfDeferred(hang.number),
+                *_since(record.awaits_at),
+            )
         if hang.at is At.CHAIN:
             return (me, " is chained to ", OfDeferred(hang.number))
         if hang.at is At.CHILD:
@@ -108,9 +118,15 @@ class Hanging:
         return self._of_object(number, hang)
 
     def _of_children(self, number: int) -> Phrase:
-        missing = list(dict.fromkeys(hang.number for hang in self._stuck[number].hangs if hang.at is At.CHILD))
+        missing = list(
+            dict.fromkeys(hang.number for hang in self._stuck[number].hangs if hang.at is At.CHILD)
+        )
         count = several(len(missing), "Deferred that hasn't come", "Deferreds that haven't come")
-        return (OfDeferred(number), f" is a list with {count}: ", *listed([OfDeferred(one) for one in missing], 4))
+        return (
+            OfDeferred(number),
+            f" is a list with {count}: ",
+            *listed([OfDeferred(one) for one in missing], 4),
+        )
 
     def _of_object(self, number: int, hang: Hang) -> Phrase:
         me, world = OfDeferred(number), self._fold.world
@@ -125,7 +141,9 @@ class Hanging:
         holder = self._holder(hang)
         if hang.at is At.LOOP:
             loop = world.loops.at(hang.number)
-            waits = words(", whose turn waits for ", OfDeferred(holder)) if holder is not None else words()
+            waits = (
+                words(", whose turn waits for ", OfDeferred(holder)) if holder is not None else words()
+            )
             return (me, f" is fired when loop {loop.name if loop else ''} ends", *waits)
         task = world.tasks.at(hang.number)
         waits = words(", which is held by ", OfDeferred(holder)) if holder is not None else words()

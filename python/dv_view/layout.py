@@ -8,7 +8,7 @@ from typing import Dict, List, NamedTuple, Optional, Sequence
 
 from .events import Events
 from .fold import Fold
-from .records import Ended, Record, Row, ended
+from .records import Ended, Record, ended
 
 #: the height of a slot, and how many slots a chunk has: no page breaks inside one, and stripes go on from one to the next
 SLOT, CHUNK = 20, 16
@@ -181,7 +181,9 @@ def _shown(fold: Fold, window: range) -> List[Record]:
     """The Deferreds that have a lane: those that are mentioned from the window's beginning on, and where they are few also those
     that were left before it."""
     made = [record for record in fold.records.values() if record.row < window.stop]
-    shown = [record for record in made if record.last >= window.start or ended(record.end) is not Ended.OK]
+    shown = [
+        record for record in made if record.last >= window.start or ended(record.end) is not Ended.OK
+    ]
     return shown if len(shown) <= _STAY else [record for record in shown if record.last >= window.start]
 
 
@@ -194,15 +196,28 @@ def _width(columns: int, digits: int) -> int:
     return max(64 if columns <= 14 else 34, 17 + 7 * (digits + 1))
 
 
-def text_width(fold: Fold, rows: Rows) -> int:
+def text_width(fold: Fold, rows: Rows, events: Events) -> int:
     """How wide the texts of the rows are drawn: by the longest, within bounds."""
-    widest = max((_characters(fold, fold.rows[row]) for row in rows.window if row not in rows.folded), default=30.0)
+    widest = max((_characters(fold, slot, events) for slot in rows.slots), default=0.0)
     return int(min(660, max(430, 24 + 7.6 * widest)))
 
 
-def _characters(fold: Fold, row: Row) -> float:
+def _characters(fold: Fold, slot: Slot, events: Events) -> float:
+    """About how many characters a slot shows; what is told in smaller letters counts less."""
+    if slot.kind is SlotKind.HEAD:
+        return 0.95 * len(slot.text)
+    if slot.kind is not SlotKind.LINE:
+        return 0
+    row = fold.rows[slot.row]
     names = sum(len(fold.records[number].name) + 1 for number in row.names)
-    return len(row.entry.line) + names + 2.3 * min(row.depth, 12) + (30 if row.cause and not row.is_plain else 0)
+    cause = 30 if row.cause and not row.is_plain else 0
+    return (
+        len(row.entry.line)
+        + names
+        + 2.3 * min(row.depth, 12)
+        + cause
+        + 0.95 * min(len(events.tail(row)), 40)
+    )
 
 
 def chunks(total: int) -> Sequence[range]:

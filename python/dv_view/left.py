@@ -157,7 +157,9 @@ def left_of(fold: Fold) -> List[Left]:
 def _deferreds(fold: Fold) -> Iterator[Left]:
     for record in fold.records.values():
         if record.is_stuck:
-            state = "waiting" if record.waits is not None else "unfired" if record.fired is None else "fired"
+            state = (
+                "waiting" if record.waits is not None else "unfired" if record.fired is None else "fired"
+            )
             running = record.runs_since is not None
             yield LeftDeferred(record.number, state, record.pauses, running, tuple(_hangs(fold, record)))
         if ended(record.end.removeprefix("paused ")) is Ended.FAIL:
@@ -190,7 +192,9 @@ def _scheduled(fold: Fold) -> Iterator[Left]:
     """Calls, timers, a tick and deliveries, in the order in which they were scheduled."""
     world = fold.world
     found: List[Tuple[int, Left]] = [
-        (call.row, LeftCall(call.number, call.due)) for call in world.calls.all if call.state is Wait.WAITING
+        (call.row, LeftCall(call.number, call.due))
+        for call in world.calls.all
+        if call.state is Wait.WAITING
     ]
     for timer in world.timers:
         record = fold.records[timer.deferred] if timer.deferred is not None else None

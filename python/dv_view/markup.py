@@ -42,7 +42,11 @@ class Markup:
         if record is None:
             return text
         target = self.target(number)
-        return Html(f"<a data-f={number} href=#{target}>{text}</a>" if target else f"<a data-f={number}>{text}</a>")
+        return Html(
+            f"<a data-f={number} href=#{target}>{text}</a>"
+            if target
+            else f"<a data-f={number}>{text}</a>"
+        )
 
     def target(self, number: int) -> str:
         """Where a link to the Deferred leads, or an empty text where the page has nothing of it."""

@@ -49,7 +49,14 @@ class Nesting:
         """The side that the row ends, if it ends one."""
         if row.entry.word not in _CLOSERS:
             return None
-        place = next((at for at in reversed(range(len(self.sides))) if self.sides[at].deferred == row.entry.deferred), None)
+        place = next(
+            (
+                at
+                for at in reversed(range(len(self.sides)))
+                if self.sides[at].deferred == row.entry.deferred
+            ),
+            None,
+        )
         if place is None:
             return None
         if place != len(self.sides) - 1:

@@ -62,13 +62,13 @@ class Page:
     def html(self) -> Html:
         """The whole page."""
         style, script = self._style(), _read("focus.js")
-        policy = (
-            f"default-src 'none'; style-src '{_hash(style)}'; script-src '{_hash(script)}'; base-uri 'none'; form-action 'none'"
-        )
+        policy = f"default-src 'none'; style-src '{_hash(style)}'; script-src '{_hash(script)}'; base-uri 'none'; form-action 'none'"
         title = escaped(self._run.title)
         return joined(
             [
-                Html('<!doctype html><html lang=en><head><meta charset=utf-8><meta name=viewport content="width=device-width">'),
+                Html(
+                    '<!doctype html><html lang=en><head><meta charset=utf-8><meta name=viewport content="width=device-width">'
+                ),
                 Html(f'<meta http-equiv=Content-Security-Policy content="{policy}">'),
                 Html(f"<title>{title}</title><style>{style}</style></head><body><main>"),
                 *self._verdict(title),
@@ -80,7 +80,9 @@ class Page:
                 *self._chart.pieces(),
                 Html("</div>"),
                 *self._below_chart(),
-                Html(f"<div id=focus role=status hidden></div><script>{script}</script></body></html>\n"),
+                Html(
+                    f"<div id=focus role=status hidden></div><script>{script}</script></body></html>\n"
+                ),
             ]
         )
 
@@ -100,7 +102,9 @@ class Page:
         yield Html(f"<h1>{title}</h1><p>")
         for severity, word in ((Severity.BAD, "to look at"), (Severity.LEFT, "left at the end")):
             if report.count(severity):
-                yield Html(f'<span class="verdict {severity.value}">{report.count(severity)} {word}</span>')
+                yield Html(
+                    f'<span class="verdict {severity.value}">{report.count(severity)} {word}</span>'
+                )
         if report.is_clean:
             yield Html('<span class="verdict clean">clean: nothing is left</span>')
         yield Html(f"<span class=facts>{escaped(self._run.counts)}</span></p>")
@@ -122,16 +126,23 @@ class Page:
                 (few if shown[finding.kind] <= _FEW_FINDINGS else more).append(self._finding(finding))
         yield Html(f"<h2>What is left, and why</h2><table class=report>{joined(few)}</table>")
         if more:
-            yield Html(f"<details><summary>{len(more)} more of these</summary><table class=report>{joined(more)}</table></details>")
+            yield Html(
+                f"<details><summary>{len(more)} more of these</summary><table class=report>{joined(more)}</table></details>"
+            )
         untold = len(findings) - len(few) - len(more)
         if untold:
             yield Html(f"<p class=facts>and {untold} more</p>")
 
     def _finding(self, finding: Finding) -> Html:
         where = self._markup.line(finding.row) if finding.row is not None else Html("")
-        details = [Html(f"<div class=why>{self._markup.said(one, _MOST_TEXT)}</div>") for one in finding.details[:_MOST_DETAILS]]
+        details = [
+            Html(f"<div class=why>{self._markup.said(one, _MOST_TEXT)}</div>")
+            for one in finding.details[:_MOST_DETAILS]
+        ]
         if details:
-            details[0] = Html(f" <span class=why>· {self._markup.said(finding.details[0], _MOST_TEXT)}</span>")
+            details[0] = Html(
+                f" <span class=why>· {self._markup.said(finding.details[0], _MOST_TEXT)}</span>"
+            )
         return Html(
             f"<tr class={finding.severity.value}><td>{finding.kind.value}</td><td>{where}</td>"
             f"<td>{self._markup.said(finding.said, _MOST_TEXT)}{joined(details)}</td></tr>"
@@ -156,7 +167,9 @@ class Page:
         if self._good:
             shown = self._good[:_MOST_OK]
             of = f", {len(shown)} of them here" if len(shown) < len(self._good) else ""
-            yield Html(f"<details><summary>{len(self._good)} that ended with a value{of}</summary>{self._table(shown)}</details>")
+            yield Html(
+                f"<details><summary>{len(self._good)} that ended with a value{of}</summary>{self._table(shown)}</details>"
+            )
         if not self._run.fold.records:
             yield Html("<p class=facts>No Deferred was made.</p>")
 
@@ -166,7 +179,9 @@ class Page:
 
     def _outcome(self, record: Record) -> Html:
         end = ended(record.end)
-        value = {Ended.OK: record.end[3:], Ended.FAIL: record.end[5:], Ended.PAUSED: record.end[7:]}.get(end, "")
+        value = {Ended.OK: record.end[3:], Ended.FAIL: record.end[5:], Ended.PAUSED: record.end[7:]}.get(
+            end, ""
+        )
         shown = isolated(shortened(value, _MOST_VALUE)) if value else Html("")
         if end is Ended.WAIT and record.waits is not None:
             shown = Html(f"for {self._markup.deferred(record.waits)}")
@@ -186,13 +201,21 @@ class Page:
         yield Html("<h2 id=what>What happened, in order</h2><div class=legend>")
         for state in _LEGEND_BARS:
             drawn = bar(8, 0, 18, Look(state))
-            yield Html(f"<span><svg width=16 height=18>{drawn}</svg>{_LEGEND_SIGNS[state]}{SAYS[state]}</span>")
+            yield Html(
+                f"<span><svg width=16 height=18>{drawn}</svg>{_LEGEND_SIGNS[state]}{SAYS[state]}</span>"
+            )
         drawn = bar(8, 0, 18, Look(State.OK, True))
         yield Html(f"<span><svg width=16 height=18>{drawn}</svg>‖ paused</span>")
         for kind, fails, word in _LEGEND_ARROWS:
-            yield Html(f"<span><svg width=44 height=16>{arrow(kind, fails, 2, 40, 8, 0)}</svg>{word}</span>")
-        yield Html("</div><p class=\"facts small\">A run holds the lines below it, up to the <b>set</b>, <b>take</b> or <b>wait</b> that ")
-        yield Html("ends it. Time stands on the left, with a bracket from each scheduling to its coming. Choose a number, as #0, to ")
+            yield Html(
+                f"<span><svg width=44 height=16>{arrow(kind, fails, 2, 40, 8, 0)}</svg>{word}</span>"
+            )
+        yield Html(
+            '</div><p class="facts small">A run holds the lines below it, up to the <b>set</b>, <b>take</b> or <b>wait</b> that '
+        )
+        yield Html(
+            "ends it. Time stands on the left, with a bracket from each scheduling to its coming. Choose a number, as #0, to "
+        )
         yield Html("follow that Deferred.</p>")
         rows = len(self._run.fold.rows)
         if len(self.window) < rows:
@@ -210,7 +233,11 @@ class Page:
                 record = lane.record
                 label = f"#{record.number} {record.name}".rstrip()
                 label = label if len(label) <= room else f"{label[: room - 1]}…"
-                texts.append(Html(f"<text class=dim x={(self._lanes.x(record.number) or 0) - 6} y=15>{escaped(label)}</text>"))
+                texts.append(
+                    Html(
+                        f"<text class=dim x={(self._lanes.x(record.number) or 0) - 6} y=15>{escaped(label)}</text>"
+                    )
+                )
         else:
             drawn, of = len(self._lanes.lanes), self._lanes.shown
             said = f"lanes of {drawn} Deferreds; a column is used again when one is done"

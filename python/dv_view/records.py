@@ -89,14 +89,21 @@ class Record:
     @property
     def is_stuck(self) -> bool:
         """Whether its pairs can't be used now."""
-        return self.fired is None or self.waits is not None or self.pauses > 0 or self.runs_since is not None
+        return (
+            self.fired is None
+            or self.waits is not None
+            or self.pauses > 0
+            or self.runs_since is not None
+        )
 
     def tells(self) -> str:
         """What its outcome line would say now."""
         paused = "paused " if self.pauses else ""
         if self.waits is not None:
             return f"{paused}waiting #{self.waits}"
-        return paused + (self.value.text if self.value is not None and self.fired is not None else "unfired")
+        return paused + (
+            self.value.text if self.value is not None and self.fired is not None else "unfired"
+        )
 
     def look_at(self, row: int) -> None:
         """Notes what it is from this row on."""

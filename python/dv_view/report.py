@@ -159,7 +159,9 @@ class Report:
     def _unhandled(self, place: int) -> Finding:
         row = self._fold.rows[place]
         acting = self._fold.said_by(row.actor)
-        left: List[Phrase] = [("left ", *acting) if acting[:1] != ("after ",) else acting] if acting else []
+        left: List[Phrase] = (
+            [("left ", *acting) if acting[:1] != ("after ",) else acting] if acting else []
+        )
         said: Phrase = (OfScript(row.entry.line[row.entry.head :]),)
         return Finding(Severity.BAD, Kind.UNHANDLED, said, tuple(left), place)
 
@@ -184,8 +186,14 @@ class Report:
         for number in (*circle.ring, circle.ring[0]):
             said += words(" → ", OfDeferred(number)) if said else words(OfDeferred(number))
         first = self._fold.records.get(circle.ring[0])
-        details = _details([("each waits for the next: nobody can end this",)], self._held(circle, circle.ring))
-        row = (first.waits_at if first.waits_at is not None else first.awaits_at) if first is not None else None
+        details = _details(
+            [("each waits for the next: nobody can end this",)], self._held(circle, circle.ring)
+        )
+        row = (
+            (first.waits_at if first.waits_at is not None else first.awaits_at)
+            if first is not None
+            else None
+        )
         return Finding(Severity.BAD, Kind.CIRCLE, said, details, row)
 
     # what is left
@@ -226,7 +234,9 @@ class Report:
         if record.awaits is not None:
             stopped = [("its body has awaited ", OfDeferred(record.awaits), ", and didn't end")]
         places = self._places(record) if record.made is Made.ACTION else ()
-        details = _details([places], stopped, [(pairs,)] if record.pairs else [], self._held(end, [record.number]))
+        details = _details(
+            [places], stopped, [(pairs,)] if record.pairs else [], self._held(end, [record.number])
+        )
         said: Phrase = ("nobody fired ", OfDeferred(record.number), paused)
         return Finding(Severity.LEFT, Kind.UNFIRED, said, details, record.row)
 
@@ -234,7 +244,10 @@ class Report:
         """Where the script fires a Deferred of this name, or makes one that something else is to fire."""
         if not self._script.events or not record.names:
             return ()
-        for word, places in (("fire", self._script.firing(record.names)), ("make", self._script.making(record.names))):
+        for word, places in (
+            ("fire", self._script.firing(record.names)),
+            ("make", self._script.making(record.names)),
+        ):
             if places:
                 shown: List[Part] = [OfScript(place) for place in places]
                 return (f"actions of the script that {word} one of this name: ", *listed(shown, 3))
@@ -244,7 +257,11 @@ class Report:
         times = f" {record.pauses} times" if record.pauses > 1 else ""
         said: Phrase = (OfDeferred(record.number), f" is paused{times}")
         return Finding(
-            Severity.LEFT, Kind.PAUSED, said, _details(self._held(end, [record.number])), record.paused_at
+            Severity.LEFT,
+            Kind.PAUSED,
+            said,
+            _details(self._held(end, [record.number])),
+            record.paused_at,
         )
 
     def _object(self, one: Left) -> Optional[Finding]:
@@ -264,7 +281,9 @@ class Report:
         if lock is None:
             return None
         is_given = "is given" if one.given == 1 else "are given"
-        said: Phrase = (f"{one.given} of {several(one.tokens, 'token', 'tokens')} of {lock.name} {is_given}",)
+        said: Phrase = (
+            f"{one.given} of {several(one.tokens, 'token', 'tokens')} of {lock.name} {is_given}",
+        )
         last: List[Part] = []
         history: List[Phrase] = []
         for deferred, row in lock.last_given:
@@ -273,8 +292,16 @@ class Report:
         if last:
             counts = f"given {several(lock.times_given, 'time', 'times')}, given back {several(lock.times_back, 'time', 'times')}"
             history = [(f"{counts}; last given to ", *last)]
-        details = _details(history, self._held(Root(At.LOCK, one.number)), _guess(self._fold.world.locks, lock.name))
-        return Finding(Severity.LEFT, Kind.TOKEN, said, details, lock.last_given[-1][1] if lock.last_given else lock.row)
+        details = _details(
+            history, self._held(Root(At.LOCK, one.number)), _guess(self._fold.world.locks, lock.name)
+        )
+        return Finding(
+            Severity.LEFT,
+            Kind.TOKEN,
+            said,
+            details,
+            lock.last_given[-1][1] if lock.last_given else lock.row,
+        )
 
     def _getters(self, one: LeftGetters) -> Optional[Finding]:
         queue = self._fold.world.queues.at(one.number)
@@ -282,7 +309,9 @@ class Report:
             return None
         waits = several(len(one.waiting), "waits", "wait")
         said: Phrase = (f"{waits} for a value of {queue.name}, and nothing is put",)
-        return Finding(Severity.LEFT, Kind.GETTER, said, _details(self._held(Root(At.QUEUE, one.number))), queue.row)
+        return Finding(
+            Severity.LEFT, Kind.GETTER, said, _details(self._held(Root(At.QUEUE, one.number))), queue.row
+        )
 
     def _due(self, one: Left) -> Optional[Finding]:
         world = self._fold.world
@@ -290,7 +319,9 @@ class Report:
         if isinstance(one, LeftCall):
             call = world.calls.at(one.number)
             name, row = (call.name, call.row) if call is not None else ("", None)
-            return Finding(Severity.LEFT, Kind.CALL, (f"delayed call {name} is due at {one.due}, {when}",), (), row)
+            return Finding(
+                Severity.LEFT, Kind.CALL, (f"delayed call {name} is due at {one.due}, {when}",), (), row
+            )
         if isinstance(one, LeftTick):
             row = world.tick.row if world.tick is not None else None
             return Finding(Severity.LEFT, Kind.TICK, (f"a tick is due at {one.due}, {when}",), (), row)
@@ -300,9 +331,15 @@ class Report:
             return Finding(Severity.LEFT, Kind.TIMER, said, (), row)
         if isinstance(one, LeftDelivery):
             job = world.jobs.get(one.job)
-            said = (f"the result of job {one.job} for ", OfDeferred(one.deferred), f" is due at {one.due}, {when}")
+            said = (
+                f"the result of job {one.job} for ",
+                OfDeferred(one.deferred),
+                f" is due at {one.due}, {when}",
+            )
             held = self._held(Root(At.JOB, one.job), [one.deferred])
-            return Finding(Severity.LEFT, Kind.JOB, said, tuple(held), job.later if job is not None else None)
+            return Finding(
+                Severity.LEFT, Kind.JOB, said, tuple(held), job.later if job is not None else None
+            )
         return None
 
     def _loop(self, one: LeftLoop) -> Optional[Finding]:
@@ -315,7 +352,9 @@ class Report:
             if one.waits_for:
                 said += (" and waits for ", *listed([OfDeferred(number) for number in one.waits_for], 3))
         row = loop.later if one.due is not None and loop.later is not None else loop.turned
-        details = _details(self._held(Root(At.LOOP, one.number)), _guess(self._fold.world.loops, loop.name))
+        details = _details(
+            self._held(Root(At.LOOP, one.number)), _guess(self._fold.world.loops, loop.name)
+        )
         return Finding(Severity.LEFT, Kind.LOOP, said, details, row)
 
     def _task(self, one: LeftTask) -> Optional[Finding]:
@@ -328,7 +367,9 @@ class Report:
         elif one.pauses > 0:
             said = (f"task {task.name} is paused",)
         row = task.held[1] if task.held is not None else task.row
-        details = _details(self._held(Root(At.TASK, one.number)), _guess(self._fold.world.tasks, task.name))
+        details = _details(
+            self._held(Root(At.TASK, one.number)), _guess(self._fold.world.tasks, task.name)
+        )
         return Finding(Severity.LEFT, Kind.TASK, said, details, row)
 
     # notes
@@ -337,7 +378,11 @@ class Report:
         for one in self._of(LeftValues):
             queue = self._fold.world.queues.at(one.number)
             if queue is not None:
-                were = several(one.values, f"value of {queue.name} was never got", f"values of {queue.name} were never got")
+                were = several(
+                    one.values,
+                    f"value of {queue.name} was never got",
+                    f"values of {queue.name} were never got",
+                )
                 row = queue.stored[queue.taken] if queue.count else queue.row
                 yield Finding(Severity.NOTE, Kind.STORED, (were,), (), row)
         for record in self._fold.records.values():

@@ -53,7 +53,9 @@ class Ruler:
         self.drawn.append(Drawn(top, bottom, bracket.kind, place, bracket.start >= window.start, ends))
 
     def _free(self, top: int, bottom: int) -> Optional[int]:
-        return next((at for at, taken in enumerate(self._taken) if 1 not in taken[top : bottom + 1]), None)
+        return next(
+            (at for at, taken in enumerate(self._taken) if 1 not in taken[top : bottom + 1]), None
+        )
 
     def by_chunk(self, total: int) -> List[List[Drawn]]:
         """The brackets of each chunk."""

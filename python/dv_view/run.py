@@ -96,5 +96,7 @@ def run_of_journal(
     run.is_exact, run.knows_stop = False, stopped is not None or run.stopped
     run.stopped = run.stopped if stopped is None else stopped
     if len(ends) < len(outcomes):
-        run.problems.append((several(len(outcomes) - len(ends), "line isn't an outcome", "lines aren't outcomes"),))
+        run.problems.append(
+            (several(len(outcomes) - len(ends), "line isn't an outcome", "lines aren't outcomes"),)
+        )
     return run

@@ -86,7 +86,11 @@ def _made(action: List[Any]) -> str:
     """The name of the Deferred that an action makes, which not only actions are to fire."""
     if len(action) > 2 and action[0] == "loop":
         return _text(action[2])
-    return _text(action[1]) if len(action) > 1 and isinstance(action[0], str) and action[0] in _MAKERS else ""
+    return (
+        _text(action[1])
+        if len(action) > 1 and isinstance(action[0], str) and action[0] in _MAKERS
+        else ""
+    )
 
 
 def compact(value: object) -> str:
@@ -106,7 +110,9 @@ def shown(action: object, deep: int = 0) -> str:
     if word == "try" and len(action) == 4:
         return f"try {_body(action[1], deep)} except {compact(action[2])} {_body(action[3], deep)}"
     names = _NAMES.get(word, 0)
-    return " ".join([word] + [_argument(word, value, index < names, deep) for index, value in enumerate(action[1:])])
+    return " ".join(
+        [word] + [_argument(word, value, index < names, deep) for index, value in enumerate(action[1:])]
+    )
 
 
 def _argument(word: str, value: object, is_name: bool, deep: int) -> str:
@@ -122,7 +128,13 @@ def _body(body: object, deep: int) -> str:
     if deep > _DEEPEST:
         return "{…}" if isinstance(body, dict) else "[…]"
     if isinstance(body, list):
-        return "[" + "; ".join(_body(part, deep) if isinstance(part, dict) else shown(part, deep + 1) for part in body) + "]"
+        return (
+            "["
+            + "; ".join(
+                _body(part, deep) if isinstance(part, dict) else shown(part, deep + 1) for part in body
+            )
+            + "]"
+        )
     if not isinstance(body, dict):
         return compact(body)
     actions = body.get("do")
@@ -136,4 +148,6 @@ def _end(end: object) -> str:
     if not isinstance(end, list) or not end or not isinstance(end[0], str):
         return f"→ {compact(end)}"
     named = end[0] == "wait"
-    return " ".join(["→", end[0]] + [part if named and isinstance(part, str) else compact(part) for part in end[1:]])
+    return " ".join(
+        ["→", end[0]] + [part if named and isinstance(part, str) else compact(part) for part in end[1:]]
+    )

@@ -38,7 +38,9 @@ class Sections:
         elif not in_side:
             self._leave(entry)
         place = Place(event, self._open[-1].row if self._open else None, len(self._open))
-        if entry.word in ("run", "advance", "drain") or (not in_side and (entry.word == "step" or self._is_due(entry))):
+        if entry.word in ("run", "advance", "drain") or (
+            not in_side and (entry.word == "step" or self._is_due(entry))
+        ):
             self._open.append(_Open(entry.row, entry.word))
         self._before = entry.word
         return place

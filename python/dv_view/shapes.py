@@ -7,7 +7,13 @@ from typing import Dict
 from .records import ArrowKind, Ended, Look, State
 from .texts import Html
 
-_BARS: Dict[State, str] = {State.UNFIRED: "u", State.OK: "ok", State.FAIL: "fail", State.WAIT: "wait", State.RUN: "run"}
+_BARS: Dict[State, str] = {
+    State.UNFIRED: "u",
+    State.OK: "ok",
+    State.FAIL: "fail",
+    State.WAIT: "wait",
+    State.RUN: "run",
+}
 
 #: what a bar says, for who doesn't see it
 SAYS: Dict[State, str] = {
@@ -39,7 +45,9 @@ CLASSES: Dict[Ended, str] = {
 def bar(x: float, top: float, bottom: float, look: Look) -> Html:
     """The bar of a lane, between these heights."""
     if look.state is State.RUN:
-        return Html(f'<rect class=run x="{x - 5.5:g}" y="{top:g}" width=11 height="{max(1, bottom - top):g}" />')
+        return Html(
+            f'<rect class=run x="{x - 5.5:g}" y="{top:g}" width=11 height="{max(1, bottom - top):g}" />'
+        )
     line = f"M{x:g} {top:g}V{bottom:g}"
     thin = " thin" if look.paused else ""
     drawn = f'<path class="{_BARS[look.state]}{thin}" d="{line}" />'
@@ -76,7 +84,9 @@ def arrow(kind: ArrowKind, fails: bool, start: float, end: float, y: float, gap:
     if kind is ArrowKind.SWALLOW:
         return Html(f'{shaft}<circle class="a a-swallow" cx="{head:g}" cy="{y:g}" r=3.5 />')
     if kind is ArrowKind.PAUSE:
-        return Html(f'{shaft}<path class="a a-pause" d="M{head - way * 3:g} {y - 4:g}v8m{way * 3} -8v8" />')
+        return Html(
+            f'{shaft}<path class="a a-pause" d="M{head - way * 3:g} {y - 4:g}v8m{way * 3} -8v8" />'
+        )
     across = f'<path class="a a-fail" d="M{head - way * 9:g} {y - 4:g}v8" />' if name == "fail" else ""
     return Html(f'{shaft}{across}<path class=h-{name} d="M{head + way * 2:g} {y:g}l{-way * 7} -4v8z" />')
 

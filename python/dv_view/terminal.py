@@ -23,7 +23,9 @@ _WORD_TONES: Dict[str, str] = {
     **dict.fromkeys(("refuse", "unhandled"), "bad"),
     **dict.fromkeys(("wait", "await", "hold"), "wait"),
     "run": "run",
-    **dict.fromkeys(("advance", "drain", "call", "tick", "post", "deliver", "turn", "step", "timeout"), "strong"),
+    **dict.fromkeys(
+        ("advance", "drain", "call", "tick", "post", "deliver", "turn", "step", "timeout"), "strong"
+    ),
 }
 
 
@@ -61,7 +63,11 @@ class Terminal:
         if isinstance(part, OfLine):
             return f"line {part.row + 1}"
         if isinstance(part, OfEvent):
-            return visible(clipped(f"event {part.number} {self._run.script.shown(part.number)}".rstrip(), _MOST_EVENT))
+            return visible(
+                clipped(
+                    f"event {part.number} {self._run.script.shown(part.number)}".rstrip(), _MOST_EVENT
+                )
+            )
         return visible(clipped(part.text, _MOST_TEXT)) if isinstance(part, OfScript) else visible(part)
 
     def _deferred(self, number: int) -> str:
@@ -71,7 +77,9 @@ class Terminal:
     def _verdict(self) -> Iterator[str]:
         report = self._run.report
         counts = ((Severity.BAD, "to look at"), (Severity.LEFT, "left at the end"))
-        parts = [f"{report.count(severity)} {word}" for severity, word in counts if report.count(severity)]
+        parts = [
+            f"{report.count(severity)} {word}" for severity, word in counts if report.count(severity)
+        ]
         verdict = ", ".join(parts) if parts else "clean: nothing is left"
         tone = "bad" if report.count(Severity.BAD) else "wait" if parts else "good"
         yield f"{visible(self._run.title)}: {self._toned(tone, verdict)}"
@@ -102,7 +110,10 @@ class Terminal:
         """The line, with names beside the numbers of Deferreds."""
         line, head = row.entry.line, row.entry.head
         if row.entry.word not in ("new", "name", ""):
-            words = [self._deferred(int(word[1:])) if word.startswith("#") else word for word in line[:head].split(" ")]
+            words = [
+                self._deferred(int(word[1:])) if word.startswith("#") else word
+                for word in line[:head].split(" ")
+            ]
             line = " ".join(words) + line[head:]
         return visible(clipped(line, _MOST_LINE))
 

@@ -261,7 +261,11 @@ class World:
     def loop_that(self, entry: Entry, phase: Phase) -> Optional[Loop]:
         """The loop that a line means, in this phase: the one that is due first, where several of the name are."""
         fitting = [loop for loop in self.loops.candidates(entry) if loop.phase is phase]
-        first = min(fitting, key=lambda loop: (loop.due is not None, loop.due or 0), default=None)
+        first = min(
+            fitting,
+            key=lambda loop: (loop.due is not None, loop.due or 0, loop.later or 0),
+            default=None,
+        )
         return first or self.loops.found(entry)
 
     def change_task(self, task: Task, pauses: int, ends: bool = False) -> None:

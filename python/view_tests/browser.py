@@ -70,7 +70,12 @@ class Browser:
         self._reader, writes = os.pipe()
         # above 3 and 4, so that neither is closed by the other's coming
         high = [fcntl.fcntl(end, fcntl.F_DUPFD_CLOEXEC, 10) for end in (reads, writes)]
-        flags = [*_FLAGS, f"--user-data-dir={self._folder}", f"--window-size={width},{height}", "about:blank"]
+        flags = [
+            *_FLAGS,
+            f"--user-data-dir={self._folder}",
+            f"--window-size={width},{height}",
+            "about:blank",
+        ]
         nothing = os.open(os.devnull, os.O_RDWR)
         pid = os.posix_spawn(
             program,
@@ -118,7 +123,13 @@ class Browser:
 
     def resize(self, width: int, height: int) -> None:
         """Changes the size of what is seen."""
-        self._call("Emulation.setDeviceMetricsOverride", width=width, height=height, deviceScaleFactor=1, mobile=False)
+        self._call(
+            "Emulation.setDeviceMetricsOverride",
+            width=width,
+            height=height,
+            deviceScaleFactor=1,
+            mobile=False,
+        )
 
     def look(self, dark: bool = False, printed: bool = False) -> None:
         """Light or dark; on a screen, or as it is printed."""
@@ -142,14 +153,18 @@ class Browser:
 
     def ask(self, expression: str) -> Any:
         """What an expression of JavaScript gives."""
-        answer = self._call("Runtime.evaluate", expression=expression, returnByValue=True, awaitPromise=True)
+        answer = self._call(
+            "Runtime.evaluate", expression=expression, returnByValue=True, awaitPromise=True
+        )
         if "exceptionDetails" in answer:
             raise Broken(json.dumps(answer["exceptionDetails"])[:500])
         return answer["result"].get("value")
 
     def settle(self) -> None:
         """Waits until what is seen is drawn."""
-        self.ask("new Promise(done => requestAnimationFrame(() => requestAnimationFrame(() => done(0))))")
+        self.ask(
+            "new Promise(done => requestAnimationFrame(() => requestAnimationFrame(() => done(0))))"
+        )
 
     def press(self, key: str) -> None:
         """Presses a key."""
@@ -166,14 +181,24 @@ class Browser:
             " const r = e.getBoundingClientRect(); return [r.x + r.width / 2, r.y + r.height / 2]; })()"
         )
         for kind in ("mousePressed", "mouseReleased"):
-            self._call("Input.dispatchMouseEvent", type=kind, x=place[0], y=place[1], button="left", clickCount=1)
+            self._call(
+                "Input.dispatchMouseEvent",
+                type=kind,
+                x=place[0],
+                y=place[1],
+                button="left",
+                clickCount=1,
+            )
 
     def shot(self, path: Path, height: Optional[int] = None, width: Optional[int] = None) -> None:
         """Writes what is seen as a PNG; with a height, as much of the page from its top."""
         parameters: Json = {}
         if height is not None:
             wide = width or int(self.ask("innerWidth"))
-            parameters = {"captureBeyondViewport": True, "clip": {"x": 0, "y": 0, "width": wide, "height": height, "scale": 1}}
+            parameters = {
+                "captureBeyondViewport": True,
+                "clip": {"x": 0, "y": 0, "width": wide, "height": height, "scale": 1},
+            }
         self.settle()
         path.write_bytes(base64.b64decode(self._call("Page.captureScreenshot", **parameters)["data"]))
 

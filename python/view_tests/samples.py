@@ -22,13 +22,13 @@ HOSTILE = (
     "<img src=x onerror=window.harm=1>",
     "<svg onload=window.harm=1>",
     "<a href='javascript:window.harm=1'>line 1</a> #0",
-    "\"><b onmouseover=window.harm=1>",
+    '"><b onmouseover=window.harm=1>',
     "' onclick='window.harm=1",
     "`x` {{y}} ${window.harm = 1} &lt;b&gt; &#60;b&#62; &amp;",
     "]]> <!-- <iframe src=http://127.0.0.1:1/> --> <?xml?>",
     "\u202egnihton era sthgir\u202c \u2066x\u2069 \u200b\u200d\ufeff\u00ad",
     "\x1b[31m\u009b31m\x07\u0085\u2028\u2029\x1c",
-    "fail ValueError \"\" line 1 #0 event 0",
+    'fail ValueError "" line 1 #0 event 0',
     "שלום עולם 你好 🙂 ﷽",
     "x" * 10_000,
     "<b>" * 3_000,
@@ -55,16 +55,32 @@ def hostile() -> Run:
     for number, text in enumerate(HOSTILE):
         begins.append(len(lines))
         events.append(["note", text])
-        lines += [f"new #{2 * number} d{number}", f"note {_json(text)}", f"fire #{2 * number} ok {_json(text)}"]
+        lines += [
+            f"new #{2 * number} d{number}",
+            f"note {_json(text)}",
+            f"fire #{2 * number} ok {_json(text)}",
+        ]
         begins.append(len(lines))
         events.append(["errback", text, text, text])
-        lines += [f"new #{2 * number + 1} e{number}", f"fire #{2 * number + 1} fail ValueError {_json(text)}", f"unhandled ValueError {_json(text)}"]
-        ends += [f"#{2 * number} d{number} ok {_json(text)}", f"#{2 * number + 1} e{number} fail ValueError {_json(text)}"]
+        lines += [
+            f"new #{2 * number + 1} e{number}",
+            f"fire #{2 * number + 1} fail ValueError {_json(text)}",
+            f"unhandled ValueError {_json(text)}",
+        ]
+        ends += [
+            f"#{2 * number} d{number} ok {_json(text)}",
+            f"#{2 * number + 1} e{number} fail ValueError {_json(text)}",
+        ]
     output = "".join(f"{line}\n" for line in lines + ends)
     left: List[dict[str, object]] = [
-        {"kind": "failure", "deferred": {"name": "e", "number": 2 * number + 1}} for number in range(len(HOSTILE))
+        {"kind": "failure", "deferred": {"name": "e", "number": 2 * number + 1}}
+        for number in range(len(HOSTILE))
     ]
-    left += [{"kind": "unhandled", "entry": row} for row, line in enumerate(lines) if line.startswith("unhandled")]
+    left += [
+        {"kind": "unhandled", "entry": row}
+        for row, line in enumerate(lines)
+        if line.startswith("unhandled")
+    ]
     facts = read_facts(told(output, begins, left))
     return run_of_facts(facts, Script({"events": events}), "".join(HOSTILE[:8]))
 
@@ -84,9 +100,16 @@ def recorded() -> Run:
 def rows() -> Iterator[Sample]:
     """Runs of the repository's rows, some of each topic, and those that stop at their limit."""
     for path in row_files(TOP):
-        found = [row for row in read_rows(path) if row.status < 2 and f"{ANY_LINES}\n" not in row.output and "\n" in row.output]
+        found = [
+            row
+            for row in read_rows(path)
+            if row.status < 2 and f"{ANY_LINES}\n" not in row.output and "\n" in row.output
+        ]
         for row in found[:: max(1, len(found) // 3)]:
-            yield Sample(f"{path.name}: {row.name}", run_of_journal(row.output, row.name, Script(), row.status == 1))
+            yield Sample(
+                f"{path.name}: {row.name}",
+                run_of_journal(row.output, row.name, Script(), row.status == 1),
+            )
 
 
 def long(lines: int) -> Run:
@@ -107,7 +130,11 @@ def long(lines: int) -> Run:
             f"wait #{number + 1} #{number}",
             f"advance {due + 7}",
             "call answer",
-            f'fire #{number} ok {{"status": 200, "text": "the answer to request {number}"}}'.replace('{"', '["').replace('":', '",').replace("}", "]"),
+            f'fire #{number} ok {{"status": 200, "text": "the answer to request {number}"}}'.replace(
+                '{"', '["'
+            )
+            .replace('":', '",')
+            .replace("}", "]"),
             f"run #{number}",
             f'note "request {number} is answered"',
             f'set #{number} fail ValueError "request {number} can\'t be read"',

@@ -58,7 +58,9 @@ def told(output: str, begins: Sequence[int], left: Sequence[Json] = (), stopped:
         assert end is not None
         written.append({"type": "deferred", "number": end.number, "name": end.name, "line": outcome})
     written += [{"type": "left", **one} for one in left]
-    written.append({"type": "end", "stopped": stopped, "weight": len(lines), "limit": 2000, "time": time})
+    written.append(
+        {"type": "end", "stopped": stopped, "weight": len(lines), "limit": 2000, "time": time}
+    )
     return "".join(json.dumps(one, ensure_ascii=False) + "\n" for one in written)
 
 

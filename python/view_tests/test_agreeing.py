@@ -18,10 +18,16 @@ from .stand_in import Json, stuck, thing, told
 
 DATA = Path(__file__).resolve().parent / "data"
 
-_JOURNAL = "lock l\nnew #0 a\nacquire l #0\nfire #0 ok \"l\"\nnew #1 b\nacquire l #1\nadd #0\nrun #0\nset #0 ok 1\n#0 a ok 1\n#1 b unfired\n"
+_JOURNAL = 'lock l\nnew #0 a\nacquire l #0\nfire #0 ok "l"\nnew #1 b\nacquire l #1\nadd #0\nrun #0\nset #0 ok 1\n#0 a ok 1\n#1 b unfired\n'
 _LEFT: List[Json] = [
     stuck(1, "unfired", {"at": "lock", "object": thing("lock", 0)}),
-    {"kind": "tokens", "object": thing("lock", 0), "given": 1, "tokens": 1, "waiting": [{"name": "b", "number": 1}]},
+    {
+        "kind": "tokens",
+        "object": thing("lock", 0),
+        "given": 1,
+        "tokens": 1,
+        "waiting": [{"name": "b", "number": 1}],
+    },
 ]
 
 
@@ -43,8 +49,18 @@ class Agreeing(unittest.TestCase):
 
     def test_what_differs_is_seen(self) -> None:
         self.assertTrue(differences(told(_JOURNAL, [0, 1, 4, 6], _LEFT[:1])))
-        self.assertTrue(differences(told(_JOURNAL, [0, 1, 4, 6], [*_LEFT, {"kind": "failure", "deferred": {"name": "a", "number": 0}}])))
-        self.assertTrue(differences(told(_JOURNAL.replace("#0 a ok 1", "#0 a ok 2"), [0, 1, 4, 6], _LEFT)))
+        self.assertTrue(
+            differences(
+                told(
+                    _JOURNAL,
+                    [0, 1, 4, 6],
+                    [*_LEFT, {"kind": "failure", "deferred": {"name": "a", "number": 0}}],
+                )
+            )
+        )
+        self.assertTrue(
+            differences(told(_JOURNAL.replace("#0 a ok 1", "#0 a ok 2"), [0, 1, 4, 6], _LEFT))
+        )
         wrong = [json.loads(line) for line in told(_JOURNAL, [0, 1, 4, 6], _LEFT).splitlines()]
         wrong[8]["under"], wrong[8]["depth"] = 1, 1
         self.assertTrue(differences("".join(f"{json.dumps(line)}\n" for line in wrong)))

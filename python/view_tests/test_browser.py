@@ -115,9 +115,17 @@ class InBrowser(unittest.TestCase):
         told: List[str] = []
         for event in self.browser.events:
             method, parameters = event.get("method"), event.get("params", {})
-            if method == "Network.requestWillBeSent" and parameters["request"]["url"] != self.path.resolve().as_uri():
+            if (
+                method == "Network.requestWillBeSent"
+                and parameters["request"]["url"] != self.path.resolve().as_uri()
+            ):
                 told.append(f"asks for {parameters['request']['url'][:80]}")
-            if method in ("Log.entryAdded", "Runtime.exceptionThrown", "Runtime.consoleAPICalled", "Page.javascriptDialogOpening"):
+            if method in (
+                "Log.entryAdded",
+                "Runtime.exceptionThrown",
+                "Runtime.consoleAPICalled",
+                "Page.javascriptDialogOpening",
+            ):
                 told.append(json.dumps(parameters)[:200])
         return told
 
@@ -144,7 +152,11 @@ class Colors(InBrowser):
             seen.add(colors["page"])
             pairs = [(color, ground) for color in _COLORS for ground in _GROUNDS] + list(_ON_OWN)
             for color, ground in pairs:
-                self.assertGreaterEqual(contrast(colors[color], colors[ground]), 4.5, f"{color} on {ground}, {dark=}, {printed=}")
+                self.assertGreaterEqual(
+                    contrast(colors[color], colors[ground]),
+                    4.5,
+                    f"{color} on {ground}, {dark=}, {printed=}",
+                )
         self.assertEqual(len(seen), 2)
 
     def test_no_state_and_no_arrow_is_told_by_colour_alone(self) -> None:
@@ -166,7 +178,16 @@ class Hostile(InBrowser):
         done = self.trouble()
         if self.asked("window.harm") is not None:
             done.append("a script of theirs has run")
-        for selector in ("img", "iframe", "b[onmouseover]", "svg[onload]", "a[href^=javascript]", "[onclick]", "main script", "main style"):
+        for selector in (
+            "img",
+            "iframe",
+            "b[onmouseover]",
+            "svg[onload]",
+            "a[href^=javascript]",
+            "[onclick]",
+            "main script",
+            "main style",
+        ):
             if self.asked(f"document.querySelector({json.dumps(selector)}) !== null"):
                 done.append(selector)
         return done
@@ -177,7 +198,9 @@ class Hostile(InBrowser):
 
     def test_they_are_shown_as_they_are(self) -> None:
         self.show(samples.hostile())
-        notes = self.asked("[...document.querySelectorAll('.row .k-note')].map(word => word.parentElement.querySelector('bdi').textContent)")
+        notes = self.asked(
+            "[...document.querySelectorAll('.row .k-note')].map(word => word.parentElement.querySelector('bdi').textContent)"
+        )
         written = [json.dumps(text, ensure_ascii=False) for text in samples.HOSTILE]
         self.assertEqual(notes, [visible(shortened(text, 300)) for text in written])
         self.assertEqual(self.asked("document.title"), visible("".join(samples.HOSTILE[:8])))
@@ -194,7 +217,13 @@ class Hostile(InBrowser):
         with mock.patch("dv_view.markup.escaped", Html), mock.patch("dv_view.page.escaped", Html):
             self.show(samples.hostile())
         self.assertIsNone(self.asked("window.harm"))
-        self.assertFalse([event for event in self.browser.events if "127.0.0.1" in json.dumps(event) and event.get("method") == "Network.responseReceived"])
+        self.assertFalse(
+            [
+                event
+                for event in self.browser.events
+                if "127.0.0.1" in json.dumps(event) and event.get("method") == "Network.responseReceived"
+            ]
+        )
 
 
 class Geometry(InBrowser):
@@ -212,15 +241,21 @@ class Geometry(InBrowser):
         for sample in self._runs():
             self.show(sample.run)
             self.asked(_ALL)
-            self.assertEqual(self.asked(_ROWS), [], f"{sample.name}: rows are {SLOT} px high and in place")
+            self.assertEqual(
+                self.asked(_ROWS), [], f"{sample.name}: rows are {SLOT} px high and in place"
+            )
             self.assertEqual(self.asked(_OVERLAPS), [], f"{sample.name}: texts overlap")
             self.assertEqual(self.asked(_DEAD), [], f"{sample.name}: links without a target")
             self.assertEqual(self.asked(_SMALL), [], f"{sample.name}: texts that are too small")
             for to, is_named, distance in self.asked(_ARROWS):
                 arrows += 1
-                self.assertTrue(is_named, f"{sample.name}: an arrow to #{to} in a row that doesn't name it")
+                self.assertTrue(
+                    is_named, f"{sample.name}: an arrow to #{to} in a row that doesn't name it"
+                )
                 self.assertIsNotNone(distance, f"{sample.name}: no lane of #{to} beside its arrow")
-                self.assertLess(distance, 8, f"{sample.name}: an arrow that doesn't end at the lane of #{to}")
+                self.assertLess(
+                    distance, 8, f"{sample.name}: an arrow that doesn't end at the lane of #{to}"
+                )
             self.assertEqual(self.trouble(), [], sample.name)
         self.assertGreater(arrows, 500)
 
@@ -236,7 +271,10 @@ class Geometry(InBrowser):
                 self.assertEqual(self.asked("scrollX"), max(0, wide - width))
                 sides = "[...document.querySelectorAll('main, .side, .what')].map(part => Math.round(part.getBoundingClientRect().left))"
                 self.assertEqual(set(self.asked(sides)), {0}, f"{run.title[:20]} at {width} px")
-                self.assertLessEqual(self.asked("document.querySelector('.side').getBoundingClientRect().width"), 0.621 * width)
+                self.assertLessEqual(
+                    self.asked("document.querySelector('.side').getBoundingClientRect().width"),
+                    0.621 * width,
+                )
                 self.assertEqual(self.asked("document.scrollingElement.scrollWidth"), max(width, wide))
 
     def test_a_page_of_five_thousand_lines_is_there_in_a_second(self) -> None:
@@ -251,7 +289,9 @@ class Focus(InBrowser):
         return rows
 
     def _named(self, number: int) -> List[str]:
-        rows: List[str] = self.asked(f"[...document.querySelectorAll('.row[data-d~=\"{number}\"]')].map(row => row.id)")
+        rows: List[str] = self.asked(
+            f"[...document.querySelectorAll('.row[data-d~=\"{number}\"]')].map(row => row.id)"
+        )
         return rows
 
     def test_a_click_chooses_and_escape_ends_it(self) -> None:
@@ -261,11 +301,17 @@ class Focus(InBrowser):
         self.assertTrue(self._on())
         self.assertTrue(self.asked("document.getElementById('focus').textContent.startsWith('#1:')"))
         faded = "[...document.querySelectorAll('.row:not(.on), .lane:not(.on), .arrow:not(.on)')].every(part => getComputedStyle(part).opacity < 0.5)"
-        clear = "[...document.querySelectorAll('.on')].every(part => getComputedStyle(part).opacity >= 0.4)"
+        clear = (
+            "[...document.querySelectorAll('.on')].every(part => getComputedStyle(part).opacity >= 0.4)"
+        )
         self.assertTrue(self.asked(faded) and self.asked(clear))
         self.browser.press("Escape")
         self.assertEqual(self._on(), [])
-        self.assertTrue(self.asked("document.getElementById('focus').hidden && document.getElementById('column').hidden"))
+        self.assertTrue(
+            self.asked(
+                "document.getElementById('focus').hidden && document.getElementById('column').hidden"
+            )
+        )
 
     def test_a_second_click_ends_it_too(self) -> None:
         self.show(samples.recorded())
@@ -328,13 +374,20 @@ class Paper(InBrowser):
             data = target.read_bytes()
             widths = {float(box.split()[2]) for box in re.findall(rb"/MediaBox \[([^\]]*)\]", data)}
             self.assertEqual(len(widths), 1)
-            self.assertGreaterEqual(widths.pop() / 0.75 + 1, self.asked("document.getElementById('chart').offsetWidth"))
+            self.assertGreaterEqual(
+                widths.pop() / 0.75 + 1, self.asked("document.getElementById('chart').offsetWidth")
+            )
             self.assertGreaterEqual(data.count(b"/Type /Page\n") + data.count(b"/Type /Page "), 2)
 
     def test_what_is_only_for_a_screen_isn_t_printed(self) -> None:
         self.browser.look(printed=True)
         self.show(samples.recorded())
-        self.assertEqual(self.asked("['.head', '#focus', 'nav'].map(name => getComputedStyle(document.querySelector(name)).display)"), ["none"] * 3)
+        self.assertEqual(
+            self.asked(
+                "['.head', '#focus', 'nav'].map(name => getComputedStyle(document.querySelector(name)).display)"
+            ),
+            ["none"] * 3,
+        )
 
 
 if __name__ == "__main__":

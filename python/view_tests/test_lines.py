@@ -28,16 +28,36 @@ class Lines(unittest.TestCase):
         self.assertEqual((take.deferred, take.other), (1, 2))
 
     def test_what_is_scheduled(self) -> None:
-        told = [read_line(0, line) for line in ("later call c 3", "later tick 4", "later job 7 5", "later timeout #2 6")]
-        self.assertEqual([(one.what, one.name, one.number) for one in told[:3]], [("call", "c", 3), ("tick", "", 4), ("job", "7", 5)])
+        told = [
+            read_line(0, line)
+            for line in ("later call c 3", "later tick 4", "later job 7 5", "later timeout #2 6")
+        ]
+        self.assertEqual(
+            [(one.what, one.name, one.number) for one in told[:3]],
+            [("call", "c", 3), ("tick", "", 4), ("job", "7", 5)],
+        )
         self.assertEqual((told[3].what, told[3].deferred, told[3].number), ("timeout", 2, 6))
 
     def test_where_a_script_s_own_text_begins(self) -> None:
-        for line, own in (('put q "#3 x"', '"#3 x"'), ("fire #0 ok #1", "ok #1"), ("release l", ""), ('note "put"', '"put"')):
+        for line, own in (
+            ('put q "#3 x"', '"#3 x"'),
+            ("fire #0 ok #1", "ok #1"),
+            ("release l", ""),
+            ('note "put"', '"put"'),
+        ):
             self.assertEqual(line[read_line(0, line).head :], own)
 
     def test_what_isn_t_known_has_no_word(self) -> None:
-        for line in ("", "nope", "new #0", "new 0 a", "fire #0 maybe", "later call c", "run #0 1", "advance x"):
+        for line in (
+            "",
+            "nope",
+            "new #0",
+            "new 0 a",
+            "fire #0 maybe",
+            "later call c",
+            "run #0 1",
+            "advance x",
+        ):
             self.assertEqual(read_line(0, line).word, "", line)
 
     def test_all_words_of_the_language_are_known(self) -> None:

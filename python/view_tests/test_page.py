@@ -78,9 +78,16 @@ class Escaping(unittest.TestCase):
 
     def _is_safe(self, page: str) -> bool:
         read = Read(page)
-        names = set().union(*(read.values.get(name, set()) for name in ("id", "href", "data-f", "data-d", "data-to")))
+        names = set().union(
+            *(read.values.get(name, set()) for name in ("id", "href", "data-f", "data-d", "data-to"))
+        )
         plain = all(_NUMBERS.fullmatch(part) for name in names for part in name.lstrip("#").split(" "))
-        return plain and read.elements <= _ELEMENTS and read.attributes <= _ATTRIBUTES and len(read.ids) == len(set(read.ids))
+        return (
+            plain
+            and read.elements <= _ELEMENTS
+            and read.attributes <= _ATTRIBUTES
+            and len(read.ids) == len(set(read.ids))
+        )
 
     def test_hostile_texts_are_texts(self) -> None:
         self.assertTrue(self._is_safe(page_of(samples.hostile())))
@@ -99,7 +106,11 @@ class Escaping(unittest.TestCase):
 
     def test_one_function_escapes(self) -> None:
         folder = Path(texts.__file__).parent
-        escaping = [path.name for path in sorted(folder.glob("*.py")) if "html.escape" in path.read_text(encoding="utf-8")]
+        escaping = [
+            path.name
+            for path in sorted(folder.glob("*.py"))
+            if "html.escape" in path.read_text(encoding="utf-8")
+        ]
         self.assertEqual(escaping, ["texts.py"])
 
     def test_the_policy_names_the_style_and_the_script(self) -> None:
@@ -147,7 +158,9 @@ class Sizes(unittest.TestCase):
         self.assertEqual(Page(run, 9, 8).window, range(8, 8))
 
     def test_states_are_carried_into_a_window(self) -> None:
-        page = page_of(run_of_journal("new #0 d\nnote \"\"\nfire #0 ok 1\nnote \"\"\nadd #0\nnote \"\"\n", "test"), 4, 5)
+        page = page_of(
+            run_of_journal('new #0 d\nnote ""\nfire #0 ok 1\nnote ""\nadd #0\nnote ""\n', "test"), 4, 5
+        )
         self.assertIn("<title>#0 d: fired, a value</title>", page)
         self.assertNotIn("unfired</title>", page)
 
@@ -160,7 +173,7 @@ class Sizes(unittest.TestCase):
         self.assertLess(seconds[1], 8 * seconds[0])
 
     def test_equal_lines_stand_once(self) -> None:
-        run = run_of_journal("new #0 d\n" + "cancel #0\n" * 500 + "note \"\"\n", "test")
+        run = run_of_journal("new #0 d\n" + "cancel #0\n" * 500 + 'note ""\n', "test")
         page = page_of(run)
         self.assertIn("the same line 499 times more, up to line 501", page)
         self.assertEqual(page.count("<div class=row id="), 3)

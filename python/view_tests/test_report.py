@@ -49,29 +49,52 @@ class OfJournals(unittest.TestCase):
 
     def test_failures(self) -> None:
         self.assertEqual(
-            of_journal('new #0 d', 'add #0', 'fire #0 ok 1', 'run #0', 'set #0 fail ValueError "no"'),
+            of_journal("new #0 d", "add #0", "fire #0 ok 1", "run #0", 'set #0 fail ValueError "no"'),
             ['failure #0·d ends with ValueError "no" (line 5) | it comes from line 5: set #0'],
         )
         self.assertEqual(
-            of_journal('new #0 d', 'pause #0', 'fire #0 fail ValueError "no"'),
+            of_journal("new #0 d", "pause #0", 'fire #0 fail ValueError "no"'),
             ['failure #0·d ends with ValueError "no" (line 3) | it is paused since line 2'],
         )
         self.assertEqual(of_journal('unhandled NameError "d"'), ['unhandled NameError "d" (line 1)'])
 
     def test_a_failure_that_is_passed_on_comes_from_where_it_began(self) -> None:
-        lines = ["new #0 a", "new #1 b", 'fire #0 fail X ""', "run #0", "new #2 c", 'set #0 fail X ""', 'fire #1 fail Y ""']
+        lines = [
+            "new #0 a",
+            "new #1 b",
+            'fire #0 fail X ""',
+            "run #0",
+            "new #2 c",
+            'set #0 fail X ""',
+            'fire #1 fail Y ""',
+        ]
         self.assertIn('failure #0·a ends with X "" (line 3)', of_journal(*lines))
 
     def test_a_circle_is_told_once_with_who_else_waits(self) -> None:
-        waits = [["add #%d" % one, "fire #%d ok 1" % one, "run #%d" % one, "wait #%d #%d" % (one, to)] for one, to in ((0, 1), (1, 0), (2, 0))]
+        waits = [
+            ["add #%d" % one, "fire #%d ok 1" % one, "run #%d" % one, "wait #%d #%d" % (one, to)]
+            for one, to in ((0, 1), (1, 0), (2, 0))
+        ]
         found = of_journal("new #0 a", "new #1 b", "new #2 c", *sum(waits, []))
         self.assertEqual(
             found,
-            ["circle #0·a → #1·b → #0·a (line 7) | each waits for the next: nobody can end this | #2·c waits for #0·a since line 15"],
+            [
+                "circle #0·a → #1·b → #0·a (line 7) | each waits for the next: nobody can end this | #2·c waits for #0·a since line 15"
+            ],
         )
 
     def test_all_that_hangs_on_one_that_nobody_fired(self) -> None:
-        lines = ["new #0 a", "add #0", "new #1 b", "await #1 #0", "add #0", "new #2 c", "fire #2 ok 1", "run #2", "wait #2 #1"]
+        lines = [
+            "new #0 a",
+            "add #0",
+            "new #1 b",
+            "await #1 #0",
+            "add #0",
+            "new #2 c",
+            "fire #2 ok 1",
+            "run #2",
+            "wait #2 #1",
+        ]
         self.assertEqual(
             of_journal(*lines, script={"events": [["later", "x", 1, {"do": [["callback", "a", 1]]}]]}),
             [
@@ -87,10 +110,23 @@ class OfJournals(unittest.TestCase):
         self.assertTrue(of_journal(*lines)[0].endswith("| and 3 more hang on this"))
 
     def test_paused(self) -> None:
-        self.assertEqual(of_journal("new #0 d", "pause #0", "pause #0", "fire #0 ok 1"), ["paused #0·d is paused 2 times (line 3)"])
+        self.assertEqual(
+            of_journal("new #0 d", "pause #0", "pause #0", "fire #0 ok 1"),
+            ["paused #0·d is paused 2 times (line 3)"],
+        )
 
     def test_tokens_and_getters(self) -> None:
-        lines = ["lock l", "new #0 a", "acquire l #0", 'fire #0 ok "l"', "new #1 b", "acquire l #1", "queue q none none", "new #2 c", "get q #2"]
+        lines = [
+            "lock l",
+            "new #0 a",
+            "acquire l #0",
+            'fire #0 ok "l"',
+            "new #1 b",
+            "acquire l #1",
+            "queue q none none",
+            "new #2 c",
+            "get q #2",
+        ]
         self.assertEqual(
             of_journal(*lines),
             [
@@ -106,10 +142,22 @@ class OfJournals(unittest.TestCase):
         self.assertEqual(of_journal(*cancelled)[0].split()[0], "failure")
         self.assertEqual(len(of_journal(*cancelled)), 1)
         fired = [*lock, "fire #1 ok 1", "release l", "refuse #1", 'unhandled AlreadyCalledError ""']
-        self.assertEqual(of_journal(*fired)[1].split(" | ")[0], "token 1 of 1 token of l is given (line 8)")
+        self.assertEqual(
+            of_journal(*fired)[1].split(" | ")[0], "token 1 of 1 token of l is given (line 8)"
+        )
 
     def test_what_is_due(self) -> None:
-        lines = ["later call c 5", "task t", "later tick 1", "new #0 j", "job 0 #0", "later job 0 9", "new #1 d", "later timeout #1 7", "advance 0"]
+        lines = [
+            "later call c 5",
+            "task t",
+            "later tick 1",
+            "new #0 j",
+            "job 0 #0",
+            "later job 0 9",
+            "new #1 d",
+            "later timeout #1 7",
+            "advance 0",
+        ]
         self.assertEqual(
             of_journal(*lines),
             [
@@ -123,14 +171,22 @@ class OfJournals(unittest.TestCase):
         )
 
     def test_a_tick_is_dropped_when_nobody_takes_turns(self) -> None:
-        self.assertEqual(of_journal("task t", "later tick 1", "pausetask t"), ["task task t is paused (line 1)"])
+        self.assertEqual(
+            of_journal("task t", "later tick 1", "pausetask t"), ["task task t is paused (line 1)"]
+        )
         self.assertEqual(of_journal("task t", "later tick 1", 'end t fail TaskStopped ""'), [])
 
     def test_loops(self) -> None:
         lines = ["new #0 l", "loop p #0", "later loop p 3"]
-        self.assertEqual(of_journal(*lines), ["loop loop p goes on, its next turn is due at 3 (line 3) | #0·l is fired when loop p ends"])
+        self.assertEqual(
+            of_journal(*lines),
+            ["loop loop p goes on, its next turn is due at 3 (line 3) | #0·l is fired when loop p ends"],
+        )
         turning = [*lines, "advance 3", "turn p"]
-        self.assertEqual(of_journal(*turning)[0].split(" | ")[0], "loop loop p goes on, its last turn isn't over (line 5)")
+        self.assertEqual(
+            of_journal(*turning)[0].split(" | ")[0],
+            "loop loop p goes on, its last turn isn't over (line 5)",
+        )
         self.assertEqual(of_journal(*lines, "stop p", 'fire #0 ok "p"'), [])
 
     def test_a_task_that_is_held_hangs_on_who_holds_it(self) -> None:
@@ -148,11 +204,19 @@ class OfJournals(unittest.TestCase):
         found = run_of_journal("".join(f"{line}\n" for line in lines), "test").report
         self.assertTrue(found.is_clean)
         self.assertEqual([one.severity for one in found.findings], [Severity.NOTE, Severity.NOTE])
-        self.assertEqual(of_journal(*lines), ["stored 2 values of q were never got (line 2)", "refused a second firing of #0·a (line 6)"])
+        self.assertEqual(
+            of_journal(*lines),
+            ["stored 2 values of q were never got (line 2)", "refused a second firing of #0·a (line 6)"],
+        )
 
     def test_a_run_that_stopped(self) -> None:
         found = of_journal("new #0 d", "add #0", "fire #0 ok 1", "run #0")
-        self.assertEqual(found, ["stopped the run stopped at the limit of its journal (line 4) | a side of #0·d, from line 4, hadn't ended"])
+        self.assertEqual(
+            found,
+            [
+                "stopped the run stopped at the limit of its journal (line 4) | a side of #0·d, from line 4, hadn't ended"
+            ],
+        )
 
     def test_a_chain_of_many_waits_takes_no_longer_than_its_lines(self) -> None:
         lines = ["new #0 d"]
@@ -166,7 +230,10 @@ class OfFacts(unittest.TestCase):
 
     def test_a_list_hangs_on_its_children(self) -> None:
         lines = ["new #0 d", "new #1 d", "new #2 d", "add #0", "add #1"]
-        hangs = [{"at": "child", "deferred": deferred(0), "place": 0}, {"at": "child", "deferred": deferred(1), "place": 1}]
+        hangs = [
+            {"at": "child", "deferred": deferred(0), "place": 0},
+            {"at": "child", "deferred": deferred(1), "place": 1},
+        ]
         found = of_facts(lines, stuck(0, "unfired"), stuck(1, "unfired"), stuck(2, "unfired", *hangs))
         self.assertEqual(
             found,
@@ -178,13 +245,25 @@ class OfFacts(unittest.TestCase):
         )
 
     def test_one_that_is_chained_to(self) -> None:
-        found = of_facts(["new #0 a", "new #1 b", "add #0"], stuck(0, "unfired"), stuck(1, "unfired", {"at": "chain", "deferred": deferred(0)}))
-        self.assertEqual(found, ["unfired nobody fired #0·a (line 1) | 1 pair waits | #1·b is chained to #0·a"])
+        found = of_facts(
+            ["new #0 a", "new #1 b", "add #0"],
+            stuck(0, "unfired"),
+            stuck(1, "unfired", {"at": "chain", "deferred": deferred(0)}),
+        )
+        self.assertEqual(
+            found, ["unfired nobody fired #0·a (line 1) | 1 pair waits | #1·b is chained to #0·a"]
+        )
 
     def test_a_loop_waits_for_the_deferred_of_its_turn(self) -> None:
         lines = ["new #0 l", "loop p #0", "turn p", "new #1 answer", "add #1"]
         hang = {"at": "loop", "object": thing("loop", 0)}
-        loop = {"kind": "loop", "object": thing("loop", 0), "deferred": deferred(0), "due": None, "waits_for": [deferred(1)]}
+        loop = {
+            "kind": "loop",
+            "object": thing("loop", 0),
+            "deferred": deferred(0),
+            "due": None,
+            "waits_for": [deferred(1)],
+        }
         self.assertEqual(
             of_facts(lines, stuck(0, "unfired", hang), stuck(1, "unfired"), loop),
             [
@@ -195,17 +274,26 @@ class OfFacts(unittest.TestCase):
 
     def test_a_timer_that_has_ended_isn_t_left(self) -> None:
         lines = ["new #0 d", "later timeout #0 5", "add #0", "add #0"]
-        self.assertEqual(of_facts(lines, stuck(0, "unfired")), ["unfired nobody fired #0·d (line 1) | 2 pairs wait"])
+        self.assertEqual(
+            of_facts(lines, stuck(0, "unfired")), ["unfired nobody fired #0·d (line 1) | 2 pairs wait"]
+        )
 
     def test_where_objects_of_one_name_are_numbered_nothing_is_guessed(self) -> None:
         tokens = {"kind": "tokens", "object": thing("lock", 0), "given": 1, "tokens": 2, "waiting": []}
         lines = ["semaphore l 2", "new #0 a", "acquire l #0", 'fire #0 ok "l"', "lock l"]
         found = of_facts(lines, tokens)
-        self.assertEqual(found, ["token 1 of 2 tokens of l is given (line 3) | given 1 time, given back 0 times; last given to #0·a (line 3)"])
+        self.assertEqual(
+            found,
+            [
+                "token 1 of 2 tokens of l is given (line 3) | given 1 time, given back 0 times; last given to #0·a (line 3)"
+            ],
+        )
 
     def test_all_of_the_sides_that_ran_when_it_stopped(self) -> None:
         lines = ["new #0 a", "new #1 b", "fire #0 ok 1", "run #0", "fire #1 ok 1", "run #1"]
-        found = of_facts(lines, stuck(0, "fired", running=True), stuck(1, "fired", running=True), stopped=True)
+        found = of_facts(
+            lines, stuck(0, "fired", running=True), stuck(1, "fired", running=True), stopped=True
+        )
         self.assertEqual(
             found,
             [
@@ -227,12 +315,17 @@ class Scripts(unittest.TestCase):
     def test_events_as_short_texts(self) -> None:
         events = json.loads((TOP / "examples" / "retried.json").read_text(encoding="utf-8"))["events"]
         script = Script({"events": events})
-        self.assertEqual(script.shown(1), 'later deadline 10 {cancel page}')
+        self.assertEqual(script.shown(1), "later deadline 10 {cancel page}")
         self.assertEqual(script.shown(6), 'errback page "RuntimeError" "connection refused"')
         self.assertTrue(script.shown(2).startswith("addErrback page {deferred second; later retry 1 {"))
 
     def test_any_json_is_shown(self) -> None:
-        for document in ({}, [], 1, {"events": [1, [], [[]], ["x"], {"do": 1}, ["inline", "d", [["end"], ["try", 1, 2, 3]]]]}):
+        for document in (
+            {},
+            [],
+            1,
+            {"events": [1, [], [[]], ["x"], {"do": 1}, ["inline", "d", [["end"], ["try", 1, 2, 3]]]]},
+        ):
             script = Script(document)
             for event in range(len(script.events)):
                 self.assertIsInstance(script.shown(event), str)

@@ -29,11 +29,17 @@ class Shown(unittest.TestCase):
     """What it shows."""
 
     def test_events_nesting_and_causes(self) -> None:
-        journal = (
-            "new #0 d\nadd #0\nlater call c 5\nadvance 5\ncall c\nfire #0 ok 1\nrun #0\nnote \"x\"\nset #0 ok 2\nnote \"last\"\n#0 d ok 2\n"
+        journal = 'new #0 d\nadd #0\nlater call c 5\nadvance 5\ncall c\nfire #0 ok 1\nrun #0\nnote "x"\nset #0 ok 2\nnote "last"\n#0 d ok 2\n'
+        events = [
+            ["deferred", "d"],
+            ["addCallback", "d", {}],
+            ["later", "c", 5, {"do": [["callback", "d", 1]]}],
+            ["advance", 5],
+            ["note", "last"],
+        ]
+        run = run_of_facts(
+            read_facts(told(journal, [0, 1, 2, 3, 9])), Script({"events": events}), "test"
         )
-        events = [["deferred", "d"], ["addCallback", "d", {}], ["later", "c", 5, {"do": [["callback", "d", 1]]}], ["advance", 5], ["note", "last"]]
-        run = run_of_facts(read_facts(told(journal, [0, 1, 2, 3, 9])), Script({"events": events}), "test")
         self.assertEqual(
             rows_of(run),
             [
@@ -44,19 +50,27 @@ class Shown(unittest.TestCase):
                 " 5 · │ call c   ← scheduled at line 3, due 5",
                 " 6 · │ │ fire #0·d ok 1",
                 " 7 · │ │ ┌ run #0·d",
-                " 8 · │ │ │ note \"x\"",
+                ' 8 · │ │ │ note "x"',
                 " 9 · │ │ └ set #0·d ok 2",
-                "10 · note \"last\"   ┄ event 4",
+                '10 · note "last"   ┄ event 4',
             ],
         )
 
     def test_an_event_of_several_lines_has_a_head(self) -> None:
-        journal = "lock l\nnew #0 d\nacquire l #0\nfire #0 ok \"l\"\n"
-        run = run_of_facts(read_facts(told(journal, [0, 1])), Script({"events": [["lock", "l"], ["acquire", "d", "l"]]}), "test")
+        journal = 'lock l\nnew #0 d\nacquire l #0\nfire #0 ok "l"\n'
+        run = run_of_facts(
+            read_facts(told(journal, [0, 1])),
+            Script({"events": [["lock", "l"], ["acquire", "d", "l"]]}),
+            "test",
+        )
         self.assertEqual(rows_of(run)[1], "    ┄ event 1  acquire d l")
 
     def test_a_deep_run_tells_how_deep(self) -> None:
-        lines = [line for number in range(20) for line in (f"new #{number} -", f"fire #{number} ok 1", f"run #{number}")]
+        lines = [
+            line
+            for number in range(20)
+            for line in (f"new #{number} -", f"fire #{number} ok 1", f"run #{number}")
+        ]
         run = run_of_journal("".join(f"{line}\n" for line in lines), "test")
         self.assertEqual(rows_of(run)[-1], "60 · " + "│ " * 12 + "(19) ┌ run #19")
 
@@ -67,7 +81,10 @@ class Shown(unittest.TestCase):
 
     def test_color_adds_nothing_else(self) -> None:
         run = samples.recorded()
-        self.assertEqual([_COLOR.sub("", line) for line in Terminal(run, True).lines()], list(Terminal(run, False).lines()))
+        self.assertEqual(
+            [_COLOR.sub("", line) for line in Terminal(run, True).lines()],
+            list(Terminal(run, False).lines()),
+        )
 
 
 if __name__ == "__main__":

@@ -77,7 +77,8 @@ class Recorder(Observer):
         record = super().adopt(deferred)
         self._note(Action(["deferred", record]), before)
         if deferred.called:
-            self._note(self.firing(record, value, record.outcome), len(self.parts))
+            told = (place for place in range(len(self.parts) - 1, before, -1) if self.parts[place] == "fire ")
+            self._note(self.firing(record, value, record.outcome), next(told))
         return record
 
     # actions and bodies
