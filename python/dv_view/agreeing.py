@@ -1,9 +1,10 @@
 """Whether the fold of a journal and the facts of the same run agree: the check of the one against the other.
 
-Compared are which side each line lies in, what each Deferred has come to, and what is left. Left out of this is what lines don't
-tell: children of lists, who is chained to whom, for whom a loop's turn waits; a timer whose Deferred was fired and hasn't used all of
-its pairs; a loop whose turn isn't over, where somebody has fired its Deferred, or the run has stopped. Where a name of a lock, queue,
-call, loop or task was bound more than once the lines don't tell which object is meant, and only the Deferreds are compared.
+Compared are which side each line lies in, what each Deferred has come to, and what is left. Left out of this is
+what lines don't tell: children of lists, who is chained to whom, for whom a loop's turn waits; a timer whose
+Deferred was fired and hasn't used all of its pairs; a loop whose turn isn't over, where somebody has fired its
+Deferred, or the run has stopped. Where a name of a lock, queue, call, loop or task was bound more than once the
+lines don't tell which object is meant, and only the Deferreds are compared.
 """
 
 from __future__ import annotations

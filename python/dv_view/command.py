@@ -1,12 +1,14 @@
-"""`view [-o FILE] [--text] [SCRIPT..]`: runs a script, and shows what happened in which order, and what is left and why.
+"""`view [-o FILE] [--text] [SCRIPT..]`: runs a script, and shows what happened in which order, and what is left and
+why.
 
-Writes a page that any browser opens: SCRIPT's name with `.html`, in the folder where the command is given, or FILE. With several
-scripts FILE is a folder. `--text` prints the view instead. Without SCRIPT the script is standard input. `--journal FILE` shows a
-journal with its outcomes, as `./deferreds`, `./on_twisted` or `./record` has given it, and runs nothing; `--json FILE` shows
-what `./deferreds --json` has told. FILE may be `-`, for standard input.
+Writes a page that any browser opens: SCRIPT's name with `.html`, in the folder where the command is given, or FILE.
+With several scripts FILE is a folder. `--text` prints the view instead. Without SCRIPT the script is standard
+input. `--journal FILE` shows a journal with its outcomes, as `./deferreds`, `./on_twisted` or `./record` has given
+it, and runs nothing; `--json FILE` shows what `./deferreds --json` has told. FILE may be `-`, for standard input.
 
-Status 0: shown; 2: the script is refused, as standard error tells; 3, 4, 70: as of `./deferreds`; 64: words that aren't known;
-66: what is to be shown can't be read; 73: the page can't be written. Of several scripts it is the first that isn't 0.
+Status 0: shown; 2: the script is refused, as standard error tells; 3, 4, 70: as of `./deferreds`; 64: words that
+aren't known; 66: what is to be shown can't be read; 73: the page can't be written. Of several scripts it is the
+first that isn't 0.
 """
 
 from __future__ import annotations

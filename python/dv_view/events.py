@@ -1,4 +1,6 @@
-"""Where the events of a script stand among the rows: those of several lines have a head, the others a few words behind their line."""
+"""Where the events of a script stand among the rows: those of several lines have a head, the others a few words
+behind their line.
+"""
 
 from __future__ import annotations
 

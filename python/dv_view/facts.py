@@ -1,4 +1,6 @@
-"""The facts of a run, as `./deferreds --json` tells them (docs/JSON.md): which line lies where, which object it means, what is left."""
+"""The facts of a run, as `./deferreds --json` tells them (docs/JSON.md): which line lies where, which object it
+means, what is left.
+"""
 
 from __future__ import annotations
 
@@ -28,6 +30,8 @@ from .nesting import LAST_POSTS, Place
 _VERSION = 1
 
 Json = Dict[str, Any]
+
+_PLACES = frozenset(at.value for at in At)
 
 
 class NotFacts(Exception):
@@ -128,7 +132,7 @@ def _numbers(told: List[Json]) -> Tuple[int, ...]:
 
 
 def _deferred(told: Json) -> Left:
-    hangs = tuple(map(_hang, told["hangs"]))
+    hangs = tuple(_hang(hang) for hang in told["hangs"] if hang["at"] in _PLACES)
     state = told["state"]
     if state not in ("unfired", "waiting", "fired"):
         raise ValueError("a state")

@@ -1,4 +1,6 @@
-"""On what everything hangs that hasn't come: a row of the report is told of the one on which all else hangs, and of nothing else."""
+"""On what everything hangs that hasn't come: a row of the report is told of the one on which all else hangs, and of
+nothing else.
+"""
 
 from __future__ import annotations
 

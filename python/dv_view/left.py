@@ -1,6 +1,7 @@
 """What is left at the end of a run: what hasn't come, what nobody trapped, what was never given back.
 
-`./deferreds --json` tells it exactly (docs/JSON.md, `left`); `left_of` finds of it what the lines of a journal tell.
+`./deferreds --json` tells it exactly (docs/JSON.md, `left`); `left_of` finds of it what the lines of a journal
+tell.
 """
 
 from __future__ import annotations

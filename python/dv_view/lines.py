@@ -1,7 +1,7 @@
 """The lines of a journal, read: each one's word, the Deferreds and the object that it names, and what it shows.
 
-The forms are those of docs/SCRIPT.md, "What is printed". A text in a line may hold U+2028 and the like, so that lines end at
-a line feed alone.
+The forms are those of docs/SCRIPT.md, "What is printed". A text in a line may hold U+2028 and the like, so that
+lines end at a line feed alone.
 """
 
 from __future__ import annotations

@@ -1,8 +1,9 @@
 """Inside what a row lies.
 
-The facts of a run tell it of each line: which event it belongs to, and in which line it lies. A journal alone tells it of the sides
-that run: these begin with `run` and end with the `set`, `take` or `wait` of their Deferred. Where a delayed call, a turn, a delivery
-or a post ends it doesn't tell, so that all one can say of what follows is that it comes after that.
+The facts of a run tell it of each line: which event it belongs to, and in which line it lies. A journal alone tells
+it of the sides that run: these begin with `run` and end with the `set`, `take` or `wait` of their Deferred. Where a
+delayed call, a turn, a delivery or a post ends it doesn't tell, so that all one can say of what follows is that it
+comes after that.
 """
 
 from __future__ import annotations

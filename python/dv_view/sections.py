@@ -1,4 +1,6 @@
-"""Where the lines of a journal lie, if it is known at which line each event begins (docs/JSON.md, "What lies in what")."""
+"""Where the lines of a journal lie, if it is known at which line each event begins (docs/JSON.md, "What lies in
+what").
+"""
 
 from __future__ import annotations
 

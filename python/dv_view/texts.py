@@ -1,4 +1,6 @@
-"""Texts of strangers made safe to show. Nothing reaches a page but by `escaped`, and nothing a terminal but by `visible`."""
+"""Texts of strangers made safe to show. Nothing reaches a page but by `escaped`, and nothing a terminal but by
+`visible`.
+"""
 
 from __future__ import annotations
 

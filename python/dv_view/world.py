@@ -1,7 +1,7 @@
 """The objects round the Deferreds, as the lines tell of them: locks, queues, calls, loops, tasks, jobs.
 
-A journal names them, and a name may be bound more than once: which object is meant is then a guess, which `Shelf` notes. Exact
-facts number the objects of each kind, in order of making, and nothing is guessed.
+A journal names them, and a name may be bound more than once: which object is meant is then a guess, which `Shelf`
+notes. Exact facts number the objects of each kind, in order of making, and nothing is guessed.
 """
 
 from __future__ import annotations

@@ -1,4 +1,6 @@
-"""`python3 -m view_tests.pictures PAGE[#PLACE] PICTURE WIDTH HEIGHT`: makes a picture of a page, as those of docs/VIEW.md."""
+"""`python3 -m view_tests.pictures PAGE[#PLACE] PICTURE WIDTH HEIGHT`: makes a picture of a page, as those of
+docs/VIEW.md.
+"""
 
 from __future__ import annotations
 

@@ -55,6 +55,13 @@ class Command(unittest.TestCase):
         self.run_view("--journal", _JOURNAL, "-o", self.folder)
         self.assertTrue((self.folder / "workers.html").is_file())
 
+    def test_a_page_is_opened_where_that_is_wanted(self) -> None:
+        with mock.patch("webbrowser.open") as opened:
+            self.run_view("--journal", _JOURNAL, "-o", self.folder / "x.html")
+            opened.assert_not_called()
+            self.run_view("--journal", _JOURNAL, "-o", self.folder / "x.html", "--open")
+            opened.assert_called_once_with((self.folder / "x.html").resolve().as_uri())
+
     def test_a_part(self) -> None:
         status, _, errors = self.run_view(
             "--journal", _JOURNAL, "--from", 20, "--to", 30, "-o", self.folder / "x.html"

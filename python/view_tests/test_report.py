@@ -302,6 +302,16 @@ class OfFacts(unittest.TestCase):
             ],
         )
 
+    def test_kinds_of_a_later_version_are_passed_over(self) -> None:
+        hangs = [{"at": "moon", "deferred": deferred(0)}, {"at": "deferred", "deferred": deferred(0)}]
+        lines = ["new #0 a", "new #1 b", "fire #1 ok 1", "run #1", "wait #1 #0"]
+        found = of_facts(
+            lines, stuck(0, "unfired"), stuck(1, "waiting", *hangs), {"kind": "tide", "height": 3}
+        )
+        self.assertEqual(
+            found, ["unfired nobody fired #0·a (line 1) | #1·b waits for #0·a since line 5"]
+        )
+
     def test_facts_that_are_cut_off(self) -> None:
         text = told("new #0 d\n#0 d unfired\n", [0], [stuck(0, "unfired")])
         whole = text.split("\n")
