@@ -3,8 +3,8 @@
 Compared are which side each line lies in, what each Deferred has come to, and what is left. Left out of this is
 what lines don't tell: children of lists, who is chained to whom, for whom a loop's turn waits; a timer whose
 Deferred was fired and hasn't used all of its pairs; a loop whose turn isn't over, where somebody has fired its
-Deferred, or the run has stopped. Where a name of a lock, queue, call, loop or task was bound more than once the
-lines don't tell which object is meant, and only the Deferreds are compared.
+Deferred, or the run has stopped. Where a line names one of several objects of a name, the fold takes its number
+from the facts, and where they don't tell it either, only the Deferreds are compared.
 """
 
 from __future__ import annotations
@@ -25,6 +25,7 @@ from .left import (
 from .lines import Entry, read_line
 from .nesting import LAST_POSTS
 from .sections import places_of
+from .world import World
 
 _UNTOLD = frozenset({At.CHILD, At.CHAIN})
 _OF_OBJECTS = frozenset({At.LOCK, At.QUEUE, At.LOOP, At.TASK})
@@ -41,26 +42,25 @@ def agreement(facts: Facts) -> Agreement:
     """Compares the fold of a run's lines with the facts of the run."""
     lines = [read_line(entry.row, entry.line) for entry in facts.entries]
     fold = Fold(lines, facts.ends)
-    world = fold.world
-    ambiguous = [
-        world.locks.ambiguous,
-        world.queues.ambiguous,
-        world.loops.ambiguous,
-        world.tasks.ambiguous,
-        world.calls.ambiguous,
-    ]
-    is_whole = not any(ambiguous)
+    if _guesses(fold.world):
+        fold = Fold(facts.entries, facts.ends)
+    is_whole = not _guesses(fold.world)
+    stopped = facts.ending is None or facts.ending.stopped
     found = [
         *(f"outcome: {problem}" for problem in fold.problems),
         *_sides(fold, lines, facts),
         *_places(lines, facts),
     ]
-    stopped = facts.ending is None or facts.ending.stopped
     told = list(_comparable(fold, facts.left, is_whole, stopped))
     folded = list(_comparable(fold, left_of(fold), is_whole, stopped))
     found += [f"only the facts: {one}" for one in told if one not in folded]
     found += [f"only the fold: {one}" for one in folded if one not in told]
     return Agreement(found, is_whole)
+
+
+def _guesses(world: World) -> bool:
+    """Whether it was guessed which object a line means."""
+    return bool(world.locks.guessed or world.loops.guessed or world.tasks.guessed)
 
 
 def _sides(fold: Fold, lines: List[Entry], facts: Facts) -> Iterator[str]:

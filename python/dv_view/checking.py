@@ -41,9 +41,7 @@ def check(scripts: List[str], command: List[str]) -> int:
             differ += bool(found.differences)
             if found.differences and differ <= _MOST_SHOWN:
                 print(f"script {number}:", *found.differences[:5], scripts[number], sep="\n  ")
-    print(
-        f"{len(scripts) - differ} agree, {differ} differ; {whole} of them bind no name of an object twice, and were compared as a whole"
-    )
+    print(f"{len(scripts) - differ} agree, {differ} differ; {whole} were compared as a whole")
     return 1 if differ else 0
 
 
