@@ -1,9 +1,9 @@
 """`view_check [--random N] [--seed S] [--ours COMMAND]`: holds the fold of journals against `./deferreds --json`,
 on random scripts.
 
-COMMAND reads a script on standard input, and tells its run as `./deferreds --json` does, which is the default. Each
-difference is told; the last line says how many scripts agree, and how many differ. Status 0 exactly where none
-does; 64: words that aren't known; 70: a script was not run.
+COMMAND reads a script on standard input, and tells its run as `./deferreds --json` does. Without it, it is the program
+that `./deferreds --build` has built. Each difference is told; the last line says how many scripts agree, and how many
+differ. Status 0 exactly where none does; 64: words that aren't known; 70: a script was not run.
 """
 
 from __future__ import annotations
@@ -23,6 +23,21 @@ from .command import TOP
 from .facts import NotFacts, read_facts
 
 _MOST_SHOWN = 20
+
+
+def _built() -> str:
+    """Where the program is that `./deferreds --build` has built."""
+    asked = subprocess.run(
+        [os.fspath(TOP / "deferreds"), "--json", "--program"],
+        stdout=subprocess.PIPE,
+        text=True,
+        check=False,
+    )
+    if asked.returncode != 0:
+        raise NotFacts(
+            "./deferreds --json isn't built; ./deferreds --build builds it, and --ours names one"
+        )
+    return asked.stdout.strip()
 
 
 def _checked(script: str, command: List[str]) -> Agreement:
@@ -57,9 +72,9 @@ def main(words: List[str]) -> int:
         arguments = parser.parse_args(words)
     except SystemExit as exit_:
         return 64 if exit_.code else 0
-    command = arguments.ours.split() if arguments.ours else [os.fspath(TOP / "deferreds"), "--json"]
     made = Scripts(arguments.seed, list(grammar.LEVELS)[-1])
     try:
+        command = arguments.ours.split() if arguments.ours else [_built()]
         return check([made.script(number) for number in range(arguments.random)], command)
     except (OSError, NotFacts) as error:
         print(f"view_check: a script was not run: {error}", file=sys.stderr)

@@ -34,6 +34,8 @@ class Fold:
         self._entries = entries
         self._causes = Causes()
         self._event: Optional[int] = None
+        #: whom a cancel reaches, as long as nobody begins or ends to wait
+        self._reached: Dict[int, Optional[int]] = {}
         self._changes = self._handlers()
         for entry in entries:
             self._step(entry, places[entry.row].event if places is not None else None)
@@ -57,15 +59,20 @@ class Fold:
 
     def end_of_waits(self, number: int) -> Optional[int]:
         """Whom a cancel of this Deferred reaches: the first that doesn't wait; None where the waits go round."""
-        seen = set()
-        while True:
-            record = self.records.get(number)
-            if record is None or record.waits is None:
-                return number
-            if number in seen:
-                return None
-            seen.add(number)
-            number = record.waits
+        path: Dict[int, None] = {}
+        at: Optional[int] = number
+        while at is not None and at not in self._reached:
+            waits = self.records[at].waits if at in self.records else None
+            if at in path:
+                at = None
+            elif waits is None:
+                self._reached[at] = at
+            else:
+                path[at] = None
+                at = waits
+        reached = self._reached[at] if at is not None else None
+        self._reached.update(dict.fromkeys(path, reached))
+        return reached
 
     # the walk
 
@@ -229,12 +236,14 @@ class Fold:
         record = self._touch(row, entry.deferred)
         self._touch(row, entry.other)
         record.waits, record.waits_at = entry.other, row.place
+        self._reached.clear()
         row.arrows.append(Arrow(ArrowKind.WAIT, entry.deferred, entry.other))
 
     def _hand(self, row: Row, entry: Entry, before: Optional[Row]) -> None:
         taker, giver = self._touch(row, entry.deferred), self._touch(row, entry.other)
         row.arrows.append(Arrow(ArrowKind.HAND, giver.number, taker.number))
         taker.value, taker.waits, taker.origin, giver.value = entry.outcome, None, giver.origin, NULL
+        self._reached.clear()
 
     def _pause(self, row: Row, entry: Entry, before: Optional[Row]) -> None:
         record = self._touch(row, entry.deferred)

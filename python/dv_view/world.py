@@ -8,9 +8,13 @@ from __future__ import annotations
 
 import enum
 import heapq
+from collections import OrderedDict
 from typing import Dict, Generic, List, Optional, Set, Tuple, TypeVar
 
 from .lines import Entry
+
+#: Deferreds that wait, in order; each can leave at once, however long the line is
+Line = OrderedDict[int, None]
 
 
 class Thing:
@@ -77,7 +81,7 @@ class Lock(Thing):
         self.tokens = tokens
         self.given = 0
         #: who waits for a token, in order
-        self.line: Dict[int, None] = {}
+        self.line: Line = OrderedDict()
         #: whom the last tokens were given to, and in which rows
         self.last_given: List[Tuple[int, int]] = []
         self.times_given = self.times_back = 0
@@ -105,7 +109,7 @@ class Queue(Thing):
     def __init__(self, name: str, row: int) -> None:
         super().__init__(name, row)
         #: who waits for a value, in order
-        self.line: Dict[int, None] = {}
+        self.line: Line = OrderedDict()
         #: the rows in which the values were put that are stored
         self.stored: List[int] = []
         self.taken = 0
@@ -231,9 +235,9 @@ class World:
         self.now = 0
         self._active = 0
         #: where a Deferred waits in a line, that line
-        self.lines: Dict[int, Dict[int, None]] = {}
+        self.lines: Dict[int, Line] = {}
 
-    def joins(self, line: Dict[int, None], deferred: int) -> None:
+    def joins(self, line: Line, deferred: int) -> None:
         """The Deferred waits in this line."""
         line[deferred] = None
         self.lines[deferred] = line

@@ -179,6 +179,16 @@ class Fold(unittest.TestCase):
         )
         self.assertEqual(plain(fire.cause), "cancel #0")
 
+    def test_a_cancel_in_a_circle_reaches_nobody(self) -> None:
+        lines = ["new #0 a", "new #1 b", "new #2 c"]
+        for one, other in ((0, 1), (2, 0), (1, 0)):
+            lines += [f"fire #{one} ok 1", f"run #{one}", f"wait #{one} #{other}", "cancel #2"]
+        cancels = [row for row in run_of(*lines).fold.rows if row.entry.word == "cancel"]
+        self.assertEqual(
+            [plain(row.cause) for row in cancels],
+            ["", "reaches #1", "the waits go round in a circle: nothing happens"],
+        )
+
     def test_a_name_that_is_bound_anew_is_a_guess(self) -> None:
         lines = [
             "lock l",
