@@ -267,7 +267,7 @@ class Chart:
             return
         y, height = at * SLOT + 14, (slots.start + at) * SLOT + SLOT // 2
         for one in bars:
-            if one.top < slots.start * SLOT and one.top < height < one.bottom:
+            if one.lane.top < slots.start and one.top <= height < one.bottom:
                 number = one.lane.record.number
                 yield Html(
                     f'<text class="dim lane" data-d={number} x={self._x(one.lane) + 8} y={y}>#{number}</text>'
