@@ -3,8 +3,12 @@
 from __future__ import annotations
 
 import json
+import os
+import subprocess
 import sys
+import tempfile
 import unittest
+from pathlib import Path
 from typing import Any, Callable, List
 
 from twisted.internet import defer, task
@@ -75,6 +79,21 @@ class Recorded(unittest.TestCase):
         self.assertIn("refuse #0", said.journal)
         self.assertIn("fire #2 ok null", said.journal)
         self.assertEqual(run(said.text.encode()).output, said.output)
+
+    def test_at_which_line_each_event_begins(self) -> None:
+        before: defer.Deferred[int] = defer.succeed(1)
+
+        def program() -> None:
+            before.addCallback(lambda value: defer.succeed(value + 1).addCallback(str) and None)
+            clock = task.Clock()
+            clock.callLater(1, defer.Deferred)
+            clock.advance(1)
+
+        said = recorded(program)
+        events = json.loads(said.text)["events"]
+        begun = [said.journal[line].split(" ")[0] for line in said.begins]
+        self.assertEqual([event[0] for event in events], ["deferred", "callback", "addCallback", "later", "advance"])
+        self.assertEqual(begun, ["new", "fire", "add", "later", "advance"])
 
     def test_an_exception_becomes_a_class_below_its_nearest_parent(self) -> None:
         class Lost(KeyError):
@@ -185,6 +204,25 @@ class Recorded(unittest.TestCase):
         words = [event[0] for event in json.loads(plainly.text)["events"]]
         self.assertEqual(words, ["deferred", "deferred", "addCallbacks", "addCallback", "callback"])
         self.assertEqual(run(plainly.text.encode()).output, plainly.output)
+
+
+class Shown(unittest.TestCase):
+    """The page of a run."""
+
+    def test_it_is_written_beside_the_script_and_the_journal(self) -> None:
+        example = Path(__file__).resolve().parents[2] / "examples" / "python" / "workers.py"
+        command = [sys.executable, "-m", "dv_twisted.commands.record", "--virtual", "--view"]
+        with tempfile.TemporaryDirectory() as folder:
+            name = Path(folder, "workers")
+            subprocess.run(
+                [*command, "-o", str(name), str(example)],
+                env={**os.environ, "PYTHONPATH": os.pathsep.join(sys.path)},
+                capture_output=True,
+                check=True,
+            )
+            page = Path(f"{name}.html").read_text(encoding="utf-8")
+        self.assertIn("122 lines, 14 Deferreds, 15 events, time 0 to 6", page)
+        self.assertIn("event 0  <b><bdi>inline worker_56 ", page)
 
 
 class Refused(unittest.TestCase):

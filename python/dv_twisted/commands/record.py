@@ -1,8 +1,8 @@
-"""`record [-o NAME] PROGRAM [ARGS..]`: runs a program that uses Twisted, and tells the run as a script and a journal.
+"""`record [-o NAME] [--view] PROGRAM [ARGS..]`: runs a program that uses Twisted, and tells the run as a script and a journal.
 
 `-m MODULE` runs a module, `--test MODULE.CLASS.METHOD` one test. The program runs as it is. NAME.json is the script,
-NAME.journal the journal and the outcomes as real Twisted gave them. What a script can't say is refused with the reason
-and the place in the program, and nothing is written.
+NAME.journal the journal and the outcomes as real Twisted gave them. `--view` writes NAME.html, a page of the run, too. What a
+script can't say is refused with the reason and the place in the program, and nothing is written.
 
 Status 0: recorded; 1: refused; 64: words that aren't known; 66: nothing was recorded; 70: Twisted isn't there.
 """
@@ -13,6 +13,10 @@ import argparse
 import sys
 from pathlib import Path
 from typing import List, Optional, Set
+
+from dv_view.page import Page
+from dv_view.run import run_of_journal
+from dv_view.scripts import Script
 
 from ..recording.programs import LADDER, record_program, record_test, tests_of
 from ..recording.recorder import Recorder
@@ -30,6 +34,7 @@ def _arguments(words: List[str]) -> argparse.Namespace:
     add("-o", dest="output", metavar="NAME", help="write NAME.json and NAME.journal")
     add("-m", dest="module", metavar="MODULE", help="run a module")
     add("--test", metavar="MODULE.CLASS.METHOD", help="run one test")
+    add("--view", action="store_true", help="write NAME.html, a page of the run (docs/VIEW.md), too")
     add("--virtual", action="store_true", help="with a reactor whose time is virtual")
     add(
         "--plain",
@@ -63,23 +68,27 @@ def _refused(said: Said) -> int:
     return 1
 
 
-def _written(said: Said, name: str) -> int:
-    """Writes the script and the journal."""
+def _written(said: Said, name: str, view: bool) -> int:
+    """Writes the script, the journal, and if it is wanted the page."""
     Path(f"{name}.json").write_text(said.text + "\n", encoding="utf-8")
     Path(f"{name}.journal").write_text(said.output, encoding="utf-8")
+    if view:
+        run = run_of_journal(said.output, Path(name).name, Script(said.script), False, said.begins)
+        Path(f"{name}.html").write_text(Page(run).html(), encoding="utf-8")
+        _say(f"{name}.html: {run.counts}")
     for entry in sorted({entry.value for _, entry in said.quirks}):
         _say(f"Twisted does here what docs/PROFILE.md says of {entry}")
     _say(f"{name}.json and {name}.journal: {len(said.journal)} lines, {len(said.records)} Deferreds")
     return 0
 
 
-def _finish(said: Said, name: str) -> int:
+def _finish(said: Said, name: str, view: bool) -> int:
     if said.problems or said.script is None:
         return _refused(said)
     if not said.journal:
         _say("nothing was recorded: the program has used no Deferreds")
         return 66
-    return _written(said, name)
+    return _written(said, name, view)
 
 
 def _program(arguments: argparse.Namespace) -> int:
@@ -95,7 +104,7 @@ def _program(arguments: argparse.Namespace) -> int:
     status = record_program(recorder, target, words, bool(arguments.module), arguments.virtual)
     if status:
         _say(f"the program has ended with status {status}")
-    return _finish(Said(recorder), arguments.output or Path(target).stem)
+    return _finish(Said(recorder), arguments.output or Path(target).stem, arguments.view)
 
 
 def _test(arguments: argparse.Namespace) -> int:
@@ -116,7 +125,7 @@ def _test(arguments: argparse.Namespace) -> int:
             said = tried
             break
     assert said is not None
-    return _finish(said, arguments.output or found[0][1])
+    return _finish(said, arguments.output or found[0][1], arguments.view)
 
 
 def main(words: List[str]) -> int:

@@ -41,8 +41,9 @@ class Recorder(Observer):
         super().__init__(kinds if "clock" in kinds else kinds - {"timer", "loop"})
         self.top = Run("event")
         self.frame = self.top
-        #: the actions of the program itself
+        #: the actions of the program itself, and how many parts of lines were told before each
         self.events: List[Action] = []
+        self.begins: List[int] = []
         #: the actions of bodies that have failed
         self.failed: List[Action] = []
         self.problems: List[Problem] = []
@@ -72,10 +73,12 @@ class Recorder(Observer):
             self.problem("a Deferred from before the recording, which waits for another")
         if self.quiet:
             self.problem("a Deferred from before the recording, which Twisted meets first")
+        before = len(self.parts)
         record = super().adopt(deferred)
-        self._note(Action(["deferred", record]))
+        self._note(Action(["deferred", record]), before)
         if deferred.called:
-            self._note(self.firing(record, value, record.outcome))
+            told = (place for place in range(len(self.parts) - 1, before, -1) if self.parts[place] == "fire ")
+            self._note(self.firing(record, value, record.outcome), next(told))
         return record
 
     # actions and bodies
@@ -88,6 +91,7 @@ class Recorder(Observer):
         if run is self.top:
             self._told = None
             self.events.append(action)
+            self.begins.append(len(self.parts))
         else:
             run.note(action)
             if run.kind != "inline":
@@ -101,10 +105,11 @@ class Recorder(Observer):
         finally:
             self.quiet = quiet
 
-    def _note(self, action: Action) -> None:
-        """Notes an action of the program, or of the body that runs."""
+    def _note(self, action: Action, before: int) -> None:
+        """Notes an action of the program, or of the body that runs, which was told after so many parts of lines."""
         if self.frame is self.top:
             self.events.append(action)
+            self.begins.append(before)
         else:
             self.frame.note(action)
 

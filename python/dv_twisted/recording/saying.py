@@ -40,6 +40,8 @@ class Said:
         self._find_scale()
         self.script = self._script()
         self.journal: List[str] = []
+        #: at which line of the journal each event of the script begins
+        self.begins: List[int] = []
         self.quirks: List[Tuple[int, Entry]] = []
         self._say_lines()
         self.outcomes = [f"#{r.number} {_first(r).name} {r.state()}" for r in self.records]
@@ -106,12 +108,13 @@ class Said:
     # the journal
 
     def _say_lines(self) -> None:
-        """Says the journal, and after how many of its lines Twisted did what an entry of the profile names."""
+        """Says the journal, at which of its lines each event begins, and after how many of them Twisted did what an entry of the
+        profile names."""
         texts = [part if type(part) is str else self._part(part) for part in self._recorder.parts]
         self.journal = "".join(texts).split("\n")[:-1]
-        if self._recorder.quirks:
-            before = [0, *accumulate(text.count("\n") for text in texts)]
-            self.quirks = [(before[place], entry) for place, entry in self._recorder.quirks]
+        before = [0, *accumulate(text.count("\n") for text in texts)]
+        self.quirks = [(before[place], entry) for place, entry in self._recorder.quirks]
+        self.begins = [before[place] for place in self._recorder.begins]
 
     def _part(self, part: Optional[Part]) -> str:
         """A part of a line, or its end."""

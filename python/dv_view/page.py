@@ -1,0 +1,279 @@
+"""The page: verdict, report, outcomes, chart, in one file that asks for nothing."""
+
+from __future__ import annotations
+
+import base64
+import hashlib
+from pathlib import Path
+from typing import Dict, Iterator, List, Optional
+
+from .chart import NUMBER, Chart
+from .events import Events
+from .layout import CHUNK, SLOT, Lanes, Rows
+from .markup import Markup, isolated
+from .records import ArrowKind, Ended, Look, Record, State, ended
+from .report import Finding, Kind, Severity
+from .ruler import WIDTH as RULER
+from .run import Run
+from .shapes import CLASSES, SAYS, SIGNS, arrow, bar
+from .texts import Html, escaped, joined, shortened
+
+#: how many rows a chart has at most
+MOST_ROWS = 5_000
+
+_FOLDER = Path(__file__).resolve().parent
+_FEW_FINDINGS, _MOST_FINDINGS = 8, 200
+_FEW_OUTCOMES, _MOST_ODD, _MOST_OK = 16, 200, 2_000
+_MOST_TEXT, _MOST_VALUE, _MOST_DETAILS = 300, 200, 8
+_PAPER = 1_123
+
+_LEGEND_BARS = (State.UNFIRED, State.RUN, State.OK, State.FAIL, State.WAIT)
+_LEGEND_SIGNS: Dict[State, str] = {
+    State.UNFIRED: "○ ",
+    State.RUN: "",
+    State.OK: "✓ ",
+    State.FAIL: "✕ ",
+    State.WAIT: "… ",
+}
+_LEGEND_ARROWS = (
+    (ArrowKind.FIRE, False, "fires, hands over"),
+    (ArrowKind.FIRE, True, "the same with a failure"),
+    (ArrowKind.WAIT, False, "waits for"),
+    (ArrowKind.CANCEL, False, "cancels"),
+    (ArrowKind.REFUSE, False, "is refused"),
+    (ArrowKind.SWALLOW, False, "is swallowed"),
+    (ArrowKind.PAUSE, False, "pauses, unpauses"),
+)
+
+
+class Page:
+    """The page of a run, with the rows of a window."""
+
+    def __init__(self, run: Run, first: Optional[int] = None, last: Optional[int] = None) -> None:
+        self._run = run
+        self.window = _window(len(run.fold.rows), first, last)
+        events = Events(run.fold, run.script)
+        self._rows = Rows(run.fold, events, self.window)
+        self._lanes = Lanes(run.fold, self._rows)
+        self._markup = Markup(run.fold, run.script, self.window, self._rows.folded)
+        self._chart = Chart(run, self._rows, self._lanes, events, self._markup)
+        self._shown_outcomes()
+
+    def html(self) -> Html:
+        """The whole page."""
+        style, script = self._style(), _read("focus.js")
+        policy = f"default-src 'none'; style-src '{_hash(style)}'; script-src '{_hash(script)}'; base-uri 'none'; form-action 'none'"
+        title = escaped(self._run.title)
+        return joined(
+            [
+                Html(
+                    '<!doctype html><html lang=en><head><meta charset=utf-8><meta name=viewport content="width=device-width">'
+                ),
+                Html(f'<meta http-equiv=Content-Security-Policy content="{policy}">'),
+                Html(f"<title>{title}</title><style>{style}</style></head><body><main>"),
+                *self._verdict(title),
+                *self._report(),
+                *self._outcomes(),
+                *self._above_chart(),
+                Html("</main><div id=chart><div id=column hidden></div>"),
+                self._head(),
+                *self._chart.pieces(),
+                Html("</div>"),
+                *self._below_chart(),
+                Html(
+                    f"<div id=focus role=status hidden></div><script>{script}</script></body></html>\n"
+                ),
+            ]
+        )
+
+    def _style(self) -> str:
+        width, rest = self._chart.width, self._rows.total % CHUNK or CHUNK
+        paper = max(_PAPER, width + 48)
+        return (
+            f"{_read('style.css')}#chart{{width:{width}px;--side:min({self._chart.side}px,62vw)}}#last{{height:{rest * SLOT}px}}"
+            f"@page{{size:{paper}px {int(paper / 1.414)}px;margin:24px}}"
+        )
+
+    # above the chart
+
+    def _verdict(self, title: Html) -> Iterator[Html]:
+        report = self._run.report
+        yield Html("<nav><a href=#outcomes>outcomes</a> · <a href=#what>what happened</a></nav>")
+        yield Html(f"<h1>{title}</h1><p>")
+        for severity, word in ((Severity.BAD, "to look at"), (Severity.LEFT, "left at the end")):
+            if report.count(severity):
+                yield Html(
+                    f'<span class="verdict {severity.value}">{report.count(severity)} {word}</span>'
+                )
+        if report.is_clean:
+            yield Html('<span class="verdict clean">clean: nothing is left</span>')
+        yield Html(f"<span class=facts>{escaped(self._run.counts)}</span></p>")
+        if self._run.limits:
+            yield Html(f"<p class=facts>{escaped(self._run.limits)}</p>")
+        for problem in self._run.problems:
+            yield Html(f'<p><span class="verdict bad">{self._markup.said(problem)}</span></p>')
+
+    def _report(self) -> Iterator[Html]:
+        findings = self._run.report.findings
+        if not findings:
+            return
+        few: List[Html] = []
+        more: List[Html] = []
+        shown: Dict[Kind, int] = {}
+        for finding in findings:
+            shown[finding.kind] = shown.get(finding.kind, 0) + 1
+            if shown[finding.kind] <= _MOST_FINDINGS:
+                (few if shown[finding.kind] <= _FEW_FINDINGS else more).append(self._finding(finding))
+        yield Html(f"<h2>What is left, and why</h2><table class=report>{joined(few)}</table>")
+        if more:
+            yield Html(
+                f"<details><summary>{len(more)} more of these</summary><table class=report>{joined(more)}</table></details>"
+            )
+        untold = len(findings) - len(few) - len(more)
+        if untold:
+            yield Html(f"<p class=facts>and {untold} more</p>")
+
+    def _finding(self, finding: Finding) -> Html:
+        where = self._markup.line(finding.row) if finding.row is not None else Html("")
+        details = [
+            Html(f"<div class=why>{self._markup.said(one, _MOST_TEXT)}</div>")
+            for one in finding.details[:_MOST_DETAILS]
+        ]
+        if details:
+            details[0] = Html(
+                f" <span class=why>· {self._markup.said(finding.details[0], _MOST_TEXT)}</span>"
+            )
+        return Html(
+            f"<tr class={finding.severity.value}><td>{finding.kind.value}</td><td>{where}</td>"
+            f"<td>{self._markup.said(finding.said, _MOST_TEXT)}{joined(details)}</td></tr>"
+        )
+
+    def _shown_outcomes(self) -> None:
+        """Chooses which outcomes are shown: all where they are few, and else those that aren't a value first."""
+        every = list(self._run.fold.records.values())
+        odd = [record for record in every if ended(record.end) is not Ended.OK]
+        good = [record for record in every if ended(record.end) is Ended.OK]
+        self._first = every if len(every) <= _FEW_OUTCOMES else odd[:_MOST_ODD]
+        self._good = [] if len(every) <= _FEW_OUTCOMES else good
+        self._untold = 0 if len(every) <= _FEW_OUTCOMES else max(0, len(odd) - _MOST_ODD)
+        self._markup.outcomes = {record.number for record in [*self._first, *self._good[:_MOST_OK]]}
+
+    def _outcomes(self) -> Iterator[Html]:
+        yield Html("<h2 id=outcomes>Outcomes</h2>")
+        if self._first:
+            yield self._table(self._first)
+        if self._untold:
+            yield Html(f"<p class=facts>and {self._untold} more that didn't end with a value</p>")
+        if self._good:
+            shown = self._good[:_MOST_OK]
+            of = f", {len(shown)} of them here" if len(shown) < len(self._good) else ""
+            yield Html(
+                f"<details><summary>{len(self._good)} that ended with a value{of}</summary>{self._table(shown)}</details>"
+            )
+        if not self._run.fold.records:
+            yield Html("<p class=facts>No Deferred was made.</p>")
+
+    def _table(self, records: List[Record]) -> Html:
+        head = "<tr><th>No.</th><th>Name</th><th>At the end</th><th>Value</th><th>Fired by</th></tr>"
+        return Html(f"<table>{head}{joined(map(self._outcome, records))}</table>")
+
+    def _outcome(self, record: Record) -> Html:
+        end = ended(record.end)
+        value = {Ended.OK: record.end[3:], Ended.FAIL: record.end[5:], Ended.PAUSED: record.end[7:]}.get(
+            end, ""
+        )
+        shown = isolated(shortened(value, _MOST_VALUE)) if value else Html("")
+        if end is Ended.WAIT and record.waits is not None:
+            shown = Html(f"for {self._markup.deferred(record.waits)}")
+        fired = Html("<span class=facts>never</span>")
+        if record.fired is not None:
+            why = Html(f": {self._markup.said(record.fired_by, 60)}") if record.fired_by else Html("")
+            fired = Html(f"{self._markup.line(record.fired)}{why}")
+        return Html(
+            f"<tr id=o{record.number} data-d={record.number}><td class=mono>{self._markup.deferred(record.number, named=False)}</td>"
+            f'<td class="mono name">{escaped(", ".join(record.names))}</td>'
+            f'<td class="state t-{CLASSES[end]}">{SIGNS[end]} {end.value}</td><td class="mono value">{shown}</td><td>{fired}</td></tr>'
+        )
+
+    # the chart
+
+    def _above_chart(self) -> Iterator[Html]:
+        yield Html("<h2 id=what>What happened, in order</h2><div class=legend>")
+        for state in _LEGEND_BARS:
+            drawn = bar(8, 0, 18, Look(state))
+            yield Html(
+                f"<span><svg width=16 height=18>{drawn}</svg>{_LEGEND_SIGNS[state]}{SAYS[state]}</span>"
+            )
+        drawn = bar(8, 0, 18, Look(State.OK, True))
+        yield Html(f"<span><svg width=16 height=18>{drawn}</svg>‖ paused</span>")
+        for kind, fails, word in _LEGEND_ARROWS:
+            yield Html(
+                f"<span><svg width=44 height=16>{arrow(kind, fails, 2, 40, 8, 0)}</svg>{word}</span>"
+            )
+        yield Html(
+            '</div><p class="facts small">A run holds the lines below it, up to the <b>set</b>, <b>take</b> or <b>wait</b> that '
+        )
+        yield Html(
+            "ends it. Time stands on the left, with a bracket from each scheduling to its coming. Choose a number, as #0, to "
+        )
+        yield Html("follow that Deferred.</p>")
+        rows = len(self._run.fold.rows)
+        if len(self.window) < rows:
+            yield Html(
+                f'<p><span class="verdict note">lines {self.window.start + 1} to {self.window.stop} of {rows}</span>'
+                "<span class=facts>Report and outcomes are of the whole run.</span></p>"
+            )
+
+    def _head(self) -> Html:
+        """The head of the chart, which stays in sight: what the columns are, and whose the lanes."""
+        texts: List[Html] = []
+        if self._lanes.own:
+            room = (self._lanes.width - 8) // 7
+            for lane in self._lanes.lanes.values():
+                record = lane.record
+                label = f"#{record.number} {record.name}".rstrip()
+                label = label if len(label) <= room else f"{label[: room - 1]}…"
+                texts.append(
+                    Html(
+                        f"<text class=dim x={(self._lanes.x(record.number) or 0) - 6} y=15>{escaped(label)}</text>"
+                    )
+                )
+        else:
+            drawn, of = len(self._lanes.lanes), self._lanes.shown
+            said = f"lanes of {drawn} Deferreds; a column is used again when one is done"
+            if drawn < of:
+                said = f"lanes of {drawn} of {of} Deferreds: no more stand beside each other; a column is used again when one is done"
+            texts.append(Html(f"<text class=dim x=14 y=15>{said}</text>"))
+        return Html(
+            f"<div class=head><div class=what>  line  time{'':6}what happened</div>"
+            f"<svg width={self._lanes.full_width} height=22>{joined(texts)}</svg></div>"
+        )
+
+    def _below_chart(self) -> Iterator[Html]:
+        dropped = self._chart.ruler.dropped
+        if dropped:
+            yield Html(
+                f"<main><p class=facts>{dropped} of the ruler's brackets aren't drawn: they are longer than 150 rows, or more than five"
+                " beside each other. The row of a call says at which line it was scheduled.</p></main>"
+            )
+
+
+def _window(rows: int, first: Optional[int], last: Optional[int]) -> range:
+    """The places of the rows that are shown, from and to lines with numbers from 1."""
+    start = min(max(1, first or 1), max(1, rows)) - 1
+    stop = min(rows, last if last is not None else rows, start + MOST_ROWS)
+    return range(start, max(start, stop))
+
+
+def _read(name: str) -> str:
+    return (_FOLDER / name).read_text(encoding="utf-8")
+
+
+def _hash(text: str) -> str:
+    """How a content security policy names a style or a script."""
+    digest = hashlib.sha256(text.encode("utf-8")).digest()
+    return f"sha256-{base64.b64encode(digest).decode('ascii')}"
+
+
+#: the left edge of what the rows say
+TEXT_EDGE = NUMBER + RULER

@@ -1,0 +1,399 @@
+"""The report: what is left and why, a row a root cause, the worst first."""
+
+from __future__ import annotations
+
+import enum
+from typing import Iterator, List, NamedTuple, Optional, Sequence, Set, Tuple, Type, TypeVar
+
+from .fold import Fold
+from .hanging import Circle, End, Hanging, Root
+from .left import (
+    At,
+    Left,
+    LeftCall,
+    LeftDeferred,
+    LeftDelivery,
+    LeftFailure,
+    LeftGetters,
+    LeftLoop,
+    LeftTask,
+    LeftTick,
+    LeftTimeout,
+    LeftTokens,
+    LeftUnhandled,
+    LeftValues,
+)
+from .phrases import OfDeferred, OfLine, OfScript, Part, Phrase, listed, several, words
+from .records import Made, Record
+from .scripts import Script
+from .world import Shelf, T
+
+_MOST_HELD = 6
+
+
+class Severity(enum.Enum):
+    """How bad it is: to look at, left, or only a note."""
+
+    BAD = "bad"
+    LEFT = "left"
+    NOTE = "note"
+
+
+class Kind(enum.Enum):
+    """What a row of the report tells of, the worst first."""
+
+    STOPPED = "stopped"
+    UNHANDLED = "unhandled"
+    FAILURE = "failure"
+    CIRCLE = "circle"
+    UNFIRED = "unfired"
+    PAUSED = "paused"
+    WAITING = "waiting"
+    TOKEN = "token"
+    GETTER = "getter"
+    CALL = "call"
+    TIMER = "timer"
+    TICK = "tick"
+    JOB = "job"
+    LOOP = "loop"
+    TASK = "task"
+    STORED = "stored"
+    REFUSED = "refused"
+
+
+_KINDS = list(Kind)
+
+
+class Finding(NamedTuple):
+    """A row of the report."""
+
+    severity: Severity
+    kind: Kind
+    said: Phrase
+    details: Tuple[Phrase, ...]
+    #: the row of the journal that it links
+    row: Optional[int]
+
+
+L = TypeVar("L")
+
+
+def _guess(shelf: Shelf[T], name: str) -> List[Phrase]:
+    """What isn't sure of objects of this name."""
+    if name not in shelf.guessed:
+        return []
+    return [(f"the name {name} was bound more than once: which of them a line means is a guess",)]
+
+
+def _details(*parts: Sequence[Phrase]) -> Tuple[Phrase, ...]:
+    return tuple(phrase for part in parts for phrase in part if phrase)
+
+
+class Report:
+    """What is left of a run."""
+
+    def __init__(self, fold: Fold, left: Sequence[Left], stopped: bool, script: Script) -> None:
+        self._fold = fold
+        self._left = left
+        self._script = script
+        self._hanging = Hanging(fold, left)
+        self._told: Set[End] = set()
+        self._timers = {(timer.deferred, timer.due): timer.row for timer in fold.world.timers}
+        self._failed = {one.number for one in left if isinstance(one, LeftFailure)}
+        found = [*self._bad(stopped), *self._open(), *self._notes()]
+        self.findings: List[Finding] = sorted(found, key=lambda finding: _KINDS.index(finding.kind))
+
+    def count(self, severity: Severity) -> int:
+        """How many rows there are of it."""
+        return sum(finding.severity is severity for finding in self.findings)
+
+    @property
+    def is_clean(self) -> bool:
+        """Whether there is nothing to look at, and nothing left."""
+        return not self.count(Severity.BAD) + self.count(Severity.LEFT)
+
+    def _of(self, kind: Type[L]) -> Iterator[L]:
+        return (one for one in self._left if isinstance(one, kind))
+
+    def _held(self, end: End, but: Sequence[int] = ()) -> List[Phrase]:
+        """Who hangs on this, each with its reason."""
+        self._told.add(end)
+        held = [number for number in self._hanging.on.get(end, []) if number not in but]
+        said = [self._hanging.reason(number) for number in held[:_MOST_HELD]]
+        if len(held) > _MOST_HELD:
+            said.append((f"and {len(held) - _MOST_HELD} more hang on this",))
+        return said
+
+    # what is to be looked at
+
+    def _bad(self, stopped: bool) -> Iterator[Finding]:
+        if stopped:
+            yield self._stopped()
+        for unhandled in self._of(LeftUnhandled):
+            if unhandled.row < len(self._fold.rows):
+                yield self._unhandled(unhandled.row)
+        for failure in self._of(LeftFailure):
+            if failure.number in self._fold.records:
+                yield self._failure(self._fold.records[failure.number])
+        for end in list(self._hanging.on):
+            if isinstance(end, Circle):
+                yield self._circle(end)
+
+    def _stopped(self) -> Finding:
+        """The limit was reached; the sides that still ran are its details."""
+        details: List[Phrase] = []
+        running = [one.number for one in self._of(LeftDeferred) if one.running]
+        for number in running[:_MOST_HELD]:
+            record = self._fold.records.get(number)
+            since = record.runs_since if record is not None else None
+            begun = words(", from ", OfLine(since), ",") if since is not None else words()
+            details.append(("a side of ", OfDeferred(number), *begun, " hadn't ended"))
+        if len(running) > _MOST_HELD:
+            details.append((f"nor had those of {len(running) - _MOST_HELD} more",))
+        for number in running:
+            details += self._held(Root(At.DEFERRED, number), [number])
+        last = len(self._fold.rows) - 1
+        said: Phrase = ("the run stopped at the limit of its journal",)
+        return Finding(Severity.BAD, Kind.STOPPED, said, tuple(details), last if last >= 0 else None)
+
+    def _unhandled(self, place: int) -> Finding:
+        row = self._fold.rows[place]
+        acting = self._fold.said_by(row.actor)
+        left: List[Phrase] = (
+            [("left ", *acting) if acting[:1] != ("after ",) else acting] if acting else []
+        )
+        said: Phrase = (OfScript(row.entry.line[row.entry.head :]),)
+        return Finding(Severity.BAD, Kind.UNHANDLED, said, tuple(left), place)
+
+    def _failure(self, record: Record) -> Finding:
+        text = record.end.removeprefix("paused ").removeprefix("fail ")
+        origin = record.origin
+        details: List[Phrase] = []
+        if origin is not None and origin != record.fired:
+            row = self._fold.rows[origin]
+            head = row.entry.line[: row.entry.head].rstrip()
+            details.append(("it comes from ", OfLine(origin), ": ", OfScript(head)))
+        elif origin is not None and record.fired_by:
+            details.append(("fired by ", *record.fired_by))
+        if record.pauses and record.paused_at is not None:
+            details.append(("it is paused since ", OfLine(record.paused_at)))
+            details += self._held(Root(At.DEFERRED, record.number), [record.number])
+        said: Phrase = (OfDeferred(record.number), " ends with ", OfScript(text))
+        return Finding(Severity.BAD, Kind.FAILURE, said, tuple(details), origin)
+
+    def _circle(self, circle: Circle) -> Finding:
+        said: Phrase = ()
+        for number in (*circle.ring, circle.ring[0]):
+            said += words(" → ", OfDeferred(number)) if said else words(OfDeferred(number))
+        first = self._fold.records.get(circle.ring[0])
+        details = _details(
+            [("each waits for the next: nobody can end this",)], self._held(circle, circle.ring)
+        )
+        row = (
+            (first.waits_at if first.waits_at is not None else first.awaits_at)
+            if first is not None
+            else None
+        )
+        return Finding(Severity.BAD, Kind.CIRCLE, said, details, row)
+
+    # what is left
+
+    def _open(self) -> Iterator[Finding]:
+        yield from self._roots()
+        for one in self._left:
+            finding = self._object(one)
+            if finding is not None:
+                yield finding
+        for end, held in self._hanging.on.items():
+            if end not in self._told:
+                record = self._fold.records.get(held[0])
+                yield Finding(
+                    Severity.LEFT,
+                    Kind.WAITING,
+                    self._hanging.reason(held[0]),
+                    _details(self._held(end, held[:1])),
+                    record.row if record is not None else None,
+                )
+
+    def _roots(self) -> Iterator[Finding]:
+        """Deferreds that hang on nothing else."""
+        for one in self._of(LeftDeferred):
+            end = Root(At.DEFERRED, one.number)
+            record = self._fold.records.get(one.number)
+            if end in self._told or end not in self._hanging.on or record is None:
+                continue
+            if record.fired is None:
+                yield self._unfired(record, end)
+            elif record.number not in self._failed:
+                yield self._paused(record, end)
+
+    def _unfired(self, record: Record, end: End) -> Finding:
+        paused = ", which is paused too" if record.pauses else ""
+        pairs = several(record.pairs, "pair waits", "pairs wait")
+        stopped: List[Phrase] = []
+        if record.awaits is not None:
+            stopped = [("its body has awaited ", OfDeferred(record.awaits), ", and didn't end")]
+        places = self._places(record) if record.made is Made.ACTION else ()
+        details = _details(
+            [places], stopped, [(pairs,)] if record.pairs else [], self._held(end, [record.number])
+        )
+        said: Phrase = ("nobody fired ", OfDeferred(record.number), paused)
+        return Finding(Severity.LEFT, Kind.UNFIRED, said, details, record.row)
+
+    def _places(self, record: Record) -> Phrase:
+        """Where the script fires a Deferred of this name, or makes one that something else is to fire."""
+        if not self._script.events or not record.names:
+            return ()
+        for word, places in (
+            ("fire", self._script.firing(record.names)),
+            ("make", self._script.making(record.names)),
+        ):
+            if places:
+                shown: List[Part] = [OfScript(place) for place in places]
+                return (f"actions of the script that {word} one of this name: ", *listed(shown, 3))
+        return ("no action of the script fires a Deferred of this name",)
+
+    def _paused(self, record: Record, end: End) -> Finding:
+        times = f" {record.pauses} times" if record.pauses > 1 else ""
+        said: Phrase = (OfDeferred(record.number), f" is paused{times}")
+        return Finding(
+            Severity.LEFT,
+            Kind.PAUSED,
+            said,
+            _details(self._held(end, [record.number])),
+            record.paused_at,
+        )
+
+    def _object(self, one: Left) -> Optional[Finding]:
+        """What is told of an object, if it is one."""
+        if isinstance(one, LeftTokens):
+            return self._tokens(one)
+        if isinstance(one, LeftGetters):
+            return self._getters(one)
+        if isinstance(one, (LeftCall, LeftTick, LeftTimeout, LeftDelivery)):
+            return self._due(one)
+        if isinstance(one, LeftLoop):
+            return self._loop(one)
+        return self._task(one) if isinstance(one, LeftTask) else None
+
+    def _tokens(self, one: LeftTokens) -> Optional[Finding]:
+        lock = self._fold.world.locks.at(one.number)
+        if lock is None:
+            return None
+        is_given = "is given" if one.given == 1 else "are given"
+        said: Phrase = (
+            f"{one.given} of {several(one.tokens, 'token', 'tokens')} of {lock.name} {is_given}",
+        )
+        last: List[Part] = []
+        history: List[Phrase] = []
+        for deferred, row in lock.last_given:
+            last += [", "] if last else []
+            last += [OfDeferred(deferred), " (", OfLine(row), ")"]
+        if last:
+            counts = f"given {several(lock.times_given, 'time', 'times')}, given back {several(lock.times_back, 'time', 'times')}"
+            history = [(f"{counts}; last given to ", *last)]
+        details = _details(
+            history, self._held(Root(At.LOCK, one.number)), _guess(self._fold.world.locks, lock.name)
+        )
+        return Finding(
+            Severity.LEFT,
+            Kind.TOKEN,
+            said,
+            details,
+            lock.last_given[-1][1] if lock.last_given else lock.row,
+        )
+
+    def _getters(self, one: LeftGetters) -> Optional[Finding]:
+        queue = self._fold.world.queues.at(one.number)
+        if queue is None:
+            return None
+        waits = several(len(one.waiting), "waits", "wait")
+        said: Phrase = (f"{waits} for a value of {queue.name}, and nothing is put",)
+        return Finding(
+            Severity.LEFT, Kind.GETTER, said, _details(self._held(Root(At.QUEUE, one.number))), queue.row
+        )
+
+    def _due(self, one: Left) -> Optional[Finding]:
+        world = self._fold.world
+        when = f"and time has come to {world.now}"
+        if isinstance(one, LeftCall):
+            call = world.calls.at(one.number)
+            name, row = (call.name, call.row) if call is not None else ("", None)
+            return Finding(
+                Severity.LEFT, Kind.CALL, (f"delayed call {name} is due at {one.due}, {when}",), (), row
+            )
+        if isinstance(one, LeftTick):
+            row = world.tick.row if world.tick is not None else None
+            return Finding(Severity.LEFT, Kind.TICK, (f"a tick is due at {one.due}, {when}",), (), row)
+        if isinstance(one, LeftTimeout):
+            row = self._timers.get((one.deferred, one.due))
+            said: Phrase = ("the timer of ", OfDeferred(one.deferred), f" is due at {one.due}, {when}")
+            return Finding(Severity.LEFT, Kind.TIMER, said, (), row)
+        if isinstance(one, LeftDelivery):
+            job = world.jobs.get(one.job)
+            said = (
+                f"the result of job {one.job} for ",
+                OfDeferred(one.deferred),
+                f" is due at {one.due}, {when}",
+            )
+            held = self._held(Root(At.JOB, one.job), [one.deferred])
+            return Finding(
+                Severity.LEFT, Kind.JOB, said, tuple(held), job.later if job is not None else None
+            )
+        return None
+
+    def _loop(self, one: LeftLoop) -> Optional[Finding]:
+        loop = self._fold.world.loops.at(one.number)
+        if loop is None:
+            return None
+        said: Phrase = (f"loop {loop.name} goes on, its next turn is due at {one.due}",)
+        if one.due is None:
+            said = (f"loop {loop.name} goes on, its last turn isn't over",)
+            if one.waits_for:
+                said += (" and waits for ", *listed([OfDeferred(number) for number in one.waits_for], 3))
+        row = loop.later if one.due is not None and loop.later is not None else loop.turned
+        details = _details(
+            self._held(Root(At.LOOP, one.number)), _guess(self._fold.world.loops, loop.name)
+        )
+        return Finding(Severity.LEFT, Kind.LOOP, said, details, row)
+
+    def _task(self, one: LeftTask) -> Optional[Finding]:
+        task = self._fold.world.tasks.at(one.number)
+        if task is None:
+            return None
+        said: Phrase = (f"task {task.name} still takes turns",)
+        if one.waits_for:
+            said = (f"task {task.name} is held by ", *listed([OfDeferred(n) for n in one.waits_for], 3))
+        elif one.pauses > 0:
+            said = (f"task {task.name} is paused",)
+        row = task.held[1] if task.held is not None else task.row
+        details = _details(
+            self._held(Root(At.TASK, one.number)), _guess(self._fold.world.tasks, task.name)
+        )
+        return Finding(Severity.LEFT, Kind.TASK, said, details, row)
+
+    # notes
+
+    def _notes(self) -> Iterator[Finding]:
+        for one in self._of(LeftValues):
+            queue = self._fold.world.queues.at(one.number)
+            if queue is not None:
+                were = several(
+                    one.values,
+                    f"value of {queue.name} was never got",
+                    f"values of {queue.name} were never got",
+                )
+                row = queue.stored[queue.taken] if queue.count else queue.row
+                yield Finding(Severity.NOTE, Kind.STORED, (were,), (), row)
+        for record in self._fold.records.values():
+            for place in record.refused:
+                yield from self._refused(record, place)
+
+    def _refused(self, record: Record, place: int) -> Iterator[Finding]:
+        """A second firing, unless the next line tells it as unhandled."""
+        rows = self._fold.rows
+        if place + 1 < len(rows) and rows[place + 1].entry.word == "unhandled":
+            return
+        cause = rows[place].cause
+        said: Phrase = ("a second firing of ", OfDeferred(record.number))
+        yield Finding(Severity.NOTE, Kind.REFUSED, said, (("by ", *cause),) if cause else (), place)

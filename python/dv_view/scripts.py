@@ -1,0 +1,153 @@
+"""A script, as far as the view shows it: its events as short texts, and the actions that fire a name."""
+
+from __future__ import annotations
+
+import json
+from typing import Any, Dict, Iterator, List, Optional, Sequence, Tuple
+
+#: which arguments of an action are names
+_NAMES: Dict[str, int] = {
+    **dict.fromkeys(("chain", "acquire", "get", "loop", "whenDone", "runWith", "threadIn"), 2),
+    **dict.fromkeys(
+        "callback errback deferred addCallback addErrback addBoth addCallbacks pause unpause cancel lock semaphore release queue "
+        "put later cancelCall addTimeout stopLoop cooperate pauseTask resumeTask stopTask maybe inline list gather thread "
+        "await".split(),
+        1,
+    ),
+}
+_MAKERS = frozenset("list gather inline maybe acquire get runWith whenDone thread threadIn".split())
+_DEEPEST = 1
+
+#: the places of actions, by the name of a Deferred
+Places = Dict[str, List[str]]
+
+
+class Script:
+    """A script, which may be any JSON at all: what isn't of the form is left out."""
+
+    def __init__(self, document: object = None) -> None:
+        self._document: Dict[str, Any] = document if isinstance(document, dict) else {}
+        events = self._document.get("events")
+        self.events: Sequence[Any] = events if isinstance(events, list) else []
+        self._places: Optional[Tuple[Places, Places]] = None
+
+    def shown(self, event: int) -> str:
+        """An event as a short text."""
+        if not 0 <= event < len(self.events):
+            return ""
+        try:
+            return shown(self.events[event])
+        except RecursionError:
+            return "…"
+
+    def firing(self, names: Sequence[str]) -> List[str]:
+        """The places of the actions that fire a Deferred of one of the names, as JSON Pointers."""
+        return [place for name in dict.fromkeys(names) for place in self._found()[0].get(name, ())]
+
+    def making(self, names: Sequence[str]) -> List[str]:
+        """The places of the actions that make a Deferred of one of the names, which a list, a lock or the like is to fire."""
+        return [place for name in dict.fromkeys(names) for place in self._found()[1].get(name, ())]
+
+    def _found(self) -> Tuple[Places, Places]:
+        if self._places is None:
+            self._places = {}, {}
+            for key in ("events", "callers"):
+                for action, place in _actions(self._document.get(key), f"/{key}"):
+                    for places, name in zip(self._places, (_fired(action), _made(action))):
+                        if name:
+                            places.setdefault(name, []).append(place)
+        return self._places
+
+
+def _text(value: object) -> str:
+    return value if isinstance(value, str) else ""
+
+
+def _actions(part: object, place: str) -> Iterator[Tuple[List[Any], str]]:
+    """Each array below this place, with where it stands: actions are among them."""
+    todo: List[Tuple[object, str]] = [(part, place)]
+    while todo:
+        value, at = todo.pop()
+        if isinstance(value, list):
+            yield value, at
+            todo.extend((inner, f"{at}/{index}") for index, inner in reversed(list(enumerate(value))))
+        elif isinstance(value, dict):
+            todo.extend((inner, f"{at}/{key}") for key, inner in value.items() if key == "do")
+
+
+def _fired(action: List[Any]) -> str:
+    """The name that an action fires."""
+    if len(action) > 2 and action[0] in ("callback", "errback"):
+        return _text(action[1])
+    return _text(action[2]) if len(action) > 2 and action[0] == "chain" else ""
+
+
+def _made(action: List[Any]) -> str:
+    """The name of the Deferred that an action makes, which not only actions are to fire."""
+    if len(action) > 2 and action[0] == "loop":
+        return _text(action[2])
+    return (
+        _text(action[1])
+        if len(action) > 1 and isinstance(action[0], str) and action[0] in _MAKERS
+        else ""
+    )
+
+
+def compact(value: object) -> str:
+    """A value as compact JSON."""
+    return json.dumps(value, ensure_ascii=False, separators=(",", ":"))
+
+
+def shown(action: object, deep: int = 0) -> str:
+    """An action or a statement as a short text: `later retry 1 {callback d 1}`."""
+    if not isinstance(action, list) or not action or not isinstance(action[0], str):
+        return compact(action)
+    word = action[0]
+    if word == "do" and len(action) == 2:
+        return shown(action[1], deep)
+    if word == "end" and len(action) == 2:
+        return _end(action[1])
+    if word == "try" and len(action) == 4:
+        return f"try {_body(action[1], deep)} except {compact(action[2])} {_body(action[3], deep)}"
+    names = _NAMES.get(word, 0)
+    return " ".join(
+        [word] + [_argument(word, value, index < names, deep) for index, value in enumerate(action[1:])]
+    )
+
+
+def _argument(word: str, value: object, is_name: bool, deep: int) -> str:
+    if is_name and isinstance(value, str):
+        return value
+    if isinstance(value, dict) or (word in ("inline", "cooperate") and isinstance(value, list)):
+        return _body(value, deep)
+    return compact(value)
+
+
+def _body(body: object, deep: int) -> str:
+    """A body, or a list of bodies or statements."""
+    if deep > _DEEPEST:
+        return "{…}" if isinstance(body, dict) else "[…]"
+    if isinstance(body, list):
+        return (
+            "["
+            + "; ".join(
+                _body(part, deep) if isinstance(part, dict) else shown(part, deep + 1) for part in body
+            )
+            + "]"
+        )
+    if not isinstance(body, dict):
+        return compact(body)
+    actions = body.get("do")
+    said = [shown(action, deep + 1) for action in actions] if isinstance(actions, list) else []
+    if "end" in body:
+        said.append(_end(body["end"]))
+    return "{" + "; ".join(said) + "}"
+
+
+def _end(end: object) -> str:
+    if not isinstance(end, list) or not end or not isinstance(end[0], str):
+        return f"→ {compact(end)}"
+    named = end[0] == "wait"
+    return " ".join(
+        ["→", end[0]] + [part if named and isinstance(part, str) else compact(part) for part in end[1:]]
+    )

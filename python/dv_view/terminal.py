@@ -1,0 +1,138 @@
+"""The view for a terminal. Nothing is told by colour alone."""
+
+from __future__ import annotations
+
+from typing import Dict, Iterator, List, Optional
+
+from .events import Events
+from .phrases import OfDeferred, OfEvent, OfLine, OfScript, Part, Phrase
+from .records import By, Ended, Record, Row, ended
+from .report import Finding, Severity
+from .run import Run
+from .texts import clipped, visible
+
+_DEEPEST = 12
+_MOST_LINE, _MOST_TEXT, _MOST_EVENT = 160, 200, 100
+
+_COLORS = {"good": "32", "bad": "31", "wait": "33", "run": "36", "strong": "1", "dim": "2"}
+_SIGNS = {Severity.BAD: "!!", Severity.LEFT: " *", Severity.NOTE: " -"}
+_TONES = {Severity.BAD: "bad", Severity.LEFT: "wait", Severity.NOTE: "dim"}
+
+_WORD_TONES: Dict[str, str] = {
+    **dict.fromkeys(("fire", "hand", "take", "set"), "good"),
+    **dict.fromkeys(("refuse", "unhandled"), "bad"),
+    **dict.fromkeys(("wait", "await", "hold"), "wait"),
+    "run": "run",
+    **dict.fromkeys(
+        ("advance", "drain", "call", "tick", "post", "deliver", "turn", "step", "timeout"), "strong"
+    ),
+}
+
+
+class Terminal:
+    """Writes a run as lines of text."""
+
+    def __init__(self, run: Run, color: bool) -> None:
+        self._run = run
+        self._color = color
+        self._events = Events(run.fold, run.script)
+        self._number = len(str(len(run.fold.rows)))
+        self._time = max(1, len(str(run.fold.world.now)))
+
+    def lines(self) -> Iterator[str]:
+        """All lines, each without its end."""
+        yield from self._verdict()
+        for finding in self._run.report.findings:
+            yield from self._finding(finding)
+        yield ""
+        for row in self._run.fold.rows:
+            yield from self._row(row)
+        yield ""
+        for record in self._run.fold.records.values():
+            yield self._outcome(record)
+
+    def _toned(self, tone: Optional[str], text: str) -> str:
+        return f"\x1b[{_COLORS[tone]}m{text}\x1b[0m" if self._color and tone is not None else text
+
+    def _said(self, phrase: Phrase) -> str:
+        return "".join(map(self._part, phrase))
+
+    def _part(self, part: Part) -> str:
+        if isinstance(part, OfDeferred):
+            return visible(self._deferred(part.number))
+        if isinstance(part, OfLine):
+            return f"line {part.row + 1}"
+        if isinstance(part, OfEvent):
+            return visible(
+                clipped(
+                    f"event {part.number} {self._run.script.shown(part.number)}".rstrip(), _MOST_EVENT
+                )
+            )
+        return visible(clipped(part.text, _MOST_TEXT)) if isinstance(part, OfScript) else visible(part)
+
+    def _deferred(self, number: int) -> str:
+        record = self._run.fold.records.get(number)
+        return f"#{number}·{record.name}" if record is not None and record.name else f"#{number}"
+
+    def _verdict(self) -> Iterator[str]:
+        report = self._run.report
+        counts = ((Severity.BAD, "to look at"), (Severity.LEFT, "left at the end"))
+        parts = [
+            f"{report.count(severity)} {word}" for severity, word in counts if report.count(severity)
+        ]
+        verdict = ", ".join(parts) if parts else "clean: nothing is left"
+        tone = "bad" if report.count(Severity.BAD) else "wait" if parts else "good"
+        yield f"{visible(self._run.title)}: {self._toned(tone, verdict)}"
+        yield self._run.counts
+        if self._run.limits:
+            yield self._run.limits
+        for problem in self._run.problems:
+            yield self._toned("bad", f"warning: {self._said(problem)}")
+
+    def _finding(self, finding: Finding) -> Iterator[str]:
+        at = f"  (line {finding.row + 1})" if finding.row is not None else ""
+        text = f"{_SIGNS[finding.severity]} {finding.kind.value:<9} {self._said(finding.said)}{at}"
+        yield self._toned(_TONES[finding.severity], text)
+        for detail in finding.details:
+            yield f"{'':13}{self._said(detail)}"
+
+    def _row(self, row: Row) -> Iterator[str]:
+        head = self._events.head(row)
+        if head is not None:
+            text = visible(clipped(head, _MOST_EVENT))
+            yield self._toned("strong", f"{'':{self._number + self._time + 2}}┄ {text}")
+        time = str(row.time) if row.entry.word == "advance" or row.place == 0 else "·"
+        tone = "bad" if row.entry.fails else _WORD_TONES.get(row.entry.word)
+        said = self._toned(tone, self._line(row))
+        yield f"{row.place + 1:{self._number}} {time:>{self._time}} {_bars(row)}{said}{self._why(row)}"
+
+    def _line(self, row: Row) -> str:
+        """The line, with names beside the numbers of Deferreds."""
+        line, head = row.entry.line, row.entry.head
+        if row.entry.word not in ("new", "name", ""):
+            words = [
+                self._deferred(int(word[1:])) if word.startswith("#") else word
+                for word in line[:head].split(" ")
+            ]
+            line = " ".join(words) + line[head:]
+        return visible(clipped(line, _MOST_LINE))
+
+    def _why(self, row: Row) -> str:
+        said: List[str] = []
+        if row.cause and not (row.is_plain and row.actor.by is not By.SIDE):
+            said.append(f"   ← {self._said(row.cause)}")
+        tail = self._events.tail(row)
+        if tail:
+            said.append(f"   ┄ {visible(clipped(tail, _MOST_EVENT))}")
+        return "".join(said)
+
+    def _outcome(self, record: Record) -> str:
+        end = ended(record.end)
+        tone = "good" if end is Ended.OK else "bad" if end is Ended.FAIL else "wait"
+        text = f"#{record.number} {record.name or '-'} {clipped(record.end, _MOST_TEXT)}"
+        return self._toned(tone, visible(text))
+
+
+def _bars(row: Row) -> str:
+    bars = "│ " * min(row.depth, _DEEPEST) + (f"({row.depth}) " if row.depth > _DEEPEST else "")
+    return bars + ("└ " if row.closes else "┌ " if row.opens else "")

@@ -1,0 +1,1 @@
+"""Tests of the view: those of the page run in a real browser."""

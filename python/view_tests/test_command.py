@@ -1,0 +1,153 @@
+"""The command `view`."""
+
+from __future__ import annotations
+
+import contextlib
+import io
+import os
+import subprocess
+import tempfile
+import unittest
+from pathlib import Path
+from typing import List, Tuple
+from unittest import mock
+
+from dv_view import command
+
+from .stand_in import told
+
+_JOURNAL = command.TOP / "examples" / "python" / "workers.journal"
+
+
+class Command(unittest.TestCase):
+    """What it reads and writes, and with which status it ends."""
+
+    def setUp(self) -> None:
+        folder = tempfile.TemporaryDirectory()
+        self.addCleanup(folder.cleanup)
+        self.folder = Path(folder.name)
+
+    def run_view(self, *words: object) -> Tuple[int, str, str]:
+        """Status, output and errors."""
+        output, errors = io.StringIO(), io.StringIO()
+        with contextlib.redirect_stdout(output), contextlib.redirect_stderr(errors):
+            try:
+                status = command.main([str(word) for word in words])
+            except SystemExit as exit_:
+                status = int(str(exit_.code))
+        return status, output.getvalue(), errors.getvalue()
+
+    def test_a_journal_as_a_text(self) -> None:
+        status, output, _ = self.run_view("--text", "--journal", _JOURNAL)
+        self.assertEqual(status, 0)
+        self.assertTrue(
+            output.startswith(
+                "workers.journal: clean: nothing is left\n122 lines, 14 Deferreds, time 0 to 6\n"
+            )
+        )
+
+    def test_a_page_is_written_where_it_is_wanted(self) -> None:
+        wanted = self.folder / "below" / "page.html"
+        status, output, errors = self.run_view("--journal", _JOURNAL, "-o", wanted)
+        self.assertEqual((status, output), (0, ""))
+        self.assertIn("page.html: 122 lines", errors)
+        self.assertTrue(wanted.read_text(encoding="utf-8").startswith("<!doctype html>"))
+        self.run_view("--journal", _JOURNAL, "-o", self.folder)
+        self.assertTrue((self.folder / "workers.html").is_file())
+
+    def test_a_page_is_opened_where_that_is_wanted(self) -> None:
+        with mock.patch("webbrowser.open") as opened:
+            self.run_view("--journal", _JOURNAL, "-o", self.folder / "x.html")
+            opened.assert_not_called()
+            self.run_view("--journal", _JOURNAL, "-o", self.folder / "x.html", "--open")
+            opened.assert_called_once_with((self.folder / "x.html").resolve().as_uri())
+
+    def test_a_part(self) -> None:
+        status, _, errors = self.run_view(
+            "--journal", _JOURNAL, "--from", 20, "--to", 30, "-o", self.folder / "x.html"
+        )
+        self.assertEqual(status, 0)
+        self.assertIn("of which the chart shows 20 to 30", errors)
+
+    def test_facts(self) -> None:
+        facts = self.folder / "facts"
+        facts.write_text(told("new #0 d\nfire #0 ok 1\n#0 d ok 1\n", [0, 1]), encoding="utf-8")
+        status, output, _ = self.run_view("--text", "--json", facts)
+        self.assertEqual(
+            (status, output.split("\n")[1]), (0, "2 lines, 1 Deferred, time 0 to 0, weight 2 of 2000")
+        )
+
+    def test_what_isn_t_of_the_form_is_refused(self) -> None:
+        texts: List[bytes] = [
+            b"",
+            b"new #0 d\n",
+            b"{}\n",
+            b'{"type":"start","version":2}\n',
+            b'{"type":"start","version":1}\n{"type":"entry"}\n',
+            b'{"type":"start","version":1}\n{"type":"left","kind":"failure","deferred":{"number":"<b>"}}\n',
+            b"\xff",
+            b"[" * 100_000,
+        ]
+        for text in texts:
+            facts = self.folder / "facts"
+            facts.write_bytes(text)
+            status, _, errors = self.run_view("--text", "--json", facts)
+            self.assertEqual(status, 66, text[:80])
+            self.assertIn("view: ", errors)
+
+    def test_words_and_files_that_aren_t_known(self) -> None:
+        for words in (
+            ["--nope"],
+            ["--from", "0"],
+            ["--journal", "a", "--json", "b"],
+            ["--journal", "a", "b", "c"],
+        ):
+            self.assertEqual(self.run_view(*words)[0], 64, words)
+        self.assertEqual(self.run_view("--journal", self.folder / "none")[0], 66)
+        self.assertEqual(self.run_view("--journal", _JOURNAL, "-o", _JOURNAL / "x.html")[0], 73)
+
+    def test_a_script_that_is_refused_ends_with_its_status_and_the_next_is_shown(self) -> None:
+        stand_in = self.folder / "deferreds"
+        (self.folder / "facts").write_text(told("new #0 d\n#0 d unfired\n", [0]))
+        stand_in.write_text(
+            '#!/bin/sh\ngrep -q bad && exit 2\n[ "$1" = --json ] && cat "${0%deferreds}facts"\n'
+        )
+        stand_in.chmod(0o755)
+        for name in ("bad", "good"):
+            (self.folder / f"{name}.json").write_text(
+                f'{{"version":1,"events":[["deferred","{name}"]]}}'
+            )
+        with mock.patch.object(command, "TOP", self.folder):
+            status, _, errors = self.run_view(
+                self.folder / "bad.json", self.folder / "good.json", "-o", self.folder / "pages"
+            )
+        self.assertEqual(status, 2)
+        self.assertIn("bad.json was not run to its end", errors)
+        self.assertEqual(os.listdir(self.folder / "pages"), ["good.html"])
+
+    def test_a_program_that_tells_no_facts_tells_a_journal(self) -> None:
+        stand_in = self.folder / "deferreds"
+        stand_in.write_text(
+            "#!/bin/sh\n[ $# -eq 0 ] || exit 64\nprintf 'new #0 d\\n#0 d unfired\\n'\nexit 1\n"
+        )
+        stand_in.chmod(0o755)
+        (self.folder / "s.json").write_text("{}")
+        with mock.patch.object(command, "TOP", self.folder):
+            status, output, _ = self.run_view("--text", self.folder / "s.json")
+        self.assertEqual(status, 0)
+        self.assertIn("Read from a journal alone", output)
+        self.assertIn("the run stopped at the limit", output)
+
+    def test_it_runs_from_the_top_and_ends_where_its_reader_does(self) -> None:
+        view = subprocess.run(
+            f"{command.TOP / 'view'} --text --journal {_JOURNAL} | head -n 1",
+            shell=True,
+            capture_output=True,
+            text=True,
+            check=True,
+        )
+        self.assertEqual((view.stdout, view.stderr), ("workers.journal: clean: nothing is left\n", ""))
+
+
+if __name__ == "__main__":
+    unittest.main()

@@ -1,0 +1,186 @@
+"""The page as a text: what it may hold, how large it is, which part of a long run it shows."""
+
+from __future__ import annotations
+
+import base64
+import hashlib
+import html.parser
+import re
+import time
+import unittest
+from pathlib import Path
+from typing import Dict, List, Optional, Set, Tuple
+from unittest import mock
+
+from dv_view import texts
+from dv_view.page import MOST_ROWS, Page
+from dv_view.run import Run, run_of_journal
+
+from . import samples
+
+_ELEMENTS = frozenset(
+    "html head meta title style body main nav h1 h2 p span a table tr th td b bdi div i svg path rect circle g text details "
+    "summary script".split()
+)
+_ATTRIBUTES = frozenset(
+    "lang charset name content http-equiv class id href data-f data-d data-to data-x data-y data-h title hidden role width height "
+    "x y cx cy r d aria-hidden".split()
+)
+_NUMBERS = re.compile(r"[a-z-]*\d*")
+
+
+class Read(html.parser.HTMLParser):
+    """The elements, attributes and texts of a page."""
+
+    def __init__(self, page: str) -> None:
+        super().__init__()
+        self.elements: Set[str] = set()
+        self.attributes: Set[str] = set()
+        self.values: Dict[str, Set[str]] = {}
+        self.links: Set[str] = set()
+        self.ids: List[str] = []
+        self.policy = ""
+        self.texts: Dict[str, str] = {}
+        self._inside = ""
+        self.feed(page)
+
+    def handle_starttag(self, tag: str, attrs: List[Tuple[str, Optional[str]]]) -> None:
+        """An element."""
+        self.elements.add(tag)
+        self._inside = tag
+        for name, value in attrs:
+            self.attributes.add(name)
+            self.values.setdefault(name, set()).add(value or "")
+            if name == "href" and value is not None:
+                self.links.add(value)
+            if name == "id" and value is not None:
+                self.ids.append(value)
+        found = dict(attrs)
+        if found.get("http-equiv") == "Content-Security-Policy":
+            self.policy = found.get("content") or ""
+
+    def handle_endtag(self, tag: str) -> None:
+        """The end of an element."""
+        self._inside = ""
+
+    def handle_data(self, data: str) -> None:
+        """A text."""
+        self.texts[self._inside] = self.texts.get(self._inside, "") + data
+
+
+def page_of(run: Run, first: Optional[int] = None, last: Optional[int] = None) -> str:
+    """The page of a run."""
+    return Page(run, first, last).html()
+
+
+class Escaping(unittest.TestCase):
+    """No text of a script becomes markup."""
+
+    def _is_safe(self, page: str) -> bool:
+        read = Read(page)
+        names = set().union(
+            *(read.values.get(name, set()) for name in ("id", "href", "data-f", "data-d", "data-to"))
+        )
+        plain = all(_NUMBERS.fullmatch(part) for name in names for part in name.lstrip("#").split(" "))
+        return (
+            plain
+            and read.elements <= _ELEMENTS
+            and read.attributes <= _ATTRIBUTES
+            and len(read.ids) == len(set(read.ids))
+        )
+
+    def test_hostile_texts_are_texts(self) -> None:
+        self.assertTrue(self._is_safe(page_of(samples.hostile())))
+
+    def test_no_unseen_character_is_on_the_page(self) -> None:
+        page = page_of(samples.hostile())
+        self.assertEqual(set(texts._UNSEEN.findall(page)), {"\n"})
+
+    def test_without_the_escaping_it_would_be_seen(self) -> None:
+        def as_it_is(text: str) -> texts.Html:
+            return texts.Html(text)
+
+        for module in ("dv_view.markup", "dv_view.page"):
+            with self.subTest(module), mock.patch(f"{module}.escaped", as_it_is):
+                self.assertFalse(self._is_safe(page_of(samples.hostile())))
+
+    def test_one_function_escapes(self) -> None:
+        folder = Path(texts.__file__).parent
+        escaping = [
+            path.name
+            for path in sorted(folder.glob("*.py"))
+            if "html.escape" in path.read_text(encoding="utf-8")
+        ]
+        self.assertEqual(escaping, ["texts.py"])
+
+    def test_the_policy_names_the_style_and_the_script(self) -> None:
+        read = Read(page_of(samples.recorded()))
+        for name in ("style", "script"):
+            digest = hashlib.sha256(read.texts[name].encode()).digest()
+            self.assertIn(f"{name}-src 'sha256-{base64.b64encode(digest).decode()}'", read.policy)
+        self.assertTrue(read.policy.startswith("default-src 'none';"))
+        self.assertNotIn("unsafe", read.policy)
+        self.assertNotIn("http", read.policy)
+
+
+class Links(unittest.TestCase):
+    """Each link has its target."""
+
+    def test_of_all_kinds_of_runs(self) -> None:
+        for sample in samples.rows():
+            read = Read(page_of(sample.run))
+            self.assertLessEqual(read.links, {f"#{one}" for one in read.ids}, sample.name)
+
+    def test_of_windows(self) -> None:
+        run = samples.long(400)
+        for first, last in ((1, 100), (100, 200), (301, None), (380, 390)):
+            read = Read(page_of(run, first, last))
+            self.assertLessEqual(read.links, {f"#{one}" for one in read.ids}, f"{first} to {last}")
+
+
+class Sizes(unittest.TestCase):
+    """How large pages are, and how long they take."""
+
+    def test_an_example_is_small(self) -> None:
+        self.assertLess(len(page_of(samples.recorded()).encode()), 150_000)
+
+    def test_five_thousand_lines(self) -> None:
+        for run in (samples.long(MOST_ROWS), samples.wide(MOST_ROWS)):
+            self.assertLess(len(page_of(run).encode()), 3_000_000, run.title)
+
+    def test_longer_runs_are_shown_in_part(self) -> None:
+        run = samples.long(12_000)
+        page = Page(run)
+        self.assertEqual(page.window, range(0, MOST_ROWS))
+        self.assertIn(f"lines 1 to 5000 of {len(run.fold.rows)}", page.html())
+        self.assertEqual(Page(run, 11_000).window, range(10_999, len(run.fold.rows)))
+        self.assertEqual(Page(run, 90_000).window, range(len(run.fold.rows) - 1, len(run.fold.rows)))
+        self.assertEqual(Page(run, 9, 8).window, range(8, 8))
+
+    def test_states_are_carried_into_a_window(self) -> None:
+        page = page_of(
+            run_of_journal('new #0 d\nnote ""\nfire #0 ok 1\nnote ""\nadd #0\nnote ""\n', "test"), 4, 5
+        )
+        self.assertIn("<title>#0 d: fired, a value</title>", page)
+        self.assertNotIn("unfired</title>", page)
+
+    def test_cost_grows_with_the_lines(self) -> None:
+        seconds = []
+        for lines in (10_000, 40_000):
+            begun = time.process_time()
+            page_of(samples.long(lines))
+            seconds.append(time.process_time() - begun)
+        self.assertLess(seconds[1], 8 * seconds[0])
+
+    def test_equal_lines_stand_once(self) -> None:
+        run = run_of_journal("new #0 d\n" + "cancel #0\n" * 500 + 'note ""\n', "test")
+        page = page_of(run)
+        self.assertIn("the same line 499 times more, up to line 501", page)
+        self.assertEqual(page.count("<div class=row id="), 3)
+
+    def test_nothing_at_all(self) -> None:
+        self.assertIn("No Deferred was made", page_of(run_of_journal("", "test")))
+
+
+if __name__ == "__main__":
+    unittest.main()

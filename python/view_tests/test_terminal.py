@@ -1,0 +1,91 @@
+"""The form for a terminal."""
+
+from __future__ import annotations
+
+import re
+import unittest
+from typing import List
+
+from dv_view.facts import read_facts
+from dv_view.run import Run, run_of_facts, run_of_journal
+from dv_view.scripts import Script
+from dv_view.terminal import Terminal
+from dv_view.texts import _UNSEEN
+
+from . import samples
+from .stand_in import told
+
+_COLOR = re.compile("\x1b\\[\\d+m")
+
+
+def rows_of(run: Run) -> List[str]:
+    """The lines of the journal."""
+    lines = list(Terminal(run, False).lines())
+    first = lines.index("") + 1
+    return lines[first : lines.index("", first)]
+
+
+class Shown(unittest.TestCase):
+    """What it shows."""
+
+    def test_events_nesting_and_causes(self) -> None:
+        journal = 'new #0 d\nadd #0\nlater call c 5\nadvance 5\ncall c\nfire #0 ok 1\nrun #0\nnote "x"\nset #0 ok 2\nnote "last"\n#0 d ok 2\n'
+        events = [
+            ["deferred", "d"],
+            ["addCallback", "d", {}],
+            ["later", "c", 5, {"do": [["callback", "d", 1]]}],
+            ["advance", 5],
+            ["note", "last"],
+        ]
+        run = run_of_facts(
+            read_facts(told(journal, [0, 1, 2, 3, 9])), Script({"events": events}), "test"
+        )
+        self.assertEqual(
+            rows_of(run),
+            [
+                " 1 0 new #0 d   ┄ event 0",
+                " 2 · add #0·d   ┄ event 1  addCallback d {}",
+                " 3 · later call c 5   ┄ event 2  later c 5 {callback d 1}",
+                " 4 5 advance 5   ┄ event 3",
+                " 5 · │ call c   ← scheduled at line 3, due 5",
+                " 6 · │ │ fire #0·d ok 1",
+                " 7 · │ │ ┌ run #0·d",
+                ' 8 · │ │ │ note "x"',
+                " 9 · │ │ └ set #0·d ok 2",
+                '10 · note "last"   ┄ event 4',
+            ],
+        )
+
+    def test_an_event_of_several_lines_has_a_head(self) -> None:
+        journal = 'lock l\nnew #0 d\nacquire l #0\nfire #0 ok "l"\n'
+        run = run_of_facts(
+            read_facts(told(journal, [0, 1])),
+            Script({"events": [["lock", "l"], ["acquire", "d", "l"]]}),
+            "test",
+        )
+        self.assertEqual(rows_of(run)[1], "    ┄ event 1  acquire d l")
+
+    def test_a_deep_run_tells_how_deep(self) -> None:
+        lines = [
+            line
+            for number in range(20)
+            for line in (f"new #{number} -", f"fire #{number} ok 1", f"run #{number}")
+        ]
+        run = run_of_journal("".join(f"{line}\n" for line in lines), "test")
+        self.assertEqual(rows_of(run)[-1], "60 · " + "│ " * 12 + "(19) ┌ run #19")
+
+    def test_hostile_texts_can_t_do_anything(self) -> None:
+        for color in (False, True):
+            for line in Terminal(samples.hostile(), color).lines():
+                self.assertIsNone(_UNSEEN.search(_COLOR.sub("", line) if color else line), line[:100])
+
+    def test_color_adds_nothing_else(self) -> None:
+        run = samples.recorded()
+        self.assertEqual(
+            [_COLOR.sub("", line) for line in Terminal(run, True).lines()],
+            list(Terminal(run, False).lines()),
+        )
+
+
+if __name__ == "__main__":
+    unittest.main()
