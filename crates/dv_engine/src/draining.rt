@@ -1,19 +1,19 @@
 ghost use Rattle.std.specs.Prelude.{◌≡◌, ◌++◌, None, Some, MatchOption, OnOk};
 ghost use Rattle.dv_posts.specs.Batches.{AreNext, body_of, joined};
-ghost use Rattle.dv_rules.specs.Bounds.{Bounded};
+ghost use Rattle.dv_frames.specs.Bounds.{Bounded};
 ghost use Rattle.dv_engine.specs.Engine.{begun_for, taken_for};
-ghost use Rattle.dv_runner.specs.Meaning.{Runs};
-ghost use Rattle.dv_runner.specs.Occurrences.{coming, comings};
+ghost use Rattle.dv_performing.specs.Meaning.{Runs};
+ghost use Rattle.dv_performing.specs.Occurrences.{coming, comings};
 ghost use Rattle.dv_posts.specs.Taking.{with_batch};
 
 use crate::engine::Phase;
-use dv_actions::submissions::Submissions;
+use dv_bodies::submissions::Submissions;
 use dv_inline::poller::Poller;
 use dv_jobs::source::JobSource;
 use dv_journal::entry::Entry;
+use dv_performing::runner::come;
 use dv_posts::batches::Batches;
 use dv_posts::posted::Posted;
-use dv_runner::runner::come;
 use dv_script::body::Body;
 use dv_value::items::Items;
 use dv_world::world::World;

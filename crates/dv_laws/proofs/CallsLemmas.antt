@@ -17,7 +17,7 @@ use Rattle.dv_journal.specs.declared.entry.Entry.TheVariants as entry
 use Rattle.dv_objects.specs.Objects.{Objects, naming_where}
 use Rattle.dv_objects.specs.Refusals.{cancelled}
 use Rattle.dv_posts.specs.Batches.{Batch}
-use Rattle.dv_runner.specs.Meaning.{Means}
+use Rattle.dv_performing.specs.Meaning.{Means}
 use Rattle.dv_script.specs.declared.script.Script.{Script}
 use Rattle.dv_world.specs.World.{World}
 use Rattle.dv_laws.specs.Calls.{Timed, Called, Ticking, Delivered, TimedOut, count_of, scheduled_by, ended_by, schedulings, endings, later_of, run_of, time_after, time_by, WasDue, RunsInTime, CallsRunOnceInTime}

@@ -1,7 +1,7 @@
 -- What a run does but for settling: each rule leads on by steps that use no item and put nothing in place, and leaves nothing to be put in place.
 use Rattle.std.proofs.Common.{ℕ, ◌+◌, ◌≡◌, Bool, true, false, if◌then◌else◌, List, [], ◌∷◌, ◌++◌, Option, None, Some, length, nat_eq, ◌-◌, slice_get, refl, arith}
 use Rattle.std.specs.Option.{option_map}
-use Rattle.dv_value.specs.Failure.{failure_in}
+use Rattle.dv_value.specs.Failure.{failure_in, fault}
 use Rattle.dv_value.specs.declared.failure.Failure.{Failure}
 use Rattle.dv_value.specs.declared.value.Value.{Value, Null, Fault, Text}
 use Rattle.dv_value.specs.declared.value.Value.TheVariants as value
@@ -12,6 +12,7 @@ use Rattle.dv_prims.specs.Queue.{Queue, may_put, may_get, receiver, put_to}
 use Rattle.dv_prims.specs.Tokens.{Semaphore, is_unheld, first_waiting}
 use Rattle.dv_prims.specs.declared.gather.Flags.{Flags}
 use Rattle.dv_script.specs.declared.action.Action.{Action, out-Action}
+use Rattle.dv_script.specs.declared.action.Action.TheOpen.{Action-F}
 use Rattle.dv_clock.specs.Clock.{Upcoming, next_call}
 use Rattle.dv_clock.specs.Due.{coming_due}
 use Rattle.dv_clock.specs.Turns.{turn_of}
@@ -23,41 +24,42 @@ use Rattle.dv_clock.specs.declared.due.Due.TheVariants as what
 use Rattle.dv_script.specs.declared.body.Body as body_of
 use Rattle.dv_script.specs.declared.body.End.{End}
 use Rattle.dv_script.specs.declared.body.Statement.{Statement}
-use Rattle.dv_actions.specs.Acting.{with_object, with_named, with_lock, begun}
-use Rattle.dv_actions.specs.Acting as acting
-use Rattle.dv_rules.specs.Cancelling.{awaited_cancelled, cancel_begun, canceller_ended}
-use Rattle.dv_actions.specs.Cooperating.{notices, task_over, notified_by, notified, asked_when, when_done, paused_by, paused_of, stopped_by, resumed_of, is_over, hold_over, failed_by, stepped_by, stepped, step_begun, ticked, tick_stepped, tick_gone_on}
-use Rattle.dv_actions.specs.Cooperating as tasks
-use Rattle.dv_actions.specs.Deed.{deed_of}
-use Rattle.dv_actions.specs.Deed.{Deed}
-use Rattle.dv_actions.specs.Deed.{NoteOf, Make, FireWith, AddTo, ChainTo, PauseOf, UnpauseOf, CancelOf, TimeoutOf, MakeLock, MakeSemaphore, AcquireOf, ReleaseOf, RunOf, MaybeOf, MakeQueue, PutInto, GetFrom, ListOf, GatherOf, LaterOf, CancelCallOf, LoopOf, StopLoopOf, CooperateOf, WhenDoneOf, PauseTaskOf, StopTaskOf, ResumeTaskOf, InlineOf, ThreadOf}
-use Rattle.dv_actions.specs.Inlining.{inline_begun, going_where, resumed, await_ended}
-use Rattle.dv_actions.specs.Listing.{with_children, added_to_children, has_all_at_once, fired_at_once, with_listed, listed, fired_by_child, come_by, results_given}
-use Rattle.dv_actions.specs.Locking.{granted, asked_of, acquired, released_of}
-use Rattle.dv_actions.specs.Looping.{turn_begun, loop_begun, looped, loop_over, turn_ended, loop_failed, over_where, stopped_of}
-use Rattle.dv_rules.specs.Raising.{told_of}
-use Rattle.dv_turning.specs.Turning.{turned}
-use Rattle.dv_rules.specs.Maybe.{name_for, used_for, made_with, taken_for, maybe_ended, given_after}
-use Rattle.dv_actions.specs.Queueing.{handed_out, put_of, got, asked_for, get_of}
-use Rattle.dv_turning.specs.Performing.{gone_on, rest_turned}
-use Rattle.dv_turning.specs.Settling.{side_begun}
-use Rattle.dv_actions.specs.Threading.{threaded, delivered, job_result}
-use Rattle.dv_actions.specs.Timing.{timer_begun, body_called, come_due_with}
-use Rattle.dv_actions.specs.Wanting.{awaited_by, wanted, inline_turned}
-use Rattle.dv_actions.specs.Wanting as wanting
-use Rattle.dv_rules.specs.Turn.{Turned, ◌over◌, done, settling, settle_next}
-use Rattle.dv_rules.specs.declared.frame.Frame.{Frame}
-use Rattle.dv_rules.specs.declared.frame.Frame.TheVariants as frame
-use Rattle.dv_rules.specs.declared.frame.Inlining.{Inlining}
-use Rattle.dv_rules.specs.declared.frame.Inlining.TheVariants.{Goes, Acted, Awaited}
-use Rattle.dv_rules.specs.declared.frame.Purpose.{Purpose}
-use Rattle.dv_rules.specs.declared.frame.Purpose.TheVariants.{Named, Holding, Turning}
-use Rattle.dv_rules.specs.declared.frame.Rest.{Rest}
+use Rattle.dv_performing.specs.Acting.{begun}
+use Rattle.dv_firing.specs.Firing.{fire_named, add_named}
+use Rattle.dv_frames.specs.Naming.{with_object, with_named}
+use Rattle.dv_frames.specs.Cancelling.{awaited_cancelled, cancel_begun, canceller_ended}
+use Rattle.dv_timing.specs.Cooperating.{notices, task_over, notified_by, notified, asked_when, when_done, paused_by, paused_of, stopped_by, resumed_of, is_over, hold_over, failed_by, stepped_by, stepped, step_begun, ticked, tick_stepped, tick_gone_on}
+use Rattle.dv_timing.specs.Cooperating as tasks
+use Rattle.dv_waiting.specs.Flags.{list_flags, gather_flags}
+use Rattle.dv_bodies.specs.Inlining.{inline_begun, going_where, resumed, awaited_by, await_ended}
+use Rattle.dv_waiting.specs.Listing.{with_children, added_to_children, has_all_at_once, fired_at_once, with_listed, listed, fired_by_child, come_by, results_given}
+use Rattle.dv_waiting.specs.Locking.{granted, asked_of, acquired, released_of, with_lock}
+use Rattle.dv_timing.specs.Looping.{turn_begun, loop_begun, looped, loop_over, turn_ended, loop_failed, over_where, stopped_of}
+use Rattle.dv_frames.specs.Raising.{told_of}
+use Rattle.dv_performing.specs.Turning.{turned}
+use Rattle.dv_frames.specs.Maybe.{name_for, used_for, made_with, taken_for, maybe_ended, given_after}
+use Rattle.dv_waiting.specs.Queueing.{handed_out, put_of, got, asked_for, get_of}
+use Rattle.dv_waiting.specs.Queueing as waiting_for
+use Rattle.dv_performing.specs.Performing.{gone_on, rest_turned}
+use Rattle.dv_performing.specs.Settling.{side_begun}
+use Rattle.dv_bodies.specs.Threading.{threaded, delivered, job_result}
+use Rattle.dv_performing.specs.ComingDue.{body_called, come_due_with}
+use Rattle.dv_timing.specs.Timing.{timer_begun}
+use Rattle.dv_performing.specs.Wanting.{wanted, inline_turned}
+use Rattle.dv_performing.specs.Wanting as wanting
+use Rattle.dv_frames.specs.Turn.{Turned, ◌over◌, done, settling, settle_next}
+use Rattle.dv_frames.specs.declared.frame.Frame.{Frame}
+use Rattle.dv_frames.specs.declared.frame.Frame.TheVariants as frame
+use Rattle.dv_frames.specs.declared.frame.Inlining.{Inlining}
+use Rattle.dv_frames.specs.declared.frame.Inlining.TheVariants.{Goes, Acted, Awaited}
+use Rattle.dv_frames.specs.declared.frame.Purpose.{Purpose}
+use Rattle.dv_frames.specs.declared.frame.Purpose.TheVariants.{Named, Holding, Turning}
+use Rattle.dv_frames.specs.declared.frame.Rest.{Rest}
 use Rattle.dv_objects.specs.Performed.{failed_with}
 use Rattle.dv_journal.specs.Change.{change_of, Aside}
 use Rattle.dv_world.specs.Found.{deferreds_at}
 use Rattle.dv_objects.specs.Names.{number_of}
-use Rattle.dv_objects.specs.Pair.{chain, timing, continuing}
+use Rattle.dv_objects.specs.Pair.{callback, errback, both, chain, timing, continuing}
 use Rattle.dv_world.specs.World.{World, deferred_at, step, append, fire, is_unfired, cancel, pause, unpause, make, aside, lock_told, ask, release_found, release, forget, unless_stopped, put_into_found, put_into, get_from_found, get_from, withdraw, arrange, came_to_found, came_to, come_due_found, waiting_cancelled, state_cancelled, call_cancelled, cancel_call, start_timer, turn_scheduled, loop_stopped, stop_loop, end_loop, task_told, pause_task, resume_task, hold_task, task_ended, end_task, tick_dropped, keep_tick, end_tick, step_taken, turn_taken, add_inline, begin_await, come_to_inline, end_await, awaited_in, submit, deliver_later}
 use Rattle.dv_objects.specs.Refusals.{cancelled}
 use Rattle.dv_objects.specs.Works.{is_full}
@@ -97,8 +99,8 @@ use Rattle.std.specs.Prelude.{min}
 use Rattle.dv_clock.specs.declared.limits.TheConstants.{MOST_DELAY}
 use Rattle.dv_objects.specs.Objects.{with_new_call, with_timer, with_delivery, with_tick, without_tick}
 use Rattle.dv_objects.specs.Looping.{with_turn}
-use Rattle.dv_actions.specs.Looping as looping
-use Rattle.dv_rules.specs.Cancelling.{children_cancelled}
+use Rattle.dv_timing.specs.Looping as looping
+use Rattle.dv_frames.specs.Cancelling.{children_cancelled}
 use Rattle.dv_prims.specs.Tokens.{asked, forgotten}
 use Rattle.dv_prims.specs.Queue.{withdrawn}
 use Rattle.dv_clock.specs.Clock.{Clock}
@@ -215,7 +217,7 @@ with_mild itself name w next h = found_mild (deferred_at itself name w) name w n
 lock_mild : (name : List ℕ) (w : World) (next : ℕ → Turned) → ((l : ℕ) → Mild w (next l)) → Mild w (with_lock name w next)
 lock_mild name w next h = found_mild (number_of name w.objects.locks) name w next h
 
-queue_mild : (name : List ℕ) (w : World) (next : ℕ → Turned) → ((k : ℕ) → Mild w (next k)) → Mild w (acting.with_queue name w next)
+queue_mild : (name : List ℕ) (w : World) (next : ℕ → Turned) → ((k : ℕ) → Mild w (next k)) → Mild w (waiting_for.with_queue name w next)
 queue_mild name w next h = found_mild (number_of name w.objects.queue_names) name w next h
 
 free_append : (fs gs : List Frame) → AllPutNothing fs → AllPutNothing gs → AllPutNothing (fs ++ gs)
@@ -658,38 +660,49 @@ timer_mild d delay w =
     over_mild w (settling d (append d (timing t) started)) _ (tt, tt) (then_mild w started _ (timer_comes d delay w) (settling_mild d started _ (by_append d (timing t) started)))
 
 -- actions
-begun_mild : (itself : Option ℕ) (deed : Deed) (w : World) → Mild w (begun itself deed w)
-begun_mild itself (NoteOf text) w = done_mild w _ (by_aside (entry.Note text) _ w refl (λ k. Leaves (refl, refl, refl)) (λ k. k))
-begun_mild itself (Make name canceller) w = done_mild w _ (by_make (Some name) (option_map Body canceller) w)
-begun_mild itself (FireWith name value) w = with_mild itself name w _ (λ d. fire_mild d value w)
-begun_mild itself (AddTo name pair) w = with_mild itself name w _ (λ d. settling_mild d w (append d pair w) (by_append d pair w))
-begun_mild itself (ChainTo name next) w = with_mild itself name w _ (λ d. with_mild itself next w _ (λ c. settling_mild d w (append d (chain c) w) (by_append d (chain c) w)))
-begun_mild itself (PauseOf name) w = with_mild itself name w _ (λ d. done_mild w (pause d w) (record { keeps = λ R l. l.by_pause d w }))
-begun_mild itself (UnpauseOf name) w = with_mild itself name w _ (λ d. next_mild d (unpause d w).0 w (unpause d w).1 (record { keeps = λ R l. l.by_unpause d w }))
-begun_mild itself (CancelOf name) w = with_mild itself name w _ (λ d. reaching_mild d w)
-begun_mild itself (TimeoutOf name delay) w = with_mild itself name w _ (λ d. timer_mild d delay w)
-begun_mild itself (MakeLock name) w = done_mild w _ (by_aside (entry.Lock name) _ w refl (λ k. Leaves (refl, refl, refl)) (λ k. k))
-begun_mild itself (MakeSemaphore name tokens) w = done_mild w _ (by_aside (entry.Semaphore name tokens) _ w refl (λ k. Leaves (refl, refl, refl)) (λ k. k))
-begun_mild itself (AcquireOf name lock) w = lock_mild lock w _ (λ l. acquired_mild name l w)
-begun_mild itself (RunOf name lock body) w = lock_mild lock w _ (λ l. over_mild w (acquired name l w) _ (tt, tt) (acquired_mild name l w))
-begun_mild itself (ReleaseOf lock) w = lock_mild lock w _ (λ l. released_mild l (slice_get w.objects.semaphores l) w)
-begun_mild itself (MaybeOf name body) w = record { comes = same w; free = (tt, (tt, tt)) }
-begun_mild itself (MakeQueue name size backlog) w = done_mild w _ (by_aside (entry.Queue name size backlog) _ w refl (λ k. Leaves (refl, refl, refl)) (λ k. k))
-begun_mild itself (PutInto queue value) w = queue_mild queue w _ (λ k. put_mild k value (slice_get w.objects.queues k) w)
-begun_mild itself (GetFrom name queue) w = queue_mild queue w _ (λ k. get_mild name k (slice_get w.objects.queues k) w)
-begun_mild itself (ListOf name children flags) w = children_mild (deferreds_at itself children w) w _ (λ ds. listed_mild name ds flags w)
-begun_mild itself (GatherOf name children flags) w = children_mild (deferreds_at itself children w) w _ (λ ds. over_mild w (listed name ds flags w) _ (tt, tt) (listed_mild name ds flags w))
-begun_mild itself (LaterOf name delay body) w = done_mild w _ (call_later_comes name delay body w)
-begun_mild itself (CancelCallOf name) w = found_mild (number_of name w.objects.call_names) name w _ (λ number. record { comes = off_comes number w; free = tt })
-begun_mild itself (LoopOf name of interval at_once body) w = looped_mild name of interval at_once body w
-begun_mild itself (StopLoopOf name) w = found_mild (number_of name w.objects.loop_names) name w _ (λ l. stopped_mild l (slice_get w.objects.loops l) w)
-begun_mild itself (CooperateOf name bodies) w = done_mild w _ (keep_comes w _ (by_aside (entry.Task name) (cooperating (with_new_task name bodies)) w refl (λ k. Leaves (refl, refl, refl)) (λ k. k)))
-begun_mild itself (WhenDoneOf name task) w = found_mild (number_of task w.objects.cooperator.task_names) task w _ (λ t. when_mild name t w)
-begun_mild itself (PauseTaskOf name) w = found_mild (number_of name w.objects.cooperator.task_names) name w _ (λ t. paused_mild t (slice_get w.objects.cooperator.tasks t) w)
-begun_mild itself (StopTaskOf name) w = found_mild (number_of name w.objects.cooperator.task_names) name w _ (λ t. stopped_task_mild t (slice_get w.objects.cooperator.tasks t) w)
-begun_mild itself (ResumeTaskOf name) w = found_mild (number_of name w.objects.cooperator.task_names) name w _ (λ t. resumed_mild t (slice_get w.objects.cooperator.tasks t) w)
-begun_mild itself (InlineOf name statements) w = inline_begun_mild name statements w
-begun_mild itself (ThreadOf name pool delay work) w = threaded_mild name pool delay work w
+fire_named_mild : (itself : Option ℕ) (name : List ℕ) (value : Value) (w : World) → Mild w (fire_named itself name value w)
+fire_named_mild itself name value w = with_mild itself name w _ (λ d. fire_mild d value w)
+
+add_named_mild : (itself : Option ℕ) (name : List ℕ) (pair : Pair) (w : World) → Mild w (add_named itself name pair w)
+add_named_mild itself name pair w = with_mild itself name w _ (λ d. settling_mild d w (append d pair w) (by_append d pair w))
+
+begun_mild : (itself : Option ℕ) (action : Action-F Action Statement body_of.Body) (w : World) → Mild w (begun itself action w)
+begun_mild itself (Action-F.Note text) w = done_mild w _ (by_aside (entry.Note text) _ w refl (λ k. Leaves (refl, refl, refl)) (λ k. k))
+begun_mild itself (Action-F.Deferred name canceller) w = done_mild w _ (by_make (Some name) (option_map Body canceller) w)
+begun_mild itself (Action-F.Callback name value) w = fire_named_mild itself name value w
+begun_mild itself (Action-F.Errback name class message) w = fire_named_mild itself name (fault class message) w
+begun_mild itself (Action-F.AddCallback name body) w = add_named_mild itself name (callback body) w
+begun_mild itself (Action-F.AddErrback name body) w = add_named_mild itself name (errback body) w
+begun_mild itself (Action-F.AddBoth name body) w = add_named_mild itself name (both body body) w
+begun_mild itself (Action-F.AddCallbacks name on_value on_failure) w = add_named_mild itself name (both on_value on_failure) w
+begun_mild itself (Action-F.Chain name next) w = with_mild itself name w _ (λ d. with_mild itself next w _ (λ c. settling_mild d w (append d (chain c) w) (by_append d (chain c) w)))
+begun_mild itself (Action-F.Pause name) w = with_mild itself name w _ (λ d. done_mild w (pause d w) (record { keeps = λ R l. l.by_pause d w }))
+begun_mild itself (Action-F.Unpause name) w = with_mild itself name w _ (λ d. next_mild d (unpause d w).0 w (unpause d w).1 (record { keeps = λ R l. l.by_unpause d w }))
+begun_mild itself (Action-F.Cancel name) w = with_mild itself name w _ (λ d. reaching_mild d w)
+begun_mild itself (Action-F.AddTimeout name delay) w = with_mild itself name w _ (λ d. timer_mild d delay w)
+begun_mild itself (Action-F.Lock name) w = done_mild w _ (by_aside (entry.Lock name) _ w refl (λ k. Leaves (refl, refl, refl)) (λ k. k))
+begun_mild itself (Action-F.Semaphore name tokens) w = done_mild w _ (by_aside (entry.Semaphore name tokens) _ w refl (λ k. Leaves (refl, refl, refl)) (λ k. k))
+begun_mild itself (Action-F.Acquire name lock) w = lock_mild lock w _ (λ l. acquired_mild name l w)
+begun_mild itself (Action-F.RunWith name lock body) w = lock_mild lock w _ (λ l. over_mild w (acquired name l w) _ (tt, tt) (acquired_mild name l w))
+begun_mild itself (Action-F.Release lock) w = lock_mild lock w _ (λ l. released_mild l (slice_get w.objects.semaphores l) w)
+begun_mild itself (Action-F.Maybe name body) w = record { comes = same w; free = (tt, (tt, tt)) }
+begun_mild itself (Action-F.Queue name size backlog) w = done_mild w _ (by_aside (entry.Queue name size backlog) _ w refl (λ k. Leaves (refl, refl, refl)) (λ k. k))
+begun_mild itself (Action-F.Put queue value) w = queue_mild queue w _ (λ k. put_mild k value (slice_get w.objects.queues k) w)
+begun_mild itself (Action-F.Get name queue) w = queue_mild queue w _ (λ k. get_mild name k (slice_get w.objects.queues k) w)
+begun_mild itself (Action-F.List name children flags) w = children_mild (deferreds_at itself children w) w _ (λ ds. listed_mild name ds (list_flags flags) w)
+begun_mild itself (Action-F.Gather name children flags) w = children_mild (deferreds_at itself children w) w _ (λ ds. over_mild w (listed name ds (gather_flags flags) w) _ (tt, tt) (listed_mild name ds (gather_flags flags) w))
+begun_mild itself (Action-F.Later name delay body) w = done_mild w _ (call_later_comes name delay body w)
+begun_mild itself (Action-F.CancelCall name) w = found_mild (number_of name w.objects.call_names) name w _ (λ number. record { comes = off_comes number w; free = tt })
+begun_mild itself (Action-F.Loop name of interval at_once body) w = looped_mild name of interval at_once body w
+begun_mild itself (Action-F.StopLoop name) w = found_mild (number_of name w.objects.loop_names) name w _ (λ l. stopped_mild l (slice_get w.objects.loops l) w)
+begun_mild itself (Action-F.Cooperate name bodies) w = done_mild w _ (keep_comes w _ (by_aside (entry.Task name) (cooperating (with_new_task name bodies)) w refl (λ k. Leaves (refl, refl, refl)) (λ k. k)))
+begun_mild itself (Action-F.WhenDone name task) w = found_mild (number_of task w.objects.cooperator.task_names) task w _ (λ t. when_mild name t w)
+begun_mild itself (Action-F.PauseTask name) w = found_mild (number_of name w.objects.cooperator.task_names) name w _ (λ t. paused_mild t (slice_get w.objects.cooperator.tasks t) w)
+begun_mild itself (Action-F.StopTask name) w = found_mild (number_of name w.objects.cooperator.task_names) name w _ (λ t. stopped_task_mild t (slice_get w.objects.cooperator.tasks t) w)
+begun_mild itself (Action-F.ResumeTask name) w = found_mild (number_of name w.objects.cooperator.task_names) name w _ (λ t. resumed_mild t (slice_get w.objects.cooperator.tasks t) w)
+begun_mild itself (Action-F.Inline name statements) w = inline_begun_mild name statements w
+begun_mild itself (Action-F.Thread name delay work) w = threaded_mild name None delay work w
+begun_mild itself (Action-F.ThreadIn name pool delay work) w = threaded_mild name (Some pool) delay work w
 
 awaited_by_mild : (o : Option ℕ) (name : List ℕ) (i : Inline) (p : Position) (w : World) → Mild w (awaited_by o name i p w)
 awaited_by_mild None name i p w = record { comes = same w; free = (tt, tt) }
@@ -699,7 +712,7 @@ awaited_by_mild (Some e) name i p w =
 
 wanted_mild : (i : Inline) (o : Option Want) (p : Position) (w : World) → Mild w (wanted i o p w)
 wanted_mild i None p w = now_mild Done w
-wanted_mild i (Some (Do action)) p w = over_mild w (begun (Some i.of) (deed_of (out-Action action)) w) _ (tt, tt) (begun_mild (Some i.of) (deed_of (out-Action action)) w)
+wanted_mild i (Some (Do action)) p w = over_mild w (begun (Some i.of) (out-Action action) w) _ (tt, tt) (begun_mild (Some i.of) (out-Action action) w)
 wanted_mild i (Some (Await name)) p w = awaited_by_mild (deferred_at (Some i.of) name w) name i p w
 
 reached_mild : (i : Inline) (o : Option Value) (p : Position) (w : World) → Mild w (wanting.reached i o p w)
@@ -713,7 +726,7 @@ inline_mild (Awaited i e p) o w = await_ended_mild i e p w
 
 gone_mild : (itself : Option ℕ) (actions : List Action) (end : End) (input : Value) (w : World) → Mild w (gone_on itself actions end input w)
 gone_mild itself [] end input w = now_mild _ w
-gone_mild itself (action ∷ actions) end input w = over_mild w (begun itself (deed_of (out-Action action)) w) _ (tt, tt) (begun_mild itself (deed_of (out-Action action)) w)
+gone_mild itself (action ∷ actions) end input w = over_mild w (begun itself (out-Action action) w) _ (tt, tt) (begun_mild itself (out-Action action) w)
 
 rest_mild : (rest : Rest) (o : Performed) (w : World) → Mild w (rest_turned rest o w)
 rest_mild rest Done w = gone_mild rest.itself rest.actions rest.end rest.input w
@@ -816,8 +829,8 @@ turned_mild frame.Due o w m = let t = come_due_found (next_call w.objects.clock)
 turned_mild (frame.Inline inlining) o w m = inline_mild inlining o w
 
 -- what happens begins so, but for that time goes on
-pub action_mild : (action : Action) (w : World) → Mild w (begun None (deed_of (out-Action action)) w over (frame.Tell ∷ []))
-action_mild action w = over_mild w _ _ (tt, tt) (begun_mild None (deed_of (out-Action action)) w)
+pub action_mild : (action : Action) (w : World) → Mild w (begun None (out-Action action) w over (frame.Tell ∷ []))
+action_mild action w = over_mild w _ _ (tt, tt) (begun_mild None (out-Action action) w)
 
 pub drain_mild : (w : World) → Mild w (done (tell entry.Drain w))
 drain_mild w = done_mild w _ (by_aside entry.Drain _ w refl (λ k. Leaves (refl, refl, refl)) (λ k. k))

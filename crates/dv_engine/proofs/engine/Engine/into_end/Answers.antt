@@ -6,8 +6,8 @@ use Rattle.dv_engine.specs.declared.engine.Phase.{Phase}
 use Rattle.dv_engine.specs.declared.engine.Phase.TheVariants.{Over}
 use Rattle.dv_engine.proofs.engine.Engine.into_end.Goals as goal
 
-pub returns-in_ok-end-in-Over : goal.returns-in_ok-end-in-Over
-returns-in_ok-end-in-Over g c =
+pub returns : goal.returns
+returns g c =
     let e = c.self.inside in
     let r = c.in_ok-end-in-Over.field-0 in
     let told = c.in_ok-end-in-Over.ensures in

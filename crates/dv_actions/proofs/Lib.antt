@@ -1,4 +1,0 @@
-pub mod BoundsLemmas
-pub mod DueLemmas
-pub mod FireLemmas
-pub mod JobLemmas

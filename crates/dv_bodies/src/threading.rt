@@ -1,0 +1,68 @@
+ghost use Rattle.std.specs.Prelude.{◌≡◌, [], IfOk};
+ghost use Rattle.dv_frames.specs.Bounds.{Bounded};
+ghost use Rattle.dv_bodies.specs.Threading.{threaded, job_begun, delivered};
+ghost use Rattle.dv_frames.specs.Turn.{◌over◌};
+
+use dv_frames::following::{done, fire_and_settle};
+use dv_frames::frame::Frame;
+use dv_journal::deferred_id::DeferredId;
+use dv_objects::performed::Performed;
+use dv_script::lent::{TextRef, WorkRef};
+use dv_value::stack::Stack;
+use dv_value::value::Value;
+use dv_world::world::World;
+use dv_world::world::jobs::too_many_jobs;
+use std::alloc::{AllocError, Global};
+
+/// Makes a Deferred and submits the job that it is for, to the pool of this name or to the default one (Twisted:
+/// `deferToThreadPool`, `deferToThread`).
+#[tactic(auto, using(dv_frames::proofs::BoundsLemmas::records_within))]
+pub fn thread<'s>(
+    alloc: Global,
+    world: &mut World<'s>,
+    name: TextRef<'s>,
+    pool: Option<TextRef<'s>>,
+    delay: u64,
+    work: WorkRef<'s>,
+) -> Result<Performed<'s>, AllocError>
+    requires bounded { Bounded world.old }
+    ensures { IfOk result (λ performed. ([], performed, world.new) ≡ threaded name.entry pool.entry delay work.entry world.old) }
+{
+    if world.works().is_full() {
+        return too_many_jobs(alloc);
+    }
+    let id = world.next_id();
+    world.make(Some(name), None)?;
+    begin_job(world, id, pool, delay, work)
+}
+
+/// Submits a job, and schedules the delivery of its result.
+fn begin_job<'s>(
+    world: &mut World<'s>,
+    id: DeferredId,
+    pool: Option<TextRef<'s>>,
+    delay: u64,
+    work: WorkRef<'s>,
+) -> Result<Performed<'s>, AllocError>
+    ensures { IfOk result (λ performed. ([], performed, world.new) ≡ job_begun id pool.entry delay work.entry world.old) }
+{
+    let job = world.works().len() as u32;
+    world.submit(id, pool, work)?;
+    done(world.deliver_later(job, id, delay))
+}
+
+/// Fires a Deferred with what its job has come to (Twisted: `Deferred.callback`, or `Deferred.errback` where the job has
+/// failed); nothing for a number of no job.
+pub fn deliver<'s>(
+    world: &mut World<'s>,
+    stack: &mut Stack<Frame<'s>>,
+    id: DeferredId,
+    value: Option<Value>,
+) -> Result<Performed<'s>, AllocError>
+    ensures { IfOk result (λ performed. (stack.new, performed, world.new) ≡ delivered id value world.old over stack.old) }
+{
+    match value {
+        None => Ok(Performed::Done),
+        Some(value) => fire_and_settle(world, stack, id, value),
+    }
+}

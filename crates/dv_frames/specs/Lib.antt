@@ -1,0 +1,7 @@
+pub mod Turn
+pub mod Naming
+pub mod Done
+pub mod Maybe
+pub mod Cancelling
+pub mod Bounds
+pub mod Raising

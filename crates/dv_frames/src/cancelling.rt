@@ -1,0 +1,113 @@
+ghost use Rattle.std.specs.Prelude.{◌≡◌, ◌++◌, IfOk, OnOk};
+ghost use Rattle.dv_objects.specs.Performed.{failed_with};
+ghost use Rattle.dv_world.specs.World.{awaited_in, cancel, fire};
+ghost use Rattle.dv_objects.specs.Refusals.{cancelled};
+ghost use Rattle.dv_frames.specs.Cancelling.{awaited_cancelled, children_cancelled, cancel_begun, canceller_ended};
+ghost use Rattle.dv_frames.specs.Turn.{◌over◌, settle_next};
+
+use crate::following::{done, fire_and_settle, settle_after, whole};
+use crate::frame::Frame;
+use dv_journal::deferred_id::DeferredId;
+use dv_objects::inline_id::InlineId;
+use dv_objects::performed::Performed;
+use dv_objects::reached::Reached;
+use dv_objects::refusals::cancelled;
+use dv_value::stack::Stack;
+use dv_value::value::Value;
+use dv_world::world::World;
+use std::alloc::{AllocError, Global};
+
+/// Cancels a Deferred: tells of it, and begins with whom it reaches (Twisted: `Deferred.cancel`).
+pub fn cancel<'s>(
+    alloc: Global,
+    world: &mut World<'s>,
+    stack: &mut Stack<Frame<'s>>,
+    id: DeferredId,
+) -> Result<Performed<'s>, AllocError>
+    ensures { IfOk result (λ performed. (stack.new, performed, world.new) ≡ cancel_begun (cancel id world.old).0 (cancel id world.old).1 over stack.old) }
+{
+    match world.cancel(id)? {
+        Reached::Nothing => Ok(Performed::Done),
+        Reached::Fire(end) => {
+            world.fire_guarded(end)?;
+            settle_after(stack, end)
+        }
+        Reached::Run(end, canceller) => {
+            stack.push(Frame::Canceller(end))?;
+            done(stack.push(Frame::Rest(whole(Some(end), canceller, Value::Null))))
+        }
+        Reached::Children(children) => done(cancel_children(stack, children.as_slice())),
+        Reached::Inline(inline) => cancel_awaited(world, stack, inline),
+        Reached::ForItem(end, queue) => {
+            world.withdraw(queue, end);
+            fire_cancelled(alloc, world, stack, end)
+        }
+        Reached::ForToken(end, lock) => {
+            world.forget(lock, end);
+            fire_cancelled(alloc, world, stack, end)
+        }
+    }
+}
+
+/// Fires a Deferred with CancelledError.
+fn fire_cancelled<'s>(
+    alloc: Global,
+    world: &mut World<'s>,
+    stack: &mut Stack<Frame<'s>>,
+    id: DeferredId,
+) -> Result<Performed<'s>, AllocError>
+    ensures { IfOk result (λ next. (stack.new, next, world.new) ≡ settle_next id (fire id cancelled world.old).0 (fire id cancelled world.old).1 over stack.old) }
+{
+    fire_and_settle(world, stack, id, cancelled(alloc)?)
+}
+
+/// The children of a DeferredList are to be cancelled in order; a failure that leaves the cancel of one is told, and the
+/// next one follows.
+fn cancel_children<'s>(
+    stack: &mut Stack<Frame<'s>>,
+    children: &[DeferredId],
+) -> Result<(), AllocError>
+    ensures { OnOk result (stack.new ≡ children_cancelled children.now ++ stack.old) }
+{
+    for place in (0..children.len()).rev() {
+        stack.push(Frame::Tell)?;
+        stack.push(Frame::Cancel(children[place]))?;
+    }
+    Ok(())
+}
+
+/// What an inline body awaits is to be cancelled, where it awaits something, and nothing else happens.
+fn cancel_awaited<'s>(
+    world: &World<'s>,
+    stack: &mut Stack<Frame<'s>>,
+    inline: InlineId,
+) -> Result<Performed<'s>, AllocError>
+    ensures { IfOk result (λ performed. (stack.new, performed, world.now) ≡ awaited_cancelled (awaited_in inline world.now) world.now over stack.old) }
+{
+    if let Some(awaited) = world.awaited(inline) {
+        stack.push(Frame::Cancel(awaited))?;
+    }
+    Ok(Performed::Done)
+}
+
+/// Goes on after a canceller of a Deferred, by what it came to: its failure is raised, and else the Deferred is fired
+/// where it still may be.
+pub fn end_canceller<'s>(
+    alloc: Global,
+    world: &mut World<'s>,
+    stack: &mut Stack<Frame<'s>>,
+    id: DeferredId,
+    performed: Performed<'s>,
+) -> Result<Performed<'s>, AllocError>
+    ensures { IfOk result (λ next. (stack.new, next, world.new) ≡ canceller_ended id (failed_with performed.entry) world.old over stack.old) }
+{
+    match performed.into_failure(alloc)? {
+        Some(failure) => Ok(Performed::Raised(failure)),
+        None => {
+            if !world.is_unfired(id) {
+                return Ok(Performed::Done);
+            }
+            fire_cancelled(alloc, world, stack, id)
+        }
+    }
+}

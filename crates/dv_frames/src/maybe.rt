@@ -1,0 +1,140 @@
+ghost use Rattle.std.specs.Prelude.{◌≡◌, ◌<◌, ◌^◌, ◌-◌, [], ◌++◌, None, length, IfOk, OnOk};
+ghost use Rattle.dv_frames.specs.Bounds.{Bounded};
+ghost use Rattle.dv_frames.specs.Maybe.{body_for, name_for, used_for, made_with, taken_for, maybe_ended, given_after};
+ghost use Rattle.dv_frames.specs.Turn.{◌over◌};
+ghost use Rattle.dv_world.specs.World.{World as Seen, make};
+
+use crate::following::{done, fire_and_settle, whole};
+use crate::frame::{Frame, Purpose};
+use dv_journal::deferred_id::DeferredId;
+use dv_objects::pair::Pair;
+use dv_objects::performed::Performed;
+use dv_script::lent::{BodyRef, TextRef};
+use dv_value::boxed::Boxed;
+use dv_value::stack::Stack;
+use dv_value::value::Value;
+use dv_world::world::World;
+use std::alloc::{AllocError, Global};
+
+/// A body, in which `@` isn't bound, is to be performed; what it gave becomes a Deferred for this (Twisted: `maybeDeferred`).
+pub fn perform_for<'s>(
+    stack: &mut Stack<Frame<'s>>,
+    purpose: Purpose<'s>,
+    body: BodyRef<'s>,
+) -> Result<(), AllocError>
+    ensures { OnOk result (stack.new ≡ body_for purpose.entry body.entry ++ stack.old) }
+{
+    stack.push(Frame::Maybe(purpose))?;
+    stack.push(Frame::Rest(whole(None, body, Value::Null)))
+}
+
+/// What a body gave becomes a Deferred for this.
+pub fn end_maybe<'s>(
+    alloc: Global,
+    world: &mut World<'s>,
+    stack: &mut Stack<Frame<'s>>,
+    purpose: Purpose<'s>,
+    performed: Performed<'s>,
+) -> Result<Performed<'s>, AllocError>
+    requires bounded { Bounded world.old }
+    ensures { IfOk result (λ next. (stack.new, next, world.new) ≡ maybe_ended purpose.entry performed.entry world.old over stack.old) }
+{
+    match performed {
+        Performed::Done => make_with(world, stack, purpose, Value::Null),
+        Performed::Gave(given) => make_with(world, stack, purpose, given.make(alloc)?),
+        Performed::Raised(failure) => {
+            let value = Value::Fault(Boxed::new(alloc, failure)?);
+            make_with(world, stack, purpose, value)
+        }
+        Performed::Awaits(id) => take_for(world, stack, purpose, id),
+    }
+}
+
+/// Makes a Deferred and fires it with a value.
+#[tactic(auto, using(crate::proofs::BoundsLemmas::records_within))]
+fn make_with<'s>(
+    world: &mut World<'s>,
+    stack: &mut Stack<Frame<'s>>,
+    purpose: Purpose<'s>,
+    value: Value,
+) -> Result<Performed<'s>, AllocError>
+    requires bounded { Bounded world.old }
+    ensures { IfOk result (λ next. (stack.new, next, world.new) ≡ made_with purpose.entry value world.old over stack.old) }
+{
+    let id = world.next_id();
+    if make_for(world, stack, purpose, id).is_err() {
+        drop(value);
+        return Err(AllocError);
+    }
+    fire_and_settle(world, stack, id, value)
+}
+
+/// Makes a Deferred, and what it is for is to follow.
+fn make_for<'s>(
+    world: &mut World<'s>,
+    stack: &mut Stack<Frame<'s>>,
+    purpose: Purpose<'s>,
+    id: DeferredId,
+) -> Result<(), AllocError>
+    requires { length world.old.records < 2 ^ 32 - 1 }
+    ensures world { OnOk result (world.new ≡ make (name_for purpose.entry) None world.old) }
+    ensures stack { OnOk result (stack.new ≡ used_for purpose.entry id ++ stack.old) }
+{
+    let name = begin_use(stack, purpose, id)?;
+    world.make(name, None)
+}
+
+/// What a Deferred is for is to follow, and the name that it gets is answered.
+fn begin_use<'s>(
+    stack: &mut Stack<Frame<'s>>,
+    purpose: Purpose<'s>,
+    id: DeferredId,
+) -> Result<Option<TextRef<'s>>, AllocError>
+    ensures name { IfOk result (λ name. name ≡ name_for purpose.entry) }
+    ensures stack { OnOk result (stack.new ≡ used_for purpose.entry id ++ stack.old) }
+{
+    match purpose {
+        Purpose::Named(name) => Ok(Some(name)),
+        Purpose::Holding(lock) => {
+            stack.push(Frame::Give(Performed::Awaits(id)))?;
+            stack.push(Frame::Add(id, Pair::releasing(lock)))?;
+            Ok(None)
+        }
+        Purpose::Turning(looping) => {
+            stack.push(Frame::Add(id, Pair::turning(looping)))?;
+            Ok(None)
+        }
+    }
+}
+
+/// A Deferred that a body gave is taken as it is.
+fn take_for<'s>(
+    world: &mut World<'s>,
+    stack: &mut Stack<Frame<'s>>,
+    purpose: Purpose<'s>,
+    id: DeferredId,
+) -> Result<Performed<'s>, AllocError>
+    ensures { IfOk result (λ next. (stack.new, next, world.new) ≡ taken_for purpose.entry id world.old over stack.old) }
+{
+    match begin_use(stack, purpose, id)? {
+        None => Ok(Performed::Done),
+        Some(name) => done(world.rename(name.as_str(), id)),
+    }
+}
+
+/// Gives this, unless what was done before raised.
+pub fn give_after<'s>(given: Performed<'s>, performed: Performed<'s>) -> Performed<'s>
+    ensures { (w : Seen) → ([], result, w) ≡ given_after given.entry performed.entry w }
+{
+    match performed {
+        Performed::Done | Performed::Awaits(_) => given,
+        Performed::Gave(before) => {
+            drop(before);
+            given
+        }
+        Performed::Raised(failure) => {
+            drop(given);
+            Performed::Raised(failure)
+        }
+    }
+}

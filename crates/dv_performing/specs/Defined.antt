@@ -1,0 +1,46 @@
+-- That what frames mean is what is defined, so that all that is stated over frames is of the code.
+use Rattle.std.specs.Prelude.{◌≡◌, ◌↔◌, ℕ, List, [], ◌∷◌, Option}
+use Rattle.dv_performing.specs.Acting.{begun}
+use Rattle.dv_objects.specs.declared.performed.Performed.{Performed}
+use Rattle.dv_objects.specs.declared.performed.Performed.TheVariants.{Done}
+use Rattle.dv_posts.specs.Batches.{Batch}
+use Rattle.dv_frames.specs.Turn.{rest_of}
+use Rattle.dv_frames.specs.declared.frame.Frame.TheVariants as frame
+use Rattle.dv_performing.specs.Meaning.{Gives, Means}
+use Rattle.dv_script.specs.declared.action.Action.{Action, out-Action}
+use Rattle.dv_script.specs.declared.body.Body.{Body}
+use Rattle.dv_script.specs.declared.script.Script.{Script}
+use Rattle.dv_definition.specs.Definition.{ComesTo, Leads, act, perform}
+use Rattle.dv_value.specs.declared.value.Value.{Value}
+use Rattle.dv_world.specs.World.{World}
+
+-- a script leads to a world by its frames if and only if it leads there by the definition
+abbrev pub ScriptsMeanWhatIsDefined : Type 0
+ScriptsMeanWhatIsDefined = (script : Script) (batches : List Batch) (after : World) → Means script batches after ↔ Leads script batches after
+
+-- so it is with an action, whatever it comes to
+abbrev pub ActionsMeanWhatIsDefined : Type 0
+ActionsMeanWhatIsDefined =
+    (itself : Option ℕ) (action : Action) (w : World) (p : Performed) (after : World)
+    → (let t = begun itself (out-Action action) w in Gives t.0 t.1 t.2 p after) ↔ ComesTo (λ inside. act inside itself action w) (p, after)
+
+-- with a body
+abbrev pub BodiesMeanWhatIsDefined : Type 0
+BodiesMeanWhatIsDefined =
+    (itself : Option ℕ) (body : Body) (input : Value) (w : World) (p : Performed) (after : World)
+    → Gives (frame.Rest (rest_of itself body input) ∷ []) Done w p after ↔ ComesTo (λ inside. perform inside itself body input w) (p, after)
+
+-- with a cancel
+abbrev pub CancelsMeanWhatIsDefined : Type 0
+CancelsMeanWhatIsDefined = (d : ℕ) (w : World) (p : Performed) (after : World) → Gives (frame.Cancel d ∷ []) Done w p after ↔ ComesTo (λ inside. inside.cancel d w) (p, after)
+
+-- and with settling, which always gives nothing
+abbrev pub SettlingMeansWhatIsDefined : Type 0
+SettlingMeansWhatIsDefined = (d : ℕ) (w : World) (p : Performed) (after : World) → Gives (frame.Settle d ∷ []) Done w p after ↔ (p ≡ Done) × ComesTo (λ inside. inside.settle d w) after
+
+-- by the definition every script leads to a world, and to one only
+abbrev pub EveryScriptLeads : Type 0
+EveryScriptLeads = (script : Script) (batches : List Batch) → (after : World) × Leads script batches after
+
+abbrev pub EachScriptLeadsToOneWorld : Type 0
+EachScriptLeadsToOneWorld = (script : Script) (batches : List Batch) (u v : World) → Leads script batches u → Leads script batches v → u ≡ v

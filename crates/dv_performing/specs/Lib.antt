@@ -1,0 +1,12 @@
+pub mod Acting
+pub mod Beginning
+pub mod Wanting
+pub mod ComingDue
+pub mod TurnEnds
+pub mod Settling
+pub mod Performing
+pub mod Turning
+pub mod Occurrences
+pub mod Meaning
+pub mod Laws
+pub mod Defined

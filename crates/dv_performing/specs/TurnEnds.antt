@@ -1,0 +1,18 @@
+-- How a turn ends, and what that goes on with.
+use Rattle.std.specs.Prelude.{[], Result, Ok, Err}
+use Rattle.dv_bodies.specs.Threading.{delivered, job_result}
+use Rattle.dv_frames.specs.Turn.{Turned}
+use Rattle.dv_objects.specs.declared.performed.Performed.{Performed}
+use Rattle.dv_performing.specs.declared.turn_end.TurnEnd.{TurnEnd}
+use Rattle.dv_performing.specs.declared.turn_end.TurnEnd.TheVariants.{Came, Delivers}
+use Rattle.dv_world.specs.World.{World}
+
+-- what was come to is that, or a Deferred is fired with what its job has come to
+abbrev pub ended_with : TurnEnd → World → Turned
+ended_with (Came p) w = ([], p, w)
+ended_with (Delivers job d) w = delivered d (job_result job w.works) w
+
+-- a turn has come to this, where it was done
+abbrev pub once_come : {E : Type 0} → Result Performed E → Result TurnEnd E
+once_come (Ok p) = Ok (Came p)
+once_come (Err e) = Err e

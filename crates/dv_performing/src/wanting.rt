@@ -1,0 +1,87 @@
+ghost use Rattle.std.specs.Prelude.{◌≡◌, IfOk};
+ghost use Rattle.dv_frames.specs.Bounds.{Bounded};
+ghost use Rattle.dv_frames.specs.Turn.{◌over◌};
+ghost use Rattle.dv_performing.specs.Wanting.{wanted, reached, inline_turned};
+ghost use Rattle.dv_inline.specs.Position.{come, want_at};
+
+use crate::acting::begin;
+use dv_bodies::inlining::{begin_await, end_action, end_await};
+use dv_frames::following::fire_and_settle;
+use dv_frames::frame::{Frame, Inlining};
+use dv_inline::body::InlineBody;
+use dv_inline::poller::Poller;
+use dv_inline::want::Want;
+use dv_objects::inline_id::Inline;
+use dv_objects::performed::Performed;
+use dv_value::stack::Stack;
+use dv_world::world::World;
+use futures::task::Poll;
+use std::alloc::{AllocError, Global};
+
+/// Goes on with an inline body by how far it is.
+pub fn go_on<'s>(
+    alloc: Global,
+    poller: &Poller,
+    world: &mut World<'s>,
+    stack: &mut Stack<Frame<'s>>,
+    inlining: Inlining<'s>,
+    performed: Performed<'s>,
+) -> Result<Performed<'s>, AllocError>
+    requires bounded { Bounded world.old }
+    ensures { IfOk result (λ next. (stack.new, next, world.new) ≡ inline_turned inlining.entry performed.entry world.old over stack.old) }
+{
+    match inlining {
+        Inlining::Goes(inline, body) => {
+            drop(performed);
+            poll(alloc, poller, world, stack, inline, body)
+        }
+        Inlining::Acted(inline, body) => end_action(alloc, world, stack, inline, body, performed),
+        Inlining::Awaited(inline, awaited, body) => {
+            drop(performed);
+            end_await(world, stack, inline, awaited, body)
+        }
+    }
+}
+
+/// Polls a body: it is over, and its Deferred is fired, or what it wants is done.
+fn poll<'s>(
+    alloc: Global,
+    poller: &Poller,
+    world: &mut World<'s>,
+    stack: &mut Stack<Frame<'s>>,
+    inline: Inline,
+    body: InlineBody<'s>,
+) -> Result<Performed<'s>, AllocError>
+    requires bounded { Bounded world.old }
+    ensures { IfOk result (λ next. (stack.new, next, world.new) ≡ reached inline (come body.entry).result (come body.entry) world.old over stack.old) }
+{
+    let mut body = body;
+    match poller.poll(&mut body) {
+        Poll::Ready(outcome) => fire_and_settle(world, stack, inline.of, outcome?),
+        Poll::Pending => want(alloc, world, stack, inline, body),
+    }
+}
+
+/// Does what a body wants.
+fn want<'s>(
+    alloc: Global,
+    world: &mut World<'s>,
+    stack: &mut Stack<Frame<'s>>,
+    inline: Inline,
+    body: InlineBody<'s>,
+) -> Result<Performed<'s>, AllocError>
+    requires bounded { Bounded world.old }
+    ensures { IfOk result (λ next. (stack.new, next, world.new) ≡ wanted inline (want_at body.entry) body.entry world.old over stack.old) }
+{
+    match body.want() {
+        None => {
+            drop(body);
+            Ok(Performed::Done)
+        }
+        Some(Want::Do(action)) => {
+            stack.push(Frame::Inline(Inlining::Acted(inline, body)))?;
+            begin(alloc, world, stack, Some(inline.of), action.get())
+        }
+        Some(Want::Await(name)) => Ok(begin_await(alloc, world, stack, inline, name, body)?),
+    }
+}

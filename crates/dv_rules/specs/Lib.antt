@@ -1,6 +1,0 @@
-pub mod Turn
-pub mod Done
-pub mod Maybe
-pub mod Cancelling
-pub mod Bounds
-pub mod Raising

@@ -1,4 +1,0 @@
-pub mod Occurrences
-pub mod Meaning
-pub mod Laws
-pub mod Defined
