@@ -1,7 +1,6 @@
 """The faults that a run is given, and which ends are right under each."""
 from __future__ import annotations
 
-from collections.abc import Iterator
 from dataclasses import dataclass
 from enum import Enum
 
@@ -76,21 +75,21 @@ def is_whole(script: Script, end: End) -> bool:
     return (end.status, end.errors, end.output) == (script.status, script.errors, script.text)
 
 
-def gave_up(why: tuple[int, bytes], end: End, outputs: Iterator[bytes]) -> bool:
-    """Whether a run ended for this reason, and wrote one of these texts."""
-    return (end.status, end.errors) == why and end.output in outputs
+def gave_up(why: tuple[int, bytes], end: End) -> bool:
+    """Whether a run ended for this reason."""
+    return (end.status, end.errors) == why
 
 
-def prefixes(text: bytes) -> Iterator[bytes]:
-    """Each prefix of a text, from none of it to all of it."""
-    return (text[:length] for length in range(len(text) + 1))
+def wrote_prefix(script: Script, end: End) -> bool:
+    """Whether a run wrote a prefix of the text, from none of it to all of it."""
+    return script.text.startswith(end.output)
 
 
-def written_before(script: Script, fault: Fault) -> Iterator[bytes]:
-    """What may have been written before the write that meets a fault."""
+def wrote_as_much(script: Script, fault: Fault, end: End) -> bool:
+    """Whether a run wrote what it may have before the write that meets a fault."""
     if fault.piece:
-        return iter([script.text[: fault.piece * (fault.number - 1)]])
-    return prefixes(script.text)
+        return end.output == script.text[: fault.piece * (fault.number - 1)]
+    return wrote_prefix(script, end)
 
 
 def read_before(script: Script, fault: Fault) -> bytes:
@@ -102,7 +101,7 @@ def is_cut_off(script: Script, fault: Fault, end: End) -> bool:
     """Whether a run came to what the script comes to up to the read that finds nothing left."""
     if read_before(script, fault).strip() == script.source.strip():
         return is_whole(script, end)
-    return gave_up(NOT_JSON, end, iter([b""]))
+    return gave_up(NOT_JSON, end) and not end.output
 
 
 def is_right(script: Script, fault: Fault, end: End) -> bool:
@@ -111,10 +110,10 @@ def is_right(script: Script, fault: Fault, end: End) -> bool:
         return is_whole(script, end)
     match fault.kind:
         case Kind.GROWTH | Kind.GROWTHS:
-            return is_whole(script, end) or gave_up(OUT_OF_MEMORY, end, prefixes(script.text))
+            return is_whole(script, end) or (gave_up(OUT_OF_MEMORY, end) and wrote_prefix(script, end))
         case Kind.READ_FAILS:
-            return gave_up(READ_FAILED, end, iter([b""]))
+            return gave_up(READ_FAILED, end) and not end.output
         case Kind.READ_ENDS:
             return is_cut_off(script, fault, end)
         case Kind.WRITE_FAILS | Kind.WRITE_TAKES_NOTHING:
-            return gave_up(WRITE_FAILED, end, written_before(script, fault))
+            return gave_up(WRITE_FAILED, end) and wrote_as_much(script, fault, end)

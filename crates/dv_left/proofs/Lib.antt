@@ -1,0 +1,3 @@
+pub mod ListsLemmas
+pub mod RecordsLemmas
+pub mod LeftLemmas

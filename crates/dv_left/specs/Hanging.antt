@@ -9,9 +9,6 @@ use Rattle.dv_objects.specs.declared.looping_call.LoopingCall.{LoopingCall}
 use Rattle.dv_objects.specs.declared.pair.Pair.{Pair}
 use Rattle.dv_objects.specs.declared.pair.Side.{Side}
 use Rattle.dv_objects.specs.declared.pair.Side.TheVariants as side
-use Rattle.dv_objects.specs.declared.task.Task.{Task}
-use Rattle.dv_prims.specs.Queue.{Queue}
-use Rattle.dv_prims.specs.Tokens.{Semaphore}
 use Rattle.dv_store.specs.declared.record.Item.{Item}
 use Rattle.dv_store.specs.declared.record.Item.TheVariants as item
 use Rattle.dv_world.specs.World.{Records, World}
@@ -89,15 +86,10 @@ module _ {A : Type 0} (of_side : ℕ → Side → Links A) where
 abbrev pub all_hung : Hang → List ℕ → Links Hang
 all_hung at ds = map (λ d. (d, at)) ds
 
--- who waits for a token of a lock, from the lock of this number on
-abbrev pub hung_at_locks : ℕ → List Semaphore → Links Hang
-hung_at_locks l [] = []
-hung_at_locks l (s ∷ ss) = all_hung (hang.Lock l) s.waiting ++ hung_at_locks (suc l) ss
-
--- who waits for a value of a queue
-abbrev pub hung_at_queues : ℕ → List Queue → Links Hang
-hung_at_queues k [] = []
-hung_at_queues k (q ∷ qs) = all_hung (hang.Queue k) q.waiting ++ hung_at_queues (suc k) qs
+-- who waits in line at each of several, from the one of this number on
+abbrev pub hung_in_lines : (ℕ → Hang) → ℕ → List (List ℕ) → Links Hang
+hung_in_lines at number [] = []
+hung_in_lines at number (ds ∷ lines) = all_hung (at number) ds ++ hung_in_lines at (suc number) lines
 
 -- who gets the result of a job that isn't delivered
 abbrev pub hung_at_call : CallState → Links Hang
@@ -118,20 +110,15 @@ abbrev pub hung_at_loops : ℕ → List LoopingCall → Links Hang
 hung_at_loops l [] = []
 hung_at_loops l (x ∷ xs) = (x.of, hang.Loop l) ∷ hung_at_loops (suc l) xs
 
--- who is fired when a task ends
-abbrev pub hung_at_tasks : ℕ → List Task → Links Hang
-hung_at_tasks t [] = []
-hung_at_tasks t (x ∷ xs) = all_hung (hang.Task t) x.waiting ++ hung_at_tasks (suc t) xs
-
 -- who hangs at what: at Deferreds by their numbers, each in the order in which its pairs were added, then at locks, queues, jobs, loops and tasks
 abbrev pub hung : World → Links Hang
 hung w =
     by_records hung_by 0 w.records
-    ++ hung_at_locks 0 w.objects.semaphores
-    ++ hung_at_queues 0 w.objects.queues
+    ++ hung_in_lines hang.Lock 0 (map (λ s. s.waiting) w.objects.semaphores)
+    ++ hung_in_lines hang.Queue 0 (map (λ q. q.waiting) w.objects.queues)
     ++ hung_at_calls w.objects.clock.calls
     ++ hung_at_loops 0 w.objects.loops
-    ++ hung_at_tasks 0 w.objects.cooperator.tasks
+    ++ hung_in_lines hang.Task 0 (map (λ x. x.waiting) w.objects.cooperator.tasks)
 
 -- which Deferreds the turns of loops wait for
 abbrev pub turns_held : World → Links ℕ

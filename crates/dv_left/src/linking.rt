@@ -1,5 +1,11 @@
 //! Who hangs at what, list by list.
 
+ghost use Rattle.std.specs.Prelude.{◌≡◌, [], ◌∷◌, IfOk, OnOk, map};
+ghost use Rattle.std.specs.List.{flat_map};
+ghost use Rattle.dv_left.specs.Hanging.{hung_by, turn_held_by, task_held_by, by_item, all_hung, hung_in_lines, hung_at_call, hung_at_calls, hung_at_loops};
+ghost use Rattle.dv_left.specs.declared.left.Hang.TheVariants as hang;
+ghost use Rattle.dv_left.specs.Linking.{no_links, with_links, with_hung};
+
 use crate::left::Hang;
 use crate::lists::Lists;
 use dv_clock::call::{Call, CallState};
@@ -29,7 +35,9 @@ impl Links {
         deferreds: usize,
         loops: usize,
         tasks: usize,
-    ) -> Result<Links, AllocError> {
+    ) -> Result<Links, AllocError>
+        ensures { IfOk result (λ links. links ≡ no_links deferreds loops tasks) }
+    {
         Ok(Links {
             deferreds: Lists::new(alloc, deferreds)?,
             loops: Lists::new(alloc, loops)?,
@@ -42,10 +50,12 @@ impl Links {
         &mut self,
         at: DeferredId,
         items: Deque<Item<Pair<'s>>>,
-    ) -> Result<(), AllocError> {
-        let mut items = items;
-        for _ in 0..items.len() {
-            let Some(item) = items.pop_front() else {
+    ) -> Result<(), AllocError>
+        ensures { OnOk result (self.new ≡ with_links (flat_map (by_item hung_by at) items.entry) (flat_map (by_item turn_held_by at) items.entry) (flat_map (by_item task_held_by at) items.entry) self.old) }
+    {
+        let mut unused = items;
+        for used in 0..unused.len() {
+            let Some(item) = unused.pop_front() else {
                 return Ok(());
             };
             self.add_item(at, &item)?;
@@ -53,7 +63,9 @@ impl Links {
         Ok(())
     }
 
-    fn add_item<'s>(&mut self, at: DeferredId, item: &Item<Pair<'s>>) -> Result<(), AllocError> {
+    fn add_item<'s>(&mut self, at: DeferredId, item: &Item<Pair<'s>>) -> Result<(), AllocError>
+        ensures { OnOk result (self.new ≡ with_links (by_item hung_by at item.now) (by_item turn_held_by at item.now) (by_item task_held_by at item.now) self.old) }
+    {
         match item {
             Item::HandOver(_) => Ok(()),
             Item::Pair(pair) => match &pair.callback {
@@ -63,7 +75,9 @@ impl Links {
         }
     }
 
-    fn add_side<'s>(&mut self, at: DeferredId, side: &Side<'s>) -> Result<(), AllocError> {
+    fn add_side<'s>(&mut self, at: DeferredId, side: &Side<'s>) -> Result<(), AllocError>
+        ensures { OnOk result (self.new ≡ with_links (hung_by at side.now) (turn_held_by at side.now) (task_held_by at side.now) self.old) }
+    {
         match side {
             Side::Fire(id) => self.hang(*id, Hang::Chain(at)),
             Side::Come(child) => self.hang(child.of, Hang::Child(at, child.place)),
@@ -81,42 +95,54 @@ impl Links {
         }
     }
 
-    fn hang(&mut self, id: DeferredId, at: Hang) -> Result<(), AllocError> {
+    fn hang(&mut self, id: DeferredId, at: Hang) -> Result<(), AllocError>
+        ensures { OnOk result (self.new ≡ with_hung ((id, at) ∷ []) self.old) }
+    {
         self.deferreds.push(id.number() as usize, at)
     }
 
-    fn hang_all(&mut self, ids: &[DeferredId], at: Hang) -> Result<(), AllocError> {
+    fn hang_all(&mut self, ids: &[DeferredId], at: &Hang) -> Result<(), AllocError>
+        ensures { OnOk result (self.new ≡ with_hung (all_hung at.now ids.now) self.old) }
+    {
         for id in ids {
-            self.hang(*id, at)?;
+            self.hang(*id, *at)?;
         }
         Ok(())
     }
 
     /// Who waits for a token.
-    pub fn add_locks(&mut self, locks: &[SemaphoreParts]) -> Result<(), AllocError> {
+    pub fn add_locks(&mut self, locks: &[SemaphoreParts]) -> Result<(), AllocError>
+        ensures { OnOk result (self.new ≡ with_hung (hung_in_lines hang.Lock 0 (map (λ s. s.waiting) locks.now)) self.old) }
+    {
         for (number, lock) in locks.iter().enumerate() {
-            self.hang_all(lock.waiting.as_slice(), Hang::Lock(number))?;
+            self.hang_all(lock.waiting.as_slice(), &Hang::Lock(number))?;
         }
         Ok(())
     }
 
     /// Who waits for a value of a queue.
-    pub fn add_queues(&mut self, queues: &[QueueParts]) -> Result<(), AllocError> {
+    pub fn add_queues(&mut self, queues: &[QueueParts]) -> Result<(), AllocError>
+        ensures { OnOk result (self.new ≡ with_hung (hung_in_lines hang.Queue 0 (map (λ q. q.waiting) queues.now)) self.old) }
+    {
         for (number, queue) in queues.iter().enumerate() {
-            self.hang_all(queue.waiting.as_slice(), Hang::Queue(number))?;
+            self.hang_all(queue.waiting.as_slice(), &Hang::Queue(number))?;
         }
         Ok(())
     }
 
     /// Who is to be fired with the result of a job.
-    pub fn add_jobs(&mut self, calls: &[Call]) -> Result<(), AllocError> {
+    pub fn add_jobs(&mut self, calls: &[Call]) -> Result<(), AllocError>
+        ensures { OnOk result (self.new ≡ with_hung (hung_at_calls calls.now) self.old) }
+    {
         for call in calls {
             self.add_job(&call.state)?;
         }
         Ok(())
     }
 
-    fn add_job(&mut self, state: &CallState) -> Result<(), AllocError> {
+    fn add_job(&mut self, state: &CallState) -> Result<(), AllocError>
+        ensures { OnOk result (self.new ≡ with_hung (hung_at_call state.now) self.old) }
+    {
         match state {
             CallState::Waiting(Due::Delivery(job, id)) => {
                 self.hang(DeferredId::new(*id), Hang::Job(*job))
@@ -129,7 +155,9 @@ impl Links {
     }
 
     /// Who is fired when a loop ends.
-    pub fn add_loops<'s>(&mut self, loops: &[LoopingCall<'s>]) -> Result<(), AllocError> {
+    pub fn add_loops<'s>(&mut self, loops: &[LoopingCall<'s>]) -> Result<(), AllocError>
+        ensures { OnOk result (self.new ≡ with_hung (hung_at_loops 0 loops.now) self.old) }
+    {
         for (number, turning) in loops.iter().enumerate() {
             self.hang(turning.of, Hang::Loop(number))?;
         }
@@ -137,9 +165,11 @@ impl Links {
     }
 
     /// Who is fired when a task ends.
-    pub fn add_tasks<'s>(&mut self, tasks: &[Task<'s>]) -> Result<(), AllocError> {
+    pub fn add_tasks<'s>(&mut self, tasks: &[Task<'s>]) -> Result<(), AllocError>
+        ensures { OnOk result (self.new ≡ with_hung (hung_in_lines hang.Task 0 (map (λ x. x.waiting) tasks.now)) self.old) }
+    {
         for (number, task) in tasks.iter().enumerate() {
-            self.hang_all(task.waiting.as_slice(), Hang::Task(number))?;
+            self.hang_all(task.waiting.as_slice(), &Hang::Task(number))?;
         }
         Ok(())
     }

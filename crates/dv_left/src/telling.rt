@@ -1,5 +1,11 @@
 //! What is left, object by object.
 
+ghost use Rattle.std.specs.Prelude.{◌≡◌, ◌++◌, IfOk, OnOk};
+ghost use Rattle.std.specs.Option.{option_and_then};
+ghost use Rattle.dv_clock.specs.Clock.{due_of};
+ghost use Rattle.dv_left.specs.Left.{stage_of, is_settled, has_failed, hangs_of, left_deferred, left_deferreds, left_call, left_calls, next_turn, left_loop, left_loops, left_task, left_tasks, left_tokens, left_locks, left_queue, left_queues, is_unhandled, left_entry, left_unhandled};
+ghost use Rattle.dv_left.specs.Lists.{list_at};
+
 use crate::left::{Hang, Left, LeftDeferred, LeftLoop, LeftTask, LeftTokens, Stage};
 use crate::linking::Links;
 use crate::lists::Lists;
@@ -12,6 +18,7 @@ use dv_objects::looping_call::LoopingCall;
 use dv_objects::task::Task;
 use dv_prims::queue::QueueParts;
 use dv_prims::semaphore::SemaphoreParts;
+use dv_value::deque::Deque;
 use dv_value::items::Items;
 use std::alloc::{AllocError, Global};
 
@@ -26,7 +33,9 @@ pub struct Standing {
     pub failed: bool,
 }
 
-fn copied<T: Copy + Drop>(alloc: Global, items: &[T]) -> Result<Items<T>, AllocError> {
+fn copied<T: Copy + Drop>(alloc: Global, items: &[T]) -> Result<Items<T>, AllocError>
+    ensures { IfOk result (λ copy. copy ≡ items.now) }
+{
     let mut copy = Items::new(alloc);
     for item in items {
         copy.push(*item)?;
@@ -35,7 +44,9 @@ fn copied<T: Copy + Drop>(alloc: Global, items: &[T]) -> Result<Items<T>, AllocE
 }
 
 /// The number of a Deferred. AllocError where it has more than 32 bits.
-pub fn id_of(number: usize) -> Result<DeferredId, AllocError> {
+pub fn id_of(number: usize) -> Result<DeferredId, AllocError>
+    ensures { IfOk result (λ id. id ≡ number) }
+{
     match u32::try_from(number) {
         Ok(number) => Ok(DeferredId::new(number)),
         Err(_) => Err(AllocError),
@@ -43,7 +54,9 @@ pub fn id_of(number: usize) -> Result<DeferredId, AllocError> {
 }
 
 impl Standing {
-    fn stage(&self) -> Stage {
+    fn stage(&self) -> Stage
+        ensures { result ≡ stage_of self.now }
+    {
         if !self.fired {
             return Stage::Unfired;
         }
@@ -53,15 +66,21 @@ impl Standing {
         }
     }
 
-    fn is_settled(&self) -> bool {
+    fn is_settled(&self) -> bool
+        ensures { result ≡ is_settled self.now }
+    {
         self.fired && self.waits_for.is_none() && self.pauses == 0 && !self.running
     }
 
-    fn has_failed(&self) -> bool {
+    fn has_failed(&self) -> bool
+        ensures { result ≡ has_failed self.now }
+    {
         self.fired && self.waits_for.is_none() && self.failed
     }
 
-    fn hangs(&self, alloc: Global, unfired: &[Hang]) -> Result<Items<Hang>, AllocError> {
+    fn hangs(&self, alloc: Global, unfired: &[Hang]) -> Result<Items<Hang>, AllocError>
+        ensures { IfOk result (λ hangs. hangs ≡ hangs_of unfired.now self.now) }
+    {
         if !self.fired {
             return copied(alloc, unfired);
         }
@@ -79,7 +98,9 @@ pub fn add_deferreds(
     left: &mut Items<Left>,
     standings: &[Standing],
     hangs: &Lists<Hang>,
-) -> Result<(), AllocError> {
+) -> Result<(), AllocError>
+    ensures { OnOk result (left.new ≡ left.old ++ left_deferreds (λ d. list_at d hangs.now) 0 standings.now) }
+{
     for (number, standing) in standings.iter().enumerate() {
         let id = id_of(number)?;
         add_deferred(alloc, left, id, standing, hangs.at(number))?;
@@ -93,7 +114,9 @@ fn add_deferred(
     id: DeferredId,
     standing: &Standing,
     unfired: &[Hang],
-) -> Result<(), AllocError> {
+) -> Result<(), AllocError>
+    ensures { OnOk result (left.new ≡ left.old ++ left_deferred id unfired.now standing.now) }
+{
     if !standing.is_settled() {
         let hangs = standing.hangs(alloc, unfired)?;
         left.push(Left::Deferred(LeftDeferred {
@@ -111,14 +134,18 @@ fn add_deferred(
 }
 
 /// What is left on the clock, but for turns of loops.
-pub fn add_calls(left: &mut Items<Left>, calls: &[Call]) -> Result<(), AllocError> {
+pub fn add_calls(left: &mut Items<Left>, calls: &[Call]) -> Result<(), AllocError>
+    ensures { OnOk result (left.new ≡ left.old ++ left_calls calls.now) }
+{
     for call in calls {
         add_call(left, call)?;
     }
     Ok(())
 }
 
-fn add_call(left: &mut Items<Left>, call: &Call) -> Result<(), AllocError> {
+fn add_call(left: &mut Items<Left>, call: &Call) -> Result<(), AllocError>
+    ensures { OnOk result (left.new ≡ left.old ++ left_call call.now.due call.now.state) }
+{
     match &call.state {
         CallState::Waiting(Due::Call(_, number)) => left.push(Left::Call(*number, call.due)),
         CallState::Waiting(Due::Tick) => left.push(Left::Tick(call.due)),
@@ -134,7 +161,9 @@ fn add_call(left: &mut Items<Left>, call: &Call) -> Result<(), AllocError> {
 }
 
 /// When a call is due that waits.
-fn due_of(calls: &[Call], id: CallId) -> Option<u64> {
+fn due_of(calls: &[Call], id: CallId) -> Option<u64>
+    ensures { result ≡ due_of id calls.now }
+{
     let call = calls.get(id.number())?;
     match &call.state {
         CallState::Waiting(_) => Some(call.due),
@@ -149,7 +178,9 @@ pub fn add_loops<'s>(
     loops: &[LoopingCall<'s>],
     calls: &[Call],
     waits: &Lists<DeferredId>,
-) -> Result<(), AllocError> {
+) -> Result<(), AllocError>
+    ensures { OnOk result (left.new ≡ left.old ++ left_loops (λ l. list_at l waits.now) calls.now 0 loops.now) }
+{
     for (number, turning) in loops.iter().enumerate() {
         add_loop(alloc, left, number, turning, calls, waits.at(number))?;
     }
@@ -163,7 +194,9 @@ fn add_loop<'s>(
     turning: &LoopingCall<'s>,
     calls: &[Call],
     waits: &[DeferredId],
-) -> Result<(), AllocError> {
+) -> Result<(), AllocError>
+    ensures { OnOk result (left.new ≡ left.old ++ left_loop number calls.now waits.now turning.now) }
+{
     if !turning.running {
         return Ok(());
     }
@@ -185,7 +218,9 @@ pub fn add_tasks<'s>(
     left: &mut Items<Left>,
     tasks: &[Task<'s>],
     waits: &Lists<DeferredId>,
-) -> Result<(), AllocError> {
+) -> Result<(), AllocError>
+    ensures { OnOk result (left.new ≡ left.old ++ left_tasks (λ t. list_at t waits.now) 0 tasks.now) }
+{
     for (number, task) in tasks.iter().enumerate() {
         add_task(alloc, left, number, task, waits.at(number))?;
     }
@@ -198,7 +233,9 @@ fn add_task<'s>(
     number: usize,
     task: &Task<'s>,
     waits: &[DeferredId],
-) -> Result<(), AllocError> {
+) -> Result<(), AllocError>
+    ensures { OnOk result (left.new ≡ left.old ++ left_task number waits.now task.now) }
+{
     if task.end.is_some() {
         return Ok(());
     }
@@ -215,7 +252,9 @@ pub fn add_locks(
     alloc: Global,
     left: &mut Items<Left>,
     locks: &[SemaphoreParts],
-) -> Result<(), AllocError> {
+) -> Result<(), AllocError>
+    ensures { OnOk result (left.new ≡ left.old ++ left_locks 0 locks.now) }
+{
     for (number, lock) in locks.iter().enumerate() {
         add_lock(alloc, left, number, lock)?;
     }
@@ -227,7 +266,9 @@ fn add_lock(
     left: &mut Items<Left>,
     number: usize,
     lock: &SemaphoreParts,
-) -> Result<(), AllocError> {
+) -> Result<(), AllocError>
+    ensures { OnOk result (left.new ≡ left.old ++ left_tokens number lock.now) }
+{
     if lock.given == 0 {
         return Ok(());
     }
@@ -240,14 +281,22 @@ fn add_lock(
 }
 
 /// The queues on which somebody waits, or with values.
-pub fn add_queues(left: &mut Items<Left>, queues: Vec<QueueParts>) -> Result<(), AllocError> {
-    for (number, queue) in queues.into_iter().enumerate() {
+pub fn add_queues(left: &mut Items<Left>, queues: Deque<QueueParts>) -> Result<(), AllocError>
+    ensures { OnOk result (left.new ≡ left.old ++ left_queues 0 queues) }
+{
+    let mut further = queues;
+    for number in 0..further.len() {
+        let Some(queue) = further.pop_front() else {
+            return Ok(());
+        };
         add_queue(left, number, queue)?;
     }
     Ok(())
 }
 
-fn add_queue(left: &mut Items<Left>, number: usize, queue: QueueParts) -> Result<(), AllocError> {
+fn add_queue(left: &mut Items<Left>, number: usize, queue: QueueParts) -> Result<(), AllocError>
+    ensures { OnOk result (left.new ≡ left.old ++ left_queue number queue) }
+{
     let QueueParts {
         name: _,
         stored,
@@ -263,16 +312,27 @@ fn add_queue(left: &mut Items<Left>, number: usize, queue: QueueParts) -> Result
 }
 
 /// The failures that were told as unhandled.
-pub fn add_unhandled(left: &mut Items<Left>, entries: &[Entry]) -> Result<(), AllocError> {
+pub fn add_unhandled(left: &mut Items<Left>, entries: &[Entry]) -> Result<(), AllocError>
+    ensures { OnOk result (left.new ≡ left.old ++ left_unhandled 0 entries.now) }
+{
     for (place, entry) in entries.iter().enumerate() {
-        if is_unhandled(entry) {
-            left.push(Left::Unhandled(place))?;
-        }
+        add_entry(left, place, entry)?;
     }
     Ok(())
 }
 
-fn is_unhandled(entry: &Entry) -> bool {
+fn add_entry(left: &mut Items<Left>, place: usize, entry: &Entry) -> Result<(), AllocError>
+    ensures { OnOk result (left.new ≡ left.old ++ left_entry place entry.now) }
+{
+    if is_unhandled(entry) {
+        left.push(Left::Unhandled(place))?;
+    }
+    Ok(())
+}
+
+fn is_unhandled(entry: &Entry) -> bool
+    ensures { result ≡ is_unhandled entry.now }
+{
     match entry {
         Entry::Unhandled(_) => true,
         Entry::New(_, _)
