@@ -30,7 +30,7 @@ pub trait Driver {
     ghost use Rattle.dv_script.specs.declared.script.Script.{Script};
 
     /// What is known of that, by the script.
-    ghost ends: { Script → End → Type 0 };
+    ghost ends: { Script → Self.End → Type 0 };
 
     /// Has the engine perform its script, of whose callers these are the bodies. AllocError where memory is refused.
     fn drive<'s, R, J>(
