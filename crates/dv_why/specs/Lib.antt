@@ -1,5 +1,6 @@
 pub mod Wants
 pub mod Places
+pub mod Pointers
 pub mod Fits
 pub mod Finds
 pub mod Why

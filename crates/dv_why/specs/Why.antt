@@ -1,5 +1,7 @@
 -- What is told of a script.
-use Rattle.std.specs.Prelude.{◌≡◌, ◌⊎◌, ℕ, nat_eq, if◌then◌else◌, true, false, List, [], take, Option, Some, None, option_and_then, IsUtf8, codes, ⊤}
+use Rattle.std.specs.Prelude.{◌≡◌, ◌⊎◌, ℕ, nat_eq, if◌then◌else◌, true, false, List, [], take, encode_utf8_all, Option, Some, None, option_and_then, IsUtf8, codes, ⊤}
+use Rattle.std.specs.Str.{chars}
+use Rattle.std.specs.Str.Lossy.{utf8_lossy}
 use Rattle.serde_json.specs.Data.{Data, number, unsigned, boolean, string, object, member, no_members}
 use Rattle.serde_json.specs.Find.{get, as_number, as_u64, pointer}
 use Rattle.serde_json.specs.Read.{read}
@@ -11,6 +13,7 @@ use Rattle.dv_reader.specs.declared.error.ScriptFault.TheVariants.{TooLong, NotJ
 use Rattle.dv_reader.specs.Refusal.{Says, Refuses}
 use Rattle.dv_why.specs.declared.classes.Table.{Table}
 use Rattle.dv_why.specs.declared.classes.Table.TheVariants.{Whole, Wrong}
+use Rattle.dv_why.specs.declared.line.TheConstants.{MOST_SHOWN}
 use Rattle.dv_why.specs.declared.want.Want.{Want}
 use Rattle.dv_why.specs.declared.want.Want.TheVariants as want
 use Rattle.dv_why.specs.declared.want.Keyed.TheVariants as keyed
@@ -19,6 +22,7 @@ use Rattle.dv_why.specs.declared.question.Question.{Question}
 use Rattle.dv_why.specs.declared.question.Question.TheVariants as question
 use Rattle.dv_why.specs.Fits.{suits}
 use Rattle.dv_why.specs.Finds.{Leads}
+use Rattle.dv_why.specs.Pointers.{pointer_text}
 
 -- 1, or 2 where it is anything else
 abbrev pub one_or_two : Option ℕ → ℕ
@@ -79,13 +83,13 @@ refused_text fault line column expected found =
     (member (codes "found") (string found) (member (codes "line") (number (unsigned line)) (member (codes "name") (string (name_of fault))
     (member (codes "refusal") (number (unsigned (number_of fault))) no_members)))))))
 
--- the front of a text
-abbrev pub IsFront : List ℕ → List ℕ → Type 0
-IsFront shown text = (n : ℕ) × (shown ≡ take n text)
+-- as many characters of a text as are shown, from its front
+unfoldable pub first_characters : List ℕ → List ℕ
+first_characters text = encode_utf8_all (take MOST_SHOWN (chars text))
 
 -- the front of a JSON text of the value
 abbrev pub Shows : List ℕ → Data → Type 0
-Shows shown d = (text : List ℕ) × IsInOrder text d × IsFront shown text
+Shows shown d = (text : List ℕ) × IsInOrder text d × (shown ≡ first_characters text)
 
 -- what stands at a place answers the question badly, or the place is the whole
 abbrev pub Misfits : Question → Misfit → Type 0
@@ -108,38 +112,36 @@ pub record Explains (fault : ScriptFault) (d : Data) (m : Misfit) : Type 0 where
   pub leads : Leads (script_in d) d m
   pub wrong : IsWrong fault d m
 
--- the text leads to a part of the document, and that is shown
-pub record Points (d : Data) (at found : List ℕ) : Type 0 where
-  pub part : Data
-  pub place : pointer at d ≡ Some part
-  pub shows : Shows found part
-
--- what is told of a refusal of a JSON value
+-- what is told of a refusal of a JSON value: where the steps of a misfit lead, there the text `at` leads, and what stands there is shown
 pub record TellsOf (fault : ScriptFault) (d : Data) (told : Data) : Type 0 where
+  pub misfit : Misfit
   pub at : List ℕ
   pub expected : List ℕ
   pub found : List ℕ
   pub whole : told ≡ refused fault at expected found
-  pub points : Points d at found
+  pub explains : Explains fault d misfit
+  pub text : at ≡ pointer_text misfit.steps.items
+  pub place : pointer at d ≡ Some (view misfit.found.now)
+  pub shows : Shows found (view misfit.found.now)
 
 -- the same, of the bytes
 abbrev pub TellsOfJson : ScriptFault → List ℕ → Data → Type 0
 TellsOfJson fault bytes told = (d : Data) × IsUtf8 bytes × (read bytes ≡ Some d) × TellsOf fault d told
 
--- what is told of a text that is too long
-abbrev pub TellsOfLong : Data → Type 0
-TellsOfLong told = (expected found : List ℕ) × (told ≡ refused TooLong [] expected found)
+-- what is told of a text that is too long: its own front is shown
+abbrev pub TellsOfLong : List ℕ → Data → Type 0
+TellsOfLong bytes told = (expected : List ℕ) × (told ≡ refused TooLong [] expected (first_characters (utf8_lossy bytes)))
 
--- what is told of a text that is no JSON
-abbrev pub TellsOfText : Data → Type 0
-TellsOfText told =
-    ((expected found : List ℕ) × (told ≡ refused NotJson [] expected found))
-    ⊎ ((line column : ℕ) × (expected found : List ℕ) × (told ≡ refused_text NotJson line column expected found))
+-- what is told of a text that is no JSON, with a line and a column where they are known
+abbrev pub TellsOfText : List ℕ → Data → Type 0
+TellsOfText bytes told =
+    ((expected : List ℕ) × (told ≡ refused NotJson [] expected (first_characters (utf8_lossy bytes))))
+    ⊎ ((line column : ℕ) × (expected : List ℕ) × (told ≡ refused_text NotJson line column expected (first_characters (utf8_lossy bytes))))
 
 -- what is told of bytes that are refused
 abbrev pub IsToldOf : ScriptFault → List ℕ → Data → Type 0
-IsToldOf TooLong bytes told = TellsOfLong told
-IsToldOf NotJson bytes told = TellsOfText told
+IsToldOf TooLong bytes told = TellsOfLong bytes told
+IsToldOf NotJson bytes told = TellsOfText bytes told
 IsToldOf BadVersion bytes told = TellsOfJson BadVersion bytes told
 IsToldOf BadShape bytes told = TellsOfJson BadShape bytes told
 IsToldOf TooMany bytes told = TellsOfJson TooMany bytes told

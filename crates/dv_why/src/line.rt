@@ -2,14 +2,15 @@
 
 ghost use Rattle.std.specs.Prelude.{◌≡◌, IfOk, string_bytes};
 ghost use Rattle.serde_json.specs.View.{view};
-ghost use Rattle.dv_why.specs.Why.{IsFront, Shows, name_of, number_of};
+ghost use Rattle.std.specs.Str.Lossy.{utf8_lossy};
+ghost use Rattle.dv_why.specs.Why.{Shows, first_characters, name_of, number_of};
 
 use dv_reader::error::ScriptFault;
 use serde_json::Value as Json;
 use std::alloc::{AllocError, Global};
 
 /// The most characters that are shown of what stands at a place.
-const MOST_SHOWN: usize = 80;
+pub const MOST_SHOWN: usize = 80;
 
 /// The number of a refusal.
 pub fn number_of(fault: ScriptFault) -> u64
@@ -45,24 +46,19 @@ pub fn name_of(fault: ScriptFault) -> &'static str
     }
 }
 
-/// Where what is shown of a text ends.
-fn end_of_shown(text: &str) -> usize {
-    match text.char_indices().nth(MOST_SHOWN) {
-        Some((end, _)) => end,
-        None => text.len(),
-    }
-}
-
 /// The front of a text, as much as is shown.
 pub fn shown(alloc: Global, text: &str) -> Result<String, AllocError>
-    ensures { IfOk result (λ front. IsFront (string_bytes front) text.now) }
+    ensures { IfOk result (λ front. string_bytes front ≡ first_characters text.now) }
 {
-    let end = end_of_shown(text);
-    if text.is_char_boundary(end) {
-        String::from_str(alloc, &text[..end])
-    } else {
-        String::from_str(alloc, text)
-    }
+    text.chars().take(MOST_SHOWN).collect(alloc)
+}
+
+/// The front of bytes, as much as is shown; what is no UTF-8 is shown as U+FFFD.
+pub fn shown_bytes(alloc: Global, bytes: &[u8]) -> Result<String, AllocError>
+    ensures { IfOk result (λ front. string_bytes front ≡ first_characters (utf8_lossy bytes.now)) }
+{
+    let text = String::from_utf8_lossy(alloc, bytes)?;
+    shown(alloc, text.as_str())
 }
 
 /// The front of a value's JSON text, as much as is shown.

@@ -1,7 +1,8 @@
 ghost use Rattle.std.specs.Prelude.{◌≡◌, ℕ, List, [], IfOk, string_bytes};
+ghost use Rattle.std.specs.Str.Lossy.{utf8_lossy};
 ghost use Rattle.serde_json.specs.View.{view};
 ghost use Rattle.dv_reader.specs.declared.error.ScriptFault.TheVariants.{NotJson};
-ghost use Rattle.dv_why.specs.Why.{script_in, accepted, refused, refused_text, Shows, Explains, Misfits, TellsOf, TellsOfJson, TellsOfText, IsToldOf, Answers};
+ghost use Rattle.dv_why.specs.Why.{script_in, accepted, first_characters, refused, refused_text, Shows, Explains, Misfits, TellsOf, TellsOfJson, TellsOfText, IsToldOf, Answers};
 ghost use Rattle.dv_why.specs.Finds.{Leads};
 
 use crate::classes::{Table, make_table};
@@ -9,7 +10,7 @@ use crate::counts::{items_of, too_many};
 use crate::document::{script_of, value_of, version_of, whole};
 use crate::expected::Expected;
 use crate::find::find;
-use crate::line::{name_of, number_of, shown, shown_json};
+use crate::line::{name_of, number_of, shown_bytes, shown_json};
 use crate::misfit::Misfit;
 use crate::place::pointer_of;
 use crate::pools::second_pool;
@@ -98,12 +99,6 @@ fn refused(
     })
 }
 
-/// The front of bytes, as much as is shown.
-fn shown_bytes(alloc: Global, bytes: &[u8]) -> Result<String, AllocError> {
-    let text = String::from_utf8_lossy(alloc, bytes)?;
-    shown(alloc, text.as_str())
-}
-
 /// A text that is wrong as a whole.
 fn of_text(
     alloc: Global,
@@ -111,7 +106,7 @@ fn of_text(
     expected: Expected,
     bytes: &[u8],
 ) -> Result<Json, AllocError>
-    ensures { IfOk result (λ told. (expected found : List ℕ) × (view told ≡ refused fault [] expected found)) }
+    ensures { IfOk result (λ told. (expected : List ℕ) × (view told ≡ refused fault [] expected (first_characters (utf8_lossy bytes.now)))) }
 {
     let expected = sentence(alloc, expected)?;
     let found = shown_bytes(alloc, bytes)?;
@@ -120,11 +115,14 @@ fn of_text(
 
 /// A text that is no JSON, with the line and the column from which it can't be.
 fn of_no_json(alloc: Global, bytes: &[u8]) -> Result<Json, AllocError>
-    ensures { IfOk result (λ told. TellsOfText (view told)) }
+    ensures { IfOk result (λ told. TellsOfText bytes.now (view told)) }
 {
     match Json::from_slice(alloc, bytes) {
         Ok(_) => of_text(alloc, ScriptFault::NotJson, Expected::JsonText, bytes),
         Err(error) => {
+            if error.is_memory() {
+                return Err(AllocError);
+            }
             let expected = sentence(alloc, Expected::JsonText)?;
             let found = shown_bytes(alloc, bytes)?;
             of_place(
@@ -175,10 +173,7 @@ fn of_value(alloc: Global, fault: ScriptFault, json: &Json) -> Result<Json, Allo
     let (misfit, expected) = misfit_of(alloc, fault, json)?;
     let at = pointer_of(alloc, misfit.steps.as_slice())?;
     let expected = sentence(alloc, expected)?;
-    match json.pointer(at.as_str()) {
-        Some(part) => at_part(alloc, fault, at.as_str(), expected.as_str(), part),
-        None => at_part(alloc, fault, "", expected.as_str(), json),
-    }
+    at_part(alloc, fault, at.as_str(), expected.as_str(), misfit.found)
 }
 
 /// What is told of a part at this place.
