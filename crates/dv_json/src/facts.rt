@@ -80,7 +80,7 @@ pub enum Nesting {
 #[derive(Clone, Copy)]
 pub struct Facts<'e> {
     /// The first word of its line, or the first two.
-    pub word: &'static str,
+    pub word: &'e str,
     /// The Deferreds that it names, in the order of its line.
     pub first: Option<DeferredId>,
     pub second: Option<DeferredId>,

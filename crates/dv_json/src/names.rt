@@ -66,7 +66,7 @@ impl<'e> Names<'e> {
 /// An object that is named: its kind in a word, its name, and its number where that is known.
 #[derive(Clone, Copy)]
 pub struct Object<'e> {
-    pub kind: &'static str,
+    pub kind: &'e str,
     pub name: Option<&'e str>,
     pub number: Option<usize>,
 }
@@ -128,15 +128,15 @@ impl<'e> Objects<'e> {
             Named::Nothing => Ok(None),
             Named::Made(kind, name) => {
                 let number = self.make(kind, name.as_str())?;
-                Ok(Some(object(kind, name, Some(number))))
+                Ok(Some(named_object(kind, name, Some(number))))
             }
             Named::Last(kind, name) => {
                 let number = self.names(kind).last(name.as_str());
-                Ok(Some(object(kind, name, number)))
+                Ok(Some(named_object(kind, name, number)))
             }
             Named::Any(kind, name) => {
                 let number = self.names(kind).only(name.as_str());
-                Ok(Some(object(kind, name, number)))
+                Ok(Some(named_object(kind, name, number)))
             }
             Named::Job(number) => Ok(Some(job(number))),
         }
@@ -152,7 +152,8 @@ impl<'e> Objects<'e> {
     }
 }
 
-fn object<'e>(kind: Kind, name: &'e Text, number: Option<usize>) -> Object<'e> {
+/// The object of a kind and a name.
+fn named_object<'e>(kind: Kind, name: &'e Text, number: Option<usize>) -> Object<'e> {
     Object {
         kind: word_of(kind),
         name: Some(name.as_str()),
