@@ -10,7 +10,7 @@ import enum
 from typing import Iterator, List, NamedTuple, Optional, Tuple, Union
 
 from .fold import Fold
-from .records import Ended, Made, Record, State, ended
+from .records import Ended, Made, Record, ended
 from .world import Phase, Wait
 
 
