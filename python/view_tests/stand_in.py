@@ -58,7 +58,18 @@ def told(output: str, begins: Sequence[int], left: Sequence[Json] = (), stopped:
     for outcome in outcomes:
         end = read_end(outcome)
         assert end is not None
-        written.append({"type": "deferred", "number": end.number, "name": end.name, "line": outcome})
+        fired = next(
+            (one.row for one in entries if one.word == "fire" and one.deferred == end.number), None
+        )
+        written.append(
+            {
+                "type": "deferred",
+                "number": end.number,
+                "name": end.name,
+                "line": outcome,
+                "fired_by": fired,
+            }
+        )
     written += [{"type": "left", **one} for one in left]
     written.append(
         {"type": "end", "stopped": stopped, "weight": len(lines), "limit": 2000, "time": time}
