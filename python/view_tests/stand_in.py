@@ -55,12 +55,11 @@ def told(output: str, begins: Sequence[int], left: Sequence[Json] = (), stopped:
                 "weight": 1,
             }
         )
+    fires = {entry.deferred: entry.row for entry in entries if entry.word == "fire"}
     for outcome in outcomes:
         end = read_end(outcome)
         assert end is not None
-        fired = next(
-            (one.row for one in entries if one.word == "fire" and one.deferred == end.number), None
-        )
+        fired = fires.get(end.number)
         written.append(
             {
                 "type": "deferred",
