@@ -1,10 +1,11 @@
 """Whether the fold of a journal and the facts of the same run agree: the check of the one against the other.
 
-Compared are which side each line lies in, what each Deferred has come to, and what is left. Left out of this is
-what lines don't tell: children of lists, who is chained to whom, for whom a loop's turn waits; a timer whose
-Deferred was fired and hasn't used all of its pairs; a loop whose turn isn't over, where somebody has fired its
-Deferred, or the run has stopped. Where a line names one of several objects of a name, the fold takes its number
-from the facts, and where they don't tell it either, only the Deferreds are compared.
+Compared are which side each line lies in, what each Deferred has come to, by which line it was fired, and what is
+left. Left out of this is what lines don't tell: children of lists, who is chained to whom, for whom a loop's turn
+waits; a timer whose Deferred was fired and hasn't used all of its pairs; a loop whose turn isn't over, where somebody
+has fired its Deferred, or the run has stopped; an await of a Deferred whose side runs at the end. Where a line names
+one of several objects of a name, the fold takes its number from the facts, and where they don't tell it either, only
+the Deferreds are compared.
 """
 
 from __future__ import annotations
@@ -15,6 +16,7 @@ from .facts import Facts
 from .fold import Fold
 from .left import (
     At,
+    Hang,
     Left,
     LeftDeferred,
     LeftLoop,
@@ -48,6 +50,7 @@ def agreement(facts: Facts) -> Agreement:
     stopped = facts.ending is None or facts.ending.stopped
     found = [
         *(f"outcome: {problem}" for problem in fold.problems),
+        *_firings(fold, facts),
         *_sides(fold, lines, facts),
         *_places(lines, facts),
     ]
@@ -61,6 +64,14 @@ def agreement(facts: Facts) -> Agreement:
 def _guesses(world: World) -> bool:
     """Whether it was guessed which object a line means."""
     return bool(world.locks.guessed or world.loops.guessed or world.tasks.guessed)
+
+
+def _firings(fold: Fold, facts: Facts) -> Iterator[str]:
+    """By which line each Deferred was fired."""
+    for end, fired in zip(facts.ends, facts.fired):
+        record = fold.records.get(end.number)
+        if record is None or record.fired != fired:
+            yield f"#{end.number} was fired by {fired}, and not so by the fold"
 
 
 def _sides(fold: Fold, lines: List[Entry], facts: Facts) -> Iterator[str]:
@@ -87,12 +98,18 @@ def _places(lines: List[Entry], facts: Facts) -> Iterator[str]:
             yield f"a line lies in {told.under}, and by where events begin in {found.under}"
 
 
+def _runs(fold: Fold, hang: Hang) -> bool:
+    """Whether the pair by which an inline body awaits may be the one whose side runs at the end."""
+    return hang.at is At.AWAIT and fold.records[hang.number].runs_since is not None
+
+
 def _comparable(fold: Fold, left: List[Left], is_whole: bool, stopped: bool) -> Iterator[Left]:
     """What the lines can tell of what is left, in a run that has stopped at its limit or not."""
     for one in left:
         if isinstance(one, LeftDeferred):
             untold = _UNTOLD if is_whole else _UNTOLD | _OF_OBJECTS
-            yield one._replace(hangs=tuple(hang for hang in one.hangs if hang.at not in untold))
+            known = (hang for hang in one.hangs if hang.at not in untold and not _runs(fold, hang))
+            yield one._replace(hangs=tuple(known))
         elif isinstance(one, LeftTimeout):
             if fold.records[one.deferred].fired is None:
                 yield one

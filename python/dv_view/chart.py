@@ -7,9 +7,9 @@ from typing import Dict, Iterator, List, NamedTuple, Sequence, Tuple
 from .events import Events
 from .layout import CHUNK, SLOT, Lane, Lanes, Rows, Slot, SlotKind, chunks, text_width
 from .markup import Markup, attribute, isolated
-from .records import ArrowKind, By, Look, Record, Row, ended
+from .records import By, Look, Record, Row, ended
 from .ruler import WIDTH as RULER
-from .ruler import Drawn, Ruler, drawn_in, shown_time
+from .ruler import Ruler, drawn_in, shown_time
 from .run import Run
 from .shapes import SAYS, arrow, bar, cap, hook, strokes
 from .texts import Html, clipped, escaped, joined
@@ -18,7 +18,7 @@ NUMBER = 46
 _DEEPEST = 12
 _NEAR = 8
 _MOST_TITLE, _MOST_TITLES = 1_000, 250_000
-_MOST_ROW, _LEAST_ROW, _MANY_CHARACTERS = 300, 100, 800_000
+_MOST_ROW, _LEAST_ROW, _MANY_CHARACTERS = 300, 60, 800_000
 _MOST_WHY = 140
 _OVER = 4
 
@@ -96,10 +96,9 @@ class Chart:
 
     def _title(self, line: str) -> Html:
         """The line in full, as long as there is room for such texts on the page."""
-        self._titles += min(len(line), _MOST_TITLE)
-        return (
-            attribute("title", clipped(line, _MOST_TITLE)) if self._titles <= _MOST_TITLES else Html("")
-        )
+        title = attribute("title", clipped(line, _MOST_TITLE))
+        self._titles += len(title)
+        return title if self._titles <= _MOST_TITLES else Html("")
 
     def _why(self, row: Row) -> Html:
         """Why it happened, unless the rows round it show that, and the event that is told by the row."""

@@ -53,6 +53,8 @@ class Facts:
         self.entries: List[Entry] = []
         self.places: List[Place] = []
         self.ends: List[End] = []
+        #: the entry by which each Deferred was fired, if it was
+        self.fired: List[Optional[int]] = []
         self.left: List[Left] = []
         #: None where the text was cut off
         self.ending: Optional[Ending] = None
@@ -86,6 +88,7 @@ def _take(facts: Facts, told: Json) -> None:
         if end is None:
             raise ValueError("a line of a Deferred")
         facts.ends.append(end)
+        facts.fired.append(None if told["fired_by"] is None else _number(told["fired_by"]))
     elif kind == "left":
         read = _LEFT.get(told["kind"])
         if read is not None:

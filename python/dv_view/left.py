@@ -10,7 +10,7 @@ import enum
 from typing import Iterator, List, NamedTuple, Optional, Tuple, Union
 
 from .fold import Fold
-from .records import Ended, Made, Record, State, ended
+from .records import Ended, Made, Record, ended
 from .world import Phase, Wait
 
 
@@ -172,16 +172,21 @@ def _hangs(fold: Fold, record: Record) -> Iterator[Hang]:
         yield Hang(At.DEFERRED, record.waits)
     if record.fired is not None:
         return
-    if record.awaits is not None and _is_stuck(fold, record.awaits):
+    if record.awaits is not None and _is_stuck(fold, record.awaits) and _has_pair(fold, record):
         yield Hang(At.AWAIT, record.awaits)
     elif record.made in (Made.ACQUIRE, Made.GET) and record.number in fold.world.lines:
         yield Hang(At.LOCK if record.made is Made.ACQUIRE else At.QUEUE, record.of)
-    elif record.made is Made.JOB and not fold.world.jobs[record.of].is_delivered:
+    elif record.made is Made.JOB and fold.world.jobs[record.of].is_left:
         yield Hang(At.JOB, record.of)
     elif record.made is Made.LOOP and fold.world.loops.all[record.of].phase is not Phase.ENDED:
         yield Hang(At.LOOP, record.of)
     elif record.made is Made.WHEN_DONE and not fold.world.tasks.all[record.of].has_ended:
         yield Hang(At.TASK, record.of)
+
+
+def _has_pair(fold: Fold, record: Record) -> bool:
+    """Whether an inline body has added its pair to whom it awaits: the run may have stopped between the two lines."""
+    return record.awaits_at is not None and record.awaits_at + 1 < len(fold.rows)
 
 
 def _is_stuck(fold: Fold, number: int) -> bool:
@@ -204,7 +209,7 @@ def _scheduled(fold: Fold) -> Iterator[Left]:
     if world.tick is not None:
         found.append((world.tick.row, LeftTick(world.tick.due)))
     for number, job in world.jobs.items():
-        if not job.is_delivered:
+        if job.due is not None and not job.is_delivered:
             found.append((job.later, LeftDelivery(number, job.deferred, job.due)))
     return (left for _, left in sorted(found, key=lambda pair: pair[0]))
 

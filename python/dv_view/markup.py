@@ -3,7 +3,7 @@
 from __future__ import annotations
 
 import re
-from typing import Dict, List, Optional, Set
+from typing import Dict, Optional, Set
 
 from .fold import Fold
 from .lines import WORDS

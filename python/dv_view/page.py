@@ -7,13 +7,12 @@ import hashlib
 from pathlib import Path
 from typing import Dict, Iterator, List, Optional
 
-from .chart import NUMBER, Chart
+from .chart import Chart
 from .events import Events
 from .layout import CHUNK, SLOT, Lanes, Rows
 from .markup import Markup, isolated
 from .records import ArrowKind, Ended, Look, Record, State, ended
 from .report import Finding, Kind, Severity
-from .ruler import WIDTH as RULER
 from .run import Run
 from .shapes import CLASSES, SAYS, SIGNS, arrow, bar
 from .texts import Html, escaped, joined, shortened
@@ -24,7 +23,7 @@ MOST_ROWS = 5_000
 _FOLDER = Path(__file__).resolve().parent
 _FEW_FINDINGS, _MOST_FINDINGS = 8, 200
 _FEW_OUTCOMES, _MOST_ODD, _MOST_OK = 16, 200, 2_000
-_MOST_TEXT, _MOST_VALUE, _MOST_DETAILS = 300, 200, 8
+_MOST_TEXT, _MOST_VALUE, _LEAST_VALUE, _MOST_DETAILS = 300, 200, 60, 8
 _PAPER = 1_123
 
 _LEGEND_BARS = (State.UNFIRED, State.RUN, State.OK, State.FAIL, State.WAIT)
@@ -174,15 +173,16 @@ class Page:
             yield Html("<p class=facts>No Deferred was made.</p>")
 
     def _table(self, records: List[Record]) -> Html:
+        most = _MOST_VALUE if len(records) <= _MOST_ODD else _LEAST_VALUE
         head = "<tr><th>No.</th><th>Name</th><th>At the end</th><th>Value</th><th>Fired by</th></tr>"
-        return Html(f"<table>{head}{joined(map(self._outcome, records))}</table>")
+        return Html(f"<table>{head}{joined(self._outcome(record, most) for record in records)}</table>")
 
-    def _outcome(self, record: Record) -> Html:
+    def _outcome(self, record: Record, most: int) -> Html:
         end = ended(record.end)
         value = {Ended.OK: record.end[3:], Ended.FAIL: record.end[5:], Ended.PAUSED: record.end[7:]}.get(
             end, ""
         )
-        shown = isolated(shortened(value, _MOST_VALUE)) if value else Html("")
+        shown = isolated(shortened(value, most)) if value else Html("")
         if end is Ended.WAIT and record.waits is not None:
             shown = Html(f"for {self._markup.deferred(record.waits)}")
         fired = Html("<span class=facts>never</span>")
@@ -273,7 +273,3 @@ def _hash(text: str) -> str:
     """How a content security policy names a style or a script."""
     digest = hashlib.sha256(text.encode("utf-8")).digest()
     return f"sha256-{base64.b64encode(digest).decode('ascii')}"
-
-
-#: the left edge of what the rows say
-TEXT_EDGE = NUMBER + RULER

@@ -193,10 +193,15 @@ class Job(Thing):
     def __init__(self, row: int, deferred: int) -> None:
         super().__init__("", row)
         self.deferred = deferred
-        #: when it is delivered, and the row in which that was scheduled
-        self.due = 0
+        #: when it is delivered, and the row in which that was scheduled; None where the run stopped before that
+        self.due: Optional[int] = None
         self.later = row
         self.is_delivered = False
+
+    @property
+    def is_left(self) -> bool:
+        """Whether its result is still to be delivered."""
+        return self.due is not None and not self.is_delivered
 
 
 class Due:

@@ -3,6 +3,7 @@
 from __future__ import annotations
 
 import json
+from pathlib import Path
 from typing import Iterator, List, NamedTuple
 
 from dv_twisted.rows import ANY_LINES, read_rows, row_files
@@ -95,6 +96,14 @@ def recorded() -> Run:
     """A Twisted program that was recorded."""
     path = TOP / "examples" / "python" / "connection_pool.journal"
     return run_of_journal(path.read_text(encoding="utf-8"), path.name)
+
+
+def told_by_the_program() -> Iterator[Sample]:
+    """Examples, as `./deferreds --json` has told them."""
+    for path in sorted((Path(__file__).resolve().parent / "data").glob("*.jsonl")):
+        script = json.loads((TOP / "examples" / f"{path.stem}.json").read_text(encoding="utf-8"))
+        facts = read_facts(path.read_text(encoding="utf-8"))
+        yield Sample(path.stem, run_of_facts(facts, Script(script), f"{path.stem}.json"))
 
 
 def rows() -> Iterator[Sample]:

@@ -55,10 +55,20 @@ def told(output: str, begins: Sequence[int], left: Sequence[Json] = (), stopped:
                 "weight": 1,
             }
         )
+    fires = {entry.deferred: entry.row for entry in entries if entry.word == "fire"}
     for outcome in outcomes:
         end = read_end(outcome)
         assert end is not None
-        written.append({"type": "deferred", "number": end.number, "name": end.name, "line": outcome})
+        fired = fires.get(end.number)
+        written.append(
+            {
+                "type": "deferred",
+                "number": end.number,
+                "name": end.name,
+                "line": outcome,
+                "fired_by": fired,
+            }
+        )
     written += [{"type": "left", **one} for one in left]
     written.append(
         {"type": "end", "stopped": stopped, "weight": len(lines), "limit": 2000, "time": time}

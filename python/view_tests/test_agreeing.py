@@ -16,8 +16,6 @@ from dv_view.facts import read_facts
 
 from .stand_in import Json, stuck, thing, told
 
-DATA = Path(__file__).resolve().parent / "data"
-
 _JOURNAL = 'lock l\nnew #0 a\nacquire l #0\nfire #0 ok "l"\nnew #1 b\nacquire l #1\nadd #0\nrun #0\nset #0 ok 1\n#0 a ok 1\n#1 b unfired\n'
 _LEFT: List[Json] = [
     stuck(1, "unfired", {"at": "lock", "object": thing("lock", 0)}),
@@ -40,7 +38,7 @@ class Agreeing(unittest.TestCase):
     """What is found."""
 
     def test_what_the_program_has_told(self) -> None:
-        for path in sorted(DATA.glob("*.jsonl")):
+        for path in sorted((Path(__file__).resolve().parent / "data").glob("*.jsonl")):
             found = agreement(read_facts(path.read_text(encoding="utf-8")))
             self.assertEqual(found.differences, [], path.name)
 

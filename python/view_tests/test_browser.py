@@ -231,6 +231,7 @@ class Geometry(InBrowser):
 
     def _runs(self) -> Iterator[samples.Sample]:
         yield from samples.rows()
+        yield from samples.told_by_the_program()
         yield samples.Sample("recorded", samples.recorded())
         yield samples.Sample("hostile", samples.hostile())
         yield samples.Sample("long", samples.long(600))

@@ -127,7 +127,7 @@ class Links(unittest.TestCase):
     """Each link has its target."""
 
     def test_of_all_kinds_of_runs(self) -> None:
-        for sample in samples.rows():
+        for sample in [*samples.rows(), *samples.told_by_the_program()]:
             read = Read(page_of(sample.run))
             self.assertLessEqual(read.links, {f"#{one}" for one in read.ids}, sample.name)
 

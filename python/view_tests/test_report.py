@@ -218,6 +218,14 @@ class OfJournals(unittest.TestCase):
             ],
         )
 
+    def test_what_a_run_has_only_begun_when_it_stopped(self) -> None:
+        found = of_journal("new #0 d", "job 0 #0")
+        self.assertEqual(found, ["unfired nobody fired #0·d (line 1)"])
+        found = of_journal("new #0 d", "new #1 e", "await #1 #0")
+        self.assertEqual(
+            found[1], "unfired nobody fired #1·e (line 2) | its body has awaited #0·d, and didn't end"
+        )
+
     def test_a_chain_of_many_waits_takes_no_longer_than_its_lines(self) -> None:
         lines = ["new #0 d"]
         for one in range(1, 20_000):
