@@ -2,6 +2,7 @@
 #![tactic(auto)]
 
 ghost use Rattle.std.specs.Prelude.{◌≤◌, IfOk, IfSome};
+ghost use Rattle.dv_script.specs.declared.limits.TheConstants.{MOST_WORKERS};
 
 use dv_jobs::gate::PlainGate;
 use dv_journal::io_sink::IoSink;
@@ -32,7 +33,7 @@ fn main(rt: HostRuntime) -> ExitCode {
 
 /// How many workers the words after the program's name ask for; None where these are wrong. A word that isn't text is an error.
 fn workers(rt: &(impl Env + AllocGlobal)) -> io::Result<Option<u32>>
-    ensures { IfOk result (λ asked. IfSome asked (λ workers. workers ≤ 16)) }
+    ensures { IfOk result (λ asked. IfSome asked (λ workers. workers ≤ MOST_WORKERS)) }
 {
     let mut words = Vec::new(rt.alloc());
     for word in env::args(rt)?.skip(1) {

@@ -7,7 +7,6 @@ use crate::values::{Deferreds, failure_json, object_json, value_json};
 use dv_journal::entry::Entry;
 use dv_journal::line::write_line;
 use dv_value::classes::Classes;
-use dv_value::text::Text;
 use serde_json::{Value as Json, json};
 use std::alloc::{AllocError, Global};
 
@@ -60,27 +59,21 @@ impl<'e> Story<'e> {
     ) -> Result<Json, AllocError> {
         let event = self.event();
         let facts = facts_of(entry);
-        self.learn(facts.news)?;
+        self.learn(&facts.news)?;
         let place = self.places.next(self.entry, facts.nesting)?;
-        let object = self.objects.take(facts.named)?;
-        let told = self.told(
-            alloc,
-            classes,
-            entry,
-            facts,
-            object,
-            &Standing { event, place },
-        )?;
-        self.entry += 1;
+        let object = self.objects.take(&facts.named)?;
+        let standing = Standing { event, place };
+        let told = self.told(alloc, classes, entry, &facts, object, &standing)?;
+        self.entry = self.entry.saturating_add(1);
         Ok(told)
     }
 
     /// What an entry says of Deferreds and of time.
-    fn learn(&mut self, news: News<'e>) -> Result<(), AllocError> {
+    fn learn(&mut self, news: &News<'e>) -> Result<(), AllocError> {
         match news {
             News::Nothing => Ok(()),
             News::New(name) => {
-                self.deferreds.names.push(shown(name))?;
+                self.deferreds.names.push(*name)?;
                 self.fired_by.push(None)?;
                 Ok(())
             }
@@ -91,7 +84,7 @@ impl<'e> Story<'e> {
                 Ok(())
             }
             News::Time(time) => {
-                self.time = time;
+                self.time = *time;
                 Ok(())
             }
         }
@@ -99,11 +92,12 @@ impl<'e> Story<'e> {
 
     /// The event of the next entry; None after the last.
     fn event(&mut self) -> Option<usize> {
-        for mark in &self.marks[self.passed..] {
-            if *mark > self.entry {
-                break;
+        for place in self.passed..self.marks.len() {
+            match self.marks.get(place) {
+                Some(mark) if *mark <= self.entry => {}
+                Some(_) | None => break,
             }
-            self.passed += 1;
+            self.passed = place + 1;
             self.places.begin_event();
         }
         if self.passed == 0 || self.passed == self.marks.len() {
@@ -118,7 +112,7 @@ impl<'e> Story<'e> {
         alloc: Global,
         classes: &Classes,
         entry: &Entry,
-        facts: Facts<'e>,
+        facts: &Facts<'e>,
         object: Option<Object<'e>>,
         standing: &Standing,
     ) -> Result<Json, AllocError> {
@@ -160,13 +154,5 @@ impl<'e> Story<'e> {
             "value": value,
             "weight": entry.weight(),
         })
-    }
-}
-
-/// The text of a name, where there is one.
-pub fn shown(name: &Option<Text>) -> Option<&str> {
-    match name {
-        None => None,
-        Some(name) => Some(name.as_str()),
     }
 }

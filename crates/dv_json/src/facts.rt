@@ -21,11 +21,11 @@ pub enum Named<'e> {
     /// It names none.
     Nothing,
     /// One is made under this name.
-    Made(Kind, &'e Text),
+    Made(Kind, &'e str),
     /// It is the one that was made last under this name.
-    Last(Kind, &'e Text),
+    Last(Kind, &'e str),
     /// It is any one that was made under this name.
-    Any(Kind, &'e Text),
+    Any(Kind, &'e str),
     /// It is the job of this number.
     Job(u32),
 }
@@ -44,7 +44,7 @@ pub enum Shown<'e> {
 pub enum News<'e> {
     Nothing,
     /// A Deferred is made, of this name.
-    New(&'e Option<Text>),
+    New(Option<&'e str>),
     /// This Deferred is fired.
     Fired(DeferredId),
     /// It is this time.
@@ -122,60 +122,57 @@ impl<'e> Facts<'e> {
             ..Facts::word(word)
         }
     }
+}
 
-    fn and(self, id: DeferredId) -> Facts<'e> {
-        match self.first {
-            None => Facts {
-                first: Some(id),
-                ..self
-            },
-            Some(_) => Facts {
-                second: Some(id),
-                ..self
-            },
-        }
-    }
-
-    fn shows(self, value: &'e Value) -> Facts<'e> {
-        Facts {
-            shown: Shown::Value(value),
-            ..self
-        }
-    }
-
-    fn due(self, due: u64) -> Facts<'e> {
-        Facts {
-            due: Some(due),
-            ..self
-        }
-    }
-
-    fn says(self, news: News<'e>) -> Facts<'e> {
-        Facts { news, ..self }
-    }
-
-    fn nests(self, nesting: Nesting) -> Facts<'e> {
-        Facts { nesting, ..self }
+/// The text of a name, where there is one.
+pub fn text_of(name: &Option<Text>) -> Option<&str> {
+    match name {
+        None => None,
+        Some(name) => Some(name.as_str()),
     }
 }
 
 /// What is told of an entry.
 pub fn facts_of(entry: &Entry) -> Facts<'_> {
     match entry {
-        Entry::New(id, name) => Facts::of("new", *id).says(News::New(name)),
+        Entry::New(id, name) => Facts {
+            news: News::New(text_of(name)),
+            ..Facts::of("new", *id)
+        },
         Entry::Name(id, _) => Facts::of("name", *id),
         Entry::Add(id) => Facts::of("add", *id),
-        Entry::Fire(id, value) => Facts::of("fire", *id).shows(value).says(News::Fired(*id)),
+        Entry::Fire(id, value) => Facts {
+            shown: Shown::Value(value),
+            news: News::Fired(*id),
+            ..Facts::of("fire", *id)
+        },
         Entry::Swallow(id) => Facts::of("swallow", *id),
         Entry::Refuse(id) => Facts::of("refuse", *id),
-        Entry::Run(id) => Facts::of("run", *id).nests(Nesting::Begins),
-        Entry::Set(id, value) => Facts::of("set", *id).shows(value).nests(Nesting::Ends),
-        Entry::Take(id, from, value) => Facts::of("take", *id)
-            .and(*from)
-            .shows(value)
-            .nests(Nesting::Ends),
-        Entry::Wait(id, on) => Facts::of("wait", *id).and(*on).nests(Nesting::Ends),
-        Entry::Hand(from, id, value) => Facts::of("hand", *from).and(*id).shows(value),
+        Entry::Run(id) => Facts {
+            nesting: Nesting::Begins,
+            ..Facts::of("run", *id)
+        },
+        Entry::Set(id, value) => Facts {
+            shown: Shown::Value(value),
+            nesting: Nesting::Ends,
+            ..Facts::of("set", *id)
+        },
+        Entry::Take(id, from, value) => Facts {
+            second: Some(*from),
+            shown: Shown::Value(value),
+            nesting: Nesting::Ends,
+            ..Facts::of("take", *id)
+        },
+        Entry::Wait(id, on) => Facts {
+            second: Some(*on),
+            nesting: Nesting::Ends,
+            ..Facts::of("wait", *id)
+        },
+        Entry::Hand(from, id, value) => Facts {
+            second: Some(*id),
+            shown: Shown::Value(value),
+            ..Facts::of("hand", *from)
+        },
         Entry::Pause(id) => Facts::of("pause", *id),
         Entry::Unpause(id) => Facts::of("unpause", *id),
         Entry::Cancel(id) => Facts::of("cancel", *id),
@@ -187,57 +184,115 @@ pub fn facts_of(entry: &Entry) -> Facts<'_> {
             shown: Shown::Failure(failure),
             ..Facts::word("unhandled")
         },
-        Entry::Lock(name) => Facts::named("lock", Named::Made(Kind::Lock, name)),
-        Entry::Semaphore(name, _) => Facts::named("semaphore", Named::Made(Kind::Lock, name)),
-        Entry::Acquire(name, id) => Facts::named("acquire", Named::Last(Kind::Lock, name)).and(*id),
-        Entry::Release(name) => Facts::named("release", Named::Any(Kind::Lock, name)),
-        Entry::Queue(name, _, _) => Facts::named("queue", Named::Made(Kind::Queue, name)),
-        Entry::Put(name, value) => {
-            Facts::named("put", Named::Last(Kind::Queue, name)).shows(value)
-        }
-        Entry::Get(name, id) => Facts::named("get", Named::Last(Kind::Queue, name)).and(*id),
-        Entry::LaterCall(name, due) => {
-            Facts::named("later call", Named::Made(Kind::Call, name)).due(*due)
-        }
-        Entry::LaterLoop(name, due) => {
-            Facts::named("later loop", Named::Any(Kind::Loop, name)).due(*due)
-        }
-        Entry::LaterTick(due) => Facts::word("later tick").due(*due).nests(Nesting::NextTick),
-        Entry::LaterJob(job, due) => Facts::named("later job", Named::Job(*job)).due(*due),
-        Entry::LaterTimeout(id, due) => Facts::of("later timeout", *id).due(*due),
-        Entry::Uncall(name) => Facts::named("uncall", Named::Last(Kind::Call, name)),
-        Entry::Call(name) => {
-            Facts::named("call", Named::Any(Kind::Call, name)).nests(Nesting::Due)
-        }
-        Entry::Tick => Facts::word("tick").nests(Nesting::Tick),
-        Entry::Deliver(job) => Facts::named("deliver", Named::Job(*job)).nests(Nesting::Due),
-        Entry::Timeout(id) => Facts::of("timeout", *id).nests(Nesting::Due),
-        Entry::Loop(name, id) => Facts::named("loop", Named::Made(Kind::Loop, name))
-            .and(*id)
-            .nests(Nesting::Loop),
-        Entry::Turn(name) => {
-            Facts::named("turn", Named::Any(Kind::Loop, name)).nests(Nesting::Turn)
-        }
-        Entry::Stop(name) => Facts::named("stop", Named::Last(Kind::Loop, name)),
-        Entry::Task(name) => Facts::named("task", Named::Made(Kind::Task, name)),
-        Entry::Step(name) => {
-            Facts::named("step", Named::Any(Kind::Task, name)).nests(Nesting::Step)
-        }
-        Entry::Hold(name, id) => Facts::named("hold", Named::Any(Kind::Task, name)).and(*id),
-        Entry::End(name, value) => {
-            Facts::named("end", Named::Any(Kind::Task, name)).shows(value)
-        }
-        Entry::PauseTask(name) => Facts::named("pausetask", Named::Last(Kind::Task, name)),
-        Entry::ResumeTask(name) => Facts::named("resumetask", Named::Any(Kind::Task, name)),
-        Entry::WhenDone(name, id) => {
-            Facts::named("whendone", Named::Last(Kind::Task, name)).and(*id)
-        }
-        Entry::Await(id, on) => Facts::of("await", *id).and(*on),
-        Entry::Job(job, id) => Facts::named("job", Named::Job(*job)).and(*id),
-        Entry::Advance(time) => Facts::word("advance")
-            .says(News::Time(*time))
-            .nests(Nesting::Outer),
-        Entry::Drain => Facts::word("drain").nests(Nesting::Outer),
-        Entry::Post(_, _) => Facts::word("post").nests(Nesting::Due),
+        Entry::Lock(name) => Facts::named("lock", Named::Made(Kind::Lock, name.as_str())),
+        Entry::Semaphore(name, _) => Facts::named(
+            "semaphore",
+            Named::Made(Kind::Lock, name.as_str()),
+        ),
+        Entry::Acquire(name, id) => Facts {
+            first: Some(*id),
+            ..Facts::named("acquire", Named::Last(Kind::Lock, name.as_str()))
+        },
+        Entry::Release(name) => Facts::named("release", Named::Any(Kind::Lock, name.as_str())),
+        Entry::Queue(name, _, _) => Facts::named("queue", Named::Made(Kind::Queue, name.as_str())),
+        Entry::Put(name, value) => Facts {
+            shown: Shown::Value(value),
+            ..Facts::named("put", Named::Last(Kind::Queue, name.as_str()))
+        },
+        Entry::Get(name, id) => Facts {
+            first: Some(*id),
+            ..Facts::named("get", Named::Last(Kind::Queue, name.as_str()))
+        },
+        Entry::LaterCall(name, due) => Facts {
+            due: Some(*due),
+            ..Facts::named("later call", Named::Made(Kind::Call, name.as_str()))
+        },
+        Entry::LaterLoop(name, due) => Facts {
+            due: Some(*due),
+            ..Facts::named("later loop", Named::Any(Kind::Loop, name.as_str()))
+        },
+        Entry::LaterTick(due) => Facts {
+            due: Some(*due),
+            nesting: Nesting::NextTick,
+            ..Facts::word("later tick")
+        },
+        Entry::LaterJob(job, due) => Facts {
+            due: Some(*due),
+            ..Facts::named("later job", Named::Job(*job))
+        },
+        Entry::LaterTimeout(id, due) => Facts {
+            due: Some(*due),
+            ..Facts::of("later timeout", *id)
+        },
+        Entry::Uncall(name) => Facts::named("uncall", Named::Last(Kind::Call, name.as_str())),
+        Entry::Call(name) => Facts {
+            nesting: Nesting::Due,
+            ..Facts::named("call", Named::Any(Kind::Call, name.as_str()))
+        },
+        Entry::Tick => Facts {
+            nesting: Nesting::Tick,
+            ..Facts::word("tick")
+        },
+        Entry::Deliver(job) => Facts {
+            nesting: Nesting::Due,
+            ..Facts::named("deliver", Named::Job(*job))
+        },
+        Entry::Timeout(id) => Facts {
+            nesting: Nesting::Due,
+            ..Facts::of("timeout", *id)
+        },
+        Entry::Loop(name, id) => Facts {
+            first: Some(*id),
+            nesting: Nesting::Loop,
+            ..Facts::named("loop", Named::Made(Kind::Loop, name.as_str()))
+        },
+        Entry::Turn(name) => Facts {
+            nesting: Nesting::Turn,
+            ..Facts::named("turn", Named::Any(Kind::Loop, name.as_str()))
+        },
+        Entry::Stop(name) => Facts::named("stop", Named::Last(Kind::Loop, name.as_str())),
+        Entry::Task(name) => Facts::named("task", Named::Made(Kind::Task, name.as_str())),
+        Entry::Step(name) => Facts {
+            nesting: Nesting::Step,
+            ..Facts::named("step", Named::Any(Kind::Task, name.as_str()))
+        },
+        Entry::Hold(name, id) => Facts {
+            first: Some(*id),
+            ..Facts::named("hold", Named::Any(Kind::Task, name.as_str()))
+        },
+        Entry::End(name, value) => Facts {
+            shown: Shown::Value(value),
+            ..Facts::named("end", Named::Any(Kind::Task, name.as_str()))
+        },
+        Entry::PauseTask(name) => Facts::named("pausetask", Named::Last(Kind::Task, name.as_str())),
+        Entry::ResumeTask(name) => Facts::named(
+            "resumetask",
+            Named::Any(Kind::Task, name.as_str()),
+        ),
+        Entry::WhenDone(name, id) => Facts {
+            first: Some(*id),
+            ..Facts::named("whendone", Named::Last(Kind::Task, name.as_str()))
+        },
+        Entry::Await(id, on) => Facts {
+            second: Some(*on),
+            ..Facts::of("await", *id)
+        },
+        Entry::Job(job, id) => Facts {
+            first: Some(*id),
+            ..Facts::named("job", Named::Job(*job))
+        },
+        Entry::Advance(time) => Facts {
+            news: News::Time(*time),
+            nesting: Nesting::Outer,
+            ..Facts::word("advance")
+        },
+        Entry::Drain => Facts {
+            nesting: Nesting::Outer,
+            ..Facts::word("drain")
+        },
+        Entry::Post(_, _) => Facts {
+            nesting: Nesting::Due,
+            ..Facts::word("post")
+        },
     }
 }

@@ -1,7 +1,6 @@
 //! The objects that a journal names, numbered in order of making.
 
 use crate::facts::{Kind, Named};
-use dv_value::text::Text;
 use std::alloc::{AllocError, Global};
 use std::collections::BTreeMap;
 
@@ -123,22 +122,22 @@ impl<'e> Objects<'e> {
     }
 
     /// The object that an entry names, which may be made by it.
-    pub fn take(&mut self, named: Named<'e>) -> Result<Option<Object<'e>>, AllocError> {
+    pub fn take(&mut self, named: &Named<'e>) -> Result<Option<Object<'e>>, AllocError> {
         match named {
             Named::Nothing => Ok(None),
             Named::Made(kind, name) => {
-                let number = self.make(kind, name.as_str())?;
-                Ok(Some(named_object(kind, name, Some(number))))
+                let number = self.make(*kind, name)?;
+                Ok(Some(named_object(*kind, name, Some(number))))
             }
             Named::Last(kind, name) => {
-                let number = self.names(kind).last(name.as_str());
-                Ok(Some(named_object(kind, name, number)))
+                let number = self.names(*kind).last(name);
+                Ok(Some(named_object(*kind, name, number)))
             }
             Named::Any(kind, name) => {
-                let number = self.names(kind).only(name.as_str());
-                Ok(Some(named_object(kind, name, number)))
+                let number = self.names(*kind).only(name);
+                Ok(Some(named_object(*kind, name, number)))
             }
-            Named::Job(number) => Ok(Some(job(number))),
+            Named::Job(number) => Ok(Some(job(*number))),
         }
     }
 
@@ -153,10 +152,10 @@ impl<'e> Objects<'e> {
 }
 
 /// The object of a kind and a name.
-fn named_object<'e>(kind: Kind, name: &'e Text, number: Option<usize>) -> Object<'e> {
+fn named_object<'e>(kind: Kind, name: &'e str, number: Option<usize>) -> Object<'e> {
     Object {
         kind: word_of(kind),
-        name: Some(name.as_str()),
+        name: Some(name),
         number,
     }
 }

@@ -1,6 +1,7 @@
 //! What became of each Deferred.
 
-use crate::entries::{Story, shown};
+use crate::entries::Story;
+use crate::facts::text_of;
 use crate::values::{text_json, value_json};
 use dv_output::output::write_line;
 use dv_store::outcome::{Outcome, State};
@@ -27,7 +28,7 @@ pub fn outcome_json(
     let mut line = String::new(alloc);
     write_line(alloc, classes, &mut line, number, outcome)?;
     let _ = line.pop();
-    let name = text_json(alloc, shown(&outcome.name))?;
+    let name = text_json(alloc, text_of(&outcome.name))?;
     let (value, waits_for) = match &outcome.state {
         State::Unfired => (Json::Null, Json::Null),
         State::Waiting(id) => (Json::Null, story.deferreds.json(alloc, *id)?),

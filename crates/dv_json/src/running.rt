@@ -1,3 +1,6 @@
+ghost use Rattle.std.specs.Prelude.{◌≤◌};
+ghost use Rattle.dv_script.specs.declared.limits.TheConstants.{MOST_WORKERS};
+
 use crate::driving::Marking;
 use crate::marked::Marked;
 use crate::printing::print_run;
@@ -27,6 +30,7 @@ where
     R: Source,
     W: Sink,
     G: Gate + Sync,
+    requires { workers ≤ MOST_WORKERS }
 {
     let alloc = rt.alloc();
     let script = script_of(alloc, reader)?;
