@@ -3,5 +3,7 @@ pub mod Places
 pub mod Pointers
 pub mod Fits
 pub mod Finds
+pub mod AllSuit
+pub mod Reasons
 pub mod Why
 pub mod Explaining
