@@ -11,6 +11,8 @@ use Rattle.dv_script.specs.declared.script.Script.{Script}
 use Rattle.dv_reader.specs.declared.error.ScriptFault.{ScriptFault}
 use Rattle.dv_reader.specs.declared.error.ScriptFault.TheVariants.{TooLong, NotJson, BadVersion, BadShape, TooMany, BadName, BadClass, OutOfMemory, BadPool}
 use Rattle.dv_reader.specs.Refusal.{Says, Refuses}
+use Rattle.dv_value.specs.declared.classes.Class.{Class}
+use Rattle.dv_script.specs.declared.limits.TheConstants.{MOST_CLASSES}
 use Rattle.dv_why.specs.declared.classes.Table.{Table}
 use Rattle.dv_why.specs.declared.classes.Table.TheVariants.{Whole, Wrong}
 use Rattle.dv_why.specs.declared.line.TheConstants.{MOST_SHOWN}
@@ -22,6 +24,7 @@ use Rattle.dv_why.specs.declared.question.Question.{Question}
 use Rattle.dv_why.specs.declared.question.Question.TheVariants as question
 use Rattle.dv_why.specs.Fits.{suits}
 use Rattle.dv_why.specs.Finds.{Leads}
+use Rattle.dv_why.specs.Declaring.{IsUndeclarable, table_of_list}
 use Rattle.dv_why.specs.Pointers.{pointer_text}
 
 -- 1, or 2 where it is anything else
@@ -37,10 +40,14 @@ version_in d = one_or_two (option_and_then as_u64 (option_and_then as_number (ge
 abbrev pub script_in : Data → Want
 script_in d = want.Keyed (keyed.Script (version_in d))
 
--- a class that is told to be wrong is a part of the document
+-- the table of the classes that a document declares
+abbrev pub table_in : Data → List Class
+table_in d = table_of_list (get (codes "classes") d) MOST_CLASSES
+
+-- the table of the document, or a part of it that is a class which may not be declared
 abbrev pub IsTableOf : Data → Table → Type 0
-IsTableOf d (Whole classes) = ⊤
-IsTableOf d (Wrong m expected) = Leads (script_in d) d m
+IsTableOf d (Whole classes) = classes ≡ table_in d
+IsTableOf d (Wrong m expected) = Leads (script_in d) d m × IsUndeclarable (get (codes "classes") d) m
 
 -- the number of a refusal
 abbrev pub number_of : ScriptFault → ℕ
@@ -95,7 +102,14 @@ Shows shown d = (text : List ℕ) × IsInOrder text d × (shown ≡ first_charac
 abbrev pub Misfits : Question → Misfit → Type 0
 Misfits q m = (suits q m.want (view m.found.now) ≡ false) ⊎ (m.steps.items ≡ [])
 
--- what is wrong where a script is refused for its shape or its names
+-- the question asks for the classes of this table
+abbrev pub IsOfTable : List Class → Question → Type 0
+IsOfTable table (question.Shape version) = ⊥
+IsOfTable table question.Names = ⊥
+IsOfTable table (question.Classes classes) = classes.now ≡ table
+IsOfTable table (question.Pools pools) = ⊥
+
+-- what is wrong where a script is refused so
 abbrev pub IsWrong : ScriptFault → Data → Misfit → Type 0
 IsWrong TooLong d m = ⊤
 IsWrong NotJson d m = ⊤
@@ -103,7 +117,7 @@ IsWrong BadVersion d m = ⊤
 IsWrong BadShape d m = Misfits (question.Shape (version_in d)) m
 IsWrong TooMany d m = ⊤
 IsWrong BadName d m = Misfits question.Names m
-IsWrong BadClass d m = ⊤
+IsWrong BadClass d m = IsUndeclarable (get (codes "classes") d) m ⊎ ((q : Question) × IsOfTable (table_in d) q × Misfits q m)
 IsWrong OutOfMemory d m = ⊤
 IsWrong BadPool d m = ⊤
 

@@ -1,6 +1,8 @@
 //! The classes that a script declares.
 
-ghost use Rattle.std.specs.Prelude.{◌+◌, ◌<◌, ◌≤◌, ◌^◌, length, IfOk, IfSome, OnOk};
+ghost use Rattle.std.specs.Prelude.{◌≡◌, ◌+◌, ◌<◌, ◌≤◌, ◌^◌, length, None, Some, IfOk, IfSome, OnOk};
+ghost use Rattle.serde_json.specs.Find.{at};
+ghost use Rattle.dv_why.specs.Declaring.{BeginsAt, IsBadClass, class_after};
 ghost use Rattle.serde_json.specs.View.{view};
 ghost use Rattle.dv_why.specs.Wants.{all_classes, one_class};
 ghost use Rattle.dv_why.specs.Why.{IsTableOf};
@@ -47,6 +49,9 @@ fn declare_next<'j>(
 ) -> Result<Option<(Misfit<'j>, Expected)>, AllocError>
     requires room { length classes.old + 1 < 2 ^ 32 }
     ensures leads { IfOk result (λ found. IfSome found (λ part. Leads all_classes (view declared.now) part.0)) }
+    ensures number { IfOk result (λ found. IfSome found (λ part. BeginsAt number part.0.steps.items)) }
+    ensures wrong { IfOk result (λ found. IfSome found (λ part. IsBadClass classes.old part.0)) }
+    ensures table { IfOk result (λ found. found ≡ None → classes.new ≡ class_after classes.old (at number (view declared.now))) }
     ensures grows { OnOk result (length classes.new ≤ length classes.old + 1) }
 {
     let Some(json) = declared.get(number) else {
@@ -66,6 +71,8 @@ fn declare<'j>(
 ) -> Result<Option<(Misfit<'j>, Expected)>, AllocError>
     requires room { length classes.old + 1 < 2 ^ 32 }
     ensures leads { IfOk result (λ found. IfSome found (λ part. Leads one_class (view json.now) part.0)) }
+    ensures wrong { IfOk result (λ found. IfSome found (λ part. IsBadClass classes.old part.0)) }
+    ensures table { IfOk result (λ found. found ≡ None → classes.new ≡ class_after classes.old (Some (view json.now))) }
     ensures grows { OnOk result (length classes.new ≤ length classes.old + 1) }
 {
     let (Some(name), Some(parent)) = (json.get(0usize), json.get(1usize)) else {

@@ -1,7 +1,7 @@
 ghost use Rattle.std.specs.Prelude.{◌≡◌, ℕ, List, [], IfOk, string_bytes};
 ghost use Rattle.std.specs.Str.Lossy.{utf8_lossy};
 ghost use Rattle.serde_json.specs.View.{view};
-ghost use Rattle.dv_reader.specs.declared.error.ScriptFault.TheVariants.{NotJson};
+ghost use Rattle.dv_reader.specs.declared.error.ScriptFault.TheVariants.{NotJson, BadClass};
 ghost use Rattle.dv_why.specs.Why.{script_in, accepted, first_characters, refused, refused_text, Shows, Explains, Misfits, TellsOf, TellsOfJson, TellsOfText, IsToldOf, Answers};
 ghost use Rattle.dv_why.specs.Finds.{Leads};
 
@@ -245,7 +245,7 @@ fn with_expected(misfit: Misfit<'_>) -> (Misfit<'_>, Expected)
 }
 
 fn bad_class(alloc: Global, json: &Json) -> Result<(Misfit<'_>, Expected), AllocError>
-    ensures { IfOk result (λ found. Leads (script_in (view json.now)) (view json.now) found.0) }
+    ensures { IfOk result (λ found. Explains BadClass (view json.now) found.0) }
 {
     match make_table(alloc, json)? {
         Table::Wrong(misfit, expected) => Ok((misfit, expected)),
