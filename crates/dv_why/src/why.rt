@@ -120,6 +120,9 @@ fn of_no_json(alloc: Global, bytes: &[u8]) -> Result<Json, AllocError>
     match Json::from_slice(alloc, bytes) {
         Ok(_) => of_text(alloc, ScriptFault::NotJson, Expected::JsonText, bytes),
         Err(error) => {
+            if error.is_memory() {
+                return Err(AllocError);
+            }
             let expected = sentence(alloc, Expected::JsonText)?;
             let found = shown_bytes(alloc, bytes)?;
             of_place(
