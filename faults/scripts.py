@@ -47,3 +47,9 @@ def all_scripts() -> list[Script]:
         script("cancelled_again", status=1),
         script("unknown_action", status=2, errors=b"script refused: 4 BadShape\n"),
     ]
+
+
+def told_scripts() -> list[Script]:
+    """Those of which the run is swept as JSON too, where each line takes many growths: a few, with all kinds of lines."""
+    names = {"loop_and_later", "held_task", "inline_goes_on", "jobs", "posts", "cancelled_again", "unknown_action"}
+    return [script for script in all_scripts() if script.name in names]

@@ -1,7 +1,10 @@
 #!/usr/bin/env python3
-"""Runs the built program on each script of `scripts/` with each growth of memory refused, and each read and write failed, in turn.
+"""Runs the built programs on scripts of `scripts/` with each growth of memory refused, and each read and write failed, in turn.
 
-    faults/sweep.py [--cmd PROGRAM] [--cc COMPILER]
+    faults/sweep.py [--cmd PROGRAM] [--json PROGRAM] [--cc COMPILER]
+
+The program that runs scripts is swept on all of them, and that which tells runs as JSON on some; what this one comes to where nothing
+fails is first held against the text of the script, line by line.
 
 Each run is given one fault by a shim that is preloaded, and the next one the next number, until three in a row have met none.
 A run that wants memory ends by status 3 with a prefix of its text, or has done without. A run whose reader or writer failed
@@ -11,22 +14,25 @@ says how many runs there were, how many growths were refused in them, and how ma
 from __future__ import annotations
 
 import argparse
+import json
 import os
 import subprocess
 import sys
 import tempfile
 from collections.abc import Iterator
 from concurrent.futures import ThreadPoolExecutor
-from dataclasses import dataclass, field
+from dataclasses import dataclass, field, replace
 from itertools import count, product
 from pathlib import Path
 from threading import Lock
 
 from faults import End, Fault, Kind, is_right
-from scripts import Script, all_scripts
+from scripts import Script, all_scripts, told_scripts
 
 HERE = Path(__file__).resolve().parent
-PROGRAM = HERE.parent / "crates" / "deferreds" / "out" / "deferreds"
+CRATES = HERE.parent / "crates"
+PROGRAM = CRATES / "deferreds" / "out" / "deferreds"
+JSON_PROGRAM = CRATES / "deferreds_json" / "out" / "deferreds_json"
 WORKERS = (0, 2)
 IN_VAIN = 3
 MOST_WRONG = 20
@@ -96,7 +102,11 @@ class Program:
 
     def run(self, script: Script, workers: int, fault: Fault) -> End:
         """Runs a script under a fault."""
-        return run_under(self.shim, [str(self.path), str(workers)], script.source, fault.environment(), self.seconds)
+        return self.run_in(script, workers, fault.environment())
+
+    def run_in(self, script: Script, workers: int, environment: dict[str, str]) -> End:
+        """Runs a script in an environment."""
+        return run_under(self.shim, [str(self.path), str(workers)], script.source, environment, self.seconds)
 
 
 @dataclass(frozen=True)
@@ -143,9 +153,23 @@ def sweep_row(program: Program, row: Row, findings: Findings) -> None:
             return
 
 
-def sweep(program: Program, scripts: list[Script]) -> Findings:
+def joined(output: bytes) -> bytes:
+    """The texts of entries and outcomes in a run that is told as JSON."""
+    told = [json.loads(line) for line in output.decode().split("\n")[:-1]]
+    return "".join(f"{line['line']}\n" for line in told if line["type"] in ("entry", "deferred")).encode()
+
+
+def told_as_json(program: Program, scripts: list[Script], findings: Findings) -> Iterator[Script]:
+    """The scripts, with what the program comes to where nothing fails, which tells what is printed of them."""
+    for script in scripts:
+        end = program.run_in(script, 0, {})
+        if (end.status, end.errors, joined(end.output)) != (script.status, script.errors, script.text):
+            findings.add_wrong(f"{script.name} as JSON: {end}, and doesn't tell what is printed")
+        yield replace(script, name=f"{script.name} as JSON", text=end.output)
+
+
+def sweep(program: Program, scripts: list[Script], findings: Findings) -> Findings:
     """Makes all runs, side by side."""
-    findings = Findings()
     with ThreadPoolExecutor(2 * (os.cpu_count() or 1)) as pool:
         for done in [pool.submit(sweep_row, program, row, findings) for row in rows(scripts)]:
             done.result()
@@ -166,14 +190,19 @@ def compiled_shim(compiler: str, folder: Path) -> Path:
 def main() -> int:
     parser = argparse.ArgumentParser(description=__doc__, formatter_class=argparse.RawDescriptionHelpFormatter)
     parser.add_argument("--cmd", type=Path, default=PROGRAM, metavar="PROGRAM", help="the program that is run")
+    parser.add_argument("--json", type=Path, default=JSON_PROGRAM, metavar="PROGRAM", help="the one that tells runs as JSON")
     parser.add_argument("--cc", default=os.environ.get("CC", "cc"), metavar="COMPILER", help="the C compiler for the shim")
     asked = parser.parse_args()
-    if not os.access(asked.cmd, os.X_OK):
-        print(f"{asked.cmd} isn't there: rt ci or ./deferreds --build builds it", file=sys.stderr)
-        return 2
+    for path in (asked.cmd, asked.json):
+        if not os.access(path, os.X_OK):
+            print(f"{path} isn't there: rt ci or ./deferreds --build builds it", file=sys.stderr)
+            return 2
+    findings = Findings()
     with tempfile.TemporaryDirectory() as folder:
         shim = compiled_shim(asked.cc, Path(folder))
-        findings = sweep(Program(asked.cmd.resolve(), shim, 20), all_scripts())
+        sweep(Program(asked.cmd.resolve(), shim, 20), all_scripts(), findings)
+        telling = Program(asked.json.resolve(), shim, 20)
+        sweep(telling, list(told_as_json(telling, told_scripts(), findings)), findings)
     print(findings)
     return 0 if findings.wrong == 0 else 1
 

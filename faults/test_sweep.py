@@ -32,7 +32,7 @@ class SweepOfStandIns(unittest.TestCase):
         """Sweeps the stand-in that does this wrong."""
         path = compiled("cc", HERE / "stand_in.c", self.folder / wrong.lower(), f"-DWRONG={wrong}")
         with contextlib.redirect_stdout(io.StringIO()):
-            return sweep(Program(path, self.shim, 1), [SCRIPT])
+            return sweep(Program(path, self.shim, 1), [SCRIPT], Findings())
 
     def test_nothing_is_found_in_a_program_that_is_right(self) -> None:
         found = self.sweep("NOTHING")
@@ -47,7 +47,7 @@ class SweepOfStandIns(unittest.TestCase):
     def test_a_program_that_the_shim_does_not_reach_is_found(self) -> None:
         path = compiled("cc", HERE / "stand_in.c", self.folder / "static", "-static")
         with contextlib.redirect_stdout(io.StringIO()):
-            self.assertGreater(sweep(Program(path, self.shim, 1), [SCRIPT]).wrong, 0)
+            self.assertGreater(sweep(Program(path, self.shim, 1), [SCRIPT], Findings()).wrong, 0)
 
 
 class Ends(unittest.TestCase):

@@ -1,9 +1,9 @@
-"""`view_check [--random N] [--seed S] [--ours COMMAND]`: holds the fold of journals against runs that are told in JSON.
+"""`view_check [--random N] [--seed S] [--ours COMMAND]`: holds the fold of journals against `./deferreds --json`,
+on random scripts.
 
-The scripts are random ones. COMMAND reads a script on standard input, and tells its run in the form of docs/JSON.md.
-No program of this repository does so yet: without COMMAND no script is run, and the status is 70. Each difference is
-told; the last line says how many scripts agree, and how many differ. Status 0 exactly where none does; 64: words that
-aren't known; 70: a script was not run.
+COMMAND reads a script on standard input, and tells its run as `./deferreds --json` does. Without it, it is the
+program that `./deferreds --build` has built. Each difference is told; the last line says how many scripts agree,
+and how many differ. Status 0 exactly where none does; 64: words that aren't known; 70: a script was not run.
 """
 
 from __future__ import annotations
@@ -26,7 +26,7 @@ _MOST_SHOWN = 20
 
 
 def _built() -> str:
-    """Where the program is that tells runs in JSON, if `./deferreds` knows one."""
+    """Where the program is that `./deferreds --build` has built."""
     asked = subprocess.run(
         [os.fspath(TOP / "deferreds"), "--json", "--program"],
         stdout=subprocess.PIPE,
@@ -34,7 +34,9 @@ def _built() -> str:
         check=False,
     )
     if asked.returncode != 0:
-        raise NotFacts("./deferreds knows no program that tells runs in JSON; --ours names one")
+        raise NotFacts(
+            "./deferreds --json isn't built; ./deferreds --build builds it, and --ours names one"
+        )
     return asked.stdout.strip()
 
 
@@ -65,7 +67,7 @@ def main(words: List[str]) -> int:
         "--random", type=int, metavar="N", default=2_000, help="how many random scripts (2000)"
     )
     parser.add_argument("--seed", type=int, metavar="S", default=1, help="which random scripts (1)")
-    parser.add_argument("--ours", metavar="COMMAND", help="what tells a run in the form of docs/JSON.md")
+    parser.add_argument("--ours", metavar="COMMAND", help="what tells a run (./deferreds --json)")
     try:
         arguments = parser.parse_args(words)
     except SystemExit as exit_:

@@ -4,7 +4,7 @@ why.
 Writes a page that any browser opens: SCRIPT's name with `.html`, in the folder where the command is given, or FILE.
 With several scripts FILE is a folder. `--text` prints the view instead. Without SCRIPT the script is standard
 input. `--journal FILE` shows a journal with its outcomes, as `./deferreds`, `./on_twisted` or `./record` has given
-it, and runs nothing; `--json FILE` shows a run in the form of docs/JSON.md. FILE may be `-`, for standard input.
+it, and runs nothing; `--json FILE` shows what `./deferreds --json` has told. FILE may be `-`, for standard input.
 
 Status 0: shown; 2: the script is refused, as standard error tells; 3, 4, 70: as of `./deferreds`; 64: words that
 aren't known; 66: what is to be shown can't be read; 73: the page can't be written. Of several scripts it is the
@@ -65,7 +65,7 @@ def _arguments(words: List[str]) -> argparse.Namespace:
     source.add_argument(
         "--json",
         metavar="FILE",
-        help="show a run in the form of docs/JSON.md; SCRIPT may be the script of it",
+        help="show what ./deferreds --json has told; SCRIPT may be the script of it",
     )
     add("--from", dest="first", type=int, metavar="N", help="the first line that the chart shows (1)")
     add("--to", dest="last", type=int, metavar="N", help="the last line (5000 lines at most)")
@@ -109,7 +109,7 @@ def _script(data: bytes) -> Script:
 
 
 def run_script(name: str) -> Run:
-    """Runs a script, and takes its run in JSON; the journal alone, where `./deferreds` doesn't know the word `--json`."""
+    """Runs a script, and takes what `./deferreds --json` tells of the run; the journal alone, where that word isn't known."""
     data = _read(name)
     status, told = _deferreds(data, "--json")
     is_exact = status != _USAGE

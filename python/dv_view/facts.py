@@ -1,5 +1,5 @@
-"""The facts of a run that is told in JSON (docs/JSON.md): which line lies where, which object it means, what is
-left.
+"""The facts of a run, as `./deferreds --json` tells them (docs/JSON.md): which line lies where, which object it
+means, what is left.
 """
 
 from __future__ import annotations
@@ -70,12 +70,12 @@ def read_facts(text: str) -> Facts:
             or start.get("type") != "start"
             or start.get("version") != _VERSION
         ):
-            raise NotFacts(f"it isn't a run in version {_VERSION} of the form of docs/JSON.md")
+            raise NotFacts(f"it isn't version {_VERSION} of what ./deferreds --json tells")
         facts = Facts()
         for line in lines[1:-1]:
             _take(facts, json.loads(line))
     except (ValueError, KeyError, TypeError, IndexError, AttributeError, RecursionError):
-        raise NotFacts("it isn't a run in the form of docs/JSON.md") from None
+        raise NotFacts("it isn't what ./deferreds --json tells") from None
     return facts
 
 

@@ -1,6 +1,6 @@
 """What is left at the end of a run: what hasn't come, what nobody trapped, what was never given back.
 
-A run that is told in JSON has it exactly (docs/JSON.md, `left`); `left_of` finds of it what the lines of a journal
+`./deferreds --json` tells it exactly (docs/JSON.md, `left`); `left_of` finds of it what the lines of a journal
 tell.
 """
 

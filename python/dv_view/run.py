@@ -69,7 +69,7 @@ class Run:
 
 
 def run_of_facts(facts: Facts, script: Script, title: str) -> Run:
-    """A run that is told in JSON (docs/JSON.md): exact."""
+    """A run as `./deferreds --json` tells it: exact."""
     run = Run(Fold(facts.entries, facts.ends, facts.places), facts.left, script, title)
     if facts.ending is None:
         run.problems.append(("the facts were cut off: how the run ended isn't told",))

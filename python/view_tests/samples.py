@@ -99,7 +99,7 @@ def recorded() -> Run:
 
 
 def told_by_the_program() -> Iterator[Sample]:
-    """Examples, told in the form of docs/JSON.md."""
+    """Examples, as `./deferreds --json` has told them."""
     for path in sorted((Path(__file__).resolve().parent / "data").glob("*.jsonl")):
         script = json.loads((TOP / "examples" / f"{path.stem}.json").read_text(encoding="utf-8"))
         facts = read_facts(path.read_text(encoding="utf-8"))

@@ -1,4 +1,6 @@
-"""Tells a journal in JSON, in the form of docs/JSON.md, with what is left as a test says."""
+"""A stand-in for `./deferreds --json`: tells a journal in that form, by docs/JSON.md, with what is left as a test
+says.
+"""
 
 from __future__ import annotations
 

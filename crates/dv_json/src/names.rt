@@ -1,0 +1,170 @@
+//! The objects that a journal names, numbered in order of making.
+
+use crate::facts::{Kind, Named};
+use std::alloc::{AllocError, Global};
+use std::collections::BTreeMap;
+
+/// What was made under a name.
+#[derive(Clone, Copy, Debug, PartialEq, Eq)]
+struct Bound {
+    /// The number of the last that was made.
+    last: usize,
+    /// Whether others were made before it.
+    others: bool,
+}
+
+/// The objects of one kind.
+#[derive(Drop)]
+pub struct Names<'e> {
+    alloc: Global,
+    names: Vec<&'e str>,
+    bound: BTreeMap<String, Bound>,
+}
+
+impl<'e> Names<'e> {
+    fn new(alloc: Global) -> Names<'e> {
+        Names {
+            alloc,
+            names: Vec::new(alloc),
+            bound: BTreeMap::new(alloc),
+        }
+    }
+
+    /// One is made, and its number answered.
+    fn make(&mut self, name: &'e str) -> Result<usize, AllocError> {
+        let number = self.names.len();
+        let others = self.bound.get(name).is_some();
+        let key = String::from_str(self.alloc, name)?;
+        self.bound.insert(
+            key,
+            Bound {
+                last: number,
+                others,
+            },
+        )?;
+        self.names.push(name)?;
+        Ok(number)
+    }
+
+    fn last(&self, name: &str) -> Option<usize> {
+        Some(self.bound.get(name)?.last)
+    }
+
+    /// The one that was made under a name, where no other was.
+    fn only(&self, name: &str) -> Option<usize> {
+        let bound = self.bound.get(name)?;
+        if bound.others { None } else { Some(bound.last) }
+    }
+
+    /// The name of the one of this number.
+    pub fn name(&self, number: usize) -> Option<&'e str> {
+        self.names.get(number).copied()
+    }
+}
+
+/// An object that is named: its kind in a word, its name, and its number where that is known.
+#[derive(Clone, Copy)]
+pub struct Object<'e> {
+    pub kind: &'e str,
+    pub name: Option<&'e str>,
+    pub number: Option<usize>,
+}
+
+/// All objects so far.
+#[derive(Drop)]
+pub struct Objects<'e> {
+    pub locks: Names<'e>,
+    pub queues: Names<'e>,
+    pub calls: Names<'e>,
+    pub loops: Names<'e>,
+    pub tasks: Names<'e>,
+}
+
+fn word_of(kind: Kind) -> &'static str {
+    match kind {
+        Kind::Lock => "lock",
+        Kind::Queue => "queue",
+        Kind::Call => "call",
+        Kind::Loop => "loop",
+        Kind::Task => "task",
+    }
+}
+
+impl<'e> Objects<'e> {
+    pub fn new(alloc: Global) -> Objects<'e> {
+        Objects {
+            locks: Names::new(alloc),
+            queues: Names::new(alloc),
+            calls: Names::new(alloc),
+            loops: Names::new(alloc),
+            tasks: Names::new(alloc),
+        }
+    }
+
+    fn names(&self, kind: Kind) -> &Names<'e> {
+        match kind {
+            Kind::Lock => &self.locks,
+            Kind::Queue => &self.queues,
+            Kind::Call => &self.calls,
+            Kind::Loop => &self.loops,
+            Kind::Task => &self.tasks,
+        }
+    }
+
+    fn make(&mut self, kind: Kind, name: &'e str) -> Result<usize, AllocError> {
+        match kind {
+            Kind::Lock => self.locks.make(name),
+            Kind::Queue => self.queues.make(name),
+            Kind::Call => self.calls.make(name),
+            Kind::Loop => self.loops.make(name),
+            Kind::Task => self.tasks.make(name),
+        }
+    }
+
+    /// The object that an entry names, which may be made by it.
+    pub fn take(&mut self, named: &Named<'e>) -> Result<Option<Object<'e>>, AllocError> {
+        match named {
+            Named::Nothing => Ok(None),
+            Named::Made(kind, name) => {
+                let number = self.make(*kind, name)?;
+                Ok(Some(named_object(*kind, name, Some(number))))
+            }
+            Named::Last(kind, name) => {
+                let number = self.names(*kind).last(name);
+                Ok(Some(named_object(*kind, name, number)))
+            }
+            Named::Any(kind, name) => {
+                let number = self.names(*kind).only(name);
+                Ok(Some(named_object(*kind, name, number)))
+            }
+            Named::Job(number) => Ok(Some(job(*number))),
+        }
+    }
+
+    /// The object of a kind and a number.
+    pub fn at(&self, kind: Kind, number: usize) -> Object<'e> {
+        Object {
+            kind: word_of(kind),
+            name: self.names(kind).name(number),
+            number: Some(number),
+        }
+    }
+}
+
+/// The object of a kind and a name.
+fn named_object<'e>(kind: Kind, name: &'e str, number: Option<usize>) -> Object<'e> {
+    Object {
+        kind: word_of(kind),
+        name: Some(name),
+        number,
+    }
+}
+
+/// The job of a number.
+pub fn job<'e>(number: u32) -> Object<'e> {
+    Object {
+        kind: "job",
+        name: None,
+        number: Some(number as usize),
+    }
+}
