@@ -17,6 +17,7 @@ use dv_script::script::Script;
 use dv_source::memory_source::MemorySource;
 use dv_value::items::Items;
 use std::alloc::{AllocError, AllocGlobal, Global};
+use std::hash::RandomState;
 use std::random::RandomSource;
 use std::sync::Wait;
 use std::test::Fail;
@@ -99,7 +100,8 @@ where
 {
     let alloc = rt.alloc();
     let poller = Poller::new(rt)?;
-    let mut engine = Engine::new(alloc, poller, OneThread::new(alloc, 4, &PlainGate), script)?;
+    let keys = RandomState::new(rt)?;
+    let mut engine = Engine::new(alloc, poller, keys, OneThread::new(alloc, 4, &PlainGate), script)?;
     let given = give_all(rt, &mut engine, batches);
     let report = engine.finish(rt);
     if let Err(fail) = given {
