@@ -75,10 +75,14 @@ where
             let named = workers_of_pools(alloc, script.pools.as_slice())?;
             if workers == 0 && named.is_empty() {
                 let jobs = OneThread::new(alloc, 0, gate);
-                perform_with(rt, alloc, poller, keys, jobs, script, inbox, callers, driver)
+                perform_with(
+                    rt, alloc, poller, keys, jobs, script, inbox, callers, driver,
+                )
             } else {
                 let jobs = Pools::open(rt, alloc, scope, workers, named.as_slice(), gate)?;
-                perform_with(rt, alloc, poller, keys, jobs, script, inbox, callers, driver)
+                perform_with(
+                    rt, alloc, poller, keys, jobs, script, inbox, callers, driver,
+                )
             }
         },
     )

@@ -125,7 +125,13 @@ impl<'s> World<'s> {
 
     /// A world in which nothing is made, whose journal takes so much weight, and whose Cooperator takes its steps so. Names are hashed with
     /// these keys.
-    pub fn new(alloc: Global, keys: RandomState, classes: &'s Classes, limit: u64, settings: Settings) -> World<'s>
+    pub fn new(
+        alloc: Global,
+        keys: RandomState,
+        classes: &'s Classes,
+        limit: u64,
+        settings: Settings,
+    ) -> World<'s>
         requires { limit < 2 ^ 32 }
         ensures { result ≡ first_world classes.now limit settings }
     {

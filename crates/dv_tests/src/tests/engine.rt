@@ -106,7 +106,13 @@ where
     let alloc = rt.alloc();
     let poller = Poller::new(rt)?;
     let keys = RandomState::new(rt)?;
-    let mut engine = Engine::new(alloc, poller, keys, OneThread::new(alloc, 4, &PlainGate), script)?;
+    let mut engine = Engine::new(
+        alloc,
+        poller,
+        keys,
+        OneThread::new(alloc, 4, &PlainGate),
+        script,
+    )?;
     let added = add_answers(rt, &mut engine, calls, lines);
     let counts = counts(engine.finish(rt));
     added?;

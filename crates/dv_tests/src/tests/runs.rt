@@ -101,7 +101,13 @@ where
     let alloc = rt.alloc();
     let poller = Poller::new(rt)?;
     let keys = RandomState::new(rt)?;
-    let mut engine = Engine::new(alloc, poller, keys, OneThread::new(alloc, 4, &PlainGate), script)?;
+    let mut engine = Engine::new(
+        alloc,
+        poller,
+        keys,
+        OneThread::new(alloc, 4, &PlainGate),
+        script,
+    )?;
     let given = give_all(rt, &mut engine, batches);
     let report = engine.finish(rt);
     if let Err(fail) = given {
