@@ -3,6 +3,7 @@ ghost use Rattle.dv_journal.specs.Entry.{weight_of};
 ghost use Rattle.dv_journal.specs.Told.{is_unhandled};
 
 use crate::deferred_id::DeferredId;
+use dv_value::boxed::Boxed;
 use dv_value::failure::Failure;
 use dv_value::text::Text;
 use dv_value::value::Value;
@@ -45,7 +46,7 @@ pub enum Entry {
     /// `note J`: the script notes a text.
     Note(Text),
     /// `unhandled F`: a failure left an event, a delayed call, a delivery or a post.
-    Unhandled(Failure),
+    Unhandled(Boxed<Failure>),
     /// `lock L`: a lock is made.
     Lock(Text),
     /// `semaphore L TOKENS`: a semaphore of so many tokens is made.
@@ -57,7 +58,7 @@ pub enum Entry {
     /// `queue Q SIZE BACKLOG`: a queue is made, with its bounds on what is stored and on who waits, `none` for no bound.
     Queue(Text, Option<u32>, Option<u32>),
     /// `put Q J`: a value is put into a queue.
-    Put(Text, Value),
+    Put(Text, Boxed<Value>),
     /// `get Q #N`: a Deferred asks for a value of a queue.
     Get(Text, DeferredId),
     /// `later call C TIME`: a call of the script is scheduled, due at that time.
@@ -93,7 +94,7 @@ pub enum Entry {
     /// `hold T #N`: a step gave a Deferred, and the task is paused until that has come.
     Hold(Text, DeferredId),
     /// `end T O`: a task ends with this outcome.
-    End(Text, Value),
+    End(Text, Boxed<Value>),
     /// `pausetask T`: a task's count of pauses goes up by one.
     PauseTask(Text),
     /// `resumetask T`: a task's count of pauses goes down by one.
@@ -134,11 +135,10 @@ impl Entry {
             Entry::Fire(_, value)
             | Entry::Set(_, value)
             | Entry::Take(_, _, value)
-            | Entry::Hand(_, _, value)
-            | Entry::Put(_, value)
-            | Entry::End(_, value) => value.size().saturating_add(1),
+            | Entry::Hand(_, _, value) => value.size().saturating_add(1),
+            Entry::Put(_, value) | Entry::End(_, value) => value.get().size().saturating_add(1),
             Entry::Note(text) => (text.as_str().len() as u64).saturating_add(2),
-            Entry::Unhandled(failure) => failure.size().saturating_add(1),
+            Entry::Unhandled(failure) => failure.get().size().saturating_add(1),
             Entry::New(_, _)
             | Entry::Name(_, _)
             | Entry::Add(_)

@@ -292,7 +292,7 @@ fn each_job_of_a_run_comes_to_its_gate_once_and_one_more_raises(
     let gate = Counting::new(rt.alloc(), 4_096)?;
     let (_, report) = run_text(&rt, text.as_str(), 2, &gate)?;
     let raised = match report.journal.entries().last() {
-        Some(Entry::Unhandled(failure)) => failure.message.as_str() == "too many jobs",
+        Some(Entry::Unhandled(failure)) => failure.get().message.as_str() == "too many jobs",
         Some(_) | None => false,
     };
     let done = report.ran.dones().len();
