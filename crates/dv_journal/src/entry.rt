@@ -1,5 +1,6 @@
 ghost use Rattle.std.specs.Prelude.{◌≡◌, ◌^◌, ◌-◌, min};
 ghost use Rattle.dv_journal.specs.Entry.{weight_of};
+ghost use Rattle.dv_journal.specs.Told.{is_unhandled};
 
 use crate::deferred_id::DeferredId;
 use dv_value::failure::Failure;
@@ -115,6 +116,13 @@ impl Entry {
     /// Lets an entry go that isn't written. Who does it by this call needs no proof of its own of what an entry holds.
     pub fn discard(self) {
         drop(self);
+    }
+
+    /// Whether the entry tells of an unhandled failure.
+    pub fn is_unhandled(&self) -> bool
+        ensures { result ≡ is_unhandled self.now }
+    {
+        matches!(self, Entry::Unhandled(_))
     }
 
     /// How much the entry counts against the journal's limit: one, and the size of the value, the failure or the
