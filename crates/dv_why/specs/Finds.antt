@@ -1,12 +1,17 @@
 -- What is found where a script is wrong.
-use Rattle.std.specs.Prelude.{◌≡◌, Some, false}
+use Rattle.std.specs.Prelude.{◌≡◌, ◌⊎◌, [], Some, false, codes}
 use Rattle.serde_json.specs.Data.{Data}
 use Rattle.serde_json.specs.View.{view}
 use Rattle.dv_why.specs.declared.want.Want.{Want}
 use Rattle.dv_why.specs.declared.misfit.Misfit.{Misfit}
 use Rattle.dv_why.specs.declared.question.Question.{Question}
+use Rattle.dv_why.specs.declared.classes.Table.{Table}
+use Rattle.dv_why.specs.declared.classes.Table.TheVariants.{Whole, Wrong}
 use Rattle.dv_why.specs.Places.{at_place, want_at}
 use Rattle.dv_why.specs.Fits.{suits}
+use Rattle.dv_why.specs.Documents.{list_in, script_in}
+use Rattle.dv_why.specs.Declaring.{AllMayDeclare, table_in}
+use Rattle.dv_why.specs.Wrong.{IsAt, IsBadClass}
 
 -- the steps of the misfit lead to what it has found, and to a place that asks for what it says
 pub record Leads (w : Want) (d : Data) (m : Misfit) : Type 0 where
@@ -17,3 +22,12 @@ pub record Leads (w : Want) (d : Data) (m : Misfit) : Type 0 where
 pub record Finds (q : Question) (w : Want) (d : Data) (m : Misfit) : Type 0 where
   pub leads : Leads w d m
   pub wrong : suits q m.want (view m.found.now) ≡ false
+
+-- what stands at a place answers the question badly, or the place is the whole
+abbrev pub Misfits : Question → Misfit → Type 0
+Misfits q m = (suits q m.want (view m.found.now) ≡ false) ⊎ IsAt [] m
+
+-- the table of a document, of which each class may be declared, or a class that may not
+abbrev pub IsTableOf : Data → Table → Type 0
+IsTableOf d (Whole classes) = (classes ≡ table_in d) × AllMayDeclare (list_in (codes "classes") d)
+IsTableOf d (Wrong m expected) = Leads (script_in d) d m × IsBadClass d m

@@ -140,6 +140,11 @@ has_name name (Some other) = bytes_eq other name
 abbrev pub is_declared : List Value → List ℕ → Bool
 is_declared pools name = list_any (λ pool. has_name name (option_and_then as_str (at 0 (view pool)))) pools
 
+-- the same of a name that may be absent
+abbrev pub is_given : List Value → Option (List ℕ) → Bool
+is_given pools None = false
+is_given pools (Some name) = is_declared pools name
+
 -- whether a name is what is looked for
 abbrev pub name_suits : Question → Leaf → List ℕ → Bool
 name_suits (question.Shape version) l name = true

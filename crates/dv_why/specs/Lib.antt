@@ -1,7 +1,12 @@
 pub mod Wants
 pub mod Places
 pub mod Pointers
+pub mod Documents
+pub mod Counts
+pub mod Declaring
 pub mod Fits
+pub mod Reasons
+pub mod Wrong
 pub mod Finds
 pub mod Why
 pub mod Explaining

@@ -1,5 +1,5 @@
 -- Places in a JSON value, as JSON Pointers tell them (RFC 6901), and what the place asks for.
-use Rattle.std.specs.Prelude.{ℕ, zero, suc, List, [], ◌∷◌, Option, Some, None, option_and_then}
+use Rattle.std.specs.Prelude.{ℕ, zero, suc, List, [], ◌∷◌, map, Option, Some, None, option_and_then}
 use Rattle.serde_json.specs.Data.{Data, Items, no_items, item}
 use Rattle.serde_json.specs.Find.{at, get}
 use Rattle.dv_forms.specs.Parts.{call_at}
@@ -9,6 +9,24 @@ use Rattle.dv_why.specs.declared.want.Want.{Want}
 use Rattle.dv_why.specs.declared.want.Want.TheVariants as want
 use Rattle.dv_why.specs.declared.want.Call.{Call}
 use Rattle.dv_why.specs.Wants.{item_want, key_want, form_of, pair_wants}
+
+-- a step by itself: to the value of a key, or to the item of a number
+pub data Part : Type 0 where
+  to_key : List ℕ → Part
+  to_item : ℕ → Part
+
+abbrev pub part_of : Step → Part
+part_of (step.Item n) = to_item n
+part_of (step.Key text) = to_key text.now
+
+-- the path of steps, as `/pools/1/0` is the path of three
+abbrev pub path_of : List Step → List Part
+path_of steps = map part_of steps
+
+-- the path to the value of a key, or to the whole where it isn't there
+abbrev pub path_to : List ℕ → Option Data → List Part
+path_to text None = []
+path_to text (Some d) = to_key text ∷ []
 
 -- the part to which a step leads
 abbrev pub step_to : Step → Data → Option Data

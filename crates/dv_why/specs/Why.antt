@@ -1,9 +1,9 @@
 -- What is told of a script.
-use Rattle.std.specs.Prelude.{◌≡◌, ◌⊎◌, ℕ, nat_eq, if◌then◌else◌, true, false, List, [], take, encode_utf8_all, Option, Some, None, option_and_then, IsUtf8, codes, ⊤}
+use Rattle.std.specs.Prelude.{◌≡◌, ◌⊎◌, ℕ, true, List, [], take, encode_utf8_all, Option, Some, None, IsUtf8, codes}
 use Rattle.std.specs.Str.{chars}
 use Rattle.std.specs.Str.Lossy.{utf8_lossy}
 use Rattle.serde_json.specs.Data.{Data, number, unsigned, boolean, string, object, member, no_members}
-use Rattle.serde_json.specs.Find.{get, as_number, as_u64, pointer}
+use Rattle.serde_json.specs.Find.{pointer}
 use Rattle.serde_json.specs.Read.{read}
 use Rattle.serde_json.specs.View.{view}
 use Rattle.serde_json.specs.Written.{IsInOrder}
@@ -11,36 +11,12 @@ use Rattle.dv_script.specs.declared.script.Script.{Script}
 use Rattle.dv_reader.specs.declared.error.ScriptFault.{ScriptFault}
 use Rattle.dv_reader.specs.declared.error.ScriptFault.TheVariants.{TooLong, NotJson, BadVersion, BadShape, TooMany, BadName, BadClass, OutOfMemory, BadPool}
 use Rattle.dv_reader.specs.Refusal.{Says, Refuses}
-use Rattle.dv_why.specs.declared.classes.Table.{Table}
-use Rattle.dv_why.specs.declared.classes.Table.TheVariants.{Whole, Wrong}
 use Rattle.dv_why.specs.declared.line.TheConstants.{MOST_SHOWN}
-use Rattle.dv_why.specs.declared.want.Want.{Want}
-use Rattle.dv_why.specs.declared.want.Want.TheVariants as want
-use Rattle.dv_why.specs.declared.want.Keyed.TheVariants as keyed
 use Rattle.dv_why.specs.declared.misfit.Misfit.{Misfit}
-use Rattle.dv_why.specs.declared.question.Question.{Question}
-use Rattle.dv_why.specs.declared.question.Question.TheVariants as question
-use Rattle.dv_why.specs.Fits.{suits}
+use Rattle.dv_why.specs.Documents.{script_in}
 use Rattle.dv_why.specs.Finds.{Leads}
+use Rattle.dv_why.specs.Wrong.{IsWrong}
 use Rattle.dv_why.specs.Pointers.{pointer_text}
-
--- 1, or 2 where it is anything else
-abbrev pub one_or_two : Option ℕ → ℕ
-one_or_two None = 2
-one_or_two (Some n) = if nat_eq n 1 then 1 else 2
-
--- the version that a document says, or 2 where it says none
-abbrev pub version_in : Data → ℕ
-version_in d = one_or_two (option_and_then as_u64 (option_and_then as_number (get (codes "version") d)))
-
--- what is asked of a document as a whole
-abbrev pub script_in : Data → Want
-script_in d = want.Keyed (keyed.Script (version_in d))
-
--- a class that is told to be wrong is a part of the document
-abbrev pub IsTableOf : Data → Table → Type 0
-IsTableOf d (Whole classes) = ⊤
-IsTableOf d (Wrong m expected) = Leads (script_in d) d m
 
 -- the number of a refusal
 abbrev pub number_of : ScriptFault → ℕ
@@ -90,22 +66,6 @@ first_characters text = encode_utf8_all (take MOST_SHOWN (chars text))
 -- the front of a JSON text of the value
 abbrev pub Shows : List ℕ → Data → Type 0
 Shows shown d = (text : List ℕ) × IsInOrder text d × (shown ≡ first_characters text)
-
--- what stands at a place answers the question badly, or the place is the whole
-abbrev pub Misfits : Question → Misfit → Type 0
-Misfits q m = (suits q m.want (view m.found.now) ≡ false) ⊎ (m.steps.items ≡ [])
-
--- what is wrong where a script is refused for its shape or its names
-abbrev pub IsWrong : ScriptFault → Data → Misfit → Type 0
-IsWrong TooLong d m = ⊤
-IsWrong NotJson d m = ⊤
-IsWrong BadVersion d m = ⊤
-IsWrong BadShape d m = Misfits (question.Shape (version_in d)) m
-IsWrong TooMany d m = ⊤
-IsWrong BadName d m = Misfits question.Names m
-IsWrong BadClass d m = ⊤
-IsWrong OutOfMemory d m = ⊤
-IsWrong BadPool d m = ⊤
 
 -- a misfit of a document that is refused so: its steps lead to it and to what its place asks for, and it is wrong
 pub record Explains (fault : ScriptFault) (d : Data) (m : Misfit) : Type 0 where

@@ -1,10 +1,13 @@
 //! The classes that a script declares.
 
-ghost use Rattle.std.specs.Prelude.{◌+◌, ◌<◌, ◌≤◌, ◌^◌, length, IfOk, IfSome, OnOk};
+ghost use Rattle.std.specs.Prelude.{◌≡◌, ◌+◌, ◌<◌, ◌≤◌, ◌^◌, ◌∷◌, [], length, None, Some, IfOk, IfSome, OnOk};
+ghost use Rattle.serde_json.specs.Find.{at};
 ghost use Rattle.serde_json.specs.View.{view};
+ghost use Rattle.dv_why.specs.Declaring.{MayDeclare, class_after};
+ghost use Rattle.dv_why.specs.Finds.{IsTableOf, Leads};
+ghost use Rattle.dv_why.specs.Places.{to_item};
 ghost use Rattle.dv_why.specs.Wants.{all_classes, one_class};
-ghost use Rattle.dv_why.specs.Why.{IsTableOf};
-ghost use Rattle.dv_why.specs.Finds.{Leads};
+ghost use Rattle.dv_why.specs.Wrong.{IsUndeclarable};
 
 use crate::expected::Expected;
 use crate::misfit::{Misfit, Step};
@@ -47,6 +50,9 @@ fn declare_next<'j>(
 ) -> Result<Option<(Misfit<'j>, Expected)>, AllocError>
     requires room { length classes.old + 1 < 2 ^ 32 }
     ensures leads { IfOk result (λ found. IfSome found (λ part. Leads all_classes (view declared.now) part.0)) }
+    ensures wrong { IfOk result (λ found. IfSome found (λ part. IsUndeclarable classes.old (to_item number ∷ []) part.0)) }
+    ensures may { IfOk result (λ found. found ≡ None → MayDeclare classes.old (at number (view declared.now))) }
+    ensures table { IfOk result (λ found. found ≡ None → classes.new ≡ class_after classes.old (at number (view declared.now))) }
     ensures grows { OnOk result (length classes.new ≤ length classes.old + 1) }
 {
     let Some(json) = declared.get(number) else {
@@ -66,6 +72,9 @@ fn declare<'j>(
 ) -> Result<Option<(Misfit<'j>, Expected)>, AllocError>
     requires room { length classes.old + 1 < 2 ^ 32 }
     ensures leads { IfOk result (λ found. IfSome found (λ part. Leads one_class (view json.now) part.0)) }
+    ensures wrong { IfOk result (λ found. IfSome found (λ part. IsUndeclarable classes.old [] part.0)) }
+    ensures may { IfOk result (λ found. found ≡ None → MayDeclare classes.old (Some (view json.now))) }
+    ensures table { IfOk result (λ found. found ≡ None → classes.new ≡ class_after classes.old (Some (view json.now))) }
     ensures grows { OnOk result (length classes.new ≤ length classes.old + 1) }
 {
     let (Some(name), Some(parent)) = (json.get(0usize), json.get(1usize)) else {

@@ -1,10 +1,17 @@
 //! What there is too much of in a script.
 
-ghost use Rattle.std.specs.Prelude.{IfOk, IfSome};
-ghost use Rattle.serde_json.specs.View.{view};
-ghost use Rattle.dv_why.specs.Wants.{all_callers};
-ghost use Rattle.dv_why.specs.Why.{script_in};
+ghost use Rattle.std.specs.Prelude.{◌≡◌, ◌∷◌, ◌^◌, ◌-◌, ◌≤◌, ◌<◌, ℕ, [], None, IfOk, IfSome, min, nat_lt, codes};
+ghost use Rattle.serde_json.specs.Find.{as_array};
+ghost use Rattle.serde_json.specs.View.{view, items_view};
+ghost use Rattle.dv_script.specs.declared.limits.TheConstants.{MOST_POSTS};
+ghost use Rattle.dv_reader.specs.declared.error.ScriptFault.TheVariants.{TooMany};
+ghost use Rattle.dv_why.specs.Counts.{count_at, count_in, posts_of, ticks_among, ticks_at};
+ghost use Rattle.dv_why.specs.Documents.{list_in, or_no_items, script_in};
 ghost use Rattle.dv_why.specs.Finds.{Leads};
+ghost use Rattle.dv_why.specs.Places.{count, to_item, to_key};
+ghost use Rattle.dv_why.specs.Reasons.{IsRefusedFor};
+ghost use Rattle.dv_why.specs.Wants.{all_callers};
+ghost use Rattle.dv_why.specs.Wrong.{IsAt, IsTooMuch};
 
 use crate::document::{value_of, whole};
 use crate::expected::Expected;
@@ -16,8 +23,10 @@ use dv_script::limits::{MOST_CALLERS, MOST_CLASSES, MOST_POOLS, MOST_POSTS};
 use serde_json::Value as Json;
 use std::alloc::{AllocError, Global};
 
-/// By how many ticks an event advances the clock, to the last number of 64 bits.
-fn ticks_of(event: &Json) -> u64 {
+/// By how many ticks an event advances the clock.
+fn ticks_of(event: &Json) -> u64
+    ensures { result ≡ ticks_at (view event.now) }
+{
     match (event.get(0usize), event.get(1usize)) {
         (Some(word), Some(ticks)) => if word.as_str() == Some("advance") {
             ticks.as_u64().unwrap_or(0)
@@ -28,7 +37,10 @@ fn ticks_of(event: &Json) -> u64 {
     }
 }
 
-fn ticks_in(events: &[Json]) -> u64 {
+/// By how many ticks the events advance the clock, to the last number of 64 bits.
+fn ticks_in(events: &[Json]) -> u64
+    ensures { result ≡ min (ticks_among (items_view events.now)) (2 ^ 64 - 1) }
+{
     let mut total = 0u64;
     for event in events {
         total = total.saturating_add(ticks_of(event));
@@ -37,7 +49,9 @@ fn ticks_in(events: &[Json]) -> u64 {
 }
 
 /// The items of the array of a key, or none where there is no such array.
-pub fn items_of<'j>(json: &'j Json, key: &str) -> &'j [Json] {
+pub fn items_of<'j>(json: &'j Json, key: &str) -> &'j [Json]
+    ensures { items_view result.now ≡ list_in key.now (view json.now) }
+{
     match json.get(key) {
         Some(Json::Array(items)) => items.as_slice(),
         Some(Json::Null | Json::Bool(_) | Json::Number(_) | Json::String(_) | Json::Object(_))
@@ -45,13 +59,19 @@ pub fn items_of<'j>(json: &'j Json, key: &str) -> &'j [Json] {
     }
 }
 
-fn is_long(json: &Json, key: &str, most: usize) -> bool {
+#[tactic(auto, using(crate::proofs::Counting::count_items))]
+fn is_long(json: &Json, key: &str, most: usize) -> bool
+    ensures { result ≡ nat_lt most (count_in key.now (view json.now)) }
+{
     items_of(json, key).len() > most
 }
 
 /// The first caller that has too many posts.
 fn busy_caller(alloc: Global, callers: &Json) -> Result<Option<Misfit<'_>>, AllocError>
-    ensures { IfOk result (λ found. IfSome found (λ misfit. Leads all_callers (view callers.now) misfit)) }
+    ensures leads { IfOk result (λ found. IfSome found (λ misfit. Leads all_callers (view callers.now) misfit)) }
+    ensures wrong { IfOk result (λ found. IfSome found (λ misfit.
+        (n : ℕ) × IsAt (to_item n ∷ []) misfit × (MOST_POSTS < count_at n (or_no_items (as_array (view callers.now)))))) }
+    ensures none { IfOk result (λ found. found ≡ None → (n : ℕ) → count_at n (or_no_items (as_array (view callers.now))) ≤ MOST_POSTS) }
 {
     let Json::Array(items) = callers else {
         return Ok(None);
@@ -67,7 +87,10 @@ fn busy_caller(alloc: Global, callers: &Json) -> Result<Option<Misfit<'_>>, Allo
     Ok(None)
 }
 
-fn is_busy(posts: &Json) -> bool {
+#[tactic(auto, using(crate::proofs::Counting::count_items))]
+fn is_busy(posts: &Json) -> bool
+    ensures { result ≡ nat_lt MOST_POSTS (count (or_no_items (as_array (view posts.now)))) }
+{
     match posts {
         Json::Array(items) => items.len() > MOST_POSTS as usize,
         Json::Null | Json::Bool(_) | Json::Number(_) | Json::String(_) | Json::Object(_) => false,
@@ -76,7 +99,10 @@ fn is_busy(posts: &Json) -> bool {
 
 /// The first caller of a document that has too many posts, seen from the document.
 fn busy_one(alloc: Global, json: &Json) -> Result<Option<Misfit<'_>>, AllocError>
-    ensures { IfOk result (λ found. IfSome found (λ misfit. Leads (script_in (view json.now)) (view json.now) misfit)) }
+    ensures leads { IfOk result (λ found. IfSome found (λ misfit. Leads (script_in (view json.now)) (view json.now) misfit)) }
+    ensures wrong { IfOk result (λ found. IfSome found (λ misfit.
+        (n : ℕ) × IsAt (to_key (codes "callers") ∷ to_item n ∷ []) misfit × (MOST_POSTS < posts_of n (view json.now)))) }
+    ensures none { IfOk result (λ found. found ≡ None → (n : ℕ) → posts_of n (view json.now) ≤ MOST_POSTS) }
 {
     let Some(callers) = json.get("callers") else {
         return Ok(None);
@@ -89,7 +115,9 @@ fn busy_one(alloc: Global, json: &Json) -> Result<Option<Misfit<'_>>, AllocError
 
 /// The first list of a script of which there is too much, or the whole script, and what is expected.
 pub fn too_many(alloc: Global, json: &Json) -> Result<(Misfit<'_>, Expected), AllocError>
-    ensures { IfOk result (λ found. Leads (script_in (view json.now)) (view json.now) found.0) }
+    requires { IsRefusedFor TooMany (view json.now) }
+    ensures leads { IfOk result (λ found. Leads (script_in (view json.now)) (view json.now) found.0) }
+    ensures wrong { IfOk result (λ found. IsTooMuch (view json.now) found.0) }
 {
     if !has_few_nodes(json) {
         return Ok((whole(alloc, json), Expected::FewNodes));

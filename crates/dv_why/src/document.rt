@@ -1,8 +1,10 @@
 //! Documents as a whole.
 
 ghost use Rattle.std.specs.Prelude.{◌≡◌, [], IfOk};
+ghost use Rattle.serde_json.specs.Find.{get};
 ghost use Rattle.serde_json.specs.View.{view};
-ghost use Rattle.dv_why.specs.Why.{version_in, script_in};
+ghost use Rattle.dv_why.specs.Documents.{version_in, script_in};
+ghost use Rattle.dv_why.specs.Places.{path_of, path_to};
 ghost use Rattle.dv_why.specs.Finds.{Leads};
 
 use crate::misfit::{Misfit, Step};
@@ -41,7 +43,8 @@ pub fn value_of<'j>(
     json: &'j Json,
     key: &'static str,
 ) -> Result<Misfit<'j>, AllocError>
-    ensures { IfOk result (λ misfit. Leads (script_in (view json.now)) (view json.now) misfit) }
+    ensures leads { IfOk result (λ misfit. Leads (script_in (view json.now)) (view json.now) misfit) }
+    ensures path { IfOk result (λ misfit. path_of misfit.steps.items ≡ path_to key.now (get key.now (view json.now))) }
 {
     match json.get(key) {
         Some(value) => {

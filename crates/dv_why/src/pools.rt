@@ -1,10 +1,14 @@
 //! The names of the pools that a script declares.
 
-ghost use Rattle.std.specs.Prelude.{IfOk, IfSome};
+ghost use Rattle.std.specs.Prelude.{◌≡◌, ◌∷◌, [], IfOk, IfSome, codes};
+ghost use Rattle.serde_json.specs.Find.{as_array, as_str};
 ghost use Rattle.serde_json.specs.View.{view};
-ghost use Rattle.dv_why.specs.Wants.{all_pools};
-ghost use Rattle.dv_why.specs.Why.{script_in};
+ghost use Rattle.dv_why.specs.Documents.{script_in, list_in, or_no_items};
 ghost use Rattle.dv_why.specs.Finds.{Leads};
+ghost use Rattle.dv_why.specs.Fits.{is_given};
+ghost use Rattle.dv_why.specs.Places.{to_key};
+ghost use Rattle.dv_why.specs.Wants.{all_pools};
+ghost use Rattle.dv_why.specs.Wrong.{IsGivenTwice};
 
 use crate::document::version_of;
 use crate::misfit::{Misfit, Step};
@@ -15,7 +19,8 @@ use std::alloc::{AllocError, Global};
 
 /// The first name of a pool of a document that one before it has; a script of version 1 has no pools.
 pub fn second_pool(alloc: Global, json: &Json) -> Result<Option<Misfit<'_>>, AllocError>
-    ensures { IfOk result (λ found. IfSome found (λ misfit. Leads (script_in (view json.now)) (view json.now) misfit)) }
+    ensures leads { IfOk result (λ found. IfSome found (λ misfit. Leads (script_in (view json.now)) (view json.now) misfit)) }
+    ensures wrong { IfOk result (λ found. IfSome found (λ misfit. IsGivenTwice (list_in (codes "pools") (view json.now)) (to_key (codes "pools") ∷ []) misfit)) }
 {
     if version_of(json) == 1 {
         return Ok(None);
@@ -30,7 +35,8 @@ pub fn second_pool(alloc: Global, json: &Json) -> Result<Option<Misfit<'_>>, All
 }
 
 fn in_pools(alloc: Global, pools: &Json) -> Result<Option<Misfit<'_>>, AllocError>
-    ensures { IfOk result (λ found. IfSome found (λ misfit. Leads all_pools (view pools.now) misfit)) }
+    ensures leads { IfOk result (λ found. IfSome found (λ misfit. Leads all_pools (view pools.now) misfit)) }
+    ensures wrong { IfOk result (λ found. IfSome found (λ misfit. IsGivenTwice (or_no_items (as_array (view pools.now))) [] misfit)) }
 {
     let Json::Array(items) = pools else {
         return Ok(None);
@@ -48,7 +54,9 @@ fn in_pools(alloc: Global, pools: &Json) -> Result<Option<Misfit<'_>>, AllocErro
 }
 
 /// Whether it is the name of one of these pools.
-fn is_given(pools: &[Json], name: &Json) -> bool {
+fn is_given(pools: &[Json], name: &Json) -> bool
+    ensures { result ≡ is_given pools.now (as_str (view name.now)) }
+{
     match name.as_str() {
         Some(name) => is_declared(pools, name),
         None => false,

@@ -1,9 +1,13 @@
-ghost use Rattle.std.specs.Prelude.{◌≡◌, ℕ, List, [], IfOk, string_bytes};
+ghost use Rattle.std.specs.Prelude.{◌≡◌, ℕ, List, [], IfOk, codes, string_bytes};
 ghost use Rattle.std.specs.Str.Lossy.{utf8_lossy};
-ghost use Rattle.serde_json.specs.View.{view};
-ghost use Rattle.dv_reader.specs.declared.error.ScriptFault.TheVariants.{NotJson};
-ghost use Rattle.dv_why.specs.Why.{script_in, accepted, first_characters, refused, refused_text, Shows, Explains, Misfits, TellsOf, TellsOfJson, TellsOfText, IsToldOf, Answers};
-ghost use Rattle.dv_why.specs.Finds.{Leads};
+ghost use Rattle.serde_json.specs.View.{view, items_view};
+ghost use Rattle.dv_reader.specs.Refusal.{Refuses};
+ghost use Rattle.dv_reader.specs.declared.error.ScriptFault.TheVariants.{NotJson, BadVersion, BadClass, BadPool};
+ghost use Rattle.dv_why.specs.Documents.{list_in, script_in};
+ghost use Rattle.dv_why.specs.Finds.{IsTableOf, Leads, Misfits};
+ghost use Rattle.dv_why.specs.Reasons.{IsRefusedFor};
+ghost use Rattle.dv_why.specs.Why.{accepted, first_characters, refused, refused_text, Shows, Explains, TellsOf, TellsOfJson, TellsOfText, IsToldOf, Answers};
+ghost use Rattle.dv_why.specs.Wrong.{IsAtVersion, IsWrong};
 
 use crate::classes::{Table, make_table};
 use crate::counts::{items_of, too_many};
@@ -19,6 +23,7 @@ use dv_reader::error::ScriptFault;
 use dv_reader::read_script::ReadScript;
 use dv_script::limits::MOST_LEVELS;
 use dv_script::script::Script;
+use dv_value::classes::Classes;
 use serde_json::{Value as Json, json};
 use std::alloc::{AllocError, Global};
 
@@ -59,6 +64,7 @@ fn accepted(alloc: Global) -> Result<Json, AllocError>
 
 /// What is told of a refusal.
 fn refusal(alloc: Global, fault: ScriptFault, bytes: &[u8]) -> Result<Json, AllocError>
+    requires { Refuses fault bytes.now }
     ensures { IfOk result (λ told. IsToldOf fault bytes.now (view told)) }
 {
     match fault {
@@ -158,6 +164,7 @@ fn of_place(
 
 /// A JSON text that is no script.
 fn of_json(alloc: Global, fault: ScriptFault, bytes: &[u8]) -> Result<Json, AllocError>
+    requires { Refuses fault bytes.now }
     ensures { IfOk result (λ told. TellsOfJson fault bytes.now (view told)) }
 {
     let Ok(json) = Json::from_slice(alloc, bytes) else {
@@ -168,6 +175,7 @@ fn of_json(alloc: Global, fault: ScriptFault, bytes: &[u8]) -> Result<Json, Allo
 
 /// A JSON value that is no script.
 fn of_value(alloc: Global, fault: ScriptFault, json: &Json) -> Result<Json, AllocError>
+    requires { IsRefusedFor fault (view json.now) }
     ensures { IfOk result (λ told. TellsOf fault (view json.now) (view told)) }
 {
     let (misfit, expected) = misfit_of(alloc, fault, json)?;
@@ -196,6 +204,7 @@ fn misfit_of(
     fault: ScriptFault,
     json: &Json,
 ) -> Result<(Misfit<'_>, Expected), AllocError>
+    requires { IsRefusedFor fault (view json.now) }
     ensures { IfOk result (λ found. Explains fault (view json.now) found.0) }
 {
     match fault {
@@ -214,7 +223,7 @@ fn misfit_of(
 
 /// The version of a document that has a wrong one, or the document where there is none.
 fn wrong_version(alloc: Global, json: &Json) -> Result<(Misfit<'_>, Expected), AllocError>
-    ensures { IfOk result (λ found. Leads (script_in (view json.now)) (view json.now) found.0) }
+    ensures { IfOk result (λ found. Explains BadVersion (view json.now) found.0) }
 {
     let misfit = value_of(alloc, json, "version")?;
     let expected = match json.get("version") {
@@ -248,19 +257,43 @@ fn with_expected(misfit: Misfit<'_>) -> (Misfit<'_>, Expected)
 }
 
 fn bad_class(alloc: Global, json: &Json) -> Result<(Misfit<'_>, Expected), AllocError>
-    ensures { IfOk result (λ found. Leads (script_in (view json.now)) (view json.now) found.0) }
+    ensures { IfOk result (λ found. Explains BadClass (view json.now) found.0) }
 {
     match make_table(alloc, json)? {
         Table::Wrong(misfit, expected) => Ok((misfit, expected)),
-        Table::Whole(classes) => in_script(alloc, Question::Classes(&classes), json),
+        Table::Whole(classes) => unknown_class(alloc, &classes, json),
     }
 }
 
+/// The first class that is used and isn't in the table of the document.
+fn unknown_class<'j>(
+    alloc: Global,
+    classes: &Classes,
+    json: &'j Json,
+) -> Result<(Misfit<'j>, Expected), AllocError>
+    requires { IsTableOf (view json.now) (Table.Whole classes.now) }
+    ensures { IfOk result (λ found. Explains BadClass (view json.now) found.0) }
+{
+    in_script(alloc, Question::Classes(classes), json)
+}
+
 fn bad_pool(alloc: Global, json: &Json) -> Result<(Misfit<'_>, Expected), AllocError>
-    ensures { IfOk result (λ found. Leads (script_in (view json.now)) (view json.now) found.0) }
+    ensures { IfOk result (λ found. Explains BadPool (view json.now) found.0) }
 {
     match second_pool(alloc, json)? {
         Some(misfit) => Ok((misfit, Expected::FreePool)),
-        None => in_script(alloc, Question::Pools(items_of(json, "pools")), json),
+        None => unknown_pool(alloc, items_of(json, "pools"), json),
     }
+}
+
+/// The first pool that is used and isn't among those of the document.
+fn unknown_pool<'j>(
+    alloc: Global,
+    pools: &[Json],
+    json: &'j Json,
+) -> Result<(Misfit<'j>, Expected), AllocError>
+    requires { items_view pools.now ≡ list_in (codes "pools") (view json.now) }
+    ensures { IfOk result (λ found. Explains BadPool (view json.now) found.0) }
+{
+    in_script(alloc, Question::Pools(pools), json)
 }

@@ -1,0 +1,161 @@
+-- Where a document has few of everything, its script is small.
+use Rattle.std.proofs.Common.{◌≡◌, ℕ, zero, suc, ◌+◌, ◌-◌, ◌^◌, ◌≤◌, ◌<◌, min, Bool, true, false, ◌&&◌, nat_lt, List, [], ◌∷◌, length, map, sum, Option, Some, None, option_and_then, refl, sym, ap, ◌∙◌, arith, codes}
+use Rattle.std.specs.List.{fold, list_all}
+use Rattle.std.proofs.lemmas.Bool.{le-leb, ltb-false}
+use Rattle.serde_json.specs.Data.{Data, Items, no_items, item}
+use Rattle.serde_json.specs.Find.{as_array, get, get_member}
+use Rattle.dv_value.specs.declared.classes.Class.{Class}
+use Rattle.dv_script.specs.declared.body.Body.{Body}
+use Rattle.dv_script.specs.declared.action.Action.{Action}
+use Rattle.dv_script.specs.declared.event.Event.{Event}
+use Rattle.dv_script.specs.declared.limits.TheConstants.{MOST_CALLERS, MOST_CLASSES, MOST_NODES, MOST_POOLS, MOST_POSTS}
+use Rattle.dv_clock.specs.declared.limits.TheConstants.{MOST_TICKS}
+use Rattle.dv_forms.specs.Forms.{Each, IsList, Field, Key}
+use Rattle.dv_grammar.specs.declared.draft.Draft.{Draft}
+use Rattle.dv_grammar.specs.Grammar.{IsAction, deferred, deferred_with, callback, errback, add_callback, add_errback, add_both, add_callbacks, chain, pause, unpause, cancel, add_timeout, note, list, gather, maybe, lock, semaphore, acquire, release, run_with, queue, put, get as gets, later, cancel_call, loop, stop_loop, cooperate, when_done, pause_task, stop_task, resume_task, inline, thread, thread_in, IsEvent, acts, advances, drains, IsScript}
+use Rattle.dv_reader.specs.Limits.{nodes, ticks_of, ticks_in as draft_ticks, are_few, is_small}
+use Rattle.dv_why.specs.Places.{count}
+use Rattle.dv_why.specs.Documents.{or_no_items}
+use Rattle.dv_why.specs.Counts.{count_at, count_in, posts_of, ticks_at, ticks_among, ticks_in}
+
+-- ---- numbers
+
+-- what isn't more than this is at most this
+pub not_more : (a b : ℕ) → nat_lt a b ≡ false → b ≤ a
+not_more a b h = ltb-false a b h
+
+-- a number that isn't cut
+pub not_cut : (n m : ℕ) → m ≡ min n (2 ^ 64 - 1) → m ≤ MOST_TICKS → n ≤ MOST_TICKS
+not_cut n m is few = omega arith
+
+-- ---- lists
+
+each_count : {X : Type 0} (Is : Data → X → Type 0) (ds : Items) (xs : List X) → Each Is ds xs → length xs ≡ count ds
+each_count Is no_items [] g = refl
+each_count Is no_items (x ∷ xs) g = absurd g
+each_count Is (item d ds) [] g = absurd g
+each_count Is (item d ds) (x ∷ xs) g = ap suc (each_count Is ds xs g.1)
+
+list_count : {X : Type 0} (Is : Data → X → Type 0) (d : Data) (xs : List X) → IsList Is d xs → length xs ≡ count (or_no_items (as_array d))
+list_count Is d xs g = rw (g.1) (each_count Is g.0 xs g.2)
+
+field_count : {X : Type 0} (Is : Data → X → Type 0) (o : Option Data) (xs : List X) → Field [] (IsList Is) o xs → length xs ≡ count (or_no_items (option_and_then as_array o))
+field_count Is None xs g = ap length g
+field_count Is (Some d) xs g = list_count Is d xs g
+
+-- ---- posts
+
+both : {a b : Bool} → a ≡ true → b ≡ true → (a && b) ≡ true
+both h k = rw (h, k) refl
+
+few_posts : (Is : Data → Body → Type 0) (ds : Items) (xs : List (List Body)) → Each (IsList Is) ds xs → ((n : ℕ) → count_at n ds ≤ MOST_POSTS) → list_all are_few xs ≡ true
+few_posts Is no_items [] g few = refl
+few_posts Is no_items (x ∷ xs) g few = absurd g
+few_posts Is (item d ds) [] g few = absurd g
+few_posts Is (item d ds) (x ∷ xs) g few =
+    let same = list_count Is d x g.0 in
+    let here : count (or_no_items (as_array d)) ≤ MOST_POSTS = few 0 in
+    both (le-leb (length x) MOST_POSTS (rw same here)) (few_posts Is ds xs g.1 (λ n. few (suc n)))
+
+field_posts : (Is : Data → Body → Type 0) (o : Option Data) (xs : List (List Body)) → Field [] (IsList (IsList Is)) o xs → ((n : ℕ) → count_at n (or_no_items (option_and_then as_array o)) ≤ MOST_POSTS) → list_all are_few xs ≡ true
+field_posts Is None xs g few = rw g refl
+field_posts Is (Some d) xs g few = few_posts Is g.0 xs g.2 (rw (g.1) at few)
+
+-- ---- ticks
+
+no_ticks : (table : List Class) (d : Data) (a : Action) → IsAction table d a → ticks_at d ≡ 0
+no_ticks table _ _ (deferred _) = refl
+no_ticks table _ _ (deferred_with _ _ _ _) = refl
+no_ticks table _ _ (callback _ _ _ _) = refl
+no_ticks table _ _ (errback _ _ _ _ _) = refl
+no_ticks table _ _ (add_callback _ _ _ _) = refl
+no_ticks table _ _ (add_errback _ _ _ _) = refl
+no_ticks table _ _ (add_both _ _ _ _) = refl
+no_ticks table _ _ (add_callbacks _ _ _ _ _ _ _) = refl
+no_ticks table _ _ (chain _ _) = refl
+no_ticks table _ _ (pause _) = refl
+no_ticks table _ _ (unpause _) = refl
+no_ticks table _ _ (cancel _) = refl
+no_ticks table _ _ (add_timeout _ _ _ _) = refl
+no_ticks table _ _ (note _) = refl
+no_ticks table _ _ (list _ _ _ _ _ _ _) = refl
+no_ticks table _ _ (gather _ _ _ _ _ _ _) = refl
+no_ticks table _ _ (maybe _ _ _ _) = refl
+no_ticks table _ _ (lock _) = refl
+no_ticks table _ _ (semaphore _ _ _ _) = refl
+no_ticks table _ _ (acquire _ _) = refl
+no_ticks table _ _ (release _) = refl
+no_ticks table _ _ (run_with _ _ _ _ _) = refl
+no_ticks table _ _ (queue _ _ _ _ _ _ _) = refl
+no_ticks table _ _ (put _ _ _ _) = refl
+no_ticks table _ _ (gets _ _) = refl
+no_ticks table _ _ (later _ _ _ _ _ _ _) = refl
+no_ticks table _ _ (cancel_call _) = refl
+no_ticks table _ _ (loop _ _ _ _ _ _ _ _ _) = refl
+no_ticks table _ _ (stop_loop _) = refl
+no_ticks table _ _ (cooperate _ _ _ _) = refl
+no_ticks table _ _ (when_done _ _) = refl
+no_ticks table _ _ (pause_task _) = refl
+no_ticks table _ _ (stop_task _) = refl
+no_ticks table _ _ (resume_task _) = refl
+no_ticks table _ _ (inline _ _ _ _) = refl
+no_ticks table _ _ (thread _ _ _ _ _ _ _) = refl
+no_ticks table _ _ (thread_in _ _ _ _ _ _ _ _) = refl
+
+event_ticks : (table : List Class) (d : Data) (e : Event) → IsEvent table d e → ticks_at d ≡ ticks_of e
+event_ticks table _ _ (acts d a g) = no_ticks table d a g
+event_ticks table _ _ (advances d n g) = rw (g.0) refl
+event_ticks table _ _ (drains d n g) = rw (g.0) refl
+
+fold_sum : (k : ℕ) (ns : List ℕ) → fold ◌+◌ k ns ≡ k + sum ns
+fold_sum k [] = omega arith
+fold_sum k (n ∷ ns) =
+    let whole : fold ◌+◌ (k + n) ns ≡ (k + n) + sum ns = fold_sum (k + n) ns in
+    let later : fold ◌+◌ (0 + n) ns ≡ (0 + n) + sum ns = fold_sum (0 + n) ns in
+    omega (arith, whole, later)
+
+sum_first : (n : ℕ) (ns : List ℕ) → sum (n ∷ ns) ≡ n + sum ns
+sum_first n ns = let whole : fold ◌+◌ (0 + n) ns ≡ (0 + n) + sum ns = fold_sum (0 + n) ns in omega (arith, whole)
+
+events_ticks : (table : List Class) (ds : Items) (xs : List Event) → Each (IsEvent table) ds xs → draft_ticks xs ≡ ticks_among ds
+events_ticks table no_items [] g = refl
+events_ticks table no_items (x ∷ xs) g = absurd g
+events_ticks table (item d ds) [] g = absurd g
+events_ticks table (item d ds) (x ∷ xs) g =
+    let here : ticks_at d ≡ ticks_of x = event_ticks table d x g.0 in
+    let later : draft_ticks xs ≡ ticks_among ds = events_ticks table ds xs g.1 in
+    let split : draft_ticks (x ∷ xs) ≡ ticks_of x + draft_ticks xs = sum_first (ticks_of x) (map ticks_of xs) in
+    omega (arith, split, here, later)
+
+key_ticks : (table : List Class) (o : Option Data) (xs : List Event) → Key (IsList (IsEvent table)) o xs → draft_ticks xs ≡ ticks_among (or_no_items (option_and_then as_array o))
+key_ticks table None xs g = absurd g
+key_ticks table (Some d) xs g = rw (g.1) (events_ticks table g.0 xs g.2)
+
+-- where each caller has few posts, each number has
+pub few_all : (ds : Items) → ((n : ℕ) → n < count ds → count_at n ds ≤ MOST_POSTS) → (n : ℕ) → count_at n ds ≤ MOST_POSTS
+few_all no_items few n = omega arith
+few_all (item d ds) few zero = few 0 (omega arith)
+few_all (item d ds) few (suc n) = few_all ds (λ k less. few (suc k) (omega (arith, less))) n
+
+-- ---- scripts
+
+-- what is few of a document
+pub record IsFew (d : Data) : Type 0 where
+  pub nodes : nodes d ≤ MOST_NODES
+  pub classes : count_in (codes "classes") d ≤ MOST_CLASSES
+  pub pools : count_in (codes "pools") d ≤ MOST_POOLS
+  pub callers : count_in (codes "callers") d ≤ MOST_CALLERS
+  pub posts : (n : ℕ) → posts_of n d ≤ MOST_POSTS
+  pub ticks : ticks_in d ≤ MOST_TICKS
+
+pub few_small : (d : Data) (draft : Draft) → IsScript d draft → IsFew d → is_small d draft ≡ true
+few_small d draft g few =
+    let value : (k : List ℕ) → get k d ≡ get_member k g.members = λ k. ap (get k) g.whole in
+    let of_key : (k : List ℕ) → count_in k d ≡ count (or_no_items (option_and_then as_array (get_member k g.members))) = λ k. ap (λ o. count (or_no_items (option_and_then as_array o))) (value k) in
+    let classes : length draft.declared ≤ MOST_CLASSES = omega (arith, few.classes, of_key (codes "classes"), field_count _ _ _ g.declared) in
+    let pools : length draft.script.pools ≤ MOST_POOLS = omega (arith, few.pools, of_key (codes "pools"), field_count _ _ _ g.pools) in
+    let callers : length draft.script.callers ≤ MOST_CALLERS = omega (arith, few.callers, of_key (codes "callers"), field_count _ _ _ g.callers) in
+    let posts : list_all are_few draft.script.callers ≡ true = field_posts _ _ _ g.callers (rw (value (codes "callers")) at few.posts) in
+    let sums : draft_ticks draft.script.events ≡ ticks_in d = key_ticks _ _ _ g.events ∙ sym (ap (λ o. ticks_among (or_no_items (option_and_then as_array o))) (value (codes "events"))) in
+    let ticks : draft_ticks draft.script.events ≤ MOST_TICKS = omega (arith, few.ticks, sums) in
+    both (both (both (both (both (le-leb _ _ few.nodes) (le-leb _ _ classes)) (le-leb _ _ pools)) (le-leb _ _ callers)) posts) (le-leb _ _ ticks)

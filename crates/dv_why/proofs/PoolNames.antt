@@ -1,0 +1,53 @@
+-- The names of pools, by their numbers.
+use Rattle.std.proofs.Common.{◌≡◌, ◌≢◌, ℕ, zero, suc, ◌<◌, Bool, true, false, ◌||◌, List, [], ◌∷◌, take, Option, Some, None, refl, ap, arith, inl, inr}
+use Rattle.std.proofs.lemmas.Bool.{or_cases}
+use Rattle.std.proofs.lemmas.Slice.Eq.{bytes_eq-Decides}
+use Rattle.serde_json.specs.View.{view, items_view}
+use Rattle.serde_json.specs.declared.value.Value.{Value}
+use Rattle.dv_why.specs.Documents.{first_text, name_in}
+use Rattle.dv_why.specs.Fits.{has_name, is_declared, is_given}
+
+-- a pool of this name has it
+has_name_is : (name : List ℕ) (o : Option (List ℕ)) → has_name name o ≡ true → o ≡ Some name
+has_name_is name None h = cc
+has_name_is name (Some other) h = ap Some ((bytes_eq-Decides other name).0 h)
+
+-- and the other way round
+has_name_so : (name : List ℕ) (o : Option (List ℕ)) → o ≡ Some name → has_name name o ≡ true
+has_name_so name o is = rw is ((bytes_eq-Decides name name).1 refl)
+
+-- a name that is among the first pools is that of one of them
+pub declared_some : (pools : List Value) (n : ℕ) (name : List ℕ) → is_declared (take n pools) name ≡ true → (k : ℕ) × (k < n) × (name_in k (items_view pools) ≡ Some name)
+declared_some [] zero name h = cc
+declared_some [] (suc n) name h = cc
+declared_some (v ∷ vs) zero name h = cc
+declared_some (v ∷ vs) (suc n) name h = elim (or_cases (has_name name (first_text (view v))) (is_declared (take n vs) name) h) [
+  | inl first ↦ (0, omega arith, has_name_is name (first_text (view v)) first)
+  | inr later ↦ let found = declared_some vs n name later in (suc found.0, (let less : found.0 < n = found.1 in omega arith), found.2)
+]
+
+-- a name that is given among the first pools
+pub record IsGivenBy (pools : List Value) (n : ℕ) (o : Option (List ℕ)) : Type 0 where
+  pub name : List ℕ
+  pub text : o ≡ Some name
+  pub first : ℕ
+  pub order : first < n
+  pub same : name_in first (items_view pools) ≡ Some name
+
+pub given_some : (pools : List Value) (n : ℕ) (o : Option (List ℕ)) → is_given (take n pools) o ≡ true → IsGivenBy pools n o
+given_some pools n None h = cc
+given_some pools n (Some name) h = let found = declared_some pools n name h in record { name = name; text = refl; first = found.0; order = found.1; same = found.2 }
+
+or_none : (a b : Bool) → (a || b) ≡ false → (a ≡ false) × (b ≡ false)
+or_none true b h = cc
+or_none false b h = (refl, h)
+
+-- a name that isn't among the pools is that of none
+pub declared_none : (pools : List Value) (name : List ℕ) → is_declared pools name ≡ false → (n : ℕ) → name_in n (items_view pools) ≢ Some name
+declared_none [] name h zero is = cc
+declared_none [] name h (suc n) is = cc
+declared_none (v ∷ vs) name h zero is =
+    let no = or_none (has_name name (first_text (view v))) (is_declared vs name) h in
+    let yes = has_name_so name (first_text (view v)) is in
+    cc
+declared_none (v ∷ vs) name h (suc n) is = declared_none vs name (or_none (has_name name (first_text (view v))) (is_declared vs name) h).1 n is

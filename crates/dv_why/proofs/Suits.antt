@@ -1,0 +1,101 @@
+-- What answers a question of names badly.
+use Rattle.std.proofs.Common.{◌≡◌, ◌≢◌, ℕ, Bool, true, false, not, ◌||◌, List, [], Option, Some, None, is_some, refl, sym, ap, subst, ◌∙◌, codes, ◌⊎◌, inl, inr, Result, Ok, Err}
+use Rattle.std.specs.Prelude.{IfOk}
+use Rattle.serde_json.specs.Data.{Data, Items}
+use Rattle.serde_json.specs.Find.{as_str}
+use Rattle.serde_json.specs.View.{view, items_view}
+use Rattle.dv_value.specs.Classes.{find_class}
+use Rattle.dv_why.specs.declared.want.Leaf.{Leaf}
+use Rattle.dv_why.specs.declared.want.Leaf.TheVariants as leaf
+use Rattle.dv_why.specs.declared.want.Want.{Want}
+use Rattle.dv_why.specs.declared.want.Want.TheVariants as want
+use Rattle.dv_why.specs.declared.misfit.Misfit.{Misfit}
+use Rattle.dv_why.specs.declared.question.Question.{Question}
+use Rattle.dv_why.specs.declared.question.Question.TheVariants as question
+use Rattle.dv_why.specs.Declaring.{table_in}
+use Rattle.dv_why.specs.Documents.{list_in, name_in}
+use Rattle.dv_why.specs.Fits.{is_class, is_declared, is_pool, leaf_suits, name_suits, names_suit}
+use Rattle.dv_why.specs.Finds.{Misfits}
+use Rattle.dv_why.specs.Wrong.{IsAt, IsMisnamed, IsBadClass, unknown_class, IsBadPool, unknown_pool}
+use Rattle.dv_why.proofs.PoolNames.{declared_none}
+
+-- a text stands where a leaf is asked for
+record IsBadText (q : Question) (w : Want) (d : Data) : Type 0 where
+  leaf : Leaf
+  name : List ℕ
+  asks : w ≡ want.Leaf leaf
+  text : as_str d ≡ Some name
+  bad : name_suits q leaf name ≡ false
+
+bad_leaf : (q : Question) (l : Leaf) (d : Data) (o : Option (List ℕ)) → as_str d ≡ o → leaf_suits q l o ≡ false → IsBadText q (want.Leaf l) d
+bad_leaf q l d None is h = cc
+bad_leaf q l d (Some name) is h = record { leaf = l; name = name; asks = refl; text = is; bad = h }
+
+bad_text : (q : Question) (w : Want) (d : Data) → names_suit q w d ≡ false → IsBadText q w d
+bad_text q (want.Leaf l) d h = bad_leaf q l d (as_str d) refl h
+bad_text q _ d h = cc
+
+or_not : (a b : Bool) → (not a || b) ≡ false → (a ≡ true) × (b ≡ false)
+or_not true b h = (refl, h)
+or_not false b h = cc
+
+not_some : {X : Type 0} (o : Option X) → is_some o ≡ false → o ≡ None
+not_some None h = refl
+not_some (Some x) h = cc
+
+class_is : (l : Leaf) → is_class l ≡ true → l ≡ leaf.Class
+class_is leaf.Class h = refl
+class_is _ h = cc
+
+pool_is : (l : Leaf) → is_pool l ≡ true → l ≡ leaf.Pool
+pool_is leaf.Pool h = refl
+pool_is _ h = cc
+
+-- a misfit of names is a name that hasn't its form
+pub misnamed : (m : Misfit) → Misfits question.Names m → IsMisnamed m ⊎ IsAt [] m
+misnamed m (inr whole) = inr whole
+misnamed m (inl bad) =
+    let b = bad_text question.Names m.want (view m.found.now) bad in
+    inl (record { name = b.name; leaf = b.leaf; asks = b.asks; found = b.text; wrong = b.bad })
+
+-- the question asks for the classes of this document
+abbrev pub IsOfClasses : Data → Question → Type 0
+IsOfClasses d (question.Shape version) = ⊥
+IsOfClasses d question.Names = ⊥
+IsOfClasses d (question.Classes classes) = classes.now ≡ table_in d
+IsOfClasses d (question.Pools pools) = ⊥
+
+-- a misfit of classes is a class that isn't in the table
+pub misused_class : (q : Question) (d : Data) (m : Misfit) → IsOfClasses d q → Misfits q m → IsBadClass d m ⊎ IsAt [] m
+misused_class (question.Shape version) d m of h = absurd of
+misused_class question.Names d m of h = absurd of
+misused_class (question.Pools pools) d m of h = absurd of
+misused_class (question.Classes classes) d m of (inr whole) = inr whole
+misused_class (question.Classes classes) d m of (inl bad) =
+    let b = bad_text (question.Classes classes) m.want (view m.found.now) bad in
+    let c = or_not (is_class b.leaf) (is_some (find_class b.name classes.now)) b.bad in
+    inl (unknown_class b.name (b.asks ∙ ap (λ (l : Leaf). want.Leaf l) (class_is b.leaf c.0)) b.text (ap (find_class b.name) (sym of) ∙ not_some (find_class b.name classes.now) c.1))
+
+-- the question asks for the pools of this document
+abbrev pub IsOfPools : Data → Question → Type 0
+IsOfPools d (question.Shape version) = ⊥
+IsOfPools d question.Names = ⊥
+IsOfPools d (question.Classes classes) = ⊥
+IsOfPools d (question.Pools pools) = items_view pools.now ≡ list_in (codes "pools") d
+
+-- a misfit of pools is a pool that isn't declared
+pub misused_pool : (q : Question) (d : Data) (m : Misfit) → IsOfPools d q → Misfits q m → IsBadPool d m ⊎ IsAt [] m
+misused_pool (question.Shape version) d m of h = absurd of
+misused_pool question.Names d m of h = absurd of
+misused_pool (question.Classes classes) d m of h = absurd of
+misused_pool (question.Pools pools) d m of (inr whole) = inr whole
+misused_pool (question.Pools pools) d m of (inl bad) =
+    let b = bad_text (question.Pools pools) m.want (view m.found.now) bad in
+    let c = or_not (is_pool b.leaf) (is_declared pools.now b.name) b.bad in
+    let none : (n : ℕ) → name_in n (list_in (codes "pools") d) ≢ Some b.name = subst (λ (ds : Items). (n : ℕ) → name_in n ds ≢ Some b.name) of (declared_none pools.now b.name c.1) in
+    inl (unknown_pool b.name (b.asks ∙ ap (λ (l : Leaf). want.Leaf l) (pool_is b.leaf c.0)) b.text none)
+
+-- what two clauses say of a result
+pub both_ok : {X E : Type 0} (r : Result X E) (P Q R : X → Type 0) → ((x : X) → P x → Q x → R x) → IfOk r P → IfOk r Q → IfOk r R
+both_ok (Ok x) P Q R k p q = k x p q
+both_ok (Err e) P Q R k p q = tt

@@ -1,0 +1,29 @@
+use Rattle.std.proofs.Common.{◌≡◌, true, false, codes, sym, ◌∙◌}
+use Rattle.std.proofs.lemmas.Bool.{leb-true}
+use Rattle.serde_json.specs.View.{view}
+use Rattle.dv_script.specs.declared.limits.TheConstants.{MOST_CALLERS, MOST_CLASSES, MOST_NODES, MOST_POOLS}
+use Rattle.dv_reader.specs.Limits.{nodes, is_small}
+use Rattle.dv_why.specs.Counts.{count_in}
+use Rattle.dv_why.specs.Wrong.{many_posts}
+use Rattle.dv_why.proofs.Few.{few_small, not_more, not_cut}
+use Rattle.dv_why.proofs.counts.too_many.Goals as goal
+
+pub returns-in-Some-clause-wrong : goal.returns-in-Some-clause-wrong
+returns-in-Some-clause-wrong c =
+    let found = rw c.in-Some.is at c.in_ok-misfit.ensures.wrong in
+    many_posts found.0 found.1 found.2
+
+pub returns-clause-wrong : goal.returns-clause-wrong
+returns-clause-wrong c =
+    let d = view c.args.json.now in
+    let draft = c.requires.0 in
+    let small : is_small d draft ≡ true = few_small d draft c.requires.1.shape (record {
+      nodes = leb-true (nodes d) MOST_NODES (sym c.has_few_nodes.ensures ∙ c.if-not-has_few_nodes.false);
+      classes = not_more MOST_CLASSES (count_in (codes "classes") d) (sym c.is_long.ensures ∙ c.if-is_long.false);
+      pools = not_more MOST_POOLS (count_in (codes "pools") d) (sym c.is_long-2.ensures ∙ c.if-is_long-2.false);
+      callers = not_more MOST_CALLERS (count_in (codes "callers") d) (sym c.is_long-3.ensures ∙ c.if-is_long-3.false);
+      posts = c.in_ok-misfit.ensures.none c.in_default.is;
+      ticks = rw c.items_of.ensures at (not_cut _ _ c.ticks_in.ensures c.if-ticks_in-gt-MOST_TICKS.false);
+    }) in
+    let large : is_small d draft ≡ false = c.requires.2 in
+    cc

@@ -1,0 +1,37 @@
+-- What a document says as a whole: its version, and the lists of its keys.
+use Rattle.std.specs.Prelude.{ℕ, nat_eq, if◌then◌else◌, List, Option, Some, None, option_and_then, codes}
+use Rattle.serde_json.specs.Data.{Data, Items, no_items}
+use Rattle.serde_json.specs.Find.{get, at, get_item, as_array, as_number, as_str, as_u64}
+use Rattle.dv_why.specs.declared.want.Want.{Want}
+use Rattle.dv_why.specs.declared.want.Want.TheVariants as want
+use Rattle.dv_why.specs.declared.want.Keyed.TheVariants as keyed
+
+-- 1, or 2 where it is anything else
+abbrev pub one_or_two : Option ℕ → ℕ
+one_or_two None = 2
+one_or_two (Some n) = if nat_eq n 1 then 1 else 2
+
+-- the version that a document says, or 2 where it says none
+abbrev pub version_in : Data → ℕ
+version_in d = one_or_two (option_and_then as_u64 (option_and_then as_number (get (codes "version") d)))
+
+-- what is asked of a document as a whole
+abbrev pub script_in : Data → Want
+script_in d = want.Keyed (keyed.Script (version_in d))
+
+-- the items, where there is an array
+abbrev pub or_no_items : Option Items → Items
+or_no_items None = no_items
+or_no_items (Some ds) = ds
+
+-- the items of the array of a key, or none where there is no such array
+abbrev pub list_in : List ℕ → Data → Items
+list_in key d = or_no_items (option_and_then as_array (get key d))
+
+-- the text with which an array begins
+abbrev pub first_text : Data → Option (List ℕ)
+first_text d = option_and_then as_str (at 0 d)
+
+-- the text with which the array of this number begins
+abbrev pub name_in : ℕ → Items → Option (List ℕ)
+name_in n ds = option_and_then first_text (get_item n ds)

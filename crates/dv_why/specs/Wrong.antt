@@ -1,0 +1,95 @@
+-- What is wrong at the place that is told, refusal by refusal.
+use Rattle.std.specs.Prelude.{◌≡◌, ◌≢◌, ◌⊎◌, ◌<◌, ℕ, false, List, [], ◌∷◌, ◌++◌, Some, None, codes, ⊤}
+use Rattle.serde_json.specs.Data.{Data, Items}
+use Rattle.serde_json.specs.Find.{get, as_str}
+use Rattle.serde_json.specs.View.{view}
+use Rattle.dv_value.specs.declared.classes.Class.{Class}
+use Rattle.dv_value.specs.Classes.{find_class}
+use Rattle.dv_script.specs.declared.limits.TheConstants.{MOST_CALLERS, MOST_CLASSES, MOST_NODES, MOST_POOLS, MOST_POSTS}
+use Rattle.dv_clock.specs.declared.limits.TheConstants.{MOST_TICKS}
+use Rattle.dv_reader.specs.Limits.{nodes}
+use Rattle.dv_reader.specs.declared.error.ScriptFault.{ScriptFault}
+use Rattle.dv_reader.specs.declared.error.ScriptFault.TheVariants.{TooLong, NotJson, BadVersion, BadShape, TooMany, BadName, BadClass, OutOfMemory, BadPool}
+use Rattle.dv_why.specs.declared.want.Leaf.{Leaf}
+use Rattle.dv_why.specs.declared.want.Leaf.TheVariants as leaf
+use Rattle.dv_why.specs.declared.want.Want.TheVariants as want
+use Rattle.dv_why.specs.declared.misfit.Misfit.{Misfit}
+use Rattle.dv_why.specs.Places.{Part, to_item, to_key, path_of, path_to}
+use Rattle.dv_why.specs.Wants.{a_class}
+use Rattle.dv_why.specs.Documents.{version_in, list_in, name_in}
+use Rattle.dv_why.specs.Counts.{count_in, posts_of, ticks_in}
+use Rattle.dv_why.specs.Declaring.{table_before, table_in}
+use Rattle.dv_why.specs.Fits.{fits, is_named}
+
+-- the place has this path
+abbrev pub IsAt : List Part → Misfit → Type 0
+IsAt path m = path_of m.steps.items ≡ path
+
+-- this text stands there
+abbrev pub HasText : List ℕ → Misfit → Type 0
+HasText text m = as_str (view m.found.now) ≡ Some text
+
+-- BadVersion: the place is the version, or the whole where there is none
+abbrev pub IsAtVersion : Data → Misfit → Type 0
+IsAtVersion d m = IsAt (path_to (codes "version") (get (codes "version") d)) m
+
+-- BadShape: what stands there doesn't fit what its place asks for
+abbrev pub IsMisshaped : Data → Misfit → Type 0
+IsMisshaped d m = fits (version_in d) m.want (view m.found.now) ≡ false
+
+-- TooMany: there is too much of what stands there
+pub data IsTooMuch (d : Data) (m : Misfit) : Type 0 where
+  -- of nodes in the whole
+  many_nodes : IsAt [] m → MOST_NODES < nodes d → IsTooMuch d m
+  many_classes : IsAt (to_key (codes "classes") ∷ []) m → MOST_CLASSES < count_in (codes "classes") d → IsTooMuch d m
+  many_pools : IsAt (to_key (codes "pools") ∷ []) m → MOST_POOLS < count_in (codes "pools") d → IsTooMuch d m
+  many_callers : IsAt (to_key (codes "callers") ∷ []) m → MOST_CALLERS < count_in (codes "callers") d → IsTooMuch d m
+  -- of posts of a caller
+  many_posts : (n : ℕ) → IsAt (to_key (codes "callers") ∷ to_item n ∷ []) m → MOST_POSTS < posts_of n d → IsTooMuch d m
+  -- of ticks that the events advance the clock by
+  many_ticks : IsAt (to_key (codes "events") ∷ []) m → MOST_TICKS < ticks_in d → IsTooMuch d m
+
+-- BadName: a text stands there, and it hasn't the form of a name that its place asks for
+pub record IsMisnamed (m : Misfit) : Type 0 where
+  pub name : List ℕ
+  pub leaf : Leaf
+  pub asks : m.want ≡ want.Leaf leaf
+  pub found : HasText name m
+  pub wrong : is_named leaf name ≡ false
+
+-- the declaration at this path may not be added to this table: its name, part 0 of it, is taken, or its parent, part 1, isn't there
+pub data IsUndeclarable (table : List Class) (path : List Part) (m : Misfit) : Type 0 where
+  taken_name : (name : List ℕ) → IsAt (path ++ to_item 0 ∷ []) m → HasText name m → find_class name table ≢ None → IsUndeclarable table path m
+  missing_parent : (name : List ℕ) → IsAt (path ++ to_item 1 ∷ []) m → HasText name m → find_class name table ≡ None → IsUndeclarable table path m
+
+-- BadClass: a class may not be declared after those before it, or a class is used that isn't in the table of all
+pub data IsBadClass (d : Data) (m : Misfit) : Type 0 where
+  undeclarable : (n : ℕ) → IsUndeclarable (table_before (list_in (codes "classes") d) n) (to_key (codes "classes") ∷ to_item n ∷ []) m → IsBadClass d m
+  unknown_class : (name : List ℕ) → m.want ≡ a_class → HasText name m → find_class name (table_in d) ≡ None → IsBadClass d m
+
+-- the second of two pools of the list at this path has the name of the first
+pub record IsGivenTwice (pools : Items) (path : List Part) (m : Misfit) : Type 0 where
+  pub first : ℕ
+  pub second : ℕ
+  pub order : first < second
+  pub name : List ℕ
+  pub place : IsAt (path ++ to_item second ∷ to_item 0 ∷ []) m
+  pub found : HasText name m
+  pub same : name_in first pools ≡ Some name
+
+-- BadPool: a pool has the name of one before it, or a pool is used whose name none has
+pub data IsBadPool (d : Data) (m : Misfit) : Type 0 where
+  given_twice : IsGivenTwice (list_in (codes "pools") d) (to_key (codes "pools") ∷ []) m → IsBadPool d m
+  unknown_pool : (name : List ℕ) → m.want ≡ want.Leaf leaf.Pool → HasText name m → ((n : ℕ) → name_in n (list_in (codes "pools") d) ≢ Some name) → IsBadPool d m
+
+-- what is wrong where a script is refused so; of some, the place may be the whole
+abbrev pub IsWrong : ScriptFault → Data → Misfit → Type 0
+IsWrong TooLong d m = ⊤
+IsWrong NotJson d m = ⊤
+IsWrong BadVersion d m = IsAtVersion d m
+IsWrong BadShape d m = IsMisshaped d m ⊎ IsAt [] m
+IsWrong TooMany d m = IsTooMuch d m
+IsWrong BadName d m = IsMisnamed m ⊎ IsAt [] m
+IsWrong BadClass d m = IsBadClass d m ⊎ IsAt [] m
+IsWrong OutOfMemory d m = ⊤
+IsWrong BadPool d m = IsBadPool d m ⊎ IsAt [] m
