@@ -1,10 +1,12 @@
 -- The names of pools, by their numbers.
-use Rattle.std.proofs.Common.{◌≡◌, ◌≢◌, ℕ, zero, suc, ◌<◌, Bool, true, false, ◌||◌, List, [], ◌∷◌, take, Option, Some, None, refl, ap, arith, inl, inr}
+use Rattle.std.proofs.Common.{◌≡◌, ◌≢◌, ℕ, zero, suc, ◌<◌, Bool, true, false, ◌||◌, List, [], ◌∷◌, length, take, Option, Some, None, refl, ap, arith, inl, inr}
+use Rattle.std.proofs.Math.Bool.{or-true}
 use Rattle.std.proofs.lemmas.Bool.{or_cases}
 use Rattle.std.proofs.lemmas.Slice.Eq.{bytes_eq-Decides}
+use Rattle.serde_json.specs.Data.{no_items}
 use Rattle.serde_json.specs.View.{view, items_view}
 use Rattle.serde_json.specs.declared.value.Value.{Value}
-use Rattle.dv_why.specs.Documents.{first_text, name_in}
+use Rattle.dv_why.specs.Documents.{AreDistinct, IsNew, first_text, name_in}
 use Rattle.dv_why.specs.Fits.{has_name, is_declared, is_given}
 
 -- a pool of this name has it
@@ -51,3 +53,40 @@ declared_none (v ∷ vs) name h zero is =
     let yes = has_name_so name (first_text (view v)) is in
     cc
 declared_none (v ∷ vs) name h (suc n) is = declared_none vs name (or_none (has_name name (first_text (view v))) (is_declared vs name) h).1 n is
+
+-- a name that is among them is that of one
+pub declared_one : (pools : List Value) (name : List ℕ) → is_declared pools name ≡ true → (n : ℕ) × (name_in n (items_view pools) ≡ Some name)
+declared_one [] name h = cc
+declared_one (v ∷ vs) name h = elim (or_cases (has_name name (first_text (view v))) (is_declared vs name) h) [
+  | inl first ↦ (0, has_name_is name (first_text (view v)) first)
+  | inr later ↦ let found = declared_one vs name later in (suc found.0, found.1)
+]
+
+-- a name that is that of one of the first pools is among them
+declared_before : (pools : List Value) (n k : ℕ) (name : List ℕ) → k < n → name_in k (items_view pools) ≡ Some name → is_declared (take n pools) name ≡ true
+declared_before [] n zero name less is = cc
+declared_before [] n (suc k) name less is = cc
+declared_before (v ∷ vs) zero k name less is = absurd (omega (arith, less))
+declared_before (v ∷ vs) (suc n) zero name less is = rw (has_name_so name (first_text (view v)) is) refl
+declared_before (v ∷ vs) (suc n) (suc k) name less is = rw (declared_before vs n k name (omega (arith, less)) is) (or-true (has_name name (first_text (view v))))
+
+-- a name that isn't given among the pools before is new
+pub is_new : (pools : List Value) (n : ℕ) → is_given (take n pools) (name_in n (items_view pools)) ≡ false → IsNew n (items_view pools)
+is_new pools n h k name less same is =
+    let yes = declared_before pools n k name less same in
+    let no : is_given (take n pools) (Some name) ≡ false = rw is at h in
+    cc
+
+name_within : (pools : List Value) (n : ℕ) (name : List ℕ) → name_in n (items_view pools) ≡ Some name → n < length pools
+name_within [] zero name is = cc
+name_within [] (suc n) name is = cc
+name_within (v ∷ vs) zero name is = omega arith
+name_within (v ∷ vs) (suc n) name is = let less : n < length vs = name_within vs n name is in omega (arith, less)
+
+-- where the name of each pool is new, they are distinct
+pub all_new : (pools : List Value) → ((n : ℕ) → n < length pools → IsNew n (items_view pools)) → AreDistinct (items_view pools)
+all_new pools new n k name less same is = new n (name_within pools n name is) k name less same is
+
+-- where there is no array, there are no names
+pub none_new : AreDistinct no_items
+none_new n k name less same is = cc

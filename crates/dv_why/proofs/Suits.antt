@@ -1,5 +1,5 @@
 -- What answers a question of names badly.
-use Rattle.std.proofs.Common.{◌≡◌, ◌≢◌, ℕ, Bool, true, false, not, ◌||◌, List, [], Option, Some, None, is_some, refl, sym, ap, subst, ◌∙◌, codes, ◌⊎◌, inl, inr, Result, Ok, Err}
+use Rattle.std.proofs.Common.{◌≡◌, ◌≢◌, ℕ, Bool, true, false, not, ◌||◌, List, Option, Some, None, is_some, refl, sym, ap, subst, ◌∙◌, codes, Result, Ok, Err}
 use Rattle.std.specs.Prelude.{IfOk}
 use Rattle.serde_json.specs.Data.{Data, Items}
 use Rattle.serde_json.specs.Find.{as_str}
@@ -14,9 +14,8 @@ use Rattle.dv_why.specs.declared.question.Question.{Question}
 use Rattle.dv_why.specs.declared.question.Question.TheVariants as question
 use Rattle.dv_why.specs.Declaring.{table_in}
 use Rattle.dv_why.specs.Documents.{list_in, name_in}
-use Rattle.dv_why.specs.Fits.{is_class, is_declared, is_pool, leaf_suits, name_suits, names_suit}
-use Rattle.dv_why.specs.Finds.{Misfits}
-use Rattle.dv_why.specs.Wrong.{IsAt, IsMisnamed, IsBadClass, unknown_class, IsBadPool, unknown_pool}
+use Rattle.dv_why.specs.Fits.{is_class, is_declared, is_pool, leaf_suits, name_suits, names_suit, suits}
+use Rattle.dv_why.specs.Wrong.{IsMisnamed, IsBadClass, unknown_class, IsBadPool, unknown_pool}
 use Rattle.dv_why.proofs.PoolNames.{declared_none}
 
 -- a text stands where a leaf is asked for
@@ -51,12 +50,11 @@ pool_is : (l : Leaf) → is_pool l ≡ true → l ≡ leaf.Pool
 pool_is leaf.Pool h = refl
 pool_is _ h = cc
 
--- a misfit of names is a name that hasn't its form
-pub misnamed : (m : Misfit) → Misfits question.Names m → IsMisnamed m ⊎ IsAt [] m
-misnamed m (inr whole) = inr whole
-misnamed m (inl bad) =
+-- a part that answers badly is a name that hasn't its form
+pub misnamed : (m : Misfit) → suits question.Names m.want (view m.found.now) ≡ false → IsMisnamed m
+misnamed m bad =
     let b = bad_text question.Names m.want (view m.found.now) bad in
-    inl (record { name = b.name; leaf = b.leaf; asks = b.asks; found = b.text; wrong = b.bad })
+    record { name = b.name; leaf = b.leaf; asks = b.asks; found = b.text; wrong = b.bad }
 
 -- the question asks for the classes of this document
 abbrev pub IsOfClasses : Data → Question → Type 0
@@ -65,16 +63,15 @@ IsOfClasses d question.Names = ⊥
 IsOfClasses d (question.Classes classes) = classes.now ≡ table_in d
 IsOfClasses d (question.Pools pools) = ⊥
 
--- a misfit of classes is a class that isn't in the table
-pub misused_class : (q : Question) (d : Data) (m : Misfit) → IsOfClasses d q → Misfits q m → IsBadClass d m ⊎ IsAt [] m
+-- a part that answers badly is a class that isn't in the table
+pub misused_class : (q : Question) (d : Data) (m : Misfit) → IsOfClasses d q → suits q m.want (view m.found.now) ≡ false → IsBadClass d m
 misused_class (question.Shape version) d m of h = absurd of
 misused_class question.Names d m of h = absurd of
 misused_class (question.Pools pools) d m of h = absurd of
-misused_class (question.Classes classes) d m of (inr whole) = inr whole
-misused_class (question.Classes classes) d m of (inl bad) =
+misused_class (question.Classes classes) d m of bad =
     let b = bad_text (question.Classes classes) m.want (view m.found.now) bad in
     let c = or_not (is_class b.leaf) (is_some (find_class b.name classes.now)) b.bad in
-    inl (unknown_class b.name (b.asks ∙ ap (λ (l : Leaf). want.Leaf l) (class_is b.leaf c.0)) b.text (ap (find_class b.name) (sym of) ∙ not_some (find_class b.name classes.now) c.1))
+    unknown_class b.name (b.asks ∙ ap (λ (l : Leaf). want.Leaf l) (class_is b.leaf c.0)) b.text (ap (find_class b.name) (sym of) ∙ not_some (find_class b.name classes.now) c.1)
 
 -- the question asks for the pools of this document
 abbrev pub IsOfPools : Data → Question → Type 0
@@ -83,17 +80,16 @@ IsOfPools d question.Names = ⊥
 IsOfPools d (question.Classes classes) = ⊥
 IsOfPools d (question.Pools pools) = items_view pools.now ≡ list_in (codes "pools") d
 
--- a misfit of pools is a pool that isn't declared
-pub misused_pool : (q : Question) (d : Data) (m : Misfit) → IsOfPools d q → Misfits q m → IsBadPool d m ⊎ IsAt [] m
+-- a part that answers badly is a pool that isn't declared
+pub misused_pool : (q : Question) (d : Data) (m : Misfit) → IsOfPools d q → suits q m.want (view m.found.now) ≡ false → IsBadPool d m
 misused_pool (question.Shape version) d m of h = absurd of
 misused_pool question.Names d m of h = absurd of
 misused_pool (question.Classes classes) d m of h = absurd of
-misused_pool (question.Pools pools) d m of (inr whole) = inr whole
-misused_pool (question.Pools pools) d m of (inl bad) =
+misused_pool (question.Pools pools) d m of bad =
     let b = bad_text (question.Pools pools) m.want (view m.found.now) bad in
     let c = or_not (is_pool b.leaf) (is_declared pools.now b.name) b.bad in
     let none : (n : ℕ) → name_in n (list_in (codes "pools") d) ≢ Some b.name = subst (λ (ds : Items). (n : ℕ) → name_in n ds ≢ Some b.name) of (declared_none pools.now b.name c.1) in
-    inl (unknown_pool b.name (b.asks ∙ ap (λ (l : Leaf). want.Leaf l) (pool_is b.leaf c.0)) b.text none)
+    unknown_pool b.name (b.asks ∙ ap (λ (l : Leaf). want.Leaf l) (pool_is b.leaf c.0)) b.text none
 
 -- what two clauses say of a result
 pub both_ok : {X E : Type 0} (r : Result X E) (P Q R : X → Type 0) → ((x : X) → P x → Q x → R x) → IfOk r P → IfOk r Q → IfOk r R

@@ -1,5 +1,5 @@
 -- What a document says as a whole: its version, and the lists of its keys.
-use Rattle.std.specs.Prelude.{ℕ, nat_eq, if◌then◌else◌, List, Option, Some, None, option_and_then, codes}
+use Rattle.std.specs.Prelude.{◌≡◌, ◌≢◌, ◌<◌, false, ℕ, nat_eq, if◌then◌else◌, List, Option, Some, None, option_and_then, codes}
 use Rattle.serde_json.specs.Data.{Data, Items, no_items}
 use Rattle.serde_json.specs.Find.{get, at, get_item, as_array, as_number, as_str, as_u64}
 use Rattle.dv_why.specs.declared.want.Want.{Want}
@@ -35,3 +35,15 @@ first_text d = option_and_then as_str (at 0 d)
 -- the text with which the array of this number begins
 abbrev pub name_in : ℕ → Items → Option (List ℕ)
 name_in n ds = option_and_then first_text (get_item n ds)
+
+-- no array before that of this number begins with the same text
+abbrev pub IsNew : ℕ → Items → Type 0
+IsNew n ds = (k : ℕ) (name : List ℕ) → k < n → name_in k ds ≡ Some name → name_in n ds ≢ Some name
+
+-- no two arrays begin with the same text
+abbrev pub AreDistinct : Items → Type 0
+AreDistinct ds = (n : ℕ) → IsNew n ds
+
+-- no two pools have the same name, where the version may have pools
+abbrev pub PoolsDistinct : Data → Type 0
+PoolsDistinct d = nat_eq (version_in d) 1 ≡ false → AreDistinct (list_in (codes "pools") d)

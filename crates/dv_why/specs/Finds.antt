@@ -10,6 +10,8 @@ use Rattle.dv_why.specs.declared.classes.Table.TheVariants.{Whole, Wrong}
 use Rattle.dv_why.specs.Places.{at_place, want_at}
 use Rattle.dv_why.specs.Fits.{suits}
 use Rattle.dv_why.specs.Documents.{list_in, script_in}
+use Rattle.dv_script.specs.declared.limits.TheConstants.{MOST_LEVELS}
+use Rattle.dv_why.specs.AllSuit.{AllSuit, IsAsked}
 use Rattle.dv_why.specs.Declaring.{AllMayDeclare, table_in}
 use Rattle.dv_why.specs.Wrong.{IsAt, IsBadClass}
 
@@ -23,9 +25,9 @@ pub record Finds (q : Question) (w : Want) (d : Data) (m : Misfit) : Type 0 wher
   pub leads : Leads w d m
   pub wrong : suits q m.want (view m.found.now) ≡ false
 
--- what stands at a place answers the question badly, or the place is the whole
-abbrev pub Misfits : Question → Misfit → Type 0
-Misfits q m = (suits q m.want (view m.found.now) ≡ false) ⊎ IsAt [] m
+-- what stands at a place answers the question badly, or the place is the whole, and each part of it answers well
+abbrev pub Misfits : Question → Data → Misfit → Type 0
+Misfits q d m = (suits q m.want (view m.found.now) ≡ false) ⊎ (IsAt [] m × (IsAsked q MOST_LEVELS d → AllSuit q (script_in d) d))
 
 -- the table of a document, of which each class may be declared, or a class that may not
 abbrev pub IsTableOf : Data → Table → Type 0

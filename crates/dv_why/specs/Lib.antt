@@ -5,6 +5,7 @@ pub mod Documents
 pub mod Counts
 pub mod Declaring
 pub mod Fits
+pub mod AllSuit
 pub mod Reasons
 pub mod Wrong
 pub mod Finds

@@ -108,6 +108,14 @@ key_want (keyed.Script version) key = script_want version key
 key_want keyed.Cooperator key = cooperator_want key
 key_want keyed.Body key = body_want key
 
+-- the keys that an object may have, in the order in which they are looked at
+abbrev pub keys_in : Keyed → List (List ℕ)
+keys_in (keyed.Script version) =
+    codes "version" ∷ codes "limit" ∷ codes "cooperator" ∷ (if nat_eq version 1 then codes "classes" ∷ codes "callers" ∷ codes "events" ∷ []
+    else codes "pools" ∷ codes "classes" ∷ codes "callers" ∷ codes "events" ∷ [])
+keys_in keyed.Cooperator = codes "units" ∷ codes "delay" ∷ []
+keys_in keyed.Body = codes "do" ∷ codes "end" ∷ []
+
 -- the argument of an action that has one text
 abbrev pub name_wants : NameWord → List Want
 name_wants of_name.Pause = a_deferred ∷ []

@@ -1,10 +1,15 @@
 //! Finds the first part of a JSON value that answers a question badly.
 
-ghost use Rattle.std.specs.Prelude.{◌≡◌, IfOk, IfSome, option_map};
+ghost use Rattle.std.specs.Prelude.{◌≡◌, ◌+◌, true, None, Some, IfOk, IfSome, option_map};
+ghost use Rattle.serde_json.specs.Data.{Data};
+ghost use Rattle.serde_json.specs.Find.{at, get};
 ghost use Rattle.serde_json.specs.View.{view, items_view};
 ghost use Rattle.dv_forms.specs.Parts.{call_at};
-ghost use Rattle.dv_why.specs.Places.{argument_want, call_want, nth, part_want};
+ghost use Rattle.dv_why.specs.AllSuit.{AllSuit, ItemsSuit, ValuesSuit, IsAsked};
 ghost use Rattle.dv_why.specs.Finds.{Finds};
+ghost use Rattle.dv_why.specs.Fits.{suits};
+ghost use Rattle.dv_why.specs.Places.{argument_want, call_want, nth, part_want};
+ghost use Rattle.dv_why.specs.Wants.{key_want};
 
 use crate::misfit::{Misfit, Step};
 use crate::question::{Question, suits};
@@ -83,17 +88,57 @@ pub fn find<'j>(
     levels: u32,
     json: &'j Json,
 ) -> Result<Option<Misfit<'j>>, AllocError>
-    ensures { IfOk result (λ found. IfSome found (λ misfit. Finds question.entry want (view json.now) misfit)) }
+    ensures found { IfOk result (λ found. IfSome found (λ misfit. Finds question.entry want (view json.now) misfit)) }
+    ensures none { IfOk result (λ found. found ≡ None → IsAsked question.entry levels (view json.now) → AllSuit question.entry want (view json.now)) }
 {
-    if levels > 0
-        && let Want::Keyed(keyed) = want
-        && let Some(misfit) = at_other_key(alloc, question, keyed, levels - 1, json)?
-    {
+    if let Some(misfit) = other_key(alloc, question, want, levels, json)? {
         return Ok(Some(misfit));
     }
     if !suits(question, want, json) {
         return Ok(Some(Misfit::here(alloc, want, json)));
     }
+    in_parts(alloc, question, want, levels, json)
+}
+
+/// The value of the first key that may not be there, where an object is asked for.
+#[cycle(find)]
+fn other_key<'j>(
+    alloc: Global,
+    question: Question<'_>,
+    want: Want,
+    levels: u32,
+    json: &'j Json,
+) -> Result<Option<Misfit<'j>>, AllocError>
+    ensures { IfOk result (λ found. IfSome found (λ misfit. Finds question.entry want (view json.now) misfit)) }
+{
+    if levels == 0 {
+        return Ok(None);
+    }
+    match want {
+        Want::Keyed(keyed) => at_other_key(alloc, question, keyed, levels - 1, json),
+        Want::Leaf(_)
+        | Want::Value
+        | Want::Call(_)
+        | Want::Pair(_)
+        | Want::Array(_)
+        | Want::Word(_)
+        | Want::Other(_) => Ok(None),
+    }
+}
+
+/// The first such part of a value that is itself as its place asks for.
+#[cycle(find)]
+fn in_parts<'j>(
+    alloc: Global,
+    question: Question<'_>,
+    want: Want,
+    levels: u32,
+    json: &'j Json,
+) -> Result<Option<Misfit<'j>>, AllocError>
+    requires { suits question want (view json.now) ≡ true }
+    ensures found { IfOk result (λ found. IfSome found (λ misfit. Finds question.entry want (view json.now) misfit)) }
+    ensures none { IfOk result (λ found. found ≡ None → IsAsked question.entry levels (view json.now) → AllSuit question.entry want (view json.now)) }
+{
     if levels == 0 {
         return Ok(None);
     }
@@ -114,7 +159,8 @@ fn in_array<'j>(
     levels: u32,
     json: &'j Json,
 ) -> Result<Option<Misfit<'j>>, AllocError>
-    ensures { IfOk result (λ found. IfSome found (λ misfit. Finds question.entry want (view json.now) misfit)) }
+    ensures found { IfOk result (λ found. IfSome found (λ misfit. Finds question.entry want (view json.now) misfit)) }
+    ensures none { IfOk result (λ found. found ≡ None → IsAsked question.entry (levels + 1) (view json.now) → ItemsSuit question.entry want (view json.now)) }
 {
     let Json::Array(items) = json else {
         return Ok(None);
@@ -136,7 +182,9 @@ fn in_item<'j>(
     json: &'j Json,
     number: usize,
 ) -> Result<Option<Misfit<'j>>, AllocError>
-    ensures { IfOk result (λ found. IfSome found (λ misfit. Finds question.entry want (view json.now) misfit)) }
+    ensures found { IfOk result (λ found. IfSome found (λ misfit. Finds question.entry want (view json.now) misfit)) }
+    ensures none { IfOk result (λ found. found ≡ None → IsAsked question.entry (levels + 1) (view json.now)
+        → (v : Want) (e : Data) → part_want want (view json.now) number ≡ Some v → at number (view json.now) ≡ Some e → AllSuit question.entry v e) }
 {
     let (Some(part), Some(item)) = (part_of(want, json, number), json.get(number)) else {
         return Ok(None);
@@ -155,7 +203,8 @@ fn in_object<'j>(
     levels: u32,
     json: &'j Json,
 ) -> Result<Option<Misfit<'j>>, AllocError>
-    ensures { IfOk result (λ found. IfSome found (λ misfit. Finds question.entry (Want.Keyed keyed) (view json.now) misfit)) }
+    ensures found { IfOk result (λ found. IfSome found (λ misfit. Finds question.entry (Want.Keyed keyed) (view json.now) misfit)) }
+    ensures none { IfOk result (λ found. found ≡ None → IsAsked question.entry (levels + 1) (view json.now) → ValuesSuit question.entry (Want.Keyed keyed) (view json.now)) }
 {
     for key in keyed.keys() {
         if let Some(misfit) = in_key(alloc, question, keyed, levels, json, *key)? {
@@ -201,7 +250,9 @@ fn in_key<'j>(
     json: &'j Json,
     key: &'j str,
 ) -> Result<Option<Misfit<'j>>, AllocError>
-    ensures { IfOk result (λ found. IfSome found (λ misfit. Finds question.entry (Want.Keyed keyed) (view json.now) misfit)) }
+    ensures found { IfOk result (λ found. IfSome found (λ misfit. Finds question.entry (Want.Keyed keyed) (view json.now) misfit)) }
+    ensures none { IfOk result (λ found. found ≡ None → IsAsked question.entry (levels + 1) (view json.now)
+        → (e : Data) → get key.now (view json.now) ≡ Some e → AllSuit question.entry (key_want keyed key.now) e) }
 {
     let Some(value) = json.get(key) else {
         return Ok(None);

@@ -1,9 +1,9 @@
 //! The names of the pools that a script declares.
 
-ghost use Rattle.std.specs.Prelude.{◌≡◌, ◌∷◌, [], IfOk, IfSome, codes};
-ghost use Rattle.serde_json.specs.Find.{as_array, as_str};
+ghost use Rattle.std.specs.Prelude.{◌≡◌, ◌∷◌, true, false, [], None, Some, IfOk, IfSome, codes};
+ghost use Rattle.serde_json.specs.Find.{as_array, as_str, at};
 ghost use Rattle.serde_json.specs.View.{view};
-ghost use Rattle.dv_why.specs.Documents.{script_in, list_in, or_no_items};
+ghost use Rattle.dv_why.specs.Documents.{AreDistinct, PoolsDistinct, first_text, list_in, or_no_items, script_in};
 ghost use Rattle.dv_why.specs.Finds.{Leads};
 ghost use Rattle.dv_why.specs.Fits.{is_given};
 ghost use Rattle.dv_why.specs.Places.{to_key};
@@ -21,6 +21,7 @@ use std::alloc::{AllocError, Global};
 pub fn second_pool(alloc: Global, json: &Json) -> Result<Option<Misfit<'_>>, AllocError>
     ensures leads { IfOk result (λ found. IfSome found (λ misfit. Leads (script_in (view json.now)) (view json.now) misfit)) }
     ensures wrong { IfOk result (λ found. IfSome found (λ misfit. IsGivenTwice (list_in (codes "pools") (view json.now)) (to_key (codes "pools") ∷ []) misfit)) }
+    ensures none { IfOk result (λ found. found ≡ None → PoolsDistinct (view json.now)) }
 {
     if version_of(json) == 1 {
         return Ok(None);
@@ -37,20 +38,34 @@ pub fn second_pool(alloc: Global, json: &Json) -> Result<Option<Misfit<'_>>, All
 fn in_pools(alloc: Global, pools: &Json) -> Result<Option<Misfit<'_>>, AllocError>
     ensures leads { IfOk result (λ found. IfSome found (λ misfit. Leads all_pools (view pools.now) misfit)) }
     ensures wrong { IfOk result (λ found. IfSome found (λ misfit. IsGivenTwice (or_no_items (as_array (view pools.now))) [] misfit)) }
+    ensures none { IfOk result (λ found. found ≡ None → AreDistinct (or_no_items (as_array (view pools.now)))) }
 {
     let Json::Array(items) = pools else {
         return Ok(None);
     };
     for number in 0..items.len() {
         if let Some(pool) = pools.get(number)
-            && let Some(name) = pool.get(0usize)
-            && is_given(&items[..number], name)
+            && let Some(name) = second_name(&items[..number], pool)
         {
             let misfit = Misfit::here(alloc, Want::Leaf(Leaf::Name), name);
             return Ok(Some(misfit.under(Step::Item(0))?.under(Step::Item(number))?));
         }
     }
     Ok(None)
+}
+
+/// The name of a pool, where one of those before it has the same.
+fn second_name<'j>(before: &[Json], pool: &'j Json) -> Option<&'j Json>
+    ensures name { IfSome result (λ name. at 0 (view pool.now) ≡ Some (view name.now)) }
+    ensures given { IfSome result (λ name. is_given before.now (as_str (view name.now)) ≡ true) }
+    ensures none { result ≡ None → is_given before.now (first_text (view pool.now)) ≡ false }
+{
+    let name = pool.get(0usize)?;
+    if is_given(before, name) {
+        Some(name)
+    } else {
+        None
+    }
 }
 
 /// Whether it is the name of one of these pools.

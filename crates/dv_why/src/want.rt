@@ -1,7 +1,7 @@
 //! What a place of a script asks for.
 
-ghost use Rattle.std.specs.Prelude.{◌≡◌};
-ghost use Rattle.dv_why.specs.Wants.{item_want, key_want, script_want, cooperator_want, body_want};
+ghost use Rattle.std.specs.Prelude.{◌≡◌, map};
+ghost use Rattle.dv_why.specs.Wants.{item_want, key_want, keys_in, script_want, cooperator_want, body_want};
 
 use dv_clock::limits::MOST_DELAY;
 use dv_script::limits::MOST_LIMIT;
@@ -164,7 +164,9 @@ impl Keyed {
     }
 
     /// The keys that it may have, in the order in which they are looked at.
-    pub fn keys(self) -> &'static [&'static str] {
+    pub fn keys(self) -> &'static [&'static str]
+        ensures { map (λ key. key.now) result.now ≡ keys_in self }
+    {
         match self {
             Keyed::Script(1) => &[
                 "version",

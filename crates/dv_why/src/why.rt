@@ -1,9 +1,10 @@
-ghost use Rattle.std.specs.Prelude.{◌≡◌, ℕ, List, [], IfOk, codes, string_bytes};
+ghost use Rattle.std.specs.Prelude.{◌≡◌, ◌≤◌, ℕ, List, [], IfOk, codes, string_bytes};
 ghost use Rattle.std.specs.Str.Lossy.{utf8_lossy};
+ghost use Rattle.serde_json.specs.Data.{depth};
 ghost use Rattle.serde_json.specs.View.{view, items_view};
 ghost use Rattle.dv_reader.specs.Refusal.{Refuses};
-ghost use Rattle.dv_reader.specs.declared.error.ScriptFault.TheVariants.{NotJson, BadVersion, BadClass, BadPool};
-ghost use Rattle.dv_why.specs.Documents.{list_in, script_in};
+ghost use Rattle.dv_reader.specs.declared.error.ScriptFault.TheVariants.{NotJson, BadVersion, BadName, BadClass, BadPool};
+ghost use Rattle.dv_why.specs.Documents.{PoolsDistinct, list_in, script_in};
 ghost use Rattle.dv_why.specs.Finds.{IsTableOf, Leads, Misfits};
 ghost use Rattle.dv_why.specs.Reasons.{IsRefusedFor};
 ghost use Rattle.dv_why.specs.Why.{accepted, first_characters, refused, refused_text, Shows, Explains, TellsOf, TellsOfJson, TellsOfText, IsToldOf, Answers};
@@ -175,7 +176,8 @@ fn of_json(alloc: Global, fault: ScriptFault, bytes: &[u8]) -> Result<Json, Allo
 
 /// A JSON value that is no script.
 fn of_value(alloc: Global, fault: ScriptFault, json: &Json) -> Result<Json, AllocError>
-    requires { IsRefusedFor fault (view json.now) }
+    requires refused { IsRefusedFor fault (view json.now) }
+    requires shallow { depth (view json.now) ≤ MOST_LEVELS }
     ensures { IfOk result (λ told. TellsOf fault (view json.now) (view told)) }
 {
     let (misfit, expected) = misfit_of(alloc, fault, json)?;
@@ -204,14 +206,15 @@ fn misfit_of(
     fault: ScriptFault,
     json: &Json,
 ) -> Result<(Misfit<'_>, Expected), AllocError>
-    requires { IsRefusedFor fault (view json.now) }
+    requires refused { IsRefusedFor fault (view json.now) }
+    requires shallow { depth (view json.now) ≤ MOST_LEVELS }
     ensures { IfOk result (λ found. Explains fault (view json.now) found.0) }
 {
     match fault {
         ScriptFault::BadVersion => wrong_version(alloc, json),
         ScriptFault::BadShape => in_script(alloc, Question::Shape(version_of(json)), json),
         ScriptFault::TooMany => too_many(alloc, json),
-        ScriptFault::BadName => in_script(alloc, Question::Names, json),
+        ScriptFault::BadName => bad_name(alloc, json),
         ScriptFault::BadClass => bad_class(alloc, json),
         ScriptFault::BadPool => bad_pool(alloc, json),
         ScriptFault::TooLong | ScriptFault::NotJson | ScriptFault::OutOfMemory => Ok((
@@ -240,7 +243,7 @@ fn in_script<'j>(
     json: &'j Json,
 ) -> Result<(Misfit<'j>, Expected), AllocError>
     ensures leads { IfOk result (λ found. Leads (script_in (view json.now)) (view json.now) found.0) }
-    ensures wrong { IfOk result (λ found. Misfits question.entry found.0) }
+    ensures wrong { IfOk result (λ found. Misfits question.entry (view json.now) found.0) }
 {
     match find(alloc, question, script_of(json), MOST_LEVELS, json)? {
         Some(misfit) => Ok(with_expected(misfit)),
@@ -256,7 +259,18 @@ fn with_expected(misfit: Misfit<'_>) -> (Misfit<'_>, Expected)
     (misfit, expected)
 }
 
+/// The first name of a document that hasn't its form.
+fn bad_name(alloc: Global, json: &Json) -> Result<(Misfit<'_>, Expected), AllocError>
+    requires refused { IsRefusedFor BadName (view json.now) }
+    requires shallow { depth (view json.now) ≤ MOST_LEVELS }
+    ensures { IfOk result (λ found. Explains BadName (view json.now) found.0) }
+{
+    in_script(alloc, Question::Names, json)
+}
+
 fn bad_class(alloc: Global, json: &Json) -> Result<(Misfit<'_>, Expected), AllocError>
+    requires refused { IsRefusedFor BadClass (view json.now) }
+    requires shallow { depth (view json.now) ≤ MOST_LEVELS }
     ensures { IfOk result (λ found. Explains BadClass (view json.now) found.0) }
 {
     match make_table(alloc, json)? {
@@ -271,13 +285,17 @@ fn unknown_class<'j>(
     classes: &Classes,
     json: &'j Json,
 ) -> Result<(Misfit<'j>, Expected), AllocError>
-    requires { IsTableOf (view json.now) (Table.Whole classes.now) }
+    requires refused { IsRefusedFor BadClass (view json.now) }
+    requires shallow { depth (view json.now) ≤ MOST_LEVELS }
+    requires table { IsTableOf (view json.now) (Table.Whole classes.now) }
     ensures { IfOk result (λ found. Explains BadClass (view json.now) found.0) }
 {
     in_script(alloc, Question::Classes(classes), json)
 }
 
 fn bad_pool(alloc: Global, json: &Json) -> Result<(Misfit<'_>, Expected), AllocError>
+    requires refused { IsRefusedFor BadPool (view json.now) }
+    requires shallow { depth (view json.now) ≤ MOST_LEVELS }
     ensures { IfOk result (λ found. Explains BadPool (view json.now) found.0) }
 {
     match second_pool(alloc, json)? {
@@ -292,7 +310,10 @@ fn unknown_pool<'j>(
     pools: &[Json],
     json: &'j Json,
 ) -> Result<(Misfit<'j>, Expected), AllocError>
-    requires { items_view pools.now ≡ list_in (codes "pools") (view json.now) }
+    requires refused { IsRefusedFor BadPool (view json.now) }
+    requires shallow { depth (view json.now) ≤ MOST_LEVELS }
+    requires once { PoolsDistinct (view json.now) }
+    requires pools { items_view pools.now ≡ list_in (codes "pools") (view json.now) }
     ensures { IfOk result (λ found. Explains BadPool (view json.now) found.0) }
 {
     in_script(alloc, Question::Pools(pools), json)

@@ -1,0 +1,180 @@
+-- Where each class and each pool is as a question asks, the script knows its classes and its pools.
+use Rattle.std.proofs.Common.{◌≡◌, ◌≢◌, ℕ, zero, suc, ◌≤◌, ◌<◌, Bool, true, false, not, ◌||◌, nat_lt, nat_eq, List, [], ◌∷◌, length, Option, Some, None, is_some, option_and_then, unwrap_or, bytes_eq, refl, sym, ap, subst, ◌∙◌, arith, codes, inl, inr}
+use Rattle.std.proofs.lemmas.Bool.{and_parts, lt-ltb, leb-true}
+use Rattle.std.proofs.Math.Bool.{or-true}
+use Rattle.std.proofs.lemmas.List.Quantifiers.{position-Some}
+use Rattle.std.proofs.lemmas.Slice.Eq.{bytes_eq-Decides}
+use Rattle.serde_json.specs.Data.{Data, Items, no_items, item, depth}
+use Rattle.serde_json.specs.Find.{as_array, get, get_member}
+use Rattle.dv_value.specs.declared.classes.Class.{Class}
+use Rattle.dv_value.specs.Classes.{find_class}
+use Rattle.dv_script.specs.declared.script.NamedPool.{NamedPool}
+use Rattle.dv_script.specs.declared.limits.TheConstants.{MOST_CLASSES, MOST_LEVELS}
+use Rattle.dv_forms.specs.Forms.{Each, IsList, Field, place_of}
+use Rattle.dv_grammar.specs.declared.draft.Draft.{Draft}
+use Rattle.dv_grammar.specs.Grammar.{IsPool, pools, IsScript}
+use Rattle.dv_grammar.proofs.Steps.{some_injective}
+use Rattle.dv_reader.specs.declared.suits.Wanted.TheVariants as wanted
+use Rattle.dv_reader.specs.Suits.{is_among}
+use Rattle.dv_reader.specs.Limits.{is_small}
+use Rattle.dv_reader.specs.Refusal.{are_named, are_known, are_distinct, are_pooled}
+use Rattle.dv_reader.specs.declared.error.ScriptFault.TheVariants.{BadName, BadClass, BadPool}
+use Rattle.dv_why.specs.declared.question.Question.{Question}
+use Rattle.dv_why.specs.declared.question.Question.TheVariants as question
+use Rattle.dv_why.specs.AllSuit.{AllSuit, IsOfNames}
+use Rattle.dv_why.specs.Declaring.{AllMayDeclare, table_in}
+use Rattle.dv_why.specs.Documents.{or_no_items, list_in, name_in, script_in, version_in, AreDistinct, PoolsDistinct}
+use Rattle.dv_why.specs.Finds.{Misfits}
+use Rattle.dv_why.specs.Reasons.{IsRefusedFor}
+use Rattle.dv_why.specs.Wrong.{IsMisnamed, IsBadClass, IsBadPool}
+use Rattle.dv_why.specs.declared.misfit.Misfit.{Misfit}
+use Rattle.dv_why.proofs.Named.{Asks, both}
+use Rattle.dv_why.proofs.PoolNames.{declared_one}
+use Rattle.dv_why.proofs.Scripts.{named_script, first_has_no_pools, names_good}
+use Rattle.dv_why.proofs.Suits.{IsOfClasses, IsOfPools, misnamed, misused_class, misused_pool}
+use Rattle.dv_why.proofs.Tables.{tables_same}
+
+-- ---- classes
+
+find_within : (name : List ℕ) (table : List Class) (k : ℕ) → find_class name table ≡ Some k → k < length table
+find_within name table k is = (position-Some (λ (class : Class). bytes_eq class.name name) table k (record { name = []; parent = None }) is).0
+
+place_within : (name : List ℕ) (table : List Class) (o : Option ℕ) → find_class name table ≡ o → is_some o ≡ true → nat_lt (unwrap_or o (length table)) (length table) ≡ true
+place_within name table None is some = cc
+place_within name table (Some k) is some = lt-ltb k (length table) (find_within name table k is)
+
+known_place : (name : List ℕ) (table other : List Class) → other ≡ table → is_some (find_class name other) ≡ true → nat_lt (place_of name table) (length table) ≡ true
+known_place name table other same some = place_within name table (find_class name table) refl (ap (λ t. is_some (find_class name t)) (sym same) ∙ some)
+
+classes_asked : (q : Question) (d : Data) (table : List Class) → IsOfClasses d q → table_in d ≡ table → Asks q (wanted.Classes (length table)) table
+classes_asked (question.Shape version) d table of same = absurd of
+classes_asked question.Names d table of same = absurd of
+classes_asked (question.Classes classes) d table of same = record {
+  name = λ x h. refl;
+  deferred = λ x h. refl;
+  pool = λ x h. refl;
+  class = λ x h. known_place x table classes.now (of ∙ same) h;
+}
+classes_asked (question.Pools ps) d table of same = absurd of
+
+of_names_classes : (q : Question) (d : Data) → IsOfClasses d q → IsOfNames q
+of_names_classes (question.Shape version) d of = absurd of
+of_names_classes question.Names d of = absurd of
+of_names_classes (question.Classes classes) d of = tt
+of_names_classes (question.Pools ps) d of = absurd of
+
+few_declared : (d : Data) (draft : Draft) → is_small d draft ≡ true → length draft.declared ≤ MOST_CLASSES
+few_declared d draft h =
+    let a = and_parts _ _ h in
+    let b = and_parts _ _ a.0 in
+    let c = and_parts _ _ b.0 in
+    let e = and_parts _ _ c.0 in
+    leb-true (length draft.declared) MOST_CLASSES (and_parts _ _ e.0).1
+
+-- a script in which each class may be declared and each that is used is in the table knows its classes
+pub classes_good : (q : Question) (d : Data) (draft : Draft) → IsOfClasses d q → AllMayDeclare (list_in (codes "classes") d) → IsScript d draft → is_small d draft ≡ true → AllSuit q (script_in d) d → are_known draft ≡ true
+classes_good q d draft of may g small h =
+    let value : get (codes "classes") d ≡ get_member (codes "classes") g.members = ap (get (codes "classes")) g.whole in
+    let may_so : AllMayDeclare (or_no_items (option_and_then as_array (get_member (codes "classes") g.members))) = rw value at may in
+    let same = tables_same (get_member (codes "classes") g.members) draft.declared g.declared (few_declared d draft small) may_so in
+    let table : table_in d ≡ draft.script.classes = rw value (sym same.1 ∙ sym g.table) in
+    both (g.all_declared ∙ same.0) (named_script d draft (of_names_classes q d of) (classes_asked q d draft.script.classes of table) g h)
+
+-- ---- pools
+
+name_of_pool : (d : Data) (ds : Items) (p : NamedPool) → IsPool d p → name_in 0 (item d ds) ≡ Some p.name
+name_of_pool _ ds _ (pools name d workers g) = refl
+
+-- a name that a pool has is among them
+among_some : (ds : Items) (ps : List NamedPool) → Each IsPool ds ps → (n : ℕ) (name : List ℕ) → name_in n ds ≡ Some name → is_among name ps ≡ true
+among_some no_items [] g n name is = cc
+among_some no_items (p ∷ ps) g n name is = absurd g
+among_some (item d ds) [] g n name is = absurd g
+among_some (item d ds) (p ∷ ps) g zero name is =
+    let same : p.name ≡ name = some_injective (sym (name_of_pool d ds p g.0) ∙ is) in
+    rw ((bytes_eq-Decides p.name name).1 same) refl
+among_some (item d ds) (p ∷ ps) g (suc n) name is = rw (among_some ds ps g.1 n name is) (or-true (bytes_eq p.name name))
+
+differ : (xs ys : List ℕ) (b : Bool) → bytes_eq xs ys ≡ b → xs ≢ ys → b ≡ false
+differ xs ys true e other = absurd (other ((bytes_eq-Decides xs ys).0 e))
+differ xs ys false e other = refl
+
+neither : {a b : Bool} → a ≡ false → b ≡ false → (a || b) ≡ false
+neither h k = rw (h, k) refl
+
+-- a name that no pool has isn't
+among_none : (ds : Items) (ps : List NamedPool) → Each IsPool ds ps → (name : List ℕ) → ((n : ℕ) → name_in n ds ≢ Some name) → is_among name ps ≡ false
+among_none no_items [] g name none = refl
+among_none no_items (p ∷ ps) g name none = absurd g
+among_none (item d ds) [] g name none = absurd g
+among_none (item d ds) (p ∷ ps) g name none =
+    neither (differ p.name name (bytes_eq p.name name) refl (λ same. none 0 (name_of_pool d ds p g.0 ∙ ap Some same))) (among_none ds ps g.1 name (λ n. none (suc n)))
+
+distinct : (ds : Items) (ps : List NamedPool) → Each IsPool ds ps → AreDistinct ds → are_distinct ps ≡ true
+distinct no_items [] g h = refl
+distinct no_items (p ∷ ps) g h = absurd g
+distinct (item d ds) [] g h = absurd g
+distinct (item d ds) (p ∷ ps) g h =
+    both (ap not (among_none ds ps g.1 p.name (λ n is. h (suc n) 0 p.name (omega arith) (name_of_pool d ds p g.0) is)))
+    (distinct ds ps g.1 (λ n k name less is. h (suc n) (suc k) name (omega (arith, less)) is))
+
+field_distinct : (o : Option Data) (ps : List NamedPool) → Field [] (IsList IsPool) o ps → AreDistinct (or_no_items (option_and_then as_array o)) → are_distinct ps ≡ true
+field_distinct None ps g h = rw g refl
+field_distinct (Some d) ps g h = distinct g.0 ps g.2 (rw (g.1) at h)
+
+field_among : (o : Option Data) (ps : List NamedPool) → Field [] (IsList IsPool) o ps → (n : ℕ) (name : List ℕ) → name_in n (or_no_items (option_and_then as_array o)) ≡ Some name → is_among name ps ≡ true
+field_among None ps g n name is = cc
+field_among (Some d) ps g n name is = among_some g.0 ps g.2 n name (rw (g.1) at is)
+
+pools_asked : (q : Question) (d : Data) (draft : Draft) → IsOfPools d q → IsScript d draft → Asks q (wanted.Pools draft.script.pools) draft.script.classes
+pools_asked (question.Shape version) d draft of g = absurd of
+pools_asked question.Names d draft of g = absurd of
+pools_asked (question.Classes classes) d draft of g = absurd of
+pools_asked (question.Pools ps) d draft of g = record {
+  name = λ x h. refl;
+  deferred = λ x h. refl;
+  pool = λ x h.
+      let one = declared_one ps.now x h in
+      let value : list_in (codes "pools") d ≡ or_no_items (option_and_then as_array (get_member (codes "pools") g.members)) = ap (λ e. or_no_items (option_and_then as_array (get (codes "pools") e))) g.whole in
+      field_among (get_member (codes "pools") g.members) draft.script.pools g.pools one.0 x (ap (name_in one.0) (sym (of ∙ value)) ∙ one.1);
+  class = λ x h. refl;
+}
+
+of_names_pools : (q : Question) (d : Data) → IsOfPools d q → IsOfNames q
+of_names_pools (question.Shape version) d of = absurd of
+of_names_pools question.Names d of = absurd of
+of_names_pools (question.Classes classes) d of = absurd of
+of_names_pools (question.Pools ps) d of = tt
+
+all_distinct : (d : Data) (draft : Draft) (b : Bool) → nat_eq (version_in d) 1 ≡ b → IsScript d draft → PoolsDistinct d → are_distinct draft.script.pools ≡ true
+all_distinct d draft true one g h =
+    let none : Field [] (IsList IsPool) None draft.script.pools = rw (first_has_no_pools d draft g one) at g.pools in
+    rw none refl
+all_distinct d draft false two g h =
+    let value : list_in (codes "pools") d ≡ or_no_items (option_and_then as_array (get_member (codes "pools") g.members)) = ap (λ e. or_no_items (option_and_then as_array (get (codes "pools") e))) g.whole in
+    field_distinct (get_member (codes "pools") g.members) draft.script.pools g.pools (subst AreDistinct value (h two))
+
+-- a script in which no name of a pool is given twice and each pool that is used is declared has its pools
+pub pools_good : (q : Question) (d : Data) (draft : Draft) → IsOfPools d q → PoolsDistinct d → IsScript d draft → AllSuit q (script_in d) d → are_pooled draft ≡ true
+pools_good q d draft of h g suit = both (all_distinct d draft (nat_eq (version_in d) 1) refl g h) (named_script d draft (of_names_pools q d of) (pools_asked q d draft of g) g suit)
+
+-- ---- what is found where a script is refused so
+
+differs : {X : Type 0} (b : Bool) → b ≡ true → b ≡ false → X
+differs true is isnt = cc
+differs false is isnt = cc
+
+-- refused for a name, a name is found
+pub found_name : (d : Data) (m : Misfit) → IsRefusedFor BadName d → depth d ≤ MOST_LEVELS → Misfits question.Names d m → IsMisnamed m
+found_name d m h shallow (inl bad) = misnamed m bad
+found_name d m h shallow (inr whole) = differs (are_named h.0) (names_good d h.0 h.1.shape (whole.1 (tt, shallow))) h.3
+
+-- refused for a class, a class is found, where each may be declared
+pub found_class : (q : Question) (d : Data) (m : Misfit) → IsOfClasses d q → AllMayDeclare (list_in (codes "classes") d) → IsRefusedFor BadClass d → depth d ≤ MOST_LEVELS → Misfits q d m → IsBadClass d m
+found_class q d m of may h shallow (inl bad) = misused_class q d m of bad
+found_class q d m of may h shallow (inr whole) = differs (are_known h.0) (classes_good q d h.0 of may h.1.shape h.2 (whole.1 (of_names_classes q d of, shallow))) h.4
+
+-- refused for a pool, a pool is found, where each is given once
+pub found_pool : (q : Question) (d : Data) (m : Misfit) → IsOfPools d q → PoolsDistinct d → IsRefusedFor BadPool d → depth d ≤ MOST_LEVELS → Misfits q d m → IsBadPool d m
+found_pool q d m of once h shallow (inl bad) = misused_pool q d m of bad
+found_pool q d m of once h shallow (inr whole) = differs (are_pooled h.0) (pools_good q d h.0 of once h.1.shape (whole.1 (of_names_pools q d of, shallow))) h.5
