@@ -19,7 +19,6 @@ HERE = Path(__file__).resolve().parent
 
 #: with no workers the thread that performs the script does the jobs, too, so that what is counted is the same each time
 WORKERS = "0"
-RUNS_TIMED = 5
 KIBIBYTE = 1024
 
 
@@ -55,10 +54,17 @@ def run(words: Sequence[str], source: bytes) -> End:
     return End(ran.returncode, ran.stdout, ran.stderr)
 
 
+def _value(measured: tuple[End, float]) -> float:
+    """What was measured of a run."""
+    return measured[1]
+
+
 class Meter(Protocol):
     """Measures runs of a program."""
 
-    measure: Measure
+    @property
+    def measure(self) -> Measure:
+        """What it measures."""
 
     @property
     def means(self) -> str:
@@ -68,14 +74,19 @@ class Meter(Protocol):
         """Runs the program on a script: how that ended, and what was measured of it."""
 
 
+@dataclass(frozen=True)
 class Stopwatch:
     """Measures the time that passes, in seconds: the least of some runs."""
 
-    measure = Measure.TIME
-    means = f"time that passes, the least of {RUNS_TIMED} runs"
+    runs: int = 5
+    measure: Measure = Measure.TIME
+
+    @property
+    def means(self) -> str:
+        return f"time that passes, the least of {self.runs} runs"
 
     def of(self, program: Path, source: bytes) -> tuple[End, float]:
-        return min((self._once(program, source) for _ in range(RUNS_TIMED)), key=lambda timed: timed[1])
+        return min((self._once(program, source) for _ in range(self.runs)), key=_value)
 
     def _once(self, program: Path, source: bytes) -> tuple[End, float]:
         start = time.perf_counter()
@@ -109,15 +120,21 @@ class PeakMemory:
     """Measures the most bytes that a run has resident, by a small program that runs it and writes the kibibytes to a file.
 
     What a process had resident counts for the one that it becomes, so a run measured from here would have at least what this
-    Python has.
+    Python has. The kernel counts pages for each processor and adds them up now and then, so one run is told some hundredths more
+    or less than another: of some runs the one in the middle is taken.
     """
 
     #: the words that run the small program, before the name of the file
     words: tuple[str, ...]
     means: str
+    #: an odd number
+    runs: int = 9
     measure: Measure = Measure.MEMORY
 
     def of(self, program: Path, source: bytes) -> tuple[End, float]:
+        return sorted((self._once(program, source) for _ in range(self.runs)), key=_value)[self.runs // 2]
+
+    def _once(self, program: Path, source: bytes) -> tuple[End, float]:
         with tempfile.NamedTemporaryFile() as told:
             end = run([*self.words, told.name, str(program), WORKERS], source)
             kibibytes = told.read().split()
@@ -127,7 +144,7 @@ class PeakMemory:
 
 
 def gnu_time() -> PeakMemory | None:
-    """GNU time, where it is here; it has a megabyte or two itself."""
+    """GNU time, where it is here; it has a megabyte itself."""
     path = shutil.which("time")
     if path is None or b"GNU" not in subprocess.run([path, "--version"], capture_output=True, check=False).stdout:
         return None

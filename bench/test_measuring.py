@@ -6,6 +6,7 @@ import io
 import sys
 import tempfile
 import unittest
+from dataclasses import replace
 from pathlib import Path
 
 from bench import Wrong, all_measured, is_measured, main, measured
@@ -22,8 +23,17 @@ for word, text in json.load(sys.stdin)["events"]{some}:
 print("#0 d unfired")
 sys.exit({status})
 """
+#: in place of GNU time, tells the next of the numbers that are left
+TELLER = """\
+#!/bin/sh
+read -r next left <"$0.left"
+echo "$left" >"$0.left"
+echo "$next" >"$1"
+shift
+exec "$@"
+"""
 MEGABYTE = 1 << 20
-PYTHON = (sys.executable, "-I", "-S", str(HERE / "peak.py"))
+PYTHON = PeakMemory((sys.executable, "-I", "-S", str(HERE / "peak.py")), "by a bare Python", runs=1)
 
 
 def stand_in(folder: str, memory: int = 0, some: str = "", status: int = 0) -> Path:
@@ -68,7 +78,7 @@ class Meters(unittest.TestCase):
             count_of(b"valgrind: command not found\n")
 
     def test_a_time_is_that_of_a_run(self) -> None:
-        figure = measured(stand_in(self.folder), Workload("notes", notes, 3), 3, Stopwatch())
+        figure = measured(stand_in(self.folder), Workload("notes", notes, 3), 3, Stopwatch(runs=2))
         self.assertEqual((figure.workload, figure.size, figure.measure), ("notes", 3, Measure.TIME))
         self.assertTrue(0 < figure.value < 60)
 
@@ -79,17 +89,25 @@ class Meters(unittest.TestCase):
         )
         self.assertAlmostEqual((most - least) / MEGABYTE, 64, delta=4)
 
+    def test_of_some_runs_the_memory_in_the_middle_is_taken(self) -> None:
+        teller = Path(self.folder) / "teller"
+        teller.with_suffix(".left").write_text("10 300 20\n")
+        teller.write_text(TELLER)
+        teller.chmod(0o755)
+        meter = PeakMemory((str(teller),), "by what is left", runs=3)
+        self.assertEqual(meter.of(stand_in(self.folder), notes(1).source)[1], 20 * 1024)
+
     def test_memory_by_a_bare_python(self) -> None:
-        self.assert_memory_is_measured(PeakMemory(PYTHON, ""))
+        self.assert_memory_is_measured(PYTHON)
 
     def test_memory_by_gnu_time(self) -> None:
         meter = gnu_time()
         if meter is None:
             self.skipTest("GNU time isn't here")
-        self.assert_memory_is_measured(meter)
+        self.assert_memory_is_measured(replace(meter, runs=1))
 
     def test_memory_is_measured_of_a_run_that_ends_by_another_status_too(self) -> None:
-        for meter in (PeakMemory(PYTHON, ""), gnu_time()):
+        for meter in (PYTHON, gnu_time()):
             if meter is not None:
                 end, value = meter.of(stand_in(self.folder, status=1), notes(2).source)
                 self.assertEqual((end.status, end.entries), (1, 2))
@@ -97,11 +115,11 @@ class Meters(unittest.TestCase):
 
     def test_a_program_that_loses_an_entry_is_wrong(self) -> None:
         with self.assertRaisesRegex(Wrong, "notes of 3: 2 entries in place of 3"):
-            measured(stand_in(self.folder, some="[1:]"), Workload("notes", notes, 3), 3, Stopwatch())
+            measured(stand_in(self.folder, some="[1:]"), Workload("notes", notes, 3), 3, Stopwatch(runs=1))
 
     def test_full_workloads_are_for_memory_alone(self) -> None:
         full = Workload("full", notes, 3, is_full=True)
-        by: list[Meter] = [Stopwatch(), PeakMemory(PYTHON, "")]
+        by: list[Meter] = [Stopwatch(runs=1), PYTHON]
         self.assertEqual([is_measured(full, meter) for meter in by], [False, True])
         figures = Figures(all_measured(stand_in(self.folder), [full, Workload("texts", long_texts, 3)], by, growing=True))
         self.assertEqual(figures.workloads(Measure.MEMORY), ["full", "texts"])
