@@ -219,9 +219,9 @@ still_there Equal rest d e is = (d, refl)
 still_there Greater rest d e is = (e, is)
 
 passed_over : (o : Ordering) (rest : Option Data) (d e : Data) → is_eq o ≡ false → match_ordering o rest (Some d) rest ≡ Some e → rest ≡ Some e
-passed_over Less rest d e no is = is
-passed_over Equal rest d e no is = absurd (true≢false no)
-passed_over Greater rest d e no is = is
+passed_over Less rest d e off is = is
+passed_over Equal rest d e off is = absurd (true≢false off)
+passed_over Greater rest d e off is = is
 
 first_there : (o : Ordering) (rest : Option Data) (d : Data) → is_eq o ≡ true → match_ordering o rest (Some d) rest ≡ Some d
 first_there Less rest d e = cc

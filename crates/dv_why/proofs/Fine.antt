@@ -1,34 +1,29 @@
 -- A value of which each part fits, opened.
-use Rattle.std.proofs.Common.{◌≡◌, ℕ, zero, suc, ◌+◌, ◌≤◌, ℤ, nat_eq, nat_le, Bool, true, false, not, ◌&&◌, List, [], ◌∷◌, length, Option, Some, None, is_some, option_and_then, option_map, bytes_eq, refl, sym, ap, subst, ◌∙◌, arith, codes}
+use Rattle.std.proofs.Common.{◌≡◌, ℕ, suc, ◌≤◌, ℤ, nat_eq, nat_le, Bool, true, false, not, ◌&&◌, List, [], ◌∷◌, length, Option, Some, None, is_some, option_map, bytes_eq, refl, sym, ap, ◌∙◌, arith, codes}
 use Rattle.std.specs.Prelude.{⊤}
 use Rattle.std.proofs.lemmas.Bool.{and_parts, eqb-true, leb-true}
 use Rattle.std.proofs.lemmas.Slice.Eq.{bytes_eq-Decides}
-use Rattle.serde_json.specs.Data.{Data, Num, unsigned, negative, float, null, boolean, number, string, array, object, Items, no_items, item, Members, depth}
-use Rattle.serde_json.specs.Find.{at, get, get_item, get_member, as_array, as_bool, as_i64, as_number, as_object, as_str, as_u64}
+use Rattle.serde_json.specs.Data.{Data, unsigned, negative, float, null, boolean, number, string, array, object, Items, no_items, item, depth}
+use Rattle.serde_json.specs.Find.{at, get, get_item, as_array, as_bool, as_i64, as_str}
 use Rattle.dv_script.specs.declared.action.ListFlag.{ListFlag}
 use Rattle.dv_script.specs.declared.action.GatherFlag.{GatherFlag}
 use Rattle.dv_script.specs.declared.limits.TheConstants.{MOST_PLACES}
 use Rattle.dv_forms.specs.Forms.{Each, IsList, IsInteger, IsNumber, IsValue, AreValues, a_null, a_bool, an_int, a_text, a_list, no_values, more_values}
-use Rattle.dv_forms.specs.Parts.{call_at, within, integer_at, number_at, bound_at, list_flag, list_flag_at, gather_flag_named, gather_flag_at, text_at}
+use Rattle.dv_forms.specs.Parts.{call_at, within, integer_at, number_at, bound_at, list_flag, list_flag_at, gather_flag_named, gather_flag_at}
 use Rattle.dv_grammar.specs.Grammar.{IsListFlag, fires_on_callback, fires_on_errback, consumes_errors, IsGatherFlag, gathers_errors, IsBound, no_bound, a_bound}
 use Rattle.dv_grammar.specs.declared.words.ActionWord.{ActionWord}
 use Rattle.dv_grammar.specs.declared.words.EventWord.{EventWord}
-use Rattle.dv_grammar.specs.Words.{or_else, action_word, event_word, statement_word, end_word, work_word}
-use Rattle.dv_grammar.proofs.Steps.{some_injective, chosen}
+use Rattle.dv_grammar.specs.Words.{or_else, action_word, event_word}
 use Rattle.dv_value.specs.declared.value.Value.{Value, Null, Bool as Flag, Int, Text, List as Values}
 use Rattle.dv_why.specs.declared.want.Want.{Want}
 use Rattle.dv_why.specs.declared.want.Want.TheVariants as want
-use Rattle.dv_why.specs.declared.want.Leaf.{Leaf}
-use Rattle.dv_why.specs.declared.want.Leaf.TheVariants as leaf
 use Rattle.dv_why.specs.declared.want.Call.{Call}
 use Rattle.dv_why.specs.declared.want.Call.TheVariants as call_of
-use Rattle.dv_why.specs.declared.want.Keyed.{Keyed}
 use Rattle.dv_why.specs.declared.want.Item.{Item}
-use Rattle.dv_why.specs.declared.question.Question.{Question}
 use Rattle.dv_why.specs.declared.question.Question.TheVariants as question
-use Rattle.dv_why.specs.Wants.{item_want, form_of, event_wants, action_wants, action_form, event_form}
+use Rattle.dv_why.specs.Wants.{item_want, form_of, event_wants, action_wants}
 use Rattle.dv_why.specs.Places.{count, nth, part_want, value_want}
-use Rattle.dv_why.specs.Fits.{fits, has_form, word_fits}
+use Rattle.dv_why.specs.Fits.{fits, word_fits}
 use Rattle.dv_why.specs.AllSuit.{AllSuit}
 use Rattle.dv_why.proofs.Asked.{item_below, value_below}
 use Rattle.dv_why.proofs.Named.{here, part, value}

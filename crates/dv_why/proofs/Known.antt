@@ -19,6 +19,7 @@ use Rattle.dv_reader.specs.Suits.{is_among}
 use Rattle.dv_reader.specs.Limits.{is_small}
 use Rattle.dv_reader.specs.Refusal.{keeps_version, are_named, are_known, are_distinct, are_pooled}
 use Rattle.dv_reader.specs.declared.error.ScriptFault.TheVariants.{BadShape, BadName, BadClass, BadPool}
+use Rattle.dv_why.specs.Fits.{word_fits}
 use Rattle.dv_why.specs.declared.question.Question.{Question}
 use Rattle.dv_why.specs.declared.question.Question.TheVariants as question
 use Rattle.dv_why.specs.AllSuit.{AllSuit}

@@ -1,14 +1,13 @@
 -- Where each part of a value fits, it reads.
-use Rattle.std.proofs.Common.{Ordering, Less, Equal, Greater, is_eq, nat_cmp, ◌≡◌, ℕ, zero, suc, ◌≤◌, ℤ, nat_eq, Bool, true, false, not, ◌&&◌, if◌then◌else◌, List, [], ◌∷◌, Option, Some, None, is_some, option_and_then, option_map, bytes_eq, refl, sym, ap, subst, ◌∙◌, arith, codes}
-use Rattle.std.specs.Prelude.{⊤}
+use Rattle.std.proofs.Common.{Ordering, Less, Equal, Greater, is_eq, nat_cmp, ◌≡◌, ℕ, zero, suc, ◌≤◌, nat_eq, Bool, true, false, if◌then◌else◌, List, [], ◌∷◌, Option, Some, None, is_some, option_and_then, option_map, bytes_eq, refl, sym, ap, subst, ◌∙◌, arith, codes}
 use Rattle.std.specs.List.{list_any}
 use Rattle.std.specs.Ordering.{match_ordering}
 use Rattle.std.specs.Cmp.Lexicographic.{slice_cmp}
 use Rattle.std.proofs.lemmas.Bool.{and_parts, eqb-true}
 use Rattle.std.proofs.lemmas.Map.Text.{is_eq-slice_cmp}
 use Rattle.std.proofs.lemmas.Slice.Eq.{bytes_eq-Decides}
-use Rattle.serde_json.specs.Data.{Data, unsigned, null, boolean, number, string, array, object, Items, no_items, item, Members, no_members, member, depth}
-use Rattle.serde_json.specs.Find.{at, get as value_at, get_item, get_member, as_number, as_u64}
+use Rattle.serde_json.specs.Data.{Data, string, array, object, Items, no_items, item, Members, no_members, member, depth}
+use Rattle.serde_json.specs.Find.{at, get_item, get_member, as_number, as_u64}
 use Rattle.dv_value.specs.declared.classes.Class.{Class}
 use Rattle.dv_script.specs.declared.body.End.{End}
 use Rattle.dv_script.specs.declared.body.End.TheVariants.{Return, Pass, Plus, Raise, Trap, Wait}
@@ -24,7 +23,7 @@ use Rattle.dv_script.specs.declared.script.NamedPool.{NamedPool}
 use Rattle.dv_script.specs.declared.limits.TheConstants.{MOST_LIMIT, MOST_PLACES, MOST_SUM, MOST_WORKERS, USUAL_LIMIT}
 use Rattle.dv_clock.specs.declared.limits.TheConstants.{MOST_DELAY, MOST_TICKS}
 use Rattle.dv_forms.specs.declared.declaration.Declaration.{Declaration}
-use Rattle.dv_forms.specs.Forms.{call, Each, IsList, Field, Key, has_only, IsNumber, IsText, IsClass, place_of}
+use Rattle.dv_forms.specs.Forms.{call, IsList, Field, Key, has_only, IsNumber, IsText, IsClass, place_of}
 use Rattle.dv_forms.specs.Leaving.{may_leave}
 use Rattle.dv_forms.specs.Table.{table_of, all_declared}
 use Rattle.dv_grammar.specs.declared.draft.Draft.{Draft}
@@ -49,26 +48,25 @@ use Rattle.dv_grammar.specs.declared.words.StatementWord.TheVariants as statemen
 use Rattle.dv_grammar.specs.declared.words.WorkWord.{WorkWord}
 use Rattle.dv_grammar.specs.declared.words.WorkWord.TheVariants as work
 use Rattle.dv_grammar.specs.Words.{or_else, action_text, action_word, end_text, end_word, end_words, event_text, event_word, event_words, statement_text, statement_word, statement_words, work_text, work_word, work_words}
-use Rattle.dv_grammar.specs.Grammar.{body_keys, cooperator_keys, keys_of, plain_cooperator, IsEnd, returns, passes, adds, raises, traps, waits, IsWork, gives, fails, sums, IsListFlag, IsGatherFlag, IsBound, IsAction, deferred, deferred_with, callback, errback, add_callback, add_errback, add_both, add_callbacks, chain, pause, unpause, cancel, add_timeout, note, list, gather, maybe, lock, semaphore, acquire, release, run_with, queue, put, get, later, cancel_call, loop, stop_loop, cooperate, when_done, pause_task, stop_task, resume_task, inline, thread, thread_in, AreActions, no_actions, more_actions, IsDo, does_nothing, does, IsBody, body, AreBodies, no_bodies, more_bodies, IsStatement, performs, awaits, tries, leaves, AreStatements, no_statements, more_statements, IsEvent, acts, advances, drains, IsDeclaration, declares, IsPool, pools, IsCooperator, IsScript}
+use Rattle.dv_grammar.specs.Grammar.{body_keys, cooperator_keys, keys_of, plain_cooperator, IsEnd, returns, passes, adds, raises, traps, waits, IsWork, gives, fails, sums, IsListFlag, IsGatherFlag, IsAction, deferred, deferred_with, callback, errback, add_callback, add_errback, add_both, add_callbacks, chain, pause, unpause, cancel, add_timeout, note, list, gather, maybe, lock, semaphore, acquire, release, run_with, queue, put, get, later, cancel_call, loop, stop_loop, cooperate, when_done, pause_task, stop_task, resume_task, inline, thread, thread_in, AreActions, no_actions, more_actions, IsDo, does_nothing, does, IsBody, body, AreBodies, no_bodies, more_bodies, IsStatement, performs, awaits, tries, leaves, AreStatements, no_statements, more_statements, IsEvent, acts, advances, drains, IsDeclaration, declares, IsPool, pools, IsCooperator, IsScript}
 use Rattle.dv_grammar.proofs.Steps.{some_injective, bind, mapped}
 use Rattle.dv_grammar.proofs.WordsLemmas.{word_is, action_word_is}
 use Rattle.dv_why.specs.declared.want.Want.{Want}
 use Rattle.dv_why.specs.declared.want.Want.TheVariants as want
 use Rattle.dv_why.specs.declared.want.Leaf.TheVariants as leaf
 use Rattle.dv_why.specs.declared.want.Call.TheVariants as call_of
-use Rattle.dv_why.specs.declared.want.Pair.TheVariants as pair_of
 use Rattle.dv_why.specs.declared.want.Keyed.{Keyed}
 use Rattle.dv_why.specs.declared.want.Keyed.TheVariants as keyed
 use Rattle.dv_why.specs.declared.want.Item.{Item}
 use Rattle.dv_why.specs.declared.want.Item.TheVariants as item_of
 use Rattle.dv_why.specs.declared.question.Question.TheVariants as question
-use Rattle.dv_why.specs.Wants.{a_name, a_deferred, a_class, a_text, a_delay, a_body, a_work, item_want, key_want, keys_in, name_wants, names_wants, body_wants, plain_wants, nesting_wants, deferred_wants, action_wants, action_form, event_wants, statement_wants, end_wants, leaving_wants, work_wants, pair_wants}
+use Rattle.dv_why.specs.Wants.{a_name, a_deferred, a_class, a_text, a_delay, a_body, a_work, item_want, key_want, keys_in, name_wants, names_wants, body_wants, plain_wants, nesting_wants, action_wants, action_form, event_wants, statement_wants, end_wants, leaving_wants, work_wants}
 use Rattle.dv_why.specs.Places.{count, nth}
 use Rattle.dv_why.specs.Documents.{one_or_two, version_in, script_in}
 use Rattle.dv_why.specs.Fits.{fits, are_two}
 use Rattle.dv_why.specs.AllSuit.{AllSuit}
 use Rattle.dv_why.proofs.Asked.{EachKey, known_key}
-use Rattle.dv_why.proofs.Fine.{IsFine, fits_fine, inside, same, under, value_fine, text_of, integer_of, number_of, boolean_of, bound_of, list_flag_of, gather_flag_of, value_of, each_of, IsOpenArray, open_array, list_of, AreFine, are_fine, no_args, IsOne, one_arg, IsMore, more_args, IsOpenCall, open_call}
+use Rattle.dv_why.proofs.Fine.{IsFine, fits_fine, inside, same, under, value_fine, text_of, integer_of, number_of, boolean_of, bound_of, list_flag_of, gather_flag_of, value_of, open_array, list_of, AreFine, are_fine, no_args, one_arg, more_args, open_call}
 use Rattle.dv_why.proofs.Named.{both, here, value}
 use Rattle.dv_why.proofs.Scripts.{within_two}
 
@@ -649,24 +647,26 @@ script_fine (object ms) suit =
     let cooperator = cooperator_field v n (get_member (codes "cooperator") ms) (λ e is. value_fine (codes "cooperator") h refl is) in
     let named = pools_field v n (nat_eq v 1) refl ms h in
     let callers = list_field v n item_of.Caller (IsList (IsBody table)) (list_of v n item_of.Body (IsBody table) (are_read v n table).of_body) (get_member (codes "callers") ms) (λ e is. value_fine (codes "callers") h refl is) in
-    let events = list_key v n item_of.Event (IsEvent table) (event_fine v n table) (get_member (codes "events") ms) keys.1 (λ e is. value_fine (codes "events") h refl is) in
-    (record {
-      version = version.0;
-      declared = classes.0;
-      all_declared = all_declared classes.0;
-      script = record { classes = table; limit = limit.0; cooperator = cooperator.0; pools = named.0; callers = callers.0; events = events.0 };
-    }, record {
-      members = ms;
-      whole = refl;
-      version = version.1;
-      only = subst (λ (k : ℕ). has_only (keys_of k) ms ≡ true) same_version (script_only v ms suit);
-      declared = classes.1;
-      all_declared = refl;
-      table = refl;
-      limit = limit.1;
-      cooperator = cooperator.1;
-      pools = named.1;
-      callers = callers.1;
-      events = events.1;
-    })
+    let events = list_key v n item_of.Event (IsEvent table) (event_fine v n table) (get_member (codes "events") ms) keys.1 (λ e is. value_fine (codes "events") h refl is) in (
+      record {
+        version = version.0;
+        declared = classes.0;
+        all_declared = all_declared classes.0;
+        script = record { classes = table; limit = limit.0; cooperator = cooperator.0; pools = named.0; callers = callers.0; events = events.0 };
+      },
+      record {
+        members = ms;
+        whole = refl;
+        version = version.1;
+        only = subst (λ (k : ℕ). has_only (keys_of k) ms ≡ true) same_version (script_only v ms suit);
+        declared = classes.1;
+        all_declared = refl;
+        table = refl;
+        limit = limit.1;
+        cooperator = cooperator.1;
+        pools = named.1;
+        callers = callers.1;
+        events = events.1;
+      },
+    )
 script_fine d suit = let fit : fits (version_in d) (script_in d) d ≡ true = here suit in cc

@@ -6,7 +6,7 @@ use Rattle.std.proofs.lemmas.Map.Text.{is_eq-slice_cmp}
 use Rattle.std.proofs.lemmas.Slice.Eq.{bytes_eq-Decides}
 use Rattle.std.specs.Ordering.{match_ordering}
 use Rattle.std.specs.Cmp.Lexicographic.{slice_cmp}
-use Rattle.serde_json.specs.Data.{Data, null, boolean, number, string, array, object, Items, no_items, item, Members, no_members, member}
+use Rattle.serde_json.specs.Data.{Data, string, array, Items, item, Members, no_members, member}
 use Rattle.serde_json.specs.Find.{at, get as value_of, get_member, as_number, as_u64}
 use Rattle.dv_value.specs.declared.classes.Class.{Class}
 use Rattle.dv_script.specs.declared.action.Action.{Action}
@@ -29,7 +29,6 @@ use Rattle.dv_reader.specs.Suits.{suits_event, suits_body, suits_script}
 use Rattle.dv_reader.specs.Refusal.{is_named, names_pool, are_named}
 use Rattle.dv_why.specs.declared.want.Want.{Want}
 use Rattle.dv_why.specs.declared.want.Want.TheVariants as want
-use Rattle.dv_why.specs.declared.want.Call.{Call}
 use Rattle.dv_why.specs.declared.want.Call.TheVariants as call_of
 use Rattle.dv_why.specs.declared.want.Item.{Item}
 use Rattle.dv_why.specs.declared.want.Item.TheVariants as item_of

@@ -25,16 +25,16 @@ in_parts-returns-in-Keyed-clause-none t c =
     let is : c.args.want ≡ want.Keyed c.in-Keyed.keyed = c.in-Keyed.is in
     let suit : suits q (want.Keyed c.in-Keyed.keyed) d ≡ true = ap (λ w. suits q w d) (sym is) ∙ c.requires in
     IfOk-weaker c.in_object.result _ (λ found. found ≡ None → depth d ≤ c.args.levels → OthersOf q c.args.want d → AllSuit q c.args.want d)
-      (λ found h none shallow others.
-        subst (λ (w : Want). AllSuit q w d) (sym is) (object_suits q c.in-Keyed.keyed d suit
-          (values_suit q c.in-Keyed.keyed d (subst (λ (w : Want). OthersOf q w d) is others) (h none (omega (arith, shallow)))))) c.in_object.ensures.none
+    (λ found h none shallow others.
+    subst (λ (w : Want). AllSuit q w d) (sym is) (object_suits q c.in-Keyed.keyed d suit
+    (values_suit q c.in-Keyed.keyed d (subst (λ (w : Want). OthersOf q w d) is others) (h none (omega (arith, shallow)))))) c.in_object.ensures.none
 
 pub in_parts-returns-in-Value-clause-none : goal.in_parts-returns-in-Value-clause-none
 in_parts-returns-in-Value-clause-none t c =
     let d = view c.args.json.now in
     let q = c.args.question in
     IfOk-weaker c.in_array.result _ (λ found. found ≡ None → depth d ≤ c.args.levels → OthersOf q c.args.want d → AllSuit q c.args.want d)
-      (λ found h none shallow others. array_suits q c.args.want d (has_items c.args.want c.in-Value.is) c.requires (h none (omega (arith, shallow)))) c.in_array.ensures.none
+    (λ found h none shallow others. array_suits q c.args.want d (has_items c.args.want c.in-Value.is) c.requires (h none (omega (arith, shallow)))) c.in_array.ensures.none
 
 pub in_parts-returns-in-Leaf-clause-none : goal.in_parts-returns-in-Leaf-clause-none
 in_parts-returns-in-Leaf-clause-none t c = λ none shallow others. no_parts_suit c.args.question c.args.want (view c.args.json.now) (has_no_parts c.args.want c.in-Leaf.is) c.requires
@@ -91,7 +91,7 @@ other_key-returns-in-Keyed-clause-none t c =
     let q = c.args.question in
     let is : c.args.want ≡ want.Keyed c.in-Keyed.keyed = c.in-Keyed.is in
     IfOk-weaker c.at_other_key.result _ (λ found. found ≡ None → depth d ≤ c.args.levels → OthersOf q c.args.want d)
-      (λ found h none shallow. subst (λ (w : Want). OthersOf q w d) (sym is) (h none (omega (arith, shallow)))) c.at_other_key.ensures.none
+    (λ found h none shallow. subst (λ (w : Want). OthersOf q w d) (sym is) (h none (omega (arith, shallow)))) c.at_other_key.ensures.none
 
 pub other_key-returns-in-Leaf-clause-none : goal.other_key-returns-in-Leaf-clause-none
 other_key-returns-in-Leaf-clause-none t c = λ none shallow. no_keys c.args.question c.args.want (view c.args.json.now) c.in-Leaf.is
@@ -101,7 +101,7 @@ find-returns-clause-none t c =
     let d = view c.args.json.now in
     let q = c.args.question in
     IfOk-weaker c.in_parts.result _ (λ found. found ≡ None → depth d ≤ c.args.levels → AllSuit q c.args.want d)
-      (λ found h none shallow. h none shallow (c.in_ok-misfit.ensures.none c.in_default.is shallow)) c.in_parts.ensures.none
+    (λ found h none shallow. h none shallow (c.in_ok-misfit.ensures.none c.in_default.is shallow)) c.in_parts.ensures.none
 
 pub at_other_key-returns-in-Some-clause-none : goal.at_other_key-returns-in-Some-clause-none
 at_other_key-returns-in-Some-clause-none t c =
@@ -113,7 +113,7 @@ at_other_key-returns-in-Some-clause-none t c =
     let first : first_other k ms ≡ Some c.in-Some.key.now = sym c.in-Some.ensures in
     let found = first_is k ms c.in-Some.key.now first in
     IfOk-weaker c.in_key.result _ (λ nothing. nothing ≡ None → depth d ≤ c.args.levels + 1 → OthersSuit q k d)
-      (λ nothing h none shallow. others_by q k d c.in-Some.key.now found.value found.other (h none shallow found.value (ap (get c.in-Some.key.now) whole ∙ found.there))) c.in_key.ensures.none
+    (λ nothing h none shallow. others_by q k d c.in-Some.key.now found.value found.other (h none shallow found.value (ap (get c.in-Some.key.now) whole ∙ found.there))) c.in_key.ensures.none
 
 pub at_other_key-returns-in-None-clause-none : goal.at_other_key-returns-in-None-clause-none
 at_other_key-returns-in-None-clause-none t c = λ none shallow key e is other.
