@@ -7,14 +7,14 @@ ghost use Rattle.dv_script.specs.declared.limits.TheConstants.{MOST_WORKERS};
 use dv_jobs::gate::PlainGate;
 use dv_journal::io_sink::IoSink;
 use dv_journal::sink::Sink;
-use dv_run::{IoSource, RunFault, Source, exit_of, run, workers_of};
+use dv_run::{IoSource, Kept, RunFault, Source, exit_of, run_and_keep, workers_of};
 use std::alloc::AllocGlobal;
 use std::process::ExitCode;
 use std::random::RandomSource;
 use std::rt::Env;
 use std::sync::Wait;
 use std::thread::Threads;
-use std::{env, io};
+use std::{env, io, mem};
 
 fn main(rt: HostRuntime) -> ExitCode {
     let (status, text) = match workers(&rt) {
@@ -34,7 +34,8 @@ fn main(rt: HostRuntime) -> ExitCode {
     ExitCode::from(status)
 }
 
-/// Runs the script of the reader with so many workers, and gives the status and the text with which the program ends.
+/// Runs the script of the reader with so many workers, and gives the status and the text with which the program ends. What the
+/// run has left isn't let go of, since the program ends.
 fn end_of_run<S, R, W>(rt: &S, reader: &mut R, writer: &mut W, workers: u32) -> (u8, &'static str)
 where
     S: Threads + Wait + RandomSource + AllocGlobal + Sync,
@@ -42,12 +43,16 @@ where
     W: Sink,
     requires { workers ≤ MOST_WORKERS }
 {
-    let ended = run(rt, reader, writer, workers, &PlainGate);
-    let exit = exit_of(&ended);
-    if let Ok(report) = ended {
-        report.discard();
+    match run_and_keep(rt, reader, writer, workers, &PlainGate) {
+        Ok(Kept { script, report }) => {
+            mem::forget(script);
+            let ended = Ok(report);
+            let exit = exit_of(&ended);
+            mem::forget(ended);
+            exit
+        }
+        Err(fault) => exit_of(&Err(fault)),
     }
-    exit
 }
 
 /// How many workers the words after the program's name ask for; None where these are wrong. A word that isn't text is an error.

@@ -38,7 +38,7 @@ pub fn begin_inline<'s>(
     let of = world.next_id();
     let id = world.add_inline()?;
     world.make(Some(name), Some(Canceller::Inline(id)))?;
-    let body = InlineBody::start(alloc, statements.get());
+    let body = InlineBody::start(alloc, statements.get())?;
     done(stack.push(Frame::Inline(Inlining::Goes(Inline { id, of }, body))))
 }
 

@@ -8,6 +8,7 @@ ghost use Rattle.dv_frames.specs.Turn.{done};
 use crate::following::done;
 use dv_journal::entry::Entry;
 use dv_objects::performed::Performed;
+use dv_value::boxed::Boxed;
 use dv_value::failure::Failure;
 use dv_world::world::World;
 use std::alloc::{AllocError, Global};
@@ -36,6 +37,6 @@ pub fn tell_failure<'s>(
 {
     match performed.into_failure(alloc)? {
         None => Ok(Performed::Done),
-        Some(failure) => done(world.tell(Entry::Unhandled(failure))),
+        Some(failure) => done(world.tell(Entry::Unhandled(Boxed::new(alloc, failure)?))),
     }
 }

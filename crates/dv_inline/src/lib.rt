@@ -6,4 +6,5 @@ pub mod laws;
 pub mod open;
 pub mod parked;
 pub mod poller;
+mod walk;
 pub mod want;

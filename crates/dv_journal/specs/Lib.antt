@@ -1,5 +1,5 @@
 pub mod Entry
-pub mod Change
+pub mod Told
 pub mod Journal
 pub mod Telling
 pub mod Line

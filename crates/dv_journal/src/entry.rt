@@ -1,7 +1,9 @@
 ghost use Rattle.std.specs.Prelude.{◌≡◌, ◌^◌, ◌-◌, min};
 ghost use Rattle.dv_journal.specs.Entry.{weight_of};
+ghost use Rattle.dv_journal.specs.Told.{is_unhandled};
 
 use crate::deferred_id::DeferredId;
+use dv_value::boxed::Boxed;
 use dv_value::failure::Failure;
 use dv_value::text::Text;
 use dv_value::value::Value;
@@ -44,7 +46,7 @@ pub enum Entry {
     /// `note J`: the script notes a text.
     Note(Text),
     /// `unhandled F`: a failure left an event, a delayed call, a delivery or a post.
-    Unhandled(Failure),
+    Unhandled(Boxed<Failure>),
     /// `lock L`: a lock is made.
     Lock(Text),
     /// `semaphore L TOKENS`: a semaphore of so many tokens is made.
@@ -56,7 +58,7 @@ pub enum Entry {
     /// `queue Q SIZE BACKLOG`: a queue is made, with its bounds on what is stored and on who waits, `none` for no bound.
     Queue(Text, Option<u32>, Option<u32>),
     /// `put Q J`: a value is put into a queue.
-    Put(Text, Value),
+    Put(Text, Boxed<Value>),
     /// `get Q #N`: a Deferred asks for a value of a queue.
     Get(Text, DeferredId),
     /// `later call C TIME`: a call of the script is scheduled, due at that time.
@@ -92,7 +94,7 @@ pub enum Entry {
     /// `hold T #N`: a step gave a Deferred, and the task is paused until that has come.
     Hold(Text, DeferredId),
     /// `end T O`: a task ends with this outcome.
-    End(Text, Value),
+    End(Text, Boxed<Value>),
     /// `pausetask T`: a task's count of pauses goes up by one.
     PauseTask(Text),
     /// `resumetask T`: a task's count of pauses goes down by one.
@@ -117,6 +119,13 @@ impl Entry {
         drop(self);
     }
 
+    /// Whether the entry tells of an unhandled failure.
+    pub fn is_unhandled(&self) -> bool
+        ensures { result ≡ is_unhandled self.now }
+    {
+        matches!(self, Entry::Unhandled(_))
+    }
+
     /// How much the entry counts against the journal's limit: one, and the size of the value, the failure or the
     /// noted text that its line shows. It stops at `u64::MAX`.
     pub fn weight(&self) -> u64
@@ -126,11 +135,10 @@ impl Entry {
             Entry::Fire(_, value)
             | Entry::Set(_, value)
             | Entry::Take(_, _, value)
-            | Entry::Hand(_, _, value)
-            | Entry::Put(_, value)
-            | Entry::End(_, value) => value.size().saturating_add(1),
+            | Entry::Hand(_, _, value) => value.size().saturating_add(1),
+            Entry::Put(_, value) | Entry::End(_, value) => value.get().size().saturating_add(1),
             Entry::Note(text) => (text.as_str().len() as u64).saturating_add(2),
-            Entry::Unhandled(failure) => failure.size().saturating_add(1),
+            Entry::Unhandled(failure) => failure.get().size().saturating_add(1),
             Entry::New(_, _)
             | Entry::Name(_, _)
             | Entry::Add(_)

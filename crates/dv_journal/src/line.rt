@@ -249,7 +249,7 @@ fn write_words(
         Entry::Unpause(id) => write_id(out, "unpause ", *id),
         Entry::Cancel(id) => write_id(out, "cancel ", *id),
         Entry::Note(text) => write_note(alloc, out, text),
-        Entry::Unhandled(failure) => write_unhandled(alloc, classes, out, failure),
+        Entry::Unhandled(failure) => write_unhandled(alloc, classes, out, failure.get()),
         Entry::Lock(name) => write_named(out, "lock ", name),
         Entry::Semaphore(name, tokens) => {
             write_named_and_number(out, "semaphore ", name, u64::from(*tokens))
@@ -259,7 +259,7 @@ fn write_words(
         Entry::Queue(name, most_stored, most_waiting) => {
             write_queue(out, name, *most_stored, *most_waiting)
         }
-        Entry::Put(name, value) => write_put(alloc, classes, out, name, value),
+        Entry::Put(name, value) => write_put(alloc, classes, out, name, value.get()),
         Entry::Get(name, id) => write_named_and_id(out, "get ", name, *id),
         Entry::LaterCall(name, due) => write_named_and_number(out, "later call ", name, *due),
         Entry::LaterLoop(name, due) => write_named_and_number(out, "later loop ", name, *due),
@@ -277,7 +277,7 @@ fn write_words(
         Entry::Task(name) => write_named(out, "task ", name),
         Entry::Step(name) => write_named(out, "step ", name),
         Entry::Hold(name, id) => write_named_and_id(out, "hold ", name, *id),
-        Entry::End(name, value) => write_end(alloc, classes, out, name, value),
+        Entry::End(name, value) => write_end(alloc, classes, out, name, value.get()),
         Entry::PauseTask(name) => write_named(out, "pausetask ", name),
         Entry::ResumeTask(name) => write_named(out, "resumetask ", name),
         Entry::WhenDone(name, id) => write_named_and_id(out, "whendone ", name, *id),

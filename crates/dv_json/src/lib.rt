@@ -2,15 +2,9 @@
 #![tactic(auto)]
 
 mod driving;
-mod entries;
-mod facts;
-mod leaving;
 mod marked;
-mod names;
 mod outcomes;
-mod places;
 mod printing;
 mod running;
-mod values;
 
 pub use running::{exit_of, run};

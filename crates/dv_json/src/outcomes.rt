@@ -1,8 +1,8 @@
 //! What became of each Deferred.
 
-use crate::entries::Story;
-use crate::facts::text_of;
-use crate::values::{text_json, value_json};
+use dv_facts::entries::Story;
+use dv_facts::facts::text_of;
+use dv_facts::values::{text_json, value_json};
 use dv_output::output::write_line;
 use dv_store::outcome::{Outcome, State};
 use dv_value::classes::Classes;

@@ -1,10 +1,10 @@
 //! The lines of a run.
 
-use crate::entries::Story;
-use crate::leaving::Known;
 use crate::marked::Marked;
 use crate::outcomes::outcome_json;
-use crate::values::value_json;
+use dv_facts::entries::Story;
+use dv_facts::leaving::Known;
+use dv_facts::values::value_json;
 use dv_jobs::job::Done;
 use dv_journal::entry::Entry;
 use dv_journal::error::PrintFault;

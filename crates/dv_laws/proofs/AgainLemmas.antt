@@ -2,7 +2,7 @@
 use Rattle.std.proofs.Common.{◌≡◌, ℕ, zero, suc, ◌+◌, ◌≤◌, ◌++◌, Bool, true, false, nat_eq, List, ◌∷◌, Some, refl, sym, ap, ◌∙◌, arith, slice_get, slice_set, cond, length, sum_by}
 use Rattle.std.proofs.lemmas.Bool.{eqb-true}
 use Rattle.std.proofs.lemmas.List.Sums.{sum_by_push, sum_by-append, sum_by-cons}
-use Rattle.dv_journal.specs.Change.{change_of, Aside, Swallows}
+use Rattle.dv_journal.specs.Told.{change_of, Aside, Swallows}
 use Rattle.dv_journal.specs.declared.entry.Entry.{Entry}
 use Rattle.dv_journal.specs.declared.entry.Entry.TheVariants as entry
 use Rattle.dv_script.specs.declared.script.Script.{Script}

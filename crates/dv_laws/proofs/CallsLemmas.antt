@@ -14,13 +14,14 @@ use Rattle.dv_clock.specs.declared.limits.TheConstants.{MOST_TICKS}
 use Rattle.dv_clock.proofs.ClockLemmas.{first_runs_next}
 use Rattle.dv_journal.specs.declared.entry.Entry.{Entry}
 use Rattle.dv_journal.specs.declared.entry.Entry.TheVariants as entry
+use Rattle.dv_journal.specs.Told.{Timed, Called, Ticking, Delivered, TimedOut}
 use Rattle.dv_objects.specs.Objects.{Objects, naming_where}
 use Rattle.dv_objects.specs.Refusals.{cancelled}
 use Rattle.dv_posts.specs.Batches.{Batch}
 use Rattle.dv_performing.specs.Meaning.{Means}
 use Rattle.dv_script.specs.declared.script.Script.{Script}
 use Rattle.dv_world.specs.World.{World}
-use Rattle.dv_laws.specs.Calls.{Timed, Called, Ticking, Delivered, TimedOut, count_of, scheduled_by, ended_by, schedulings, endings, later_of, run_of, time_after, time_by, WasDue, RunsInTime, CallsRunOnceInTime}
+use Rattle.dv_laws.specs.Calls.{count_of, scheduled_by, ended_by, schedulings, endings, later_of, run_of, time_after, time_by, WasDue, RunsInTime, CallsRunOnceInTime}
 use Rattle.dv_laws.specs.Once.{Stands}
 use Rattle.dv_laws.specs.Times.{timing_of, Untimed}
 use Rattle.dv_laws.proofs.At.{places_on, no_places, entries_on, no_entries}

@@ -56,7 +56,7 @@ use Rattle.dv_frames.specs.declared.frame.Purpose.{Purpose}
 use Rattle.dv_frames.specs.declared.frame.Purpose.TheVariants.{Named, Holding, Turning}
 use Rattle.dv_frames.specs.declared.frame.Rest.{Rest}
 use Rattle.dv_objects.specs.Performed.{failed_with}
-use Rattle.dv_journal.specs.Change.{change_of, Aside}
+use Rattle.dv_journal.specs.Told.{change_of, Aside}
 use Rattle.dv_world.specs.Found.{deferreds_at}
 use Rattle.dv_objects.specs.Names.{number_of}
 use Rattle.dv_objects.specs.Pair.{callback, errback, both, chain, timing, continuing}

@@ -3,7 +3,7 @@ use Rattle.std.proofs.Common.{◌≡◌, ◌⊎◌, inl, inr, ⊎_elim, append_a
 use Rattle.std.proofs.lemmas.Bool.{eqb-true}
 use Rattle.std.proofs.lemmas.List.Sums.{sum_by_push}
 use Rattle.dv_value.specs.declared.value.Value.{Null}
-use Rattle.dv_journal.specs.Change.{change_of, Aside, Refuses, Swallows}
+use Rattle.dv_journal.specs.Told.{change_of, Aside, Refuses, Swallows}
 use Rattle.dv_journal.specs.declared.entry.Entry.{Entry}
 use Rattle.dv_journal.specs.declared.entry.Entry.TheVariants as entry
 use Rattle.dv_journal.specs.Journal.{Written}

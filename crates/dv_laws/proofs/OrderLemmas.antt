@@ -11,12 +11,13 @@ use Rattle.dv_clock.specs.declared.limits.TheConstants.{MOST_TICKS}
 use Rattle.dv_clock.proofs.ClockLemmas.{first_runs_next}
 use Rattle.dv_journal.specs.declared.entry.Entry.{Entry}
 use Rattle.dv_journal.specs.declared.entry.Entry.TheVariants as entry
+use Rattle.dv_journal.specs.Told.{Timed, Called, Ticking, Delivered, TimedOut}
 use Rattle.dv_objects.specs.Refusals.{cancelled}
 use Rattle.dv_posts.specs.Batches.{Batch}
 use Rattle.dv_performing.specs.Meaning.{Means}
 use Rattle.dv_script.specs.declared.script.Script.{Script}
 use Rattle.dv_world.specs.World.{World}
-use Rattle.dv_laws.specs.Calls.{Timed, Called, Ticking, Delivered, TimedOut, is_same, count_of, scheduled_by, ended_by, schedulings, later_of, run_of, ScheduledOnce, HasRun, Precedes, IsFirst, RunsInOrder, CallsRunInOrder}
+use Rattle.dv_laws.specs.Calls.{is_same, count_of, scheduled_by, ended_by, schedulings, later_of, run_of, ScheduledOnce, HasRun, Precedes, IsFirst, RunsInOrder, CallsRunInOrder}
 use Rattle.dv_laws.specs.Once.{Stands}
 use Rattle.dv_laws.proofs.At.{entries_on, no_entries}
 use Rattle.dv_laws.proofs.Clocks.{IsPlain, Clocks, Leaves, Adds, Runs, Cancels, Drops, Arranges, Stays, Loses}

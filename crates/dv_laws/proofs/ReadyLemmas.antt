@@ -1,7 +1,7 @@
 -- No side of a Deferred is run before that is fired, while it is paused, or while it waits.
 use Rattle.std.proofs.Common.{◌≡◌, ℕ, ◌++◌, true, List, [], ◌∷◌, Some, refl, sym, ap, ◌∙◌, slice_get, length, option_map}
 use Rattle.dv_value.specs.declared.value.Value.{Value}
-use Rattle.dv_journal.specs.Change.{change_of, Aside, Runs, Hands}
+use Rattle.dv_journal.specs.Told.{change_of, Aside, Runs, Hands}
 use Rattle.dv_journal.specs.declared.entry.Entry.{Entry}
 use Rattle.dv_journal.specs.declared.entry.Entry.TheVariants as entry
 use Rattle.dv_objects.specs.Refusals.{cancelled}

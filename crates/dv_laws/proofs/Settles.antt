@@ -20,7 +20,7 @@ use Rattle.dv_performing.proofs.Kept.{Kind}
 use Rattle.dv_laws.proofs.Clocks.{Clocks, Arranges}
 use Rattle.dv_laws.proofs.Calm.{Regular, Calm}
 use Rattle.dv_script.specs.declared.work.Work.{Work}
-use Rattle.dv_journal.specs.Change.{change_of, Aside}
+use Rattle.dv_journal.specs.Told.{change_of, Aside}
 use Rattle.dv_objects.specs.declared.canceller.Canceller.{Canceller}
 use Rattle.dv_objects.specs.Objects.{Objects}
 use Rattle.dv_world.specs.World.{World, fired, step, put, put_deferred, fire, fire_guarded, guarded, with_state, with_stop}

@@ -2,19 +2,14 @@
 use Rattle.std.specs.Prelude.{ℕ, ◌≡◌, ◌≤◌, Bool, true, false, nat_eq, bytes_eq, if◌then◌else◌, List, ◌∷◌, ◌++◌, Option, None, Some, fold, sum_by}
 use Rattle.dv_journal.specs.declared.entry.Entry.{Entry}
 use Rattle.dv_journal.specs.declared.entry.Entry.TheVariants as entry
+use Rattle.dv_journal.specs.Told as tells
+use Rattle.dv_journal.specs.Told.{Timed, Called, Ticking, Delivered, TimedOut, Told, told_of}
 use Rattle.dv_script.specs.declared.script.Script.{Script}
 use Rattle.dv_engine.specs.Report.{Reports}
 use Rattle.dv_engine.specs.declared.report.Report.{Report}
 use Rattle.dv_laws.specs.Once.{Stands}
 use Rattle.dv_laws.specs.Places.{AtEachPlace, OfEachEntry}
 use Rattle.dv_laws.specs.Times.{Timing, timing_of, Untimed, Advances, Schedules}
-
--- what waits for its time: a delayed call of the script, by its name; the cooperator's tick; the delivery of a job's result; a timer of a Deferred. A turn of a loop isn't among these, since a first turn may be taken without waiting
-pub data Timed : Type 0 where
-  Called : (name : List ℕ) → Timed
-  Ticking : Timed
-  Delivered : (job : ℕ) → Timed
-  TimedOut : (d : ℕ) → Timed
 
 -- the two are the same
 abbrev pub is_same : Timed → Timed → Bool
@@ -41,106 +36,30 @@ count_of t None = 0
 count_of t (Some other) = if is_same t other then 1 else 0
 
 -- what an entry tells that is scheduled
+abbrev pub scheduled_in : Told → Option Timed
+scheduled_in tells.Other = None
+scheduled_in (tells.Changes change) = None
+scheduled_in (tells.Schedules timed due) = Some timed
+scheduled_in (tells.SchedulesTurn due) = None
+scheduled_in (tells.Ends timed) = None
+scheduled_in (tells.Advances time) = None
+scheduled_in tells.IsUnhandled = None
+
 abbrev pub scheduled_by : Entry → Option Timed
-scheduled_by (entry.New id name) = None
-scheduled_by (entry.Name id name) = None
-scheduled_by (entry.Add id) = None
-scheduled_by (entry.Fire id value) = None
-scheduled_by (entry.Swallow id) = None
-scheduled_by (entry.Refuse id) = None
-scheduled_by (entry.Run id) = None
-scheduled_by (entry.Set id value) = None
-scheduled_by (entry.Take id from value) = None
-scheduled_by (entry.Wait id on) = None
-scheduled_by (entry.Hand from id value) = None
-scheduled_by (entry.Pause id) = None
-scheduled_by (entry.Unpause id) = None
-scheduled_by (entry.Cancel id) = None
-scheduled_by (entry.Note text) = None
-scheduled_by (entry.Unhandled failure) = None
-scheduled_by (entry.Lock name) = None
-scheduled_by (entry.Semaphore name tokens) = None
-scheduled_by (entry.Acquire name id) = None
-scheduled_by (entry.Release name) = None
-scheduled_by (entry.Queue name most_stored most_waiting) = None
-scheduled_by (entry.Put name value) = None
-scheduled_by (entry.Get name id) = None
-scheduled_by (entry.LaterCall name due) = Some (Called name)
-scheduled_by (entry.LaterLoop name due) = None
-scheduled_by (entry.LaterTick due) = Some Ticking
-scheduled_by (entry.LaterJob job due) = Some (Delivered job)
-scheduled_by (entry.LaterTimeout id due) = Some (TimedOut id)
-scheduled_by (entry.Uncall name) = None
-scheduled_by (entry.Call name) = None
-scheduled_by entry.Tick = None
-scheduled_by (entry.Deliver job) = None
-scheduled_by (entry.Timeout id) = None
-scheduled_by (entry.Loop name id) = None
-scheduled_by (entry.Turn name) = None
-scheduled_by (entry.Stop name) = None
-scheduled_by (entry.Task name) = None
-scheduled_by (entry.Step name) = None
-scheduled_by (entry.Hold name id) = None
-scheduled_by (entry.End name value) = None
-scheduled_by (entry.PauseTask name) = None
-scheduled_by (entry.ResumeTask name) = None
-scheduled_by (entry.WhenDone name id) = None
-scheduled_by (entry.Await id on) = None
-scheduled_by (entry.Job job id) = None
-scheduled_by (entry.Advance time) = None
-scheduled_by entry.Drain = None
-scheduled_by (entry.Post caller index) = None
+scheduled_by e = scheduled_in (told_of e)
 
 -- what it tells that waits no longer: it is run, or is a delayed call that is cancelled
+abbrev pub ended_in : Told → Option Timed
+ended_in tells.Other = None
+ended_in (tells.Changes change) = None
+ended_in (tells.Schedules timed due) = None
+ended_in (tells.SchedulesTurn due) = None
+ended_in (tells.Ends timed) = Some timed
+ended_in (tells.Advances time) = None
+ended_in tells.IsUnhandled = None
+
 abbrev pub ended_by : Entry → Option Timed
-ended_by (entry.New id name) = None
-ended_by (entry.Name id name) = None
-ended_by (entry.Add id) = None
-ended_by (entry.Fire id value) = None
-ended_by (entry.Swallow id) = None
-ended_by (entry.Refuse id) = None
-ended_by (entry.Run id) = None
-ended_by (entry.Set id value) = None
-ended_by (entry.Take id from value) = None
-ended_by (entry.Wait id on) = None
-ended_by (entry.Hand from id value) = None
-ended_by (entry.Pause id) = None
-ended_by (entry.Unpause id) = None
-ended_by (entry.Cancel id) = None
-ended_by (entry.Note text) = None
-ended_by (entry.Unhandled failure) = None
-ended_by (entry.Lock name) = None
-ended_by (entry.Semaphore name tokens) = None
-ended_by (entry.Acquire name id) = None
-ended_by (entry.Release name) = None
-ended_by (entry.Queue name most_stored most_waiting) = None
-ended_by (entry.Put name value) = None
-ended_by (entry.Get name id) = None
-ended_by (entry.LaterCall name due) = None
-ended_by (entry.LaterLoop name due) = None
-ended_by (entry.LaterTick due) = None
-ended_by (entry.LaterJob job due) = None
-ended_by (entry.LaterTimeout id due) = None
-ended_by (entry.Uncall name) = Some (Called name)
-ended_by (entry.Call name) = Some (Called name)
-ended_by entry.Tick = Some Ticking
-ended_by (entry.Deliver job) = Some (Delivered job)
-ended_by (entry.Timeout id) = Some (TimedOut id)
-ended_by (entry.Loop name id) = None
-ended_by (entry.Turn name) = None
-ended_by (entry.Stop name) = None
-ended_by (entry.Task name) = None
-ended_by (entry.Step name) = None
-ended_by (entry.Hold name id) = None
-ended_by (entry.End name value) = None
-ended_by (entry.PauseTask name) = None
-ended_by (entry.ResumeTask name) = None
-ended_by (entry.WhenDone name id) = None
-ended_by (entry.Await id on) = None
-ended_by (entry.Job job id) = None
-ended_by (entry.Advance time) = None
-ended_by entry.Drain = None
-ended_by (entry.Post caller index) = None
+ended_by e = ended_in (told_of e)
 
 -- how often it is scheduled, and how often it waits no longer, as is told
 abbrev pub schedulings : Timed → List Entry → ℕ

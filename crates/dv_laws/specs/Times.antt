@@ -2,6 +2,8 @@
 use Rattle.std.specs.Prelude.{ℕ, ◌≤◌, List}
 use Rattle.dv_journal.specs.declared.entry.Entry.{Entry}
 use Rattle.dv_journal.specs.declared.entry.Entry.TheVariants as entry
+use Rattle.dv_journal.specs.Told as tells
+use Rattle.dv_journal.specs.Told.{Told, told_of}
 use Rattle.dv_script.specs.declared.script.Script.{Script}
 use Rattle.dv_engine.specs.Report.{Reports}
 use Rattle.dv_engine.specs.declared.report.Report.{Report}
@@ -15,55 +17,17 @@ pub data Timing : Type 0 where
   Schedules : (due : ℕ) → Timing
 
 -- what an entry tells of time
+abbrev pub timing_in : Told → Timing
+timing_in tells.Other = Untimed
+timing_in (tells.Changes change) = Untimed
+timing_in (tells.Schedules timed due) = Schedules due
+timing_in (tells.SchedulesTurn due) = Schedules due
+timing_in (tells.Ends timed) = Untimed
+timing_in (tells.Advances time) = Advances time
+timing_in tells.IsUnhandled = Untimed
+
 abbrev pub timing_of : Entry → Timing
-timing_of (entry.New id name) = Untimed
-timing_of (entry.Name id name) = Untimed
-timing_of (entry.Add id) = Untimed
-timing_of (entry.Fire id value) = Untimed
-timing_of (entry.Swallow id) = Untimed
-timing_of (entry.Refuse id) = Untimed
-timing_of (entry.Run id) = Untimed
-timing_of (entry.Set id value) = Untimed
-timing_of (entry.Take id from value) = Untimed
-timing_of (entry.Wait id on) = Untimed
-timing_of (entry.Hand from id value) = Untimed
-timing_of (entry.Pause id) = Untimed
-timing_of (entry.Unpause id) = Untimed
-timing_of (entry.Cancel id) = Untimed
-timing_of (entry.Note text) = Untimed
-timing_of (entry.Unhandled failure) = Untimed
-timing_of (entry.Lock name) = Untimed
-timing_of (entry.Semaphore name tokens) = Untimed
-timing_of (entry.Acquire name id) = Untimed
-timing_of (entry.Release name) = Untimed
-timing_of (entry.Queue name most_stored most_waiting) = Untimed
-timing_of (entry.Put name value) = Untimed
-timing_of (entry.Get name id) = Untimed
-timing_of (entry.LaterCall name due) = Schedules due
-timing_of (entry.LaterLoop name due) = Schedules due
-timing_of (entry.LaterTick due) = Schedules due
-timing_of (entry.LaterJob job due) = Schedules due
-timing_of (entry.LaterTimeout id due) = Schedules due
-timing_of (entry.Uncall name) = Untimed
-timing_of (entry.Call name) = Untimed
-timing_of entry.Tick = Untimed
-timing_of (entry.Deliver job) = Untimed
-timing_of (entry.Timeout id) = Untimed
-timing_of (entry.Loop name id) = Untimed
-timing_of (entry.Turn name) = Untimed
-timing_of (entry.Stop name) = Untimed
-timing_of (entry.Task name) = Untimed
-timing_of (entry.Step name) = Untimed
-timing_of (entry.Hold name id) = Untimed
-timing_of (entry.End name value) = Untimed
-timing_of (entry.PauseTask name) = Untimed
-timing_of (entry.ResumeTask name) = Untimed
-timing_of (entry.WhenDone name id) = Untimed
-timing_of (entry.Await id on) = Untimed
-timing_of (entry.Job job id) = Untimed
-timing_of (entry.Advance time) = Advances time
-timing_of entry.Drain = Untimed
-timing_of (entry.Post caller index) = Untimed
+timing_of e = timing_in (told_of e)
 
 -- what is told is of no time before this one
 abbrev pub IsNoEarlier : ℕ → Timing → Type 0

@@ -1,7 +1,7 @@
 -- How a Deferred waits for another, as its journal tells it (Twisted: the Deferred Reference, "Chaining Deferreds").
 use Rattle.std.specs.Prelude.{ℕ, ◌≡◌, ◌≤◌, ◌&&◌, ◌||◌, if◌then◌else◌, nat_eq, List, ◌∷◌, ◌++◌, sum_by}
 use Rattle.dv_value.specs.declared.value.Value.{Value}
-use Rattle.dv_journal.specs.Change.{Change, change_of, Aside, Makes, Adds, Fires, Swallows, Refuses, Runs, Sets, Takes, Waits, Hands, Pauses, Unpauses, Cancels}
+use Rattle.dv_journal.specs.Told.{Change, change_of, Aside, Makes, Adds, Fires, Swallows, Refuses, Runs, Sets, Takes, Waits, Hands, Pauses, Unpauses, Cancels}
 use Rattle.dv_journal.specs.declared.entry.Entry.{Entry}
 use Rattle.dv_journal.specs.declared.entry.Entry.TheVariants as entry
 use Rattle.dv_script.specs.declared.script.Script.{Script}

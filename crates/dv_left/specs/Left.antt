@@ -1,5 +1,5 @@
 -- What is left at the end of a run: `left_of`.
-use Rattle.std.specs.Prelude.{ℕ, suc, Bool, true, false, not, ◌&&◌, is_none, is_some, nat_eq, if◌then◌else◌, List, [], ◌∷◌, ◌++◌, length, map, Option, None, Some}
+use Rattle.std.specs.Prelude.{ℕ, suc, Bool, not, ◌&&◌, is_none, is_some, nat_eq, if◌then◌else◌, List, [], ◌∷◌, ◌++◌, length, map, Option, None, Some}
 use Rattle.std.specs.List.{flat_map}
 use Rattle.std.specs.Option.{option_and_then}
 use Rattle.dv_clock.specs.Clock.{due_of}
@@ -7,8 +7,8 @@ use Rattle.dv_clock.specs.declared.call.Call.{Call}
 use Rattle.dv_clock.specs.declared.call.CallState.{CallState}
 use Rattle.dv_clock.specs.declared.call.CallState.TheVariants.{Waiting, Called, Cancelled, Dropped}
 use Rattle.dv_clock.specs.declared.due.Due.TheVariants as what
+use Rattle.dv_journal.specs.Told.{is_unhandled}
 use Rattle.dv_journal.specs.declared.entry.Entry.{Entry}
-use Rattle.dv_journal.specs.declared.entry.Entry.TheVariants as entry
 use Rattle.dv_objects.specs.declared.canceller.Canceller.{Canceller}
 use Rattle.dv_objects.specs.declared.looping_call.LoopingCall.{LoopingCall}
 use Rattle.dv_objects.specs.declared.pair.Pair.{Pair}
@@ -147,56 +147,6 @@ left_queues k [] = []
 left_queues k (q ∷ qs) = left_queue k q ++ left_queues (suc k) qs
 
 -- 7. Failures that were told as unhandled, by their places in the journal.
-
-abbrev pub is_unhandled : Entry → Bool
-is_unhandled (entry.New d name) = false
-is_unhandled (entry.Name d name) = false
-is_unhandled (entry.Add d) = false
-is_unhandled (entry.Fire d v) = false
-is_unhandled (entry.Swallow d) = false
-is_unhandled (entry.Refuse d) = false
-is_unhandled (entry.Run d) = false
-is_unhandled (entry.Set d v) = false
-is_unhandled (entry.Take d e v) = false
-is_unhandled (entry.Wait d e) = false
-is_unhandled (entry.Hand e d v) = false
-is_unhandled (entry.Pause d) = false
-is_unhandled (entry.Unpause d) = false
-is_unhandled (entry.Cancel d) = false
-is_unhandled (entry.Note text) = false
-is_unhandled (entry.Unhandled failure) = true
-is_unhandled (entry.Lock name) = false
-is_unhandled (entry.Semaphore name tokens) = false
-is_unhandled (entry.Acquire name d) = false
-is_unhandled (entry.Release name) = false
-is_unhandled (entry.Queue name size backlog) = false
-is_unhandled (entry.Put name v) = false
-is_unhandled (entry.Get name d) = false
-is_unhandled (entry.LaterCall name due) = false
-is_unhandled (entry.LaterLoop name due) = false
-is_unhandled (entry.LaterTick due) = false
-is_unhandled (entry.LaterJob job due) = false
-is_unhandled (entry.LaterTimeout d due) = false
-is_unhandled (entry.Uncall name) = false
-is_unhandled (entry.Call name) = false
-is_unhandled entry.Tick = false
-is_unhandled (entry.Deliver job) = false
-is_unhandled (entry.Timeout d) = false
-is_unhandled (entry.Loop name d) = false
-is_unhandled (entry.Turn name) = false
-is_unhandled (entry.Stop name) = false
-is_unhandled (entry.Task name) = false
-is_unhandled (entry.Step name) = false
-is_unhandled (entry.Hold name d) = false
-is_unhandled (entry.End name v) = false
-is_unhandled (entry.PauseTask name) = false
-is_unhandled (entry.ResumeTask name) = false
-is_unhandled (entry.WhenDone name d) = false
-is_unhandled (entry.Await d e) = false
-is_unhandled (entry.Job job d) = false
-is_unhandled (entry.Advance time) = false
-is_unhandled entry.Drain = false
-is_unhandled (entry.Post caller index) = false
 
 abbrev pub left_entry : ℕ → Entry → List Left
 left_entry n e = if is_unhandled e then left.Unhandled n ∷ [] else []

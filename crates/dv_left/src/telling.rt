@@ -3,7 +3,7 @@
 ghost use Rattle.std.specs.Prelude.{◌≡◌, ◌++◌, IfOk, OnOk};
 ghost use Rattle.std.specs.Option.{option_and_then};
 ghost use Rattle.dv_clock.specs.Clock.{due_of};
-ghost use Rattle.dv_left.specs.Left.{stage_of, is_settled, has_failed, hangs_of, left_deferred, left_deferreds, left_call, left_calls, next_turn, left_loop, left_loops, left_task, left_tasks, left_tokens, left_locks, left_queue, left_queues, is_unhandled, left_entry, left_unhandled};
+ghost use Rattle.dv_left.specs.Left.{stage_of, is_settled, has_failed, hangs_of, left_deferred, left_deferreds, left_call, left_calls, next_turn, left_loop, left_loops, left_task, left_tasks, left_tokens, left_locks, left_queue, left_queues, left_entry, left_unhandled};
 ghost use Rattle.dv_left.specs.Lists.{list_at};
 
 use crate::left::{Hang, Left, LeftDeferred, LeftLoop, LeftTask, LeftTokens, Stage};
@@ -324,63 +324,8 @@ pub fn add_unhandled(left: &mut Items<Left>, entries: &[Entry]) -> Result<(), Al
 fn add_entry(left: &mut Items<Left>, place: usize, entry: &Entry) -> Result<(), AllocError>
     ensures { OnOk result (left.new ≡ left.old ++ left_entry place entry.now) }
 {
-    if is_unhandled(entry) {
+    if entry.is_unhandled() {
         left.push(Left::Unhandled(place))?;
     }
     Ok(())
-}
-
-fn is_unhandled(entry: &Entry) -> bool
-    ensures { result ≡ is_unhandled entry.now }
-{
-    match entry {
-        Entry::Unhandled(_) => true,
-        Entry::New(_, _)
-        | Entry::Name(_, _)
-        | Entry::Add(_)
-        | Entry::Fire(_, _)
-        | Entry::Swallow(_)
-        | Entry::Refuse(_)
-        | Entry::Run(_)
-        | Entry::Set(_, _)
-        | Entry::Take(_, _, _)
-        | Entry::Wait(_, _)
-        | Entry::Hand(_, _, _)
-        | Entry::Pause(_)
-        | Entry::Unpause(_)
-        | Entry::Cancel(_)
-        | Entry::Note(_)
-        | Entry::Lock(_)
-        | Entry::Semaphore(_, _)
-        | Entry::Acquire(_, _)
-        | Entry::Release(_)
-        | Entry::Queue(_, _, _)
-        | Entry::Put(_, _)
-        | Entry::Get(_, _)
-        | Entry::LaterCall(_, _)
-        | Entry::LaterLoop(_, _)
-        | Entry::LaterTick(_)
-        | Entry::LaterJob(_, _)
-        | Entry::LaterTimeout(_, _)
-        | Entry::Uncall(_)
-        | Entry::Call(_)
-        | Entry::Tick
-        | Entry::Deliver(_)
-        | Entry::Timeout(_)
-        | Entry::Loop(_, _)
-        | Entry::Turn(_)
-        | Entry::Stop(_)
-        | Entry::Task(_)
-        | Entry::Step(_)
-        | Entry::Hold(_, _)
-        | Entry::End(_, _)
-        | Entry::PauseTask(_)
-        | Entry::ResumeTask(_)
-        | Entry::WhenDone(_, _)
-        | Entry::Await(_, _)
-        | Entry::Job(_, _)
-        | Entry::Advance(_)
-        | Entry::Drain
-        | Entry::Post(_, _) => false,
-    }
 }

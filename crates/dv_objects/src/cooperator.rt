@@ -10,6 +10,7 @@ use dv_journal::deferred_id::DeferredId;
 use dv_script::lent::{BodiesRef, BodyRef, TextRef};
 use dv_value::items::Items;
 use std::alloc::{AllocError, Global};
+use std::hash::RandomState;
 use std::marker::Model;
 use std::mem;
 
@@ -47,13 +48,13 @@ impl<'s> Cooperator<'s> {
     ghost use Rattle.dv_objects.specs.Names.{number_of};
 
     /// A Cooperator without tasks, which takes so many steps in a tick, and from tick to tick of which it is so many ticks of
-    /// the clock, or the nearest number that an interval may have.
-    pub fn new(alloc: Global, units: u32, delay: u64) -> Cooperator<'s>
+    /// the clock, or the nearest number that an interval may have. Names of tasks are hashed with these keys.
+    pub fn new(alloc: Global, keys: RandomState, units: u32, delay: u64) -> Cooperator<'s>
         ensures { result ≡ new_cooperator units delay }
     {
         Cooperator {
             alloc,
-            names: Names::new(alloc),
+            names: Names::new(alloc, keys),
             tasks: Vec::new(alloc),
             turns: Turns::new(alloc),
             units,

@@ -1,14 +1,16 @@
 ghost use Rattle.std.specs.Prelude.{◌≡◌, [], OnOk, OnErr};
 
+use indexmap::IndexMap;
 use std::alloc::{AllocError, Global};
-use std::collections::BTreeMap;
+use std::hash::RandomState;
 use std::marker::Model;
 
-/// The names of one kind of objects, each bound to one; a name that is made again is bound anew.
+/// The names of one kind of objects, each bound to one; a name that is made again is bound anew. Names are looked up by a hash
+/// with keys, since who writes a script chooses them.
 #[derive(Drop)]
 pub struct Names<I> {
     alloc: Global,
-    bound: BTreeMap<String, I>,
+    bound: IndexMap<String, I, RandomState>,
 }
 
 impl<I> Model for Names<I> {
@@ -25,13 +27,13 @@ impl<I> Model for Names<I> {
 impl<I: Copy + Drop> Names<I> {
     ghost use Rattle.dv_objects.specs.Names.{number_of, with_name};
 
-    /// No names. It takes no memory before the first is bound.
-    pub fn new(alloc: Global) -> Names<I>
+    /// No names, which are hashed with these keys. It takes no memory before the first is bound.
+    pub fn new(alloc: Global, keys: RandomState) -> Names<I>
         ensures { result ≡ [] }
     {
         Names {
             alloc,
-            bound: BTreeMap::new(alloc),
+            bound: IndexMap::with_hasher(alloc, keys),
         }
     }
 

@@ -67,7 +67,7 @@ use Rattle.dv_performing.proofs.Lasting.{Comes}
 use Rattle.dv_performing.proofs.InlineSizes.{text_of, waiting_by, waiting_text, come_text, answer_text, action_text}
 use Rattle.dv_performing.proofs.Sizes.{actions_size, statements_size, body_size, body_size_out, begun_size, begun_fits}
 use Rattle.dv_objects.specs.Performed.{failed_with}
-use Rattle.dv_journal.specs.Change.{change_of, Aside}
+use Rattle.dv_journal.specs.Told.{change_of, Aside}
 use Rattle.dv_world.specs.Found.{deferreds_at}
 use Rattle.dv_objects.specs.Names.{number_of}
 use Rattle.dv_objects.specs.Pair.{callback, errback, both, chain, timing, continuing}

@@ -34,7 +34,7 @@ use Rattle.dv_store.specs.declared.store.Step.TheVariants.{Nothing, Run, Handed}
 use Rattle.dv_performing.proofs.Lasting.{Lasting}
 use Rattle.dv_script.specs.declared.work.Work.{Work}
 use Rattle.dv_objects.specs.Works.{is_full}
-use Rattle.dv_journal.specs.Change.{change_of, Aside}
+use Rattle.dv_journal.specs.Told.{change_of, Aside}
 use Rattle.dv_objects.specs.Pair.{passes}
 use Rattle.dv_objects.specs.declared.canceller.Canceller.{Canceller}
 use Rattle.dv_objects.specs.Objects.{Objects}

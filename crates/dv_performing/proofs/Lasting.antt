@@ -2,7 +2,7 @@
 use Rattle.std.proofs.Common.{◌≡◌, ℕ, List, Option}
 use Rattle.dv_value.specs.declared.value.Value.{Value}
 use Rattle.dv_journal.specs.declared.entry.Entry.{Entry}
-use Rattle.dv_journal.specs.Change.{change_of, Aside}
+use Rattle.dv_journal.specs.Told.{change_of, Aside}
 use Rattle.dv_script.specs.declared.work.Work.{Work}
 use Rattle.dv_objects.specs.declared.canceller.Canceller.{Canceller}
 use Rattle.dv_objects.specs.Objects.{Objects}

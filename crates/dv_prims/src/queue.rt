@@ -6,6 +6,7 @@ use dv_journal::deferred_id::DeferredId;
 use dv_journal::entry::Entry;
 use dv_journal::error::Stop;
 use dv_journal::journal::Journal;
+use dv_value::boxed::Boxed;
 use dv_value::deque::Deque;
 use dv_value::items::Items;
 use dv_value::text::Text;
@@ -145,7 +146,7 @@ impl Queue {
         ensures { IfOk result (λ told. told ≡ entry.Put self.now.name value.now) }
     {
         let name = self.name.copy(self.alloc)?;
-        let shown = value.copy(self.alloc)?;
+        let shown = Boxed::new(self.alloc, value.copy(self.alloc)?)?;
         Ok(Entry::Put(name, shown))
     }
 

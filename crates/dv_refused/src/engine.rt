@@ -15,6 +15,7 @@ use dv_reader::read_script::ReadScript;
 use dv_script::script::Script;
 use dv_value::items::Items;
 use std::alloc::{AllocError, AllocGlobal, Global};
+use std::hash::RandomState;
 use std::io;
 use std::random::RandomSource;
 use std::sync::Wait;
@@ -114,9 +115,12 @@ where
         let Ok(poller) = Poller::new(rt) else {
             return false;
         };
+        let Ok(keys) = RandomState::new(rt) else {
+            return false;
+        };
         let jobs = OneThread::new(alloc, 4, &PlainGate);
         trial.begin();
-        match Engine::new(alloc, poller, jobs, script) {
+        match Engine::new(alloc, poller, keys, jobs, script) {
             Ok(engine) => {
                 let ends = trial.ends(false);
                 engine.discard();
@@ -193,9 +197,12 @@ where
     let Ok(poller) = Poller::new(rt) else {
         return Err(AllocError);
     };
+    let Ok(keys) = RandomState::new(rt) else {
+        return Err(AllocError);
+    };
     let batch = batch(alloc)?;
     let jobs = OneThread::new(alloc, 4, &PlainGate);
-    let mut engine = Engine::new(alloc, poller, jobs, script)?;
+    let mut engine = Engine::new(alloc, poller, keys, jobs, script)?;
     trial.begin();
     match perform(rt, &mut engine, batch, Items::new(alloc)) {
         Ok(()) => Ok(finish(rt, trial, engine)),

@@ -13,7 +13,7 @@ pub fn tell(alloc: Global, trial: &mut Trial) -> Result<String, AllocError> {
     let statements = statements(alloc)?;
     let mut parked = Parked::new(alloc);
     for number in 0..statements.len() {
-        let body = InlineBody::start(alloc, &statements[number..]);
+        let body = InlineBody::start(alloc, &statements[number..])?;
         story.answer(&park(trial, &mut parked, body))?;
     }
     for key in 0..statements.len() {

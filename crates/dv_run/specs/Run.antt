@@ -8,6 +8,7 @@ use Rattle.dv_reader.specs.declared.error.ScriptFault.{ScriptFault}
 use Rattle.dv_reader.specs.declared.error.ScriptFault.TheVariants as script
 use Rattle.dv_script.specs.declared.script.Script.{Script}
 use Rattle.dv_run.specs.Headline.{SaysReport, Told, most_read}
+use Rattle.dv_run.specs.declared.running.Kept.{Kept}
 use Rattle.dv_output.specs.Output.{report_text}
 use Rattle.dv_source.specs.Source.{IsFrontOf}
 use Rattle.dv_output.specs.declared.error.RunFault.{RunFault}
@@ -40,6 +41,11 @@ GivesUp (ScriptRefused fault) input old new = RefusesInput input old new fault
 GivesUp OutOfMemory input old new = Keeps old new ⊎ PrintsPrefix input old new
 GivesUp ReadFault input old new = Keeps old new
 GivesUp WriteFault input old new = PrintsPrefix input old new
+
+-- what a run answers that keeps its script, with the report alone
+abbrev pub reported : Result Kept RunFault → Result Report RunFault
+reported (Ok kept) = Ok kept.report
+reported (Err fault) = Err fault
 
 -- by what a run answers: after a read fault the reader has failed meanwhile, and in any other case it hasn't
 unfoldable pub ReaderFailed : Result Report RunFault → ℕ → ℕ → Type 0

@@ -11,5 +11,5 @@ pub use dv_output::exit::exit_of;
 pub use dv_source::io_source::IoSource;
 pub use dv_source::memory_source::MemorySource;
 pub use dv_source::source::{ReadError, Source, SourceFault};
-pub use running::run;
+pub use running::{Kept, run, run_and_keep};
 pub use workers::workers_of;

@@ -14,6 +14,7 @@ use dv_script::limits::{MOST_POSTS, MOST_WORKERS};
 use dv_script::script::{NamedPool, Script};
 use dv_threads::pools::Pools;
 use std::alloc::{AllocError, AllocGlobal, Global};
+use std::hash::RandomState;
 use std::random::RandomSource;
 use std::sync::Wait;
 use std::thread;
@@ -32,8 +33,8 @@ fn workers_of_pools(alloc: Global, pools: &[NamedPool]) -> Result<Vec<u32>, Allo
 }
 
 /// Performs a script, with a thread for each caller, so many for the jobs of the default pool, and as many as the script says for those
-/// of each other pool. Where there is no worker and no pool is named, no thread is started for jobs. A poller for inline bodies that can't be made counts as
-/// want of memory.
+/// of each other pool. Where there is no worker and no pool is named, no thread is started for jobs. A poller for
+/// inline bodies that can't be made, and keys for names that the system doesn't give, count as want of memory.
 pub fn perform<S, G, D>(
     rt: &S,
     script: &Script,
@@ -54,6 +55,9 @@ where
     let Ok(poller) = Poller::new(rt) else {
         return Err(AllocError);
     };
+    let Ok(keys) = RandomState::new(rt) else {
+        return Err(AllocError);
+    };
     let alloc = rt.alloc();
     thread::scope(
         thread::scope_env(),
@@ -71,10 +75,14 @@ where
             let named = workers_of_pools(alloc, script.pools.as_slice())?;
             if workers == 0 && named.is_empty() {
                 let jobs = OneThread::new(alloc, 0, gate);
-                perform_with(rt, alloc, poller, jobs, script, inbox, callers, driver)
+                perform_with(
+                    rt, alloc, poller, keys, jobs, script, inbox, callers, driver,
+                )
             } else {
                 let jobs = Pools::open(rt, alloc, scope, workers, named.as_slice(), gate)?;
-                perform_with(rt, alloc, poller, jobs, script, inbox, callers, driver)
+                perform_with(
+                    rt, alloc, poller, keys, jobs, script, inbox, callers, driver,
+                )
             }
         },
     )
@@ -85,6 +93,7 @@ fn perform_with<S, J, D>(
     rt: &S,
     alloc: Global,
     poller: Poller,
+    keys: RandomState,
     jobs: J,
     script: &Script,
     inbox: Inbox,
@@ -102,6 +111,6 @@ where
     requires untaken { TookBatches inbox [] }
     ensures { IfOk result (D.ends script.now) }
 {
-    let engine = Engine::new(alloc, poller, jobs, script)?;
+    let engine = Engine::new(alloc, poller, keys, jobs, script)?;
     driver.drive(rt, alloc, engine, script.callers.as_slice(), inbox, callers)
 }

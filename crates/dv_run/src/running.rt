@@ -2,7 +2,7 @@ ghost use Rattle.std.specs.Prelude.{◌≡◌, ◌≤◌, length, OnOk, IfOk, If
 ghost use Rattle.dv_posts.specs.Callers.{AreFew};
 ghost use Rattle.dv_script.specs.declared.limits.TheConstants.{MOST_LIMIT, MOST_POOLS, MOST_WORKERS};
 ghost use Rattle.dv_run.specs.Headline.{Prints};
-ghost use Rattle.dv_run.specs.Run.{SaysScript, GivesNoScript, GivesUp, ReaderFailed, WriterFailed};
+ghost use Rattle.dv_run.specs.Run.{SaysScript, GivesNoScript, GivesUp, ReaderFailed, WriterFailed, reported};
 
 use crate::driving::Reporting;
 use crate::performing::perform;
@@ -36,7 +36,6 @@ use std::thread::Threads;
 /// The input is read to its end, or to one byte more than a script may have, and nothing is written before all of it
 /// is read and performed. The run ends at the reader's or the writer's first failure: the reader has counted a failure
 /// where the answer is a read fault, the writer where it is a write fault, and neither has in any other case.
-#[tactic(auto, using(crate::proofs::RunLemmas::run_rules))]
 pub fn run<S, R, W, G>(
     rt: &S,
     reader: &mut R,
@@ -55,17 +54,54 @@ where
     ensures reader { ReaderFailed result (R.failures reader.old) (R.failures reader.new) }
     ensures writer { WriterFailed result (W.failures writer.old) (W.failures writer.new) }
 {
+    match run_and_keep(rt, reader, writer, workers, gate) {
+        Ok(Kept { script, report }) => {
+            script.discard();
+            Ok(report)
+        }
+        Err(fault) => Err(fault),
+    }
+}
+
+/// What is left of a run that has ended with a report.
+#[derive(Drop)]
+pub struct Kept {
+    /// The script that was run.
+    pub script: Script,
+    pub report: Report,
+}
+
+/// As `run`, and hands the script back with the report, so that a program which ends then need not let go of them piece by
+/// piece.
+#[tactic(auto, using(crate::proofs::RunLemmas::run_rules))]
+pub fn run_and_keep<S, R, W, G>(
+    rt: &S,
+    reader: &mut R,
+    writer: &mut W,
+    workers: u32,
+    gate: &G,
+) -> Result<Kept, RunFault>
+where
+    S: Threads + Wait + RandomSource + AllocGlobal + Sync,
+    R: Source,
+    W: Sink,
+    G: Gate + Sync,
+    requires { workers ≤ MOST_WORKERS }
+    ensures ok { IfOk result (λ kept. Prints (R.left reader.old) (W.taken writer.old) (W.taken writer.new) kept.report) }
+    ensures err { IfErr result (λ fault. GivesUp fault (R.left reader.old) (W.taken writer.old) (W.taken writer.new)) }
+    ensures reader { ReaderFailed (reported result) (R.failures reader.old) (R.failures reader.new) }
+    ensures writer { WriterFailed (reported result) (W.failures writer.old) (W.failures writer.new) }
+{
     let alloc = rt.alloc();
     let script = script_of(alloc, reader)?;
     let Ok(report) = perform(rt, &script, workers, gate, &Reporting) else {
         script.discard();
         return Err(RunFault::OutOfMemory);
     };
-    let printed = print_report(alloc, &script.classes, &report, writer);
-    script.discard();
-    match printed {
-        Ok(()) => Ok(report),
+    match print_report(alloc, &script.classes, &report, writer) {
+        Ok(()) => Ok(Kept { script, report }),
         Err(fault) => {
+            script.discard();
             report.discard();
             Err(fault.into())
         }

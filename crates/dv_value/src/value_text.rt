@@ -1,5 +1,7 @@
 ghost use Rattle.std.specs.Prelude.{◌≡◌, ◌++◌, OnOk, map, string_bytes};
+ghost use Rattle.std.specs.List.{list_all};
 ghost use Rattle.json.specs.Print.{quoted};
+ghost use Rattle.dv_value.specs.Plain.{is_plain};
 ghost use Rattle.dv_value.specs.ValueText.{json, list_text, failure_json, failure_text, outcome};
 
 use crate::classes::Classes;
@@ -9,12 +11,28 @@ use crate::value::Value;
 use json::Writer;
 use std::alloc::{AllocError, Global};
 
+/// Whether a byte of a text stands for itself in a JSON string.
+fn is_plain(byte: u8) -> bool
+    ensures { result ≡ is_plain byte }
+{
+    byte >= 32 && byte != b'"' && byte != b'\\'
+}
+
+fn are_plain(bytes: &[u8]) -> bool
+    ensures { result ≡ list_all is_plain bytes.now }
+{
+    bytes.iter().all(|byte| is_plain(*byte))
+}
+
 /// Adds a text as a JSON string, between quotes, with what JSON forbids escaped and all else as it is. Where memory is
 /// refused, it is left open what `out` holds.
-#[tactic(auto, using(crate::proofs::Quoted::one_string))]
+#[tactic(auto, using(crate::proofs::Quoted::one_string, crate::proofs::Quoted::plain_quoted))]
 pub fn write_string(alloc: Global, out: &mut String, text: &str) -> Result<(), AllocError>
     ensures { OnOk result (string_bytes out.new ≡ string_bytes out.old ++ quoted text.now) }
 {
+    if are_plain(text.as_bytes()) {
+        return write!(out, "\"{text}\"");
+    }
     let mut writer = Writer::new(Vec::new(alloc));
     writer.string(text)?;
     match String::from_utf8(writer.into_inner()) {

@@ -1,8 +1,9 @@
 -- What a question of names is asked of: each part, down to the last level.
-use Rattle.std.proofs.Common.{Ordering, Less, Equal, Greater, nat_cmp, ◌≡◌, ℕ, zero, suc, ◌+◌, ◌<◌, ◌≤◌, Bool, true, false, nat_eq, List, [], ◌∷◌, length, get_or, Option, Some, None, bytes_eq, refl, sym, subst, arith, codes, ◌⊎◌, inl, inr}
+use Rattle.std.proofs.Common.{Ordering, Less, Equal, Greater, is_eq, true≢false, nat_cmp, ◌≡◌, ℕ, zero, suc, ◌+◌, ◌<◌, ◌≤◌, Bool, true, false, if◌then◌else◌, nat_eq, List, [], ◌∷◌, length, get_or, Option, Some, None, bytes_eq, refl, sym, ap, subst, ◌∙◌, arith, codes, ◌⊎◌, inl, inr}
 use Rattle.std.specs.Prelude.{⊤}
 use Rattle.std.specs.Ordering.{match_ordering}
 use Rattle.std.specs.Cmp.Lexicographic.{slice_cmp}
+use Rattle.std.proofs.lemmas.Map.Text.{is_eq-slice_cmp}
 use Rattle.std.proofs.lemmas.Slice.Eq.{bytes_eq-Decides}
 use Rattle.serde_json.specs.Data.{Data, null, boolean, number, string, array, object, Items, no_items, item, Members, no_members, member, depth, items_depth, members_depth}
 use Rattle.serde_json.specs.Find.{at, get, get_item, get_member}
@@ -20,8 +21,8 @@ use Rattle.dv_why.specs.declared.want.Item.{Item}
 use Rattle.dv_why.specs.declared.question.Question.{Question}
 use Rattle.dv_why.specs.declared.question.Question.TheVariants as question
 use Rattle.dv_why.specs.Wants.{key_want, keys_in, script_want, cooperator_want, body_want}
-use Rattle.dv_why.specs.Fits.{suits}
-use Rattle.dv_why.specs.AllSuit.{AllSuit, all_suit, ItemsSuit, ValuesSuit, IsOfNames, IsAsked}
+use Rattle.dv_why.specs.Fits.{first_other, is_other, suits}
+use Rattle.dv_why.specs.AllSuit.{AllSuit, all_suit, ItemsSuit, KnownSuit, OthersOf, OthersSuit, ValuesSuit}
 
 -- ---- depth
 
@@ -42,7 +43,7 @@ member_depth key (member k c ms) e is = elim (picked (slice_cmp nat_cmp key k) (
   | inr h ↦ rw (← h) (omega arith)
 ]
 
-item_below : (n levels : ℕ) (d e : Data) → at n d ≡ Some e → depth d ≤ levels + 1 → depth e ≤ levels
+pub item_below : (n levels : ℕ) (d e : Data) → at n d ≡ Some e → depth d ≤ levels + 1 → depth e ≤ levels
 item_below n levels null e is h = cc
 item_below n levels (boolean b) e is h = cc
 item_below n levels (number x) e is h = cc
@@ -50,7 +51,7 @@ item_below n levels (string s) e is h = cc
 item_below n levels (array ds) e is h = let below : depth e ≤ items_depth ds = item_depth n ds e is in omega (arith, below, h)
 item_below n levels (object ms) e is h = cc
 
-value_below : (key : List ℕ) (levels : ℕ) (d e : Data) → get key d ≡ Some e → depth d ≤ levels + 1 → depth e ≤ levels
+pub value_below : (key : List ℕ) (levels : ℕ) (d e : Data) → get key d ≡ Some e → depth d ≤ levels + 1 → depth e ≤ levels
 value_below key levels null e is h = cc
 value_below key levels (boolean b) e is h = cc
 value_below key levels (number x) e is h = cc
@@ -74,28 +75,16 @@ no_value key (string s) e is h = cc
 no_value key (array ds) e is h = cc
 no_value key (object ms) e is h = omega (arith, h)
 
-pub asked_item : (q : Question) (levels n : ℕ) (d e : Data) → at n d ≡ Some e → IsAsked q (levels + 1) d → IsAsked q levels e
-asked_item q levels n d e is h = (h.0, item_below n levels d e is h.1)
-
-pub asked_value : (q : Question) (levels : ℕ) (key : List ℕ) (d e : Data) → get key d ≡ Some e → IsAsked q (levels + 1) d → IsAsked q levels e
-asked_value q levels key d e is h = (h.0, value_below key levels d e is h.1)
-
 -- ---- a value, by its parts
 
-pub last_suits : (q : Question) (w : Want) (d : Data) → IsAsked q 0 d → suits q w d ≡ true → AllSuit q w d
-last_suits q w d h suit = all_suit w d suit (λ n v e wants is. absurd (no_item n d e is h.1)) (λ key v e wants is. absurd (no_value key d e is h.1))
+pub last_suits : (q : Question) (w : Want) (d : Data) → depth d ≤ 0 → suits q w d ≡ true → AllSuit q w d
+last_suits q w d h suit = all_suit w d suit (λ n v e wants is. absurd (no_item n d e is h)) (λ key v e wants is. absurd (no_value key d e is h))
 
 pub leaf_suits : (q : Question) (l : Leaf) (d : Data) → suits q (want.Leaf l) d ≡ true → AllSuit q (want.Leaf l) d
 leaf_suits q l d suit = all_suit (want.Leaf l) d suit (λ n v e wants is. cc) (λ key v e wants is. cc)
 
 pub word_suits : (q : Question) (c : Call) (d : Data) → suits q (want.Word c) d ≡ true → AllSuit q (want.Word c) d
 word_suits q c d suit = all_suit (want.Word c) d suit (λ n v e wants is. cc) (λ key v e wants is. cc)
-
-pub other_suits : (q : Question) (k : Keyed) (d : Data) → IsOfNames q → AllSuit q (want.Other k) d
-other_suits (question.Shape version) k d h = absurd h
-other_suits question.Names k d h = all_suit (want.Other k) d refl (λ n v e wants is. cc) (λ key v e wants is. cc)
-other_suits (question.Classes classes) k d h = all_suit (want.Other k) d refl (λ n v e wants is. cc) (λ key v e wants is. cc)
-other_suits (question.Pools pools) k d h = all_suit (want.Other k) d refl (λ n v e wants is. cc) (λ key v e wants is. cc)
 
 pub object_suits : (q : Question) (k : Keyed) (d : Data) → suits q (want.Keyed k) d ≡ true → ValuesSuit q (want.Keyed k) d → AllSuit q (want.Keyed k) d
 object_suits q k d suit values = all_suit (want.Keyed k) d suit (λ n v e wants is. cc) values
@@ -180,14 +169,106 @@ known_key P (keyed.Script version) key all other = script_key P version (nat_eq 
 known_key P keyed.Cooperator key all other = cooperator_key P key all other
 known_key P keyed.Body key all other = body_key P key all other
 
--- the values of all keys, by those that the object may have
-pub values_suit : (q : Question) (k : Keyed) (d : Data) → IsOfNames q
-    → ((i : ℕ) → i < length (keys_in k) → (e : Data) → get (get_or (keys_in k) i []) d ≡ Some e → AllSuit q (key_want k (get_or (keys_in k) i [])) e)
-    → ValuesSuit q (want.Keyed k) d
-values_suit q k d names all key v e wants is =
+-- the values of all keys, by those that the object may have and the others
+pub values_suit : (q : Question) (k : Keyed) (d : Data) → OthersSuit q k d → KnownSuit q k d → ValuesSuit q (want.Keyed k) d
+values_suit q k d others all key v e wants is =
     let P : List ℕ → Type 0 = λ x. ((f : Data) → get x d ≡ Some f → AllSuit q (key_want k x) f) in
     let Q : Want → Type 0 = λ x. AllSuit q x e in
-    subst Q (some_injective wants) (known_key P k key (each_key P (keys_in k) all) (λ other f is_f. let R : Want → Type 0 = λ x. AllSuit q x f in subst R (sym other) (other_suits q k f names)) e is)
+    subst Q (some_injective wants) (known_key P k key (each_key P (keys_in k) all) (λ other f is_f. others key f is_f (rw other refl)) e is)
+
+-- the last value has no others
+pub no_others : (q : Question) (w : Want) (d : Data) → depth d ≤ 0 → OthersOf q w d
+no_others q (want.Leaf l) d h = tt
+no_others q want.Value d h = tt
+no_others q (want.Call c) d h = tt
+no_others q (want.Pair p) d h = tt
+no_others q (want.Keyed k) d h = λ key e is other. absurd (no_value key d e is h)
+no_others q (want.Array i) d h = tt
+no_others q (want.Word c) d h = tt
+no_others q (want.Other k) d h = tt
+
+other_suits : (q : Question) (k : Keyed) (d : Data) → suits q (want.Other k) d ≡ true → AllSuit q (want.Other k) d
+other_suits q k d suit = all_suit (want.Other k) d suit (λ n v e wants is. cc) (λ key v e wants is. cc)
+
+-- where an other key suits, any does: no question but that of shapes looks at it
+other_wants : (q : Question) (w u : Want) (d e : Data) → is_other w ≡ true → is_other u ≡ true → suits q w d ≡ true → suits q u e ≡ true
+other_wants (question.Shape v) (want.Other k) u d e ow ou h = cc
+other_wants (question.Shape v) w u d e ow ou h = cc
+other_wants question.Names w (want.Other k) d e ow ou h = refl
+other_wants question.Names w u d e ow ou h = cc
+other_wants (question.Classes classes) w (want.Other k) d e ow ou h = refl
+other_wants (question.Classes classes) w u d e ow ou h = cc
+other_wants (question.Pools ps) w (want.Other k) d e ow ou h = refl
+other_wants (question.Pools ps) w u d e ow ou h = cc
+
+all_other : (q : Question) (u : Want) (e : Data) → is_other u ≡ true → suits q u e ≡ true → AllSuit q u e
+all_other q (want.Other k) e ou h = other_suits q k e h
+all_other q u e ou h = cc
+
+suits_here : {q : Question} {w : Want} {d : Data} → AllSuit q w d → suits q w d ≡ true
+suits_here (all_suit w d suit items values) = suit
+
+pub others_by : (q : Question) (k : Keyed) (d : Data) (key : List ℕ) (e : Data) → is_other (key_want k key) ≡ true → AllSuit q (key_want k key) e → OthersSuit q k d
+others_by q k d key e other suit = λ x f is also. all_other q (key_want k x) f also (other_wants q (key_want k key) (key_want k x) e f other also (suits_here suit))
+
+-- ---- the members of an object, one after the other
+
+still_there : (o : Ordering) (rest : Option Data) (d e : Data) → rest ≡ Some e → (f : Data) × (match_ordering o rest (Some d) rest ≡ Some f)
+still_there Less rest d e is = (e, is)
+still_there Equal rest d e is = (d, refl)
+still_there Greater rest d e is = (e, is)
+
+passed_over : (o : Ordering) (rest : Option Data) (d e : Data) → is_eq o ≡ false → match_ordering o rest (Some d) rest ≡ Some e → rest ≡ Some e
+passed_over Less rest d e off is = is
+passed_over Equal rest d e off is = absurd (true≢false off)
+passed_over Greater rest d e off is = is
+
+first_there : (o : Ordering) (rest : Option Data) (d : Data) → is_eq o ≡ true → match_ordering o rest (Some d) rest ≡ Some d
+first_there Less rest d e = cc
+first_there Equal rest d e = refl
+first_there Greater rest d e = cc
+
+differ : (xs ys : List ℕ) (b : Bool) → bytes_eq xs ys ≡ b → (xs ≡ ys → ⊥) → b ≡ false
+differ xs ys true e other = absurd (other ((bytes_eq-Decides xs ys).0 e))
+differ xs ys false e other = refl
+
+-- a key that an object may not have, and its value
+pub record IsOtherKey (k : Keyed) (ms : Members) (key : List ℕ) : Type 0 where
+  pub other : is_other (key_want k key) ≡ true
+  pub value : Data
+  pub there : get_member key ms ≡ Some value
+
+first_by : (k : Keyed) (key : List ℕ) (d : Data) (ms : Members) (found : List ℕ) (b : Bool) → is_other (key_want k key) ≡ b
+    → (if b then Some key else first_other k ms) ≡ Some found → (first_other k ms ≡ Some found → IsOtherKey k ms found) → IsOtherKey k (member key d ms) found
+first_by k key d ms found true other is later =
+    let same : key ≡ found = some_injective is in
+    subst (λ (x : List ℕ). IsOtherKey k (member key d ms) x) same (record {
+      other = other;
+      value = d;
+      there = first_there (slice_cmp nat_cmp key key) (get_member key ms) d (is_eq-slice_cmp key key ∙ (bytes_eq-Decides key key).1 refl);
+    })
+first_by k key d ms found false known is later =
+    let h = later is in
+    let f = still_there (slice_cmp nat_cmp found key) (get_member found ms) d h.value h.there in
+    record { other = h.other; value = f.0; there = f.1 }
+
+-- the first other key is one, and is there
+pub first_is : (k : Keyed) (ms : Members) (found : List ℕ) → first_other k ms ≡ Some found → IsOtherKey k ms found
+first_is k no_members found is = cc
+first_is k (member key d ms) found is = first_by k key d ms found (is_other (key_want k key)) refl is (first_is k ms found)
+
+none_by : (k : Keyed) (key : List ℕ) (d : Data) (ms : Members) (b : Bool) → is_other (key_want k key) ≡ b → (if b then Some key else first_other k ms) ≡ None
+    → (x : List ℕ) (e : Data) → get_member x (member key d ms) ≡ Some e → is_other (key_want k x) ≡ true → (first_other k ms ≡ None → get_member x ms ≡ Some e → ⊥) → ⊥
+none_by k key d ms true other is x e there also later = cc
+none_by k key d ms false known is x e there also later =
+    let not_same : x ≡ key → ⊥ = λ same. true≢false (sym also ∙ ap (λ y. is_other (key_want k y)) same ∙ known) in
+    let no : is_eq (slice_cmp nat_cmp x key) ≡ false = is_eq-slice_cmp x key ∙ differ x key (bytes_eq x key) refl not_same in
+    later is (passed_over (slice_cmp nat_cmp x key) (get_member x ms) d e no there)
+
+-- where there is no first, there is none
+pub none_is : (k : Keyed) (ms : Members) → first_other k ms ≡ None → (x : List ℕ) (e : Data) → get_member x ms ≡ Some e → is_other (key_want k x) ≡ true → ⊥
+none_is k no_members is x e there also = cc
+none_is k (member key d ms) is x e there also = none_by k key d ms (is_other (key_want k key)) refl is x e there also (λ no later. none_is k ms no x e later also)
 
 -- ---- items of an array, and what a call found
 
@@ -235,3 +316,15 @@ pub has_no_parts : (w : Want) → ((x : Leaf) × (w ≡ want.Leaf x)) ⊎ (((x :
 has_no_parts w (inl e) = rw (e.1) tt
 has_no_parts w (inr (inl e)) = rw (e.1) tt
 has_no_parts w (inr (inr e)) = rw (e.1) tt
+
+-- where no object is asked for, there are no others
+pub no_keys : (q : Question) (w : Want) (d : Data)
+    → ((x : Leaf) × (w ≡ want.Leaf x)) ⊎ ((w ≡ want.Value) ⊎ (((x : Call) × (w ≡ want.Call x)) ⊎ (((x : Pair) × (w ≡ want.Pair x)) ⊎ (((x : Item) × (w ≡ want.Array x)) ⊎ (((x : Call) × (w ≡ want.Word x)) ⊎ ((x : Keyed) × (w ≡ want.Other x)))))))
+    → OthersOf q w d
+no_keys q w d (inl e) = rw (e.1) tt
+no_keys q w d (inr (inl e)) = rw e tt
+no_keys q w d (inr (inr (inl e))) = rw (e.1) tt
+no_keys q w d (inr (inr (inr (inl e)))) = rw (e.1) tt
+no_keys q w d (inr (inr (inr (inr (inl e))))) = rw (e.1) tt
+no_keys q w d (inr (inr (inr (inr (inr (inl e)))))) = rw (e.1) tt
+no_keys q w d (inr (inr (inr (inr (inr (inr e)))))) = rw (e.1) tt

@@ -17,20 +17,23 @@ use Rattle.dv_grammar.proofs.Steps.{some_injective}
 use Rattle.dv_reader.specs.declared.suits.Wanted.TheVariants as wanted
 use Rattle.dv_reader.specs.Suits.{is_among}
 use Rattle.dv_reader.specs.Limits.{is_small}
-use Rattle.dv_reader.specs.Refusal.{are_named, are_known, are_distinct, are_pooled}
-use Rattle.dv_reader.specs.declared.error.ScriptFault.TheVariants.{BadName, BadClass, BadPool}
+use Rattle.dv_reader.specs.Refusal.{keeps_version, are_named, are_known, are_distinct, are_pooled}
+use Rattle.dv_reader.specs.declared.error.ScriptFault.TheVariants.{BadShape, BadName, BadClass, BadPool}
+use Rattle.dv_why.specs.Fits.{word_fits}
 use Rattle.dv_why.specs.declared.question.Question.{Question}
 use Rattle.dv_why.specs.declared.question.Question.TheVariants as question
-use Rattle.dv_why.specs.AllSuit.{AllSuit, IsOfNames}
+use Rattle.dv_why.specs.AllSuit.{AllSuit}
 use Rattle.dv_why.specs.Declaring.{AllMayDeclare, table_in}
 use Rattle.dv_why.specs.Documents.{or_no_items, list_in, name_in, script_in, version_in, AreDistinct, PoolsDistinct}
 use Rattle.dv_why.specs.Finds.{Misfits}
 use Rattle.dv_why.specs.Reasons.{IsRefusedFor}
-use Rattle.dv_why.specs.Wrong.{IsMisnamed, IsBadClass, IsBadPool}
+use Rattle.dv_why.specs.Wrong.{IsMisshaped, IsMisnamed, IsBadClass, IsBadPool}
 use Rattle.dv_why.specs.declared.misfit.Misfit.{Misfit}
+use Rattle.dv_why.specs.declared.want.Call.TheVariants as call_of
 use Rattle.dv_why.proofs.Named.{Asks, both}
+use Rattle.dv_why.proofs.Reading.{script_fine}
 use Rattle.dv_why.proofs.PoolNames.{declared_one}
-use Rattle.dv_why.proofs.Scripts.{named_script, first_has_no_pools, names_good}
+use Rattle.dv_why.proofs.Scripts.{named_script, first_has_no_pools, names_good, same_version}
 use Rattle.dv_why.proofs.Suits.{IsOfClasses, IsOfPools, misnamed, misused_class, misused_pool}
 use Rattle.dv_why.proofs.Tables.{tables_same}
 
@@ -52,16 +55,10 @@ classes_asked question.Names d table of same = absurd of
 classes_asked (question.Classes classes) d table of same = record {
   name = λ x h. refl;
   deferred = λ x h. refl;
-  pool = λ x h. refl;
+  pool = λ x word h. refl;
   class = λ x h. known_place x table classes.now (of ∙ same) h;
 }
 classes_asked (question.Pools ps) d table of same = absurd of
-
-of_names_classes : (q : Question) (d : Data) → IsOfClasses d q → IsOfNames q
-of_names_classes (question.Shape version) d of = absurd of
-of_names_classes question.Names d of = absurd of
-of_names_classes (question.Classes classes) d of = tt
-of_names_classes (question.Pools ps) d of = absurd of
 
 few_declared : (d : Data) (draft : Draft) → is_small d draft ≡ true → length draft.declared ≤ MOST_CLASSES
 few_declared d draft h =
@@ -78,7 +75,7 @@ classes_good q d draft of may g small h =
     let may_so : AllMayDeclare (or_no_items (option_and_then as_array (get_member (codes "classes") g.members))) = rw value at may in
     let same = tables_same (get_member (codes "classes") g.members) draft.declared g.declared (few_declared d draft small) may_so in
     let table : table_in d ≡ draft.script.classes = rw value (sym same.1 ∙ sym g.table) in
-    both (g.all_declared ∙ same.0) (named_script d draft (of_names_classes q d of) (classes_asked q d draft.script.classes of table) g h)
+    both (g.all_declared ∙ same.0) (named_script d draft (classes_asked q d draft.script.classes of table) g h)
 
 -- ---- pools
 
@@ -133,18 +130,12 @@ pools_asked (question.Classes classes) d draft of g = absurd of
 pools_asked (question.Pools ps) d draft of g = record {
   name = λ x h. refl;
   deferred = λ x h. refl;
-  pool = λ x h.
+  pool = λ x word h.
       let one = declared_one ps.now x h in
       let value : list_in (codes "pools") d ≡ or_no_items (option_and_then as_array (get_member (codes "pools") g.members)) = ap (λ e. or_no_items (option_and_then as_array (get (codes "pools") e))) g.whole in
       field_among (get_member (codes "pools") g.members) draft.script.pools g.pools one.0 x (ap (name_in one.0) (sym (of ∙ value)) ∙ one.1);
   class = λ x h. refl;
 }
-
-of_names_pools : (q : Question) (d : Data) → IsOfPools d q → IsOfNames q
-of_names_pools (question.Shape version) d of = absurd of
-of_names_pools question.Names d of = absurd of
-of_names_pools (question.Classes classes) d of = absurd of
-of_names_pools (question.Pools ps) d of = tt
 
 all_distinct : (d : Data) (draft : Draft) (b : Bool) → nat_eq (version_in d) 1 ≡ b → IsScript d draft → PoolsDistinct d → are_distinct draft.script.pools ≡ true
 all_distinct d draft true one g h =
@@ -156,7 +147,7 @@ all_distinct d draft false two g h =
 
 -- a script in which no name of a pool is given twice and each pool that is used is declared has its pools
 pub pools_good : (q : Question) (d : Data) (draft : Draft) → IsOfPools d q → PoolsDistinct d → IsScript d draft → AllSuit q (script_in d) d → are_pooled draft ≡ true
-pools_good q d draft of h g suit = both (all_distinct d draft (nat_eq (version_in d) 1) refl g h) (named_script d draft (of_names_pools q d of) (pools_asked q d draft of g) g suit)
+pools_good q d draft of h g suit = both (all_distinct d draft (nat_eq (version_in d) 1) refl g h) (named_script d draft (pools_asked q d draft of g) g suit)
 
 -- ---- what is found where a script is refused so
 
@@ -167,14 +158,39 @@ differs false is isnt = cc
 -- refused for a name, a name is found
 pub found_name : (d : Data) (m : Misfit) → IsRefusedFor BadName d → depth d ≤ MOST_LEVELS → Misfits question.Names d m → IsMisnamed m
 found_name d m h shallow (inl bad) = misnamed m bad
-found_name d m h shallow (inr whole) = differs (are_named h.0) (names_good d h.0 h.1.shape (whole.1 (tt, shallow))) h.3
+found_name d m h shallow (inr whole) = differs (are_named h.0) (names_good d h.0 h.1.shape (whole.1 shallow)) h.3
 
 -- refused for a class, a class is found, where each may be declared
 pub found_class : (q : Question) (d : Data) (m : Misfit) → IsOfClasses d q → AllMayDeclare (list_in (codes "classes") d) → IsRefusedFor BadClass d → depth d ≤ MOST_LEVELS → Misfits q d m → IsBadClass d m
 found_class q d m of may h shallow (inl bad) = misused_class q d m of bad
-found_class q d m of may h shallow (inr whole) = differs (are_known h.0) (classes_good q d h.0 of may h.1.shape h.2 (whole.1 (of_names_classes q d of, shallow))) h.4
+found_class q d m of may h shallow (inr whole) = differs (are_known h.0) (classes_good q d h.0 of may h.1.shape h.2 (whole.1 shallow)) h.4
 
 -- refused for a pool, a pool is found, where each is given once
 pub found_pool : (q : Question) (d : Data) (m : Misfit) → IsOfPools d q → PoolsDistinct d → IsRefusedFor BadPool d → depth d ≤ MOST_LEVELS → Misfits q d m → IsBadPool d m
 found_pool q d m of once h shallow (inl bad) = misused_pool q d m of bad
-found_pool q d m of once h shallow (inr whole) = differs (are_pooled h.0) (pools_good q d h.0 of once h.1.shape (whole.1 (of_names_pools q d of, shallow))) h.5
+found_pool q d m of once h shallow (inr whole) = differs (are_pooled h.0) (pools_good q d h.0 of once h.1.shape (whole.1 shallow)) h.5
+
+-- ---- shapes
+
+-- in version 1 no thread is one of a pool
+shape_asked : (v : ℕ) (table : List Class) → nat_eq v 1 ≡ true → Asks (question.Shape v) (wanted.Pools []) table
+shape_asked v table one = record {
+  name = λ x h. refl;
+  deferred = λ x h. refl;
+  pool = λ x word h. let no : word_fits v call_of.Action (Some (codes "threadIn")) ≡ false = rw one refl in differs (word_fits v call_of.Action (Some (codes "threadIn"))) word no;
+  class = λ x h. refl;
+}
+
+plain_by : (d : Data) (draft : Draft) (b : Bool) → nat_eq draft.version 1 ≡ b → IsScript d draft → AllSuit (question.Shape (version_in d)) (script_in d) d → keeps_version draft ≡ true
+plain_by d draft true one g suit =
+    let first : nat_eq (version_in d) 1 ≡ true = ap (λ v. nat_eq v 1) (same_version d draft g) ∙ one in
+    rw one (named_script d draft (shape_asked (version_in d) draft.script.classes first) g suit)
+plain_by d draft false two g suit = rw two refl
+
+-- refused for its shape, a part is found that doesn't fit
+pub found_shape : (d : Data) (m : Misfit) → IsRefusedFor BadShape d → depth d ≤ MOST_LEVELS → Misfits (question.Shape (version_in d)) d m → IsMisshaped d m
+found_shape d m h shallow (inl bad) = bad
+found_shape d m h shallow (inr whole) =
+    let suit = whole.1 shallow in
+    let s = script_fine d suit in
+    absurd (h.1 s.0 s.1 (plain_by d s.0 (nat_eq s.0.version 1) refl s.1 suit))

@@ -35,7 +35,7 @@ use Rattle.dv_why.specs.AllSuit.{AllSuit, all_suit}
 pub record Asks (q : Question) (wanted : Wanted) (table : List Class) : Type 0 where
   pub name : (x : List ℕ) → suits q a_name (string x) ≡ true → suits_name wanted x ≡ true
   pub deferred : (x : List ℕ) → suits q a_deferred (string x) ≡ true → suits_deferred wanted x ≡ true
-  pub pool : (x : List ℕ) → suits q (want.Leaf leaf.Pool) (string x) ≡ true → suits_pool wanted x ≡ true
+  pub pool : (x : List ℕ) → suits q (want.Word call_of.Action) (string (codes "threadIn")) ≡ true → suits q (want.Leaf leaf.Pool) (string x) ≡ true → suits_pool wanted x ≡ true
   pub class : (x : List ℕ) → suits q a_class (string x) ≡ true → suits_class wanted (place_of x table) ≡ true
 
 -- ---- parts
@@ -164,7 +164,7 @@ mutual
   named_action {wanted = wanted} asks (resume_task name) h = by_action wanted (ResumeTask name) (rw (outs-ResumeTask name) (asks.name name (here (part 1 h refl refl))))
   named_action {wanted = wanted} asks (inline name ds statements g) h = by_action wanted (Inline name statements) (rw (outs-Inline name statements) (both (asks.name name (here (part 1 h refl refl))) (named_statements asks g (items_suit (part 2 h refl refl)))))
   named_action {wanted = wanted} asks (thread name c d delay job g k) h = by_action wanted (Thread name delay job) (rw (outs-Thread name delay job) (both (asks.name name (here (part 1 h refl refl))) (named_work asks d job k (part 3 h refl refl))))
-  named_action {wanted = wanted} asks (thread_in name pool c d delay job g k) h = by_action wanted (ThreadIn name pool delay job) (rw (outs-ThreadIn name pool delay job) (both (both (asks.name name (here (part 1 h refl refl))) (asks.pool pool (here (part 2 h refl refl)))) (named_work asks d job k (part 4 h refl refl))))
+  named_action {wanted = wanted} asks (thread_in name pool c d delay job g k) h = by_action wanted (ThreadIn name pool delay job) (rw (outs-ThreadIn name pool delay job) (both (both (asks.name name (here (part 1 h refl refl))) (asks.pool pool (here (part 0 h refl refl)) (here (part 2 h refl refl)))) (named_work asks d job k (part 4 h refl refl))))
 
   named_actions : {q : Question} {wanted : Wanted} {table : List Class} → Asks q wanted table → {ds : Items} {xs : List Action} → AreActions table ds xs → EachSuit q (want.Call call_of.Action) ds → list_all (λ b. b) (map (suits_action wanted) xs) ≡ true
   named_actions asks no_actions h = refl

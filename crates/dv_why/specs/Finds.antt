@@ -1,6 +1,6 @@
 -- What is found where a script is wrong.
-use Rattle.std.specs.Prelude.{◌≡◌, ◌⊎◌, [], Some, false, codes}
-use Rattle.serde_json.specs.Data.{Data}
+use Rattle.std.specs.Prelude.{◌≡◌, ◌≤◌, ◌⊎◌, [], Some, false, codes}
+use Rattle.serde_json.specs.Data.{Data, depth}
 use Rattle.serde_json.specs.View.{view}
 use Rattle.dv_why.specs.declared.want.Want.{Want}
 use Rattle.dv_why.specs.declared.misfit.Misfit.{Misfit}
@@ -11,7 +11,7 @@ use Rattle.dv_why.specs.Places.{at_place, want_at}
 use Rattle.dv_why.specs.Fits.{suits}
 use Rattle.dv_why.specs.Documents.{list_in, script_in}
 use Rattle.dv_script.specs.declared.limits.TheConstants.{MOST_LEVELS}
-use Rattle.dv_why.specs.AllSuit.{AllSuit, IsAsked}
+use Rattle.dv_why.specs.AllSuit.{AllSuit}
 use Rattle.dv_why.specs.Declaring.{AllMayDeclare, table_in}
 use Rattle.dv_why.specs.Wrong.{IsAt, IsBadClass}
 
@@ -27,7 +27,7 @@ pub record Finds (q : Question) (w : Want) (d : Data) (m : Misfit) : Type 0 wher
 
 -- what stands at a place answers the question badly, or the place is the whole, and each part of it answers well
 abbrev pub Misfits : Question → Data → Misfit → Type 0
-Misfits q d m = (suits q m.want (view m.found.now) ≡ false) ⊎ (IsAt [] m × (IsAsked q MOST_LEVELS d → AllSuit q (script_in d) d))
+Misfits q d m = (suits q m.want (view m.found.now) ≡ false) ⊎ (IsAt [] m × (depth d ≤ MOST_LEVELS → AllSuit q (script_in d) d))
 
 -- the table of a document, of which each class may be declared, or a class that may not
 abbrev pub IsTableOf : Data → Table → Type 0

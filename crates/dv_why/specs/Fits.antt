@@ -1,7 +1,7 @@
 -- Whether what stands at a place is what the place asks for, its parts apart.
-use Rattle.std.specs.Prelude.{ℕ, ◌&&◌, ◌||◌, nat_eq, Bool, true, false, not, List, length, Option, Some, None, is_some, option_and_then, bytes_eq, codes}
+use Rattle.std.specs.Prelude.{ℕ, if◌then◌else◌, ◌&&◌, ◌||◌, nat_eq, Bool, true, false, not, List, length, Option, Some, None, is_some, option_and_then, bytes_eq, codes}
 use Rattle.std.specs.List.{list_any}
-use Rattle.serde_json.specs.Data.{Data, null, boolean, number, string, array, object, Items, no_items, item}
+use Rattle.serde_json.specs.Data.{Data, null, boolean, number, string, array, object, Items, no_items, item, Members, no_members, member}
 use Rattle.serde_json.specs.Find.{as_str, as_bool, as_array, as_object, as_i64, get, at}
 use Rattle.serde_json.specs.View.{view}
 use Rattle.serde_json.specs.declared.value.Value.{Value}
@@ -17,7 +17,7 @@ use Rattle.dv_why.specs.declared.want.Want.{Want}
 use Rattle.dv_why.specs.declared.want.Want.TheVariants as want
 use Rattle.dv_why.specs.declared.question.Question.{Question}
 use Rattle.dv_why.specs.declared.question.Question.TheVariants as question
-use Rattle.dv_why.specs.Wants.{form_of}
+use Rattle.dv_why.specs.Wants.{form_of, key_want}
 use Rattle.dv_why.specs.Places.{count}
 
 -- a leaf reads as the grammar reads it
@@ -88,6 +88,22 @@ fits version (want.Keyed k) d = is_some (as_object d) && has_keys k d
 fits version (want.Array i) d = is_some (as_array d)
 fits version (want.Word c) d = word_fits version c (as_str d)
 fits version (want.Other k) d = false
+
+-- whether it is the value of a key that may not be there
+abbrev pub is_other : Want → Bool
+is_other (want.Leaf leaf) = false
+is_other want.Value = false
+is_other (want.Call c) = false
+is_other (want.Pair p) = false
+is_other (want.Keyed k) = false
+is_other (want.Array i) = false
+is_other (want.Word c) = false
+is_other (want.Other k) = true
+
+-- the first key that an object may not have
+abbrev pub first_other : Keyed → Members → Option (List ℕ)
+first_other k no_members = None
+first_other k (member key d ms) = if is_other (key_want k key) then Some key else first_other k ms
 
 -- whether a name has the form that its place asks for
 abbrev pub is_named : Leaf → List ℕ → Bool

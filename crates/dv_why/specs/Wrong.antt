@@ -1,5 +1,5 @@
 -- What is wrong at the place that is told, refusal by refusal.
-use Rattle.std.specs.Prelude.{◌≡◌, ◌≢◌, ◌⊎◌, ◌<◌, ℕ, false, List, [], ◌∷◌, ◌++◌, Some, None, codes, ⊤}
+use Rattle.std.specs.Prelude.{◌≡◌, ◌≢◌, ◌<◌, ℕ, false, List, [], ◌∷◌, ◌++◌, Some, None, codes, ⊤}
 use Rattle.serde_json.specs.Data.{Data, Items}
 use Rattle.serde_json.specs.Find.{get, as_str}
 use Rattle.serde_json.specs.View.{view}
@@ -82,12 +82,12 @@ pub data IsBadPool (d : Data) (m : Misfit) : Type 0 where
   given_twice : IsGivenTwice (list_in (codes "pools") d) (to_key (codes "pools") ∷ []) m → IsBadPool d m
   unknown_pool : (name : List ℕ) → m.want ≡ want.Leaf leaf.Pool → HasText name m → ((n : ℕ) → name_in n (list_in (codes "pools") d) ≢ Some name) → IsBadPool d m
 
--- what is wrong where a script is refused so; of a wrong shape, the place may be the whole
+-- what is wrong where a script is refused so
 abbrev pub IsWrong : ScriptFault → Data → Misfit → Type 0
 IsWrong TooLong d m = ⊤
 IsWrong NotJson d m = ⊤
 IsWrong BadVersion d m = IsAtVersion d m
-IsWrong BadShape d m = IsMisshaped d m ⊎ IsAt [] m
+IsWrong BadShape d m = IsMisshaped d m
 IsWrong TooMany d m = IsTooMuch d m
 IsWrong BadName d m = IsMisnamed m
 IsWrong BadClass d m = IsBadClass d m

@@ -1,20 +1,20 @@
 //! Finds the first part of a JSON value that answers a question badly.
 
-ghost use Rattle.std.specs.Prelude.{◌≡◌, ◌+◌, true, None, Some, IfOk, IfSome, option_map};
-ghost use Rattle.serde_json.specs.Data.{Data};
+ghost use Rattle.std.specs.Prelude.{◌≡◌, ◌≤◌, ◌+◌, true, None, Some, IfOk, IfSome, option_map};
+ghost use Rattle.serde_json.specs.Data.{Data, depth};
 ghost use Rattle.serde_json.specs.Find.{at, get};
-ghost use Rattle.serde_json.specs.View.{view, items_view};
+ghost use Rattle.serde_json.specs.View.{view, items_view, members_view};
 ghost use Rattle.dv_forms.specs.Parts.{call_at};
-ghost use Rattle.dv_why.specs.AllSuit.{AllSuit, ItemsSuit, ValuesSuit, IsAsked};
+ghost use Rattle.dv_why.specs.AllSuit.{AllSuit, ItemsSuit, KnownSuit, OthersOf, OthersSuit};
 ghost use Rattle.dv_why.specs.Finds.{Finds};
-ghost use Rattle.dv_why.specs.Fits.{suits};
+ghost use Rattle.dv_why.specs.Fits.{first_other, is_other, suits};
 ghost use Rattle.dv_why.specs.Places.{argument_want, call_want, nth, part_want};
 ghost use Rattle.dv_why.specs.Wants.{key_want};
 
 use crate::misfit::{Misfit, Step};
 use crate::question::{Question, suits};
 use crate::want::{Call, Keyed, Want};
-use serde_json::Value as Json;
+use serde_json::{Map, Value as Json};
 use std::alloc::{AllocError, Global};
 
 #[tactic(auto, using(crate::proofs::Counting::nth_within, crate::proofs::Counting::nth_past))]
@@ -89,7 +89,7 @@ pub fn find<'j>(
     json: &'j Json,
 ) -> Result<Option<Misfit<'j>>, AllocError>
     ensures found { IfOk result (λ found. IfSome found (λ misfit. Finds question.entry want (view json.now) misfit)) }
-    ensures none { IfOk result (λ found. found ≡ None → IsAsked question.entry levels (view json.now) → AllSuit question.entry want (view json.now)) }
+    ensures none { IfOk result (λ found. found ≡ None → depth (view json.now) ≤ levels → AllSuit question.entry want (view json.now)) }
 {
     if let Some(misfit) = other_key(alloc, question, want, levels, json)? {
         return Ok(Some(misfit));
@@ -109,7 +109,8 @@ fn other_key<'j>(
     levels: u32,
     json: &'j Json,
 ) -> Result<Option<Misfit<'j>>, AllocError>
-    ensures { IfOk result (λ found. IfSome found (λ misfit. Finds question.entry want (view json.now) misfit)) }
+    ensures found { IfOk result (λ found. IfSome found (λ misfit. Finds question.entry want (view json.now) misfit)) }
+    ensures none { IfOk result (λ found. found ≡ None → depth (view json.now) ≤ levels → OthersOf question.entry want (view json.now)) }
 {
     if levels == 0 {
         return Ok(None);
@@ -137,7 +138,7 @@ fn in_parts<'j>(
 ) -> Result<Option<Misfit<'j>>, AllocError>
     requires { suits question want (view json.now) ≡ true }
     ensures found { IfOk result (λ found. IfSome found (λ misfit. Finds question.entry want (view json.now) misfit)) }
-    ensures none { IfOk result (λ found. found ≡ None → IsAsked question.entry levels (view json.now) → AllSuit question.entry want (view json.now)) }
+    ensures none { IfOk result (λ found. found ≡ None → depth (view json.now) ≤ levels → OthersOf question.entry want (view json.now) → AllSuit question.entry want (view json.now)) }
 {
     if levels == 0 {
         return Ok(None);
@@ -160,7 +161,7 @@ fn in_array<'j>(
     json: &'j Json,
 ) -> Result<Option<Misfit<'j>>, AllocError>
     ensures found { IfOk result (λ found. IfSome found (λ misfit. Finds question.entry want (view json.now) misfit)) }
-    ensures none { IfOk result (λ found. found ≡ None → IsAsked question.entry (levels + 1) (view json.now) → ItemsSuit question.entry want (view json.now)) }
+    ensures none { IfOk result (λ found. found ≡ None → depth (view json.now) ≤ levels + 1 → ItemsSuit question.entry want (view json.now)) }
 {
     let Json::Array(items) = json else {
         return Ok(None);
@@ -183,7 +184,7 @@ fn in_item<'j>(
     number: usize,
 ) -> Result<Option<Misfit<'j>>, AllocError>
     ensures found { IfOk result (λ found. IfSome found (λ misfit. Finds question.entry want (view json.now) misfit)) }
-    ensures none { IfOk result (λ found. found ≡ None → IsAsked question.entry (levels + 1) (view json.now)
+    ensures none { IfOk result (λ found. found ≡ None → depth (view json.now) ≤ levels + 1
         → (v : Want) (e : Data) → part_want want (view json.now) number ≡ Some v → at number (view json.now) ≡ Some e → AllSuit question.entry v e) }
 {
     let (Some(part), Some(item)) = (part_of(want, json, number), json.get(number)) else {
@@ -204,7 +205,7 @@ fn in_object<'j>(
     json: &'j Json,
 ) -> Result<Option<Misfit<'j>>, AllocError>
     ensures found { IfOk result (λ found. IfSome found (λ misfit. Finds question.entry (Want.Keyed keyed) (view json.now) misfit)) }
-    ensures none { IfOk result (λ found. found ≡ None → IsAsked question.entry (levels + 1) (view json.now) → ValuesSuit question.entry (Want.Keyed keyed) (view json.now)) }
+    ensures none { IfOk result (λ found. found ≡ None → depth (view json.now) ≤ levels + 1 → KnownSuit question.entry keyed (view json.now)) }
 {
     for key in keyed.keys() {
         if let Some(misfit) = in_key(alloc, question, keyed, levels, json, *key)? {
@@ -223,21 +224,34 @@ fn at_other_key<'j>(
     levels: u32,
     json: &'j Json,
 ) -> Result<Option<Misfit<'j>>, AllocError>
-    ensures { IfOk result (λ found. IfSome found (λ misfit. Finds question.entry (Want.Keyed keyed) (view json.now) misfit)) }
+    ensures found { IfOk result (λ found. IfSome found (λ misfit. Finds question.entry (Want.Keyed keyed) (view json.now) misfit)) }
+    ensures none { IfOk result (λ found. found ≡ None → depth (view json.now) ≤ levels + 1 → OthersSuit question.entry keyed (view json.now)) }
 {
     let Json::Object(members) = json else {
         return Ok(None);
     };
+    match first_other(keyed, members) {
+        Some(key) => in_key(alloc, question, keyed, levels, json, key),
+        None => Ok(None),
+    }
+}
+
+/// The first key that an object may not have.
+fn first_other(keyed: Keyed, members: &Map<String, Json>) -> Option<&str>
+    ensures { option_map (λ key. key.now) result ≡ first_other keyed (members_view members.now.entries) }
+{
     for (key, _) in members.iter() {
         if is_other(keyed, key.as_str()) {
-            return in_key(alloc, question, keyed, levels, json, key.as_str());
+            return Some(key.as_str());
         }
     }
-    Ok(None)
+    None
 }
 
 /// Whether an object may not have this key.
-fn is_other(keyed: Keyed, key: &str) -> bool {
+fn is_other(keyed: Keyed, key: &str) -> bool
+    ensures { result ≡ is_other (key_want keyed key.now) }
+{
     matches!(keyed.want(key), Want::Other(_))
 }
 
@@ -251,7 +265,7 @@ fn in_key<'j>(
     key: &'j str,
 ) -> Result<Option<Misfit<'j>>, AllocError>
     ensures found { IfOk result (λ found. IfSome found (λ misfit. Finds question.entry (Want.Keyed keyed) (view json.now) misfit)) }
-    ensures none { IfOk result (λ found. found ≡ None → IsAsked question.entry (levels + 1) (view json.now)
+    ensures none { IfOk result (λ found. found ≡ None → depth (view json.now) ≤ levels + 1
         → (e : Data) → get key.now (view json.now) ≡ Some e → AllSuit question.entry (key_want keyed key.now) e) }
 {
     let Some(value) = json.get(key) else {

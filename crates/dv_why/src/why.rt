@@ -3,7 +3,7 @@ ghost use Rattle.std.specs.Str.Lossy.{utf8_lossy};
 ghost use Rattle.serde_json.specs.Data.{depth};
 ghost use Rattle.serde_json.specs.View.{view, items_view};
 ghost use Rattle.dv_reader.specs.Refusal.{Refuses};
-ghost use Rattle.dv_reader.specs.declared.error.ScriptFault.TheVariants.{NotJson, BadVersion, BadName, BadClass, BadPool};
+ghost use Rattle.dv_reader.specs.declared.error.ScriptFault.TheVariants.{NotJson, BadVersion, BadShape, BadName, BadClass, BadPool};
 ghost use Rattle.dv_why.specs.Documents.{PoolsDistinct, list_in, script_in};
 ghost use Rattle.dv_why.specs.Finds.{IsTableOf, Leads, Misfits};
 ghost use Rattle.dv_why.specs.Reasons.{IsRefusedFor};
@@ -212,7 +212,7 @@ fn misfit_of(
 {
     match fault {
         ScriptFault::BadVersion => wrong_version(alloc, json),
-        ScriptFault::BadShape => in_script(alloc, Question::Shape(version_of(json)), json),
+        ScriptFault::BadShape => bad_shape(alloc, json),
         ScriptFault::TooMany => too_many(alloc, json),
         ScriptFault::BadName => bad_name(alloc, json),
         ScriptFault::BadClass => bad_class(alloc, json),
@@ -257,6 +257,15 @@ fn with_expected(misfit: Misfit<'_>) -> (Misfit<'_>, Expected)
 {
     let expected = Expected::at(misfit.want, misfit.found);
     (misfit, expected)
+}
+
+/// The first part of a document that doesn't fit.
+fn bad_shape(alloc: Global, json: &Json) -> Result<(Misfit<'_>, Expected), AllocError>
+    requires refused { IsRefusedFor BadShape (view json.now) }
+    requires shallow { depth (view json.now) ≤ MOST_LEVELS }
+    ensures { IfOk result (λ found. Explains BadShape (view json.now) found.0) }
+{
+    in_script(alloc, Question::Shape(version_of(json)), json)
 }
 
 /// The first name of a document that hasn't its form.

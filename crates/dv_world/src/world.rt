@@ -37,6 +37,7 @@ use dv_value::classes::Classes;
 use dv_value::text::Text;
 use dv_value::value::Value;
 use std::alloc::{AllocError, Global};
+use std::hash::RandomState;
 use std::marker::Model;
 use std::mem;
 
@@ -122,8 +123,15 @@ impl<'s> World<'s> {
     ghost use Rattle.std.specs.Option.{option_copied};
     ghost use Rattle.dv_journal.specs.declared.entry.Entry.TheVariants as entry;
 
-    /// A world in which nothing is made, whose journal takes so much weight, and whose Cooperator takes its steps so.
-    pub fn new(alloc: Global, classes: &'s Classes, limit: u64, settings: Settings) -> World<'s>
+    /// A world in which nothing is made, whose journal takes so much weight, and whose Cooperator takes its steps so. Names are hashed with
+    /// these keys.
+    pub fn new(
+        alloc: Global,
+        keys: RandomState,
+        classes: &'s Classes,
+        limit: u64,
+        settings: Settings,
+    ) -> World<'s>
         requires { limit < 2 ^ 32 }
         ensures { result ≡ first_world classes.now limit settings }
     {
@@ -131,18 +139,18 @@ impl<'s> World<'s> {
         World {
             alloc,
             classes,
-            names: Names::new(alloc),
-            locks: Names::new(alloc),
+            names: Names::new(alloc, keys),
+            locks: Names::new(alloc, keys),
             semaphores: Vec::new(alloc),
-            queue_names: Names::new(alloc),
+            queue_names: Names::new(alloc, keys),
             queues: Vec::new(alloc),
             lists: Vec::new(alloc),
             clock: Clock::new(alloc),
-            call_names: Names::new(alloc),
+            call_names: Names::new(alloc, keys),
             bodies: Vec::new(alloc),
-            loop_names: Names::new(alloc),
+            loop_names: Names::new(alloc, keys),
             loops: Vec::new(alloc),
-            cooperator: Cooperator::new(alloc, units, delay),
+            cooperator: Cooperator::new(alloc, keys, units, delay),
             inlines: Inlines::new(alloc),
             works: Works::new(alloc),
             store: Store::new(alloc),

@@ -12,6 +12,7 @@ use dv_reader::read_script::ReadScript;
 use dv_script::script::Script;
 use dv_value::items::Items;
 use std::alloc::{AllocError, AllocGlobal, Global};
+use std::hash::RandomState;
 use std::random::RandomSource;
 use std::sync::Wait;
 use std::test::Fail;
@@ -104,7 +105,14 @@ where
 {
     let alloc = rt.alloc();
     let poller = Poller::new(rt)?;
-    let mut engine = Engine::new(alloc, poller, OneThread::new(alloc, 4, &PlainGate), script)?;
+    let keys = RandomState::new(rt)?;
+    let mut engine = Engine::new(
+        alloc,
+        poller,
+        keys,
+        OneThread::new(alloc, 4, &PlainGate),
+        script,
+    )?;
     let added = add_answers(rt, &mut engine, calls, lines);
     let counts = counts(engine.finish(rt));
     added?;

@@ -17,6 +17,7 @@ use dv_script::script::Script;
 use dv_source::memory_source::MemorySource;
 use dv_value::items::Items;
 use std::alloc::{AllocError, AllocGlobal, Global};
+use std::hash::RandomState;
 use std::random::RandomSource;
 use std::sync::Wait;
 use std::test::Fail;
@@ -99,7 +100,14 @@ where
 {
     let alloc = rt.alloc();
     let poller = Poller::new(rt)?;
-    let mut engine = Engine::new(alloc, poller, OneThread::new(alloc, 4, &PlainGate), script)?;
+    let keys = RandomState::new(rt)?;
+    let mut engine = Engine::new(
+        alloc,
+        poller,
+        keys,
+        OneThread::new(alloc, 4, &PlainGate),
+        script,
+    )?;
     let given = give_all(rt, &mut engine, batches);
     let report = engine.finish(rt);
     if let Err(fail) = given {
@@ -284,7 +292,7 @@ fn each_job_of_a_run_comes_to_its_gate_once_and_one_more_raises(
     let gate = Counting::new(rt.alloc(), 4_096)?;
     let (_, report) = run_text(&rt, text.as_str(), 2, &gate)?;
     let raised = match report.journal.entries().last() {
-        Some(Entry::Unhandled(failure)) => failure.message.as_str() == "too many jobs",
+        Some(Entry::Unhandled(failure)) => failure.get().message.as_str() == "too many jobs",
         Some(_) | None => false,
     };
     let done = report.ran.dones().len();

@@ -11,6 +11,7 @@ use dv_journal::entry::Entry;
 use dv_objects::performed::Performed;
 use dv_objects::task::{Task, TaskEnd};
 use dv_script::lent::{BodiesRef, BodyRef, TextRef};
+use dv_value::boxed::Boxed;
 use dv_value::class_id::ClassId;
 use dv_value::fault::failure;
 use dv_value::items::Items;
@@ -254,7 +255,7 @@ fn ending(alloc: Global, name: &str, end: &TaskEnd) -> Result<Entry, AllocError>
     ensures { IfOk result (λ entry. entry ≡ End name.now (result_of name.now end.now)) }
 {
     let shown = Text::of(alloc, name)?;
-    let result = end.result(alloc, name)?;
+    let result = Boxed::new(alloc, end.result(alloc, name)?)?;
     Ok(Entry::End(shown, result))
 }
 

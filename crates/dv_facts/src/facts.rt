@@ -181,7 +181,7 @@ pub fn facts_of(entry: &Entry) -> Facts<'_> {
             ..Facts::word("note")
         },
         Entry::Unhandled(failure) => Facts {
-            shown: Shown::Failure(failure),
+            shown: Shown::Failure(failure.get()),
             ..Facts::word("unhandled")
         },
         Entry::Lock(name) => Facts::named("lock", Named::Made(Kind::Lock, name.as_str())),
@@ -196,7 +196,7 @@ pub fn facts_of(entry: &Entry) -> Facts<'_> {
         Entry::Release(name) => Facts::named("release", Named::Any(Kind::Lock, name.as_str())),
         Entry::Queue(name, _, _) => Facts::named("queue", Named::Made(Kind::Queue, name.as_str())),
         Entry::Put(name, value) => Facts {
-            shown: Shown::Value(value),
+            shown: Shown::Value(value.get()),
             ..Facts::named("put", Named::Last(Kind::Queue, name.as_str()))
         },
         Entry::Get(name, id) => Facts {
@@ -261,7 +261,7 @@ pub fn facts_of(entry: &Entry) -> Facts<'_> {
             ..Facts::named("hold", Named::Any(Kind::Task, name.as_str()))
         },
         Entry::End(name, value) => Facts {
-            shown: Shown::Value(value),
+            shown: Shown::Value(value.get()),
             ..Facts::named("end", Named::Any(Kind::Task, name.as_str()))
         },
         Entry::PauseTask(name) => Facts::named("pausetask", Named::Last(Kind::Task, name.as_str())),

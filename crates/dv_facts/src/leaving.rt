@@ -219,7 +219,11 @@ impl<'k, 'e> Known<'k, 'e> {
 
     fn unhandled(&self, place: usize) -> Result<Json, AllocError> {
         let value = match self.entries.get(place) {
-            Some(Entry::Unhandled(failure)) => failure_json(self.alloc, self.classes, failure)?,
+            Some(Entry::Unhandled(failure)) => failure_json(
+                self.alloc,
+                self.classes,
+                failure.get(),
+            )?,
             Some(_) | None => Json::Null,
         };
         json!(in self.alloc; {"entry": place, "kind": "unhandled", "type": "left", "value": value})

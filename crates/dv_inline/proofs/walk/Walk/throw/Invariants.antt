@@ -1,6 +1,6 @@
 use Rattle.std.proofs.Common.{◌≡◌, length}
 use Rattle.dv_inline.specs.Position.{thrown_from}
-use Rattle.dv_inline.proofs.body.InlineBody.throw.Given as goal
+use Rattle.dv_inline.proofs.walk.Walk.throw.Given as goal
 
 -- from the tries that are left the failure goes where it went from all of them
 abbrev pub invariant-loop-around : goal.invariant-loop-around

@@ -1,6 +1,6 @@
 use Rattle.std.proofs.Common.{◌≡◌}
 use Rattle.dv_inline.specs.Position.{come, position_size}
-use Rattle.dv_inline.proofs.body.InlineBody.come.Given as goal
+use Rattle.dv_inline.proofs.walk.Walk.come.Given as goal
 
 -- the moves lead from here where they led from at first
 abbrev pub invariant-loop : goal.invariant-loop

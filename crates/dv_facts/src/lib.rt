@@ -1,0 +1,9 @@
+//! What the entries of a journal tell, where each lies, and what is left at the end of a run, as JSON.
+#![tactic(auto)]
+
+pub mod entries;
+pub mod facts;
+pub mod leaving;
+pub mod names;
+mod places;
+pub mod values;
