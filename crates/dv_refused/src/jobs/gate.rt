@@ -126,9 +126,9 @@ where
     )
 }
 
-/// A work whose value is a text.
+/// A work whose value is a text that takes memory.
 fn work(alloc: Global) -> Result<Work, AllocError> {
-    Ok(Work::Value(Value::Text(Text::of(alloc, "a text")?)))
+    Ok(Work::Value(Value::Text(Text::of(alloc, "a text of its own")?)))
 }
 
 fn three_jobs<S, J>(rt: &S, source: J) -> Result<Ending, AllocError>
