@@ -1,12 +1,13 @@
-ghost use Rattle.std.specs.Prelude.{◌≡◌, IfOk, Some};
+ghost use Rattle.std.specs.Prelude.{◌≡◌, Some, IfOk, OnOk};
 ghost use Rattle.dv_frames.specs.Bounds.{Bounded};
 ghost use Rattle.dv_bodies.specs.Inlining.{inline_begun, going_with, going_where, resumed, awaiting, awaited_by, await_ended, answer_of};
 ghost use Rattle.dv_frames.specs.Turn.{◌over◌};
 ghost use Rattle.dv_value.specs.Builtin.{name_error};
 ghost use Rattle.dv_value.specs.Failure.{fault as fault_of};
 ghost use Rattle.dv_world.specs.World.{deferred_at};
+ghost use Rattle.dv_objects.specs.declared.performed.Performed.TheVariants.{Done};
 
-use dv_frames::following::{add_and_settle, done};
+use dv_frames::following::add_and_settle;
 use dv_frames::frame::{Frame, Inlining};
 use dv_inline::body::InlineBody;
 use dv_journal::deferred_id::DeferredId;
@@ -15,7 +16,6 @@ use dv_objects::inline_id::Inline;
 use dv_objects::pair::Pair;
 use dv_objects::performed::Performed;
 use dv_script::lent::{Statements, TextRef};
-use dv_value::boxed::Boxed;
 use dv_value::class_id::ClassId;
 use dv_value::fault::fault;
 use dv_value::stack::Stack;
@@ -31,35 +31,28 @@ pub fn begin_inline<'s>(
     stack: &mut Stack<Frame<'s>>,
     name: TextRef<'s>,
     statements: Statements<'s>,
-) -> Result<Performed<'s>, AllocError>
+) -> Result<(), AllocError>
     requires bounded { Bounded world.old }
-    ensures { IfOk result (λ performed. (stack.new, performed, world.new) ≡ inline_begun name.entry statements.entry world.old over stack.old) }
+    ensures { OnOk result ((stack.new, Done, world.new) ≡ inline_begun name.entry statements.entry world.old over stack.old) }
 {
     let of = world.next_id();
     let id = world.add_inline()?;
     world.make(Some(name), Some(Canceller::Inline(id)))?;
     let body = InlineBody::start(alloc, statements.get())?;
-    done(stack.push(Frame::Inline(Inlining::Goes(Inline { id, of }, body))))
+    stack.push(Frame::Inline(Inlining::Goes(Inline { id, of }, body)))
 }
 
 /// A body goes on with what an action of it came to.
 pub fn end_action<'s>(
-    alloc: Global,
     world: &World<'s>,
     stack: &mut Stack<Frame<'s>>,
     inline: Inline,
     body: InlineBody<'s>,
-    performed: Performed<'s>,
-) -> Result<Performed<'s>, AllocError>
-    ensures { IfOk result (λ next. (stack.new, next, world.now) ≡ going_with inline (answer_of performed.entry) body.entry world.now over stack.old) }
+    came: Performed<'s>,
+) -> Result<(), AllocError>
+    ensures { OnOk result ((stack.new, Done, world.now) ≡ going_with inline (answer_of came.entry) body.entry world.now over stack.old) }
 {
-    match answer_of(alloc, performed) {
-        Ok(answer) => go_on_with(world, stack, inline, body, answer),
-        Err(AllocError) => {
-            drop(body);
-            Err(AllocError)
-        }
-    }
+    go_on_with(world, stack, inline, body, answer_of(came))
 }
 
 /// A body goes on with an answer.
@@ -69,12 +62,12 @@ pub fn go_on_with<'s>(
     inline: Inline,
     body: InlineBody<'s>,
     answer: Value,
-) -> Result<Performed<'s>, AllocError>
-    ensures { IfOk result (λ next. (stack.new, next, world.now) ≡ going_with inline answer body.entry world.now over stack.old) }
+) -> Result<(), AllocError>
+    ensures { OnOk result ((stack.new, Done, world.now) ≡ going_with inline answer body.entry world.now over stack.old) }
 {
     let mut body = body;
     body.answer(world.classes(), answer);
-    done(stack.push(Frame::Inline(Inlining::Goes(inline, body))))
+    stack.push(Frame::Inline(Inlining::Goes(inline, body)))
 }
 
 /// The pair by which a body awaits a Deferred has been added. Where what it awaits came meanwhile, it goes on; else it is
@@ -85,8 +78,8 @@ pub fn end_await<'s>(
     inline: Inline,
     awaited: DeferredId,
     body: InlineBody<'s>,
-) -> Result<Performed<'s>, AllocError>
-    ensures { IfOk result (λ next. (stack.new, next, world.new) ≡ await_ended inline awaited body.entry world.old over stack.old) }
+) -> Result<(), AllocError>
+    ensures { OnOk result ((stack.new, Done, world.new) ≡ await_ended inline awaited body.entry world.old over stack.old) }
 {
     let came = world.end_await(inline.id, awaited, body)?;
     go_on_where(world, stack, inline, came)
@@ -98,8 +91,8 @@ pub fn resume<'s>(
     stack: &mut Stack<Frame<'s>>,
     inline: Inline,
     input: Value,
-) -> Result<Performed<'s>, AllocError>
-    ensures { IfOk result (λ next. (stack.new, next, world.new) ≡ resumed inline input world.old over stack.old) }
+) -> Result<(), AllocError>
+    ensures { OnOk result ((stack.new, Done, world.new) ≡ resumed inline input world.old over stack.old) }
 {
     let came = world.come_to_inline(inline.id, input);
     go_on_where(world, stack, inline, came)
@@ -111,26 +104,26 @@ fn go_on_where<'s>(
     stack: &mut Stack<Frame<'s>>,
     inline: Inline,
     came: Option<(InlineBody<'s>, Value)>,
-) -> Result<Performed<'s>, AllocError>
-    ensures { IfOk result (λ next. (stack.new, next, world.now) ≡ going_where inline came.entry world.now over stack.old) }
+) -> Result<(), AllocError>
+    ensures { OnOk result ((stack.new, Done, world.now) ≡ going_where inline came.entry world.now over stack.old) }
 {
     match came {
-        None => Ok(Performed::Done),
+        None => Ok(()),
         Some((body, answer)) => go_on_with(world, stack, inline, body, answer),
     }
 }
 
 /// The answer to an action: null, or what it raised.
-fn answer_of<'s>(alloc: Global, performed: Performed<'s>) -> Result<Value, AllocError>
-    ensures { IfOk result (λ answer. answer ≡ answer_of performed.entry) }
+fn answer_of<'s>(performed: Performed<'s>) -> Value
+    ensures { result ≡ answer_of performed.entry }
 {
     match performed {
         Performed::Gave(given) => {
             drop(given);
-            Ok(Value::Null)
+            Value::Null
         }
-        Performed::Done | Performed::Awaits(_) => Ok(Value::Null),
-        Performed::Raised(failure) => Ok(Value::Fault(Boxed::new(alloc, failure)?)),
+        Performed::Done | Performed::Awaits(_) => Value::Null,
+        Performed::Raised(failure) => Value::Fault(failure),
     }
 }
 
@@ -142,8 +135,8 @@ pub fn begin_await<'s>(
     inline: Inline,
     name: TextRef<'s>,
     body: InlineBody<'s>,
-) -> Result<Performed<'s>, AllocError>
-    ensures { IfOk result (λ next. (stack.new, next, world.new) ≡ awaited_by (deferred_at (Some inline.of) name.entry world.old) name.entry inline body.entry world.old over stack.old) }
+) -> Result<(), AllocError>
+    ensures { OnOk result ((stack.new, Done, world.new) ≡ awaited_by (deferred_at (Some inline.of) name.entry world.old) name.entry inline body.entry world.old over stack.old) }
 {
     match world.find(Some(inline.of), name.as_str()) {
         None => throw(alloc, world, stack, inline, name, body),
@@ -159,8 +152,8 @@ fn throw<'s>(
     inline: Inline,
     name: TextRef<'s>,
     body: InlineBody<'s>,
-) -> Result<Performed<'s>, AllocError>
-    ensures { IfOk result (λ next. (stack.new, next, world.now) ≡ going_with inline (fault_of name_error name.entry) body.entry world.now over stack.old) }
+) -> Result<(), AllocError>
+    ensures { OnOk result ((stack.new, Done, world.now) ≡ going_with inline (fault_of name_error name.entry) body.entry world.now over stack.old) }
 {
     match fault(alloc, ClassId::NAME_ERROR, name.as_str()) {
         Ok(thrown) => go_on_with(world, stack, inline, body, thrown),
@@ -178,8 +171,8 @@ fn add<'s>(
     inline: Inline,
     awaited: DeferredId,
     body: InlineBody<'s>,
-) -> Result<Performed<'s>, AllocError>
-    ensures { IfOk result (λ next. (stack.new, next, world.new) ≡ awaiting inline awaited body.entry world.old over stack.old) }
+) -> Result<(), AllocError>
+    ensures { OnOk result ((stack.new, Done, world.new) ≡ awaiting inline awaited body.entry world.old over stack.old) }
 {
     let Inline { id, of } = inline;
     if world.begin_await(Inline { id, of }, awaited).is_err() {

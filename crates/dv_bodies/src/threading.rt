@@ -1,9 +1,10 @@
-ghost use Rattle.std.specs.Prelude.{◌≡◌, [], IfOk};
+ghost use Rattle.std.specs.Prelude.{◌≡◌, [], OnOk};
 ghost use Rattle.dv_frames.specs.Bounds.{Bounded};
 ghost use Rattle.dv_bodies.specs.Threading.{threaded, job_begun, delivered};
 ghost use Rattle.dv_frames.specs.Turn.{◌over◌};
+ghost use Rattle.dv_objects.specs.declared.performed.Performed.TheVariants.{Done};
 
-use dv_frames::following::{done, fire_and_settle};
+use dv_frames::following::fire_and_settle;
 use dv_frames::frame::Frame;
 use dv_journal::deferred_id::DeferredId;
 use dv_objects::performed::Performed;
@@ -20,16 +21,19 @@ use std::alloc::{AllocError, Global};
 pub fn thread<'s>(
     alloc: Global,
     world: &mut World<'s>,
+    performed: &mut Performed<'s>,
     name: TextRef<'s>,
     pool: Option<TextRef<'s>>,
     delay: u64,
     work: WorkRef<'s>,
-) -> Result<Performed<'s>, AllocError>
+) -> Result<(), AllocError>
     requires bounded { Bounded world.old }
-    ensures { IfOk result (λ performed. ([], performed, world.new) ≡ threaded name.entry pool.entry delay work.entry world.old) }
+    requires done { performed.old ≡ Done }
+    ensures { OnOk result (([], performed.new, world.new) ≡ threaded name.entry pool.entry delay work.entry world.old) }
 {
     if world.works().is_full() {
-        return too_many_jobs(alloc);
+        *performed = too_many_jobs(alloc)?;
+        return Ok(());
     }
     let id = world.next_id();
     world.make(Some(name), None)?;
@@ -43,12 +47,12 @@ fn begin_job<'s>(
     pool: Option<TextRef<'s>>,
     delay: u64,
     work: WorkRef<'s>,
-) -> Result<Performed<'s>, AllocError>
-    ensures { IfOk result (λ performed. ([], performed, world.new) ≡ job_begun id pool.entry delay work.entry world.old) }
+) -> Result<(), AllocError>
+    ensures { OnOk result (([], Done, world.new) ≡ job_begun id pool.entry delay work.entry world.old) }
 {
     let job = world.works().len() as u32;
     world.submit(id, pool, work)?;
-    done(world.deliver_later(job, id, delay))
+    world.deliver_later(job, id, delay)
 }
 
 /// Fires a Deferred with what its job has come to (Twisted: `Deferred.callback`, or `Deferred.errback` where the job has
@@ -56,13 +60,15 @@ fn begin_job<'s>(
 pub fn deliver<'s>(
     world: &mut World<'s>,
     stack: &mut Stack<Frame<'s>>,
+    performed: &mut Performed<'s>,
     id: DeferredId,
     value: Option<Value>,
-) -> Result<Performed<'s>, AllocError>
-    ensures { IfOk result (λ performed. (stack.new, performed, world.new) ≡ delivered id value world.old over stack.old) }
+) -> Result<(), AllocError>
+    requires done { performed.old ≡ Done }
+    ensures { OnOk result ((stack.new, performed.new, world.new) ≡ delivered id value world.old over stack.old) }
 {
     match value {
-        None => Ok(Performed::Done),
-        Some(value) => fire_and_settle(world, stack, id, value),
+        None => Ok(()),
+        Some(value) => fire_and_settle(world, stack, performed, id, value),
     }
 }

@@ -8,6 +8,7 @@ ghost use Rattle.dv_posts.specs.Taking.{with_batch};
 
 use crate::engine::Phase;
 use dv_bodies::submissions::Submissions;
+use dv_frames::frame::Frame;
 use dv_inline::poller::Poller;
 use dv_jobs::source::JobSource;
 use dv_journal::entry::Entry;
@@ -16,6 +17,7 @@ use dv_posts::batches::Batches;
 use dv_posts::posted::Posted;
 use dv_script::body::Body;
 use dv_value::items::Items;
+use dv_value::stack::Stack;
 use dv_world::world::World;
 use std::alloc::{AllocError, AllocGlobal, Global};
 use std::random::RandomSource;
@@ -29,6 +31,7 @@ pub fn drain<'s, R, J>(
     poller: &Poller,
     jobs: &mut Submissions<'s, J>,
     world: &mut World<'s>,
+    stack: &mut Stack<Frame<'s>>,
     batches: &mut Batches<'s>,
     phase: Phase,
     batch: Items<Posted>,
@@ -51,6 +54,7 @@ where
         poller,
         jobs,
         world,
+        stack,
         batches.callers(),
         batch.as_slice(),
     )?;
@@ -78,6 +82,7 @@ fn come_all<'s, R, J>(
     poller: &Poller,
     jobs: &mut Submissions<'s, J>,
     world: &mut World<'s>,
+    stack: &mut Stack<Frame<'s>>,
     callers: &'s [Items<Body>],
     batch: &[Posted],
 ) -> Result<(), AllocError>
@@ -90,7 +95,7 @@ where
     ensures jobs { OnOk result (jobs.new ≡ world.new.works) }
 {
     for posted in batch {
-        come_if_there(rt, alloc, poller, jobs, world, callers, posted)?;
+        come_if_there(rt, alloc, poller, jobs, world, stack, callers, posted)?;
     }
     Ok(())
 }
@@ -102,6 +107,7 @@ fn come_if_there<'s, R, J>(
     poller: &Poller,
     jobs: &mut Submissions<'s, J>,
     world: &mut World<'s>,
+    stack: &mut Stack<Frame<'s>>,
     callers: &'s [Items<Body>],
     posted: &Posted,
 ) -> Result<(), AllocError>
@@ -115,7 +121,7 @@ where
 {
     match body_of(callers, posted) {
         None => Ok(()),
-        Some(body) => come(rt, alloc, poller, jobs, world, posted, body),
+        Some(body) => come(rt, alloc, poller, jobs, world, stack, posted, body),
     }
 }
 

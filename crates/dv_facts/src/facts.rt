@@ -159,7 +159,7 @@ pub fn facts_of(entry: &Entry) -> Facts<'_> {
         },
         Entry::Take(id, from, value) => Facts {
             second: Some(*from),
-            shown: Shown::Value(value),
+            shown: Shown::Value(value.get()),
             nesting: Nesting::Ends,
             ..Facts::of("take", *id)
         },
@@ -170,7 +170,7 @@ pub fn facts_of(entry: &Entry) -> Facts<'_> {
         },
         Entry::Hand(from, id, value) => Facts {
             second: Some(*id),
-            shown: Shown::Value(value),
+            shown: Shown::Value(value.get()),
             ..Facts::of("hand", *from)
         },
         Entry::Pause(id) => Facts::of("pause", *id),
@@ -194,7 +194,10 @@ pub fn facts_of(entry: &Entry) -> Facts<'_> {
             ..Facts::named("acquire", Named::Last(Kind::Lock, name.as_str()))
         },
         Entry::Release(name) => Facts::named("release", Named::Any(Kind::Lock, name.as_str())),
-        Entry::Queue(name, _, _) => Facts::named("queue", Named::Made(Kind::Queue, name.as_str())),
+        Entry::Queue(name, _, _) => Facts::named(
+            "queue",
+            Named::Made(Kind::Queue, name.get().as_str()),
+        ),
         Entry::Put(name, value) => Facts {
             shown: Shown::Value(value.get()),
             ..Facts::named("put", Named::Last(Kind::Queue, name.as_str()))

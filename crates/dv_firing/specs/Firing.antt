@@ -9,7 +9,7 @@ use Rattle.dv_frames.specs.Naming.{with_named}
 use Rattle.dv_frames.specs.Turn.{Turned, done, settling, settle_next}
 use Rattle.dv_objects.specs.Pair.{chain}
 use Rattle.dv_objects.specs.declared.canceller.Canceller.TheVariants as canceller
-use Rattle.dv_objects.specs.declared.pair.Pair.{Pair}
+use Rattle.dv_objects.specs.Pair.{Pair}
 use Rattle.dv_world.specs.World.{World, make, fire, cancel, append, pause, unpause, tell}
 
 -- a text is noted
@@ -29,8 +29,11 @@ abbrev pub add_named : Option ℕ → List ℕ → Pair → World → Turned
 add_named itself name pair w = with_named itself name w (λ d. settling d (append d pair w))
 
 -- a pair is added to a Deferred that fires another
+abbrev pub chained_to : ℕ → Option ℕ → List ℕ → World → Turned
+chained_to d itself next w = with_named itself next w (λ e. settling d (append d (chain e) w))
+
 abbrev pub chain_named : Option ℕ → List ℕ → List ℕ → World → Turned
-chain_named itself name next w = with_named itself name w (λ d. with_named itself next w (λ e. settling d (append d (chain e) w)))
+chain_named itself name next w = with_named itself name w (λ d. chained_to d itself next w)
 
 -- a Deferred is paused once more, paused once less, cancelled
 abbrev pub pause_named : Option ℕ → List ℕ → World → Turned

@@ -1,6 +1,6 @@
 ghost use Rattle.std.specs.Prelude.{◌≡◌, [], ◌++◌, IfOk, OnOk};
 ghost use Rattle.std.specs.Option.{option_map};
-ghost use Rattle.dv_firing.specs.Firing.{noted, deferred_made, fire_named, add_named, chain_named, pause_named, unpause_named, cancel_named as cancel_rule};
+ghost use Rattle.dv_firing.specs.Firing.{noted, deferred_made, fire_named, add_named, chain_named, chained_to, pause_named, unpause_named, cancel_named as cancel_rule};
 ghost use Rattle.dv_frames.specs.Bounds.{Bounded};
 ghost use Rattle.dv_frames.specs.Maybe.{body_for};
 ghost use Rattle.dv_frames.specs.Turn.{◌over◌};
@@ -10,7 +10,7 @@ ghost use Rattle.dv_objects.specs.declared.canceller.Canceller.TheVariants.{Body
 ghost use Rattle.dv_world.specs.World.{fire};
 
 use dv_frames::cancelling::cancel;
-use dv_frames::following::{add_and_settle, done, fire_and_settle, settle_next};
+use dv_frames::following::{add_and_settle, fire_and_settle, settle_next};
 use dv_frames::frame::{Frame, Purpose};
 use dv_frames::maybe::perform_for;
 use dv_journal::deferred_id::DeferredId;
@@ -29,15 +29,11 @@ use dv_world::world::World;
 use std::alloc::{AllocError, Global};
 
 /// Notes a text.
-pub fn note<'s>(
-    alloc: Global,
-    world: &mut World<'s>,
-    text: &Text,
-) -> Result<Performed<'s>, AllocError>
-    ensures { IfOk result (λ performed. ([], performed, world.new) ≡ noted text.now world.old) }
+pub fn note<'s>(alloc: Global, world: &mut World<'s>, text: &Text) -> Result<(), AllocError>
+    ensures { OnOk result (([], Done, world.new) ≡ noted text.now world.old) }
 {
     let noted = text.copy(alloc)?;
-    done(world.tell(Entry::Note(noted)))
+    world.tell(Entry::Note(noted))
 }
 
 /// Makes a Deferred, with a canceller where there is one (Twisted: `Deferred(canceller)`).
@@ -45,11 +41,11 @@ pub fn make<'s>(
     world: &mut World<'s>,
     name: &'s Text,
     canceller: &'s Option<Body>,
-) -> Result<Performed<'s>, AllocError>
+) -> Result<(), AllocError>
     requires bounded { Bounded world.old }
-    ensures { IfOk result (λ performed. ([], performed, world.new) ≡ deferred_made name.now canceller.now world.old) }
+    ensures { OnOk result (([], Done, world.new) ≡ deferred_made name.now canceller.now world.old) }
 {
-    done(world.make(Some(TextRef::new(name)), canceller_of(canceller)))
+    world.make(Some(TextRef::new(name)), canceller_of(canceller))
 }
 
 /// Performs a body that is to become a Deferred (Twisted: `maybeDeferred`).
@@ -57,12 +53,11 @@ pub fn maybe<'s>(
     stack: &mut Stack<Frame<'s>>,
     name: &'s Text,
     body: &'s Body,
-) -> Result<Performed<'s>, AllocError>
-    ensures done { IfOk result (λ performed. performed ≡ Done) }
+) -> Result<(), AllocError>
     ensures stack { OnOk result (stack.new ≡ body_for (Named name.now) body.now ++ stack.old) }
 {
     let purpose = Purpose::Named(TextRef::new(name));
-    done(perform_for(stack, purpose, BodyRef::new(body)))
+    perform_for(stack, purpose, BodyRef::new(body))
 }
 
 /// A canceller of the script, as one of a Deferred.
@@ -80,20 +75,23 @@ pub fn fire<'s>(
     alloc: Global,
     world: &mut World<'s>,
     stack: &mut Stack<Frame<'s>>,
+    performed: &mut Performed<'s>,
     itself: Option<DeferredId>,
     name: &str,
     given: Given<'s>,
-) -> Result<Performed<'s>, AllocError>
-    ensures { IfOk result (λ performed. (stack.new, performed, world.new) ≡ fire_named itself name.now given.entry world.old over stack.old) }
+) -> Result<(), AllocError>
+    requires done { performed.old ≡ Done }
+    ensures { OnOk result ((stack.new, performed.new, world.new) ≡ fire_named itself name.now given.entry world.old over stack.old) }
 {
     match world.find(itself, name) {
         None => {
             drop(given);
-            unbound(alloc, name)
+            *performed = unbound(alloc, name)?;
+            Ok(())
         }
         Some(id) => {
             let kept = kept(alloc, world, id, given)?;
-            fire_and_settle(world, stack, id, kept)
+            fire_and_settle(world, stack, performed, id, kept)
         }
     }
 }
@@ -122,16 +120,19 @@ pub fn add<'s>(
     alloc: Global,
     world: &mut World<'s>,
     stack: &mut Stack<Frame<'s>>,
+    performed: &mut Performed<'s>,
     itself: Option<DeferredId>,
     name: &str,
     pair: Pair<'s>,
-) -> Result<Performed<'s>, AllocError>
-    ensures { IfOk result (λ performed. (stack.new, performed, world.new) ≡ add_named itself name.now pair.entry world.old over stack.old) }
+) -> Result<(), AllocError>
+    requires done { performed.old ≡ Done }
+    ensures { OnOk result ((stack.new, performed.new, world.new) ≡ add_named itself name.now pair.entry world.old over stack.old) }
 {
     match world.find(itself, name) {
         None => {
             drop(pair);
-            unbound(alloc, name)
+            *performed = unbound(alloc, name)?;
+            Ok(())
         }
         Some(id) => add_and_settle(world, stack, id, pair),
     }
@@ -142,18 +143,43 @@ pub fn chain<'s>(
     alloc: Global,
     world: &mut World<'s>,
     stack: &mut Stack<Frame<'s>>,
+    performed: &mut Performed<'s>,
     itself: Option<DeferredId>,
     name: &str,
     next: &str,
-) -> Result<Performed<'s>, AllocError>
-    ensures { IfOk result (λ performed. (stack.new, performed, world.new) ≡ chain_named itself name.now next.now world.old over stack.old) }
+) -> Result<(), AllocError>
+    requires done { performed.old ≡ Done }
+    ensures { OnOk result ((stack.new, performed.new, world.new) ≡ chain_named itself name.now next.now world.old over stack.old) }
 {
-    match world.find(itself, name) {
-        None => unbound(alloc, name),
-        Some(id) => match world.find(itself, next) {
-            None => Ok(unbound(alloc, next)?),
-            Some(to) => add_and_settle(world, stack, id, Pair::chain(to)),
-        },
+    let bound = &itself;
+    match world.find(*bound, name) {
+        None => {
+            *performed = unbound(alloc, name)?;
+            Ok(())
+        }
+        Some(id) => chain_found(alloc, world, stack, performed, id, bound, next),
+    }
+}
+
+/// Adds a pair to a Deferred that fires another, which is given by its name.
+fn chain_found<'s>(
+    alloc: Global,
+    world: &mut World<'s>,
+    stack: &mut Stack<Frame<'s>>,
+    performed: &mut Performed<'s>,
+    id: DeferredId,
+    itself: &Option<DeferredId>,
+    next: &str,
+) -> Result<(), AllocError>
+    requires done { performed.old ≡ Done }
+    ensures { OnOk result ((stack.new, performed.new, world.new) ≡ chained_to id itself.now next.now world.old over stack.old) }
+{
+    match world.find(*itself, next) {
+        None => {
+            *performed = unbound(alloc, next)?;
+            Ok(())
+        }
+        Some(to) => add_and_settle(world, stack, id, Pair::chain(to)),
     }
 }
 
@@ -162,15 +188,20 @@ pub fn chain<'s>(
 pub fn pause<'s>(
     alloc: Global,
     world: &mut World<'s>,
+    performed: &mut Performed<'s>,
     itself: Option<DeferredId>,
     name: &str,
-) -> Result<Performed<'s>, AllocError>
+) -> Result<(), AllocError>
     requires bounded { Bounded world.old }
-    ensures { IfOk result (λ performed. ([], performed, world.new) ≡ pause_named itself name.now world.old) }
+    requires done { performed.old ≡ Done }
+    ensures { OnOk result (([], performed.new, world.new) ≡ pause_named itself name.now world.old) }
 {
     match world.find(itself, name) {
-        None => unbound(alloc, name),
-        Some(id) => done(world.pause(id)),
+        None => {
+            *performed = unbound(alloc, name)?;
+            Ok(())
+        }
+        Some(id) => world.pause(id),
     }
 }
 
@@ -179,16 +210,21 @@ pub fn unpause<'s>(
     alloc: Global,
     world: &mut World<'s>,
     stack: &mut Stack<Frame<'s>>,
+    performed: &mut Performed<'s>,
     itself: Option<DeferredId>,
     name: &str,
-) -> Result<Performed<'s>, AllocError>
-    ensures { IfOk result (λ performed. (stack.new, performed, world.new) ≡ unpause_named itself name.now world.old over stack.old) }
+) -> Result<(), AllocError>
+    requires done { performed.old ≡ Done }
+    ensures { OnOk result ((stack.new, performed.new, world.new) ≡ unpause_named itself name.now world.old over stack.old) }
 {
     match world.find(itself, name) {
-        None => unbound(alloc, name),
+        None => {
+            *performed = unbound(alloc, name)?;
+            Ok(())
+        }
         Some(id) => {
             let unpaused = world.unpause(id)?;
-            settle_next(stack, id, unpaused)
+            settle_next(stack, performed, id, unpaused)
         }
     }
 }
@@ -198,13 +234,18 @@ pub fn cancel_named<'s>(
     alloc: Global,
     world: &mut World<'s>,
     stack: &mut Stack<Frame<'s>>,
+    performed: &mut Performed<'s>,
     itself: Option<DeferredId>,
     name: &str,
-) -> Result<Performed<'s>, AllocError>
-    ensures { IfOk result (λ performed. (stack.new, performed, world.new) ≡ cancel_rule itself name.now world.old over stack.old) }
+) -> Result<(), AllocError>
+    requires done { performed.old ≡ Done }
+    ensures { OnOk result ((stack.new, performed.new, world.new) ≡ cancel_rule itself name.now world.old over stack.old) }
 {
     match world.find(itself, name) {
-        None => unbound(alloc, name),
-        Some(id) => cancel(alloc, world, stack, id),
+        None => {
+            *performed = unbound(alloc, name)?;
+            Ok(())
+        }
+        Some(id) => cancel(alloc, world, stack, performed, id),
     }
 }

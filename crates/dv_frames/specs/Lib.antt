@@ -1,6 +1,5 @@
 pub mod Turn
 pub mod Naming
-pub mod Done
 pub mod Maybe
 pub mod Cancelling
 pub mod Bounds

@@ -1,8 +1,7 @@
 //! What is to follow, put on the stack.
 
-ghost use Rattle.std.specs.Prelude.{◌≡◌, ◌∷◌, IfOk, OnOk};
+ghost use Rattle.std.specs.Prelude.{◌≡◌, ◌∷◌, OnOk};
 ghost use Rattle.dv_world.specs.World.{World as Seen, append, fire};
-ghost use Rattle.dv_frames.specs.Done.{once_done};
 ghost use Rattle.dv_frames.specs.Turn.{◌over◌, settling, settle_next, rest_of};
 ghost use Rattle.dv_frames.specs.declared.frame.Frame.TheVariants.{Settle};
 ghost use Rattle.dv_objects.specs.declared.performed.Performed.TheVariants.{Done};
@@ -10,6 +9,7 @@ ghost use Rattle.dv_objects.specs.declared.performed.Performed.TheVariants.{Done
 use crate::frame::{Frame, Rest};
 use dv_journal::deferred_id::DeferredId;
 use dv_objects::follow::Follow;
+use dv_objects::input::Input;
 use dv_objects::pair::Pair;
 use dv_objects::performed::Performed;
 use dv_script::lent::{Actions, BodyRef, EndRef};
@@ -19,7 +19,7 @@ use dv_world::world::World;
 use std::alloc::AllocError;
 
 /// A body from its beginning.
-pub fn whole<'s>(itself: Option<DeferredId>, body: BodyRef<'s>, input: Value) -> Rest<'s>
+pub fn whole<'s>(itself: Option<DeferredId>, body: BodyRef<'s>, input: Input) -> Rest<'s>
     ensures { result ≡ rest_of itself body.entry input }
 {
     let body = body.get();
@@ -31,25 +31,11 @@ pub fn whole<'s>(itself: Option<DeferredId>, body: BodyRef<'s>, input: Value) ->
     }
 }
 
-/// Nothing follows, and nothing is given, where this was done.
-pub fn done<'s>(what: Result<(), AllocError>) -> Result<Performed<'s>, AllocError>
-    ensures { result ≡ once_done what }
-{
-    match what {
-        Ok(()) => Ok(Performed::Done),
-        Err(error) => Err(error),
-    }
-}
-
 /// The Deferred is to be settled.
-pub fn settle_after<'s>(
-    stack: &mut Stack<Frame<'s>>,
-    id: DeferredId,
-) -> Result<Performed<'s>, AllocError>
-    ensures stack { OnOk result (stack.new ≡ Settle id ∷ stack.old) }
-    ensures performed { IfOk result (λ next. next ≡ Done) }
+pub fn settle_after<'s>(stack: &mut Stack<Frame<'s>>, id: DeferredId) -> Result<(), AllocError>
+    ensures { OnOk result (stack.new ≡ Settle id ∷ stack.old) }
 {
-    done(stack.push(Frame::Settle(id)))
+    stack.push(Frame::Settle(id))
 }
 
 /// Who gets a value that is handed over is to be settled, and then who gave it.
@@ -57,9 +43,8 @@ pub fn settle_both<'s>(
     stack: &mut Stack<Frame<'s>>,
     from: DeferredId,
     to: DeferredId,
-) -> Result<Performed<'s>, AllocError>
-    ensures stack { OnOk result (stack.new ≡ Settle to ∷ Settle from ∷ stack.old) }
-    ensures performed { IfOk result (λ next. next ≡ Done) }
+) -> Result<(), AllocError>
+    ensures { OnOk result (stack.new ≡ Settle to ∷ Settle from ∷ stack.old) }
 {
     stack.push(Frame::Settle(from))?;
     settle_after(stack, to)
@@ -69,27 +54,34 @@ pub fn settle_both<'s>(
 pub fn fire_and_settle<'s>(
     world: &mut World<'s>,
     stack: &mut Stack<Frame<'s>>,
+    performed: &mut Performed<'s>,
     id: DeferredId,
     value: Value,
-) -> Result<Performed<'s>, AllocError>
-    ensures { IfOk result (λ next. (stack.new, next, world.new) ≡ settle_next id (fire id value world.old).0 (fire id value world.old).1 over stack.old) }
+) -> Result<(), AllocError>
+    requires done { performed.old ≡ Done }
+    ensures { OnOk result ((stack.new, performed.new, world.new) ≡ settle_next id (fire id value world.old).0 (fire id value world.old).1 over stack.old) }
 {
     let fired = world.fire(id, value)?;
-    settle_next(stack, id, fired)
+    settle_next(stack, performed, id, fired)
 }
 
 /// The Deferred is to be settled, where that is to follow.
 pub fn settle_next<'s>(
     stack: &mut Stack<Frame<'s>>,
+    performed: &mut Performed<'s>,
     id: DeferredId,
     follow: Follow,
-) -> Result<Performed<'s>, AllocError>
-    ensures { IfOk result (λ next. (w : Seen) → (stack.new, next, w) ≡ settle_next id follow w over stack.old) }
+) -> Result<(), AllocError>
+    requires done { performed.old ≡ Done }
+    ensures { OnOk result ((w : Seen) → (stack.new, performed.new, w) ≡ settle_next id follow w over stack.old) }
 {
     match follow {
         Follow::Settle => settle_after(stack, id),
-        Follow::Nothing => Ok(Performed::Done),
-        Follow::Raise(failure) => Ok(Performed::Raised(failure)),
+        Follow::Nothing => Ok(()),
+        Follow::Raise(failure) => {
+            *performed = Performed::Raised(failure);
+            Ok(())
+        }
     }
 }
 
@@ -99,8 +91,8 @@ pub fn add_and_settle<'s>(
     stack: &mut Stack<Frame<'s>>,
     id: DeferredId,
     pair: Pair<'s>,
-) -> Result<Performed<'s>, AllocError>
-    ensures { IfOk result (λ next. (stack.new, next, world.new) ≡ settling id (append id pair.entry world.old) over stack.old) }
+) -> Result<(), AllocError>
+    ensures { OnOk result ((stack.new, Done, world.new) ≡ settling id (append id pair.entry world.old) over stack.old) }
 {
     world.append(id, pair)?;
     settle_after(stack, id)

@@ -3,11 +3,11 @@ use dv_clock::task_id::TaskId;
 use dv_inline::body::InlineBody;
 use dv_journal::deferred_id::DeferredId;
 use dv_objects::inline_id::Inline;
+use dv_objects::input::Input;
 use dv_objects::pair::Pair;
 use dv_objects::performed::Performed;
 use dv_prims::lock_id::LockId;
 use dv_script::lent::{Actions, EndRef, TextRef};
-use dv_value::value::Value;
 
 /// What is left of a body that is performed.
 #[derive(Drop)]
@@ -16,7 +16,7 @@ pub struct Rest<'s> {
     pub itself: Option<DeferredId>,
     pub actions: Actions<'s>,
     pub end: EndRef<'s>,
-    pub input: Value,
+    pub input: Input,
 }
 
 /// What the Deferred is for that is made of what a body gave.

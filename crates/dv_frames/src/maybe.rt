@@ -2,15 +2,16 @@ ghost use Rattle.std.specs.Prelude.{◌≡◌, ◌<◌, ◌^◌, ◌-◌, [], �
 ghost use Rattle.dv_frames.specs.Bounds.{Bounded};
 ghost use Rattle.dv_frames.specs.Maybe.{body_for, name_for, used_for, made_with, taken_for, maybe_ended, given_after};
 ghost use Rattle.dv_frames.specs.Turn.{◌over◌};
+ghost use Rattle.dv_objects.specs.declared.performed.Performed.TheVariants.{Done};
 ghost use Rattle.dv_world.specs.World.{World as Seen, make};
 
-use crate::following::{done, fire_and_settle, whole};
+use crate::following::{fire_and_settle, whole};
 use crate::frame::{Frame, Purpose};
 use dv_journal::deferred_id::DeferredId;
+use dv_objects::input::Input;
 use dv_objects::pair::Pair;
 use dv_objects::performed::Performed;
 use dv_script::lent::{BodyRef, TextRef};
-use dv_value::boxed::Boxed;
 use dv_value::stack::Stack;
 use dv_value::value::Value;
 use dv_world::world::World;
@@ -25,7 +26,7 @@ pub fn perform_for<'s>(
     ensures { OnOk result (stack.new ≡ body_for purpose.entry body.entry ++ stack.old) }
 {
     stack.push(Frame::Maybe(purpose))?;
-    stack.push(Frame::Rest(whole(None, body, Value::Null)))
+    stack.push(Frame::Rest(whole(None, body, Input::null())))
 }
 
 /// What a body gave becomes a Deferred for this.
@@ -33,18 +34,19 @@ pub fn end_maybe<'s>(
     alloc: Global,
     world: &mut World<'s>,
     stack: &mut Stack<Frame<'s>>,
+    performed: &mut Performed<'s>,
     purpose: Purpose<'s>,
-    performed: Performed<'s>,
-) -> Result<Performed<'s>, AllocError>
+    came: Performed<'s>,
+) -> Result<(), AllocError>
     requires bounded { Bounded world.old }
-    ensures { IfOk result (λ next. (stack.new, next, world.new) ≡ maybe_ended purpose.entry performed.entry world.old over stack.old) }
+    requires done { performed.old ≡ Done }
+    ensures { OnOk result ((stack.new, performed.new, world.new) ≡ maybe_ended purpose.entry came.entry world.old over stack.old) }
 {
-    match performed {
-        Performed::Done => make_with(world, stack, purpose, Value::Null),
-        Performed::Gave(given) => make_with(world, stack, purpose, given.make(alloc)?),
+    match came {
+        Performed::Done => make_with(world, stack, performed, purpose, Value::Null),
+        Performed::Gave(given) => make_with(world, stack, performed, purpose, given.make(alloc)?),
         Performed::Raised(failure) => {
-            let value = Value::Fault(Boxed::new(alloc, failure)?);
-            make_with(world, stack, purpose, value)
+            make_with(world, stack, performed, purpose, Value::Fault(failure))
         }
         Performed::Awaits(id) => take_for(world, stack, purpose, id),
     }
@@ -55,18 +57,20 @@ pub fn end_maybe<'s>(
 fn make_with<'s>(
     world: &mut World<'s>,
     stack: &mut Stack<Frame<'s>>,
+    performed: &mut Performed<'s>,
     purpose: Purpose<'s>,
     value: Value,
-) -> Result<Performed<'s>, AllocError>
+) -> Result<(), AllocError>
     requires bounded { Bounded world.old }
-    ensures { IfOk result (λ next. (stack.new, next, world.new) ≡ made_with purpose.entry value world.old over stack.old) }
+    requires done { performed.old ≡ Done }
+    ensures { OnOk result ((stack.new, performed.new, world.new) ≡ made_with purpose.entry value world.old over stack.old) }
 {
     let id = world.next_id();
     if make_for(world, stack, purpose, id).is_err() {
         drop(value);
         return Err(AllocError);
     }
-    fire_and_settle(world, stack, id, value)
+    fire_and_settle(world, stack, performed, id, value)
 }
 
 /// Makes a Deferred, and what it is for is to follow.
@@ -113,28 +117,21 @@ fn take_for<'s>(
     stack: &mut Stack<Frame<'s>>,
     purpose: Purpose<'s>,
     id: DeferredId,
-) -> Result<Performed<'s>, AllocError>
-    ensures { IfOk result (λ next. (stack.new, next, world.new) ≡ taken_for purpose.entry id world.old over stack.old) }
+) -> Result<(), AllocError>
+    ensures { OnOk result ((stack.new, Done, world.new) ≡ taken_for purpose.entry id world.old over stack.old) }
 {
     match begin_use(stack, purpose, id)? {
-        None => Ok(Performed::Done),
-        Some(name) => done(world.rename(name.as_str(), id)),
+        None => Ok(()),
+        Some(name) => world.rename(name.as_str(), id),
     }
 }
 
 /// Gives this, unless what was done before raised.
-pub fn give_after<'s>(given: Performed<'s>, performed: Performed<'s>) -> Performed<'s>
-    ensures { (w : Seen) → ([], result, w) ≡ given_after given.entry performed.entry w }
+pub fn give_after<'s>(performed: &mut Performed<'s>, given: Performed<'s>)
+    ensures { (w : Seen) → ([], performed.new, w) ≡ given_after given.entry performed.old w }
 {
     match performed {
-        Performed::Done | Performed::Awaits(_) => given,
-        Performed::Gave(before) => {
-            drop(before);
-            given
-        }
-        Performed::Raised(failure) => {
-            drop(given);
-            Performed::Raised(failure)
-        }
+        Performed::Done | Performed::Gave(_) | Performed::Awaits(_) => *performed = given,
+        Performed::Raised(_) => drop(given),
     }
 }

@@ -32,11 +32,11 @@ pub enum Entry {
     /// `set #N O`: a side's plain result or failure becomes the Deferred's value.
     Set(DeferredId, Value),
     /// `take #N #E O`: a side of N gave E, whose value N takes at once.
-    Take(DeferredId, DeferredId, Value),
+    Take(DeferredId, DeferredId, Boxed<Value>),
     /// `wait #N #E`: a side of N gave E, and N waits for it.
     Wait(DeferredId, DeferredId),
     /// `hand #E #N O`: E hands its value over to N, which waited for it.
-    Hand(DeferredId, DeferredId, Value),
+    Hand(DeferredId, DeferredId, Boxed<Value>),
     /// `pause #N`: the count of pauses goes up by one.
     Pause(DeferredId),
     /// `unpause #N`: the count of pauses goes down by one.
@@ -56,7 +56,7 @@ pub enum Entry {
     /// `release L`: a token of a lock or a semaphore is given back.
     Release(Text),
     /// `queue Q SIZE BACKLOG`: a queue is made, with its bounds on what is stored and on who waits, `none` for no bound.
-    Queue(Text, Option<u32>, Option<u32>),
+    Queue(Boxed<Text>, Option<u32>, Option<u32>),
     /// `put Q J`: a value is put into a queue.
     Put(Text, Boxed<Value>),
     /// `get Q #N`: a Deferred asks for a value of a queue.
@@ -132,10 +132,10 @@ impl Entry {
         ensures { result ≡ min (weight_of self.now) (2 ^ 64 - 1) }
     {
         match self {
-            Entry::Fire(_, value)
-            | Entry::Set(_, value)
-            | Entry::Take(_, _, value)
-            | Entry::Hand(_, _, value) => value.size().saturating_add(1),
+            Entry::Fire(_, value) | Entry::Set(_, value) => value.size().saturating_add(1),
+            Entry::Take(_, _, value) | Entry::Hand(_, _, value) => {
+                value.get().size().saturating_add(1)
+            }
             Entry::Put(_, value) | Entry::End(_, value) => value.get().size().saturating_add(1),
             Entry::Note(text) => (text.as_str().len() as u64).saturating_add(2),
             Entry::Unhandled(failure) => failure.get().size().saturating_add(1),

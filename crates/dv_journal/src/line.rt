@@ -11,6 +11,7 @@ use dv_value::failure::Failure;
 use dv_value::text::Text;
 use dv_value::value::Value;
 use dv_value::value_text::{write_failure, write_json, write_outcome, write_string};
+use dv_value::writing::{write_space, write_text, write_u32, write_u64};
 use std::alloc::{AllocError, Global};
 
 /// What a line shows of a Deferred's name: a dash where it has none.
@@ -23,47 +24,60 @@ pub fn shown_name(name: &Option<Text>) -> &str
     }
 }
 
+/// Adds a Deferred after a space.
+fn write_hash(out: &mut String, id: DeferredId) -> Result<(), AllocError>
+    ensures { OnOk result (string_bytes out.new ≡ string_bytes out.old ++ (codes " " ++ hash id)) }
+{
+    write_space(out)?;
+    out.push('#')?;
+    write_u32(out, id.number())
+}
+
 fn write_bound(out: &mut String, most: Option<u32>) -> Result<(), AllocError>
     ensures { OnOk result (string_bytes out.new ≡ string_bytes out.old ++ bound_text most) }
 {
     match most {
-        None => write!(out, "none"),
-        Some(most) => write!(out, "{most}"),
+        None => write_text(out, "none"),
+        Some(most) => write_u32(out, most),
     }
 }
 
-/// Adds a word and a Deferred.
+/// Adds a word, which ends in `#`, and a Deferred.
 fn write_id(out: &mut String, word: &str, id: DeferredId) -> Result<(), AllocError>
-    ensures { OnOk result (string_bytes out.new ≡ string_bytes out.old ++ (word.now ++ hash id)) }
+    ensures { OnOk result (string_bytes out.new ≡ string_bytes out.old ++ (word.now ++ decimal id)) }
 {
-    write!(out, "{word}#{}", id.number())
+    write_text(out, word)?;
+    write_u32(out, id.number())
 }
 
-/// Adds a word and two Deferreds.
+/// Adds a word, which ends in `#`, and two Deferreds.
 fn write_ids(
     out: &mut String,
     word: &str,
     id: DeferredId,
     other: DeferredId,
 ) -> Result<(), AllocError>
-    ensures { OnOk result (string_bytes out.new ≡ string_bytes out.old ++ (word.now ++ hash id ++ codes " " ++ hash other)) }
+    ensures { OnOk result (string_bytes out.new ≡ string_bytes out.old ++ (word.now ++ decimal id ++ codes " " ++ hash other)) }
 {
-    write!(out, "{word}#{} #{}", id.number(), other.number())
+    write_id(out, word, id)?;
+    write_hash(out, other)
 }
 
-/// Adds a word, a Deferred, and the name that it has.
+/// Adds a word, which ends in `#`, a Deferred, and the name that it has.
 fn write_id_and_name(
     out: &mut String,
     word: &str,
     id: DeferredId,
     name: &Option<Text>,
 ) -> Result<(), AllocError>
-    ensures { OnOk result (string_bytes out.new ≡ string_bytes out.old ++ (word.now ++ hash id ++ codes " " ++ name_text name.now)) }
+    ensures { OnOk result (string_bytes out.new ≡ string_bytes out.old ++ (word.now ++ decimal id ++ codes " " ++ name_text name.now)) }
 {
-    write!(out, "{word}#{} {}", id.number(), shown_name(name))
+    write_id(out, word, id)?;
+    write_space(out)?;
+    write_text(out, shown_name(name))
 }
 
-/// Adds a word, a Deferred, and what it has.
+/// Adds a word, which ends in `#`, a Deferred, and what it has.
 fn write_id_and_outcome(
     alloc: Global,
     classes: &Classes,
@@ -72,13 +86,14 @@ fn write_id_and_outcome(
     id: DeferredId,
     value: &Value,
 ) -> Result<(), AllocError>
-    ensures { OnOk result (string_bytes out.new ≡ string_bytes out.old ++ (word.now ++ hash id ++ codes " " ++ outcome classes.now value.now)) }
+    ensures { OnOk result (string_bytes out.new ≡ string_bytes out.old ++ (word.now ++ decimal id ++ codes " " ++ outcome classes.now value.now)) }
 {
-    write!(out, "{word}#{} ", id.number())?;
+    write_id(out, word, id)?;
+    write_space(out)?;
     write_outcome(alloc, classes, out, value)
 }
 
-/// Adds a word, two Deferreds, and what the second has from the first, or the first from the second.
+/// Adds a word, which ends in `#`, two Deferreds, and what the second has from the first, or the first from the second.
 fn write_ids_and_outcome(
     alloc: Global,
     classes: &Classes,
@@ -87,29 +102,33 @@ fn write_ids_and_outcome(
     ids: (DeferredId, DeferredId),
     value: &Value,
 ) -> Result<(), AllocError>
-    ensures { OnOk result (string_bytes out.new ≡ string_bytes out.old ++ (word.now ++ hash ids.0 ++ codes " " ++ hash ids.1 ++ codes " " ++ outcome classes.now value.now)) }
+    ensures { OnOk result (string_bytes out.new ≡ string_bytes out.old ++ (word.now ++ decimal ids.0 ++ codes " " ++ hash ids.1 ++ codes " " ++ outcome classes.now value.now)) }
 {
-    write!(out, "{word}#{} #{} ", ids.0.number(), ids.1.number())?;
+    write_ids(out, word, ids.0, ids.1)?;
+    write_space(out)?;
     write_outcome(alloc, classes, out, value)
 }
 
-/// Adds a word, a Deferred, and a number.
+/// Adds a word, which ends in `#`, a Deferred, and a number.
 fn write_id_and_number(
     out: &mut String,
     word: &str,
     id: DeferredId,
     number: u64,
 ) -> Result<(), AllocError>
-    ensures { OnOk result (string_bytes out.new ≡ string_bytes out.old ++ (word.now ++ hash id ++ codes " " ++ decimal number)) }
+    ensures { OnOk result (string_bytes out.new ≡ string_bytes out.old ++ (word.now ++ decimal id ++ codes " " ++ decimal number)) }
 {
-    write!(out, "{word}#{} {number}", id.number())
+    write_id(out, word, id)?;
+    write_space(out)?;
+    write_u64(out, number)
 }
 
 /// Adds a word and the name of another object.
 fn write_named(out: &mut String, word: &str, name: &Text) -> Result<(), AllocError>
     ensures { OnOk result (string_bytes out.new ≡ string_bytes out.old ++ (word.now ++ name.now)) }
 {
-    write!(out, "{word}{}", name.as_str())
+    write_text(out, word)?;
+    write_text(out, name.as_str())
 }
 
 /// Adds a word, the name of another object, and a Deferred.
@@ -121,7 +140,8 @@ fn write_named_and_id(
 ) -> Result<(), AllocError>
     ensures { OnOk result (string_bytes out.new ≡ string_bytes out.old ++ (word.now ++ name.now ++ codes " " ++ hash id)) }
 {
-    write!(out, "{word}{} #{}", name.as_str(), id.number())
+    write_named(out, word, name)?;
+    write_hash(out, id)
 }
 
 /// Adds a word, the name of another object, and a number.
@@ -133,21 +153,26 @@ fn write_named_and_number(
 ) -> Result<(), AllocError>
     ensures { OnOk result (string_bytes out.new ≡ string_bytes out.old ++ (word.now ++ name.now ++ codes " " ++ decimal number)) }
 {
-    write!(out, "{word}{} {number}", name.as_str())
+    write_named(out, word, name)?;
+    write_space(out)?;
+    write_u64(out, number)
 }
 
 /// Adds a word and a number.
 fn write_number(out: &mut String, word: &str, number: u64) -> Result<(), AllocError>
     ensures { OnOk result (string_bytes out.new ≡ string_bytes out.old ++ (word.now ++ decimal number)) }
 {
-    write!(out, "{word}{number}")
+    write_text(out, word)?;
+    write_u64(out, number)
 }
 
 /// Adds a word and two numbers.
 fn write_numbers(out: &mut String, word: &str, number: u64, other: u64) -> Result<(), AllocError>
     ensures { OnOk result (string_bytes out.new ≡ string_bytes out.old ++ (word.now ++ decimal number ++ codes " " ++ decimal other)) }
 {
-    write!(out, "{word}{number} {other}")
+    write_number(out, word, number)?;
+    write_space(out)?;
+    write_u64(out, other)
 }
 
 /// Adds the bounds of a queue.
@@ -159,9 +184,10 @@ fn write_queue(
 ) -> Result<(), AllocError>
     ensures { OnOk result (string_bytes out.new ≡ string_bytes out.old ++ (codes "queue " ++ name.now ++ codes " " ++ bound_text most_stored ++ codes " " ++ bound_text most_waiting)) }
 {
-    write!(out, "queue {} ", name.as_str())?;
+    write_named(out, "queue ", name)?;
+    write_space(out)?;
     write_bound(out, most_stored)?;
-    write!(out, " ")?;
+    write_space(out)?;
     write_bound(out, most_waiting)
 }
 
@@ -169,7 +195,7 @@ fn write_queue(
 fn write_note(alloc: Global, out: &mut String, text: &Text) -> Result<(), AllocError>
     ensures { OnOk result (string_bytes out.new ≡ string_bytes out.old ++ (codes "note " ++ quoted text.now)) }
 {
-    write!(out, "note ")?;
+    write_text(out, "note ")?;
     write_string(alloc, out, text.as_str())
 }
 
@@ -182,7 +208,7 @@ fn write_unhandled(
 ) -> Result<(), AllocError>
     ensures { OnOk result (string_bytes out.new ≡ string_bytes out.old ++ (codes "unhandled " ++ failure_text classes.now failure.now)) }
 {
-    write!(out, "unhandled ")?;
+    write_text(out, "unhandled ")?;
     write_failure(alloc, classes, out, failure)
 }
 
@@ -196,7 +222,8 @@ fn write_put(
 ) -> Result<(), AllocError>
     ensures { OnOk result (string_bytes out.new ≡ string_bytes out.old ++ (codes "put " ++ name.now ++ codes " " ++ json classes.now value.now)) }
 {
-    write!(out, "put {} ", name.as_str())?;
+    write_named(out, "put ", name)?;
+    write_space(out)?;
     write_json(alloc, classes, out, value)
 }
 
@@ -210,7 +237,8 @@ fn write_end(
 ) -> Result<(), AllocError>
     ensures { OnOk result (string_bytes out.new ≡ string_bytes out.old ++ (codes "end " ++ name.now ++ codes " " ++ outcome classes.now value.now)) }
 {
-    write!(out, "end {} ", name.as_str())?;
+    write_named(out, "end ", name)?;
+    write_space(out)?;
     write_outcome(alloc, classes, out, value)
 }
 
@@ -218,7 +246,8 @@ fn write_end(
 fn write_job(out: &mut String, job: u32, id: DeferredId) -> Result<(), AllocError>
     ensures { OnOk result (string_bytes out.new ≡ string_bytes out.old ++ (codes "job " ++ decimal job ++ codes " " ++ hash id)) }
 {
-    write!(out, "job {job} #{}", id.number())
+    write_number(out, "job ", u64::from(job))?;
+    write_hash(out, id)
 }
 
 fn write_words(
@@ -230,24 +259,24 @@ fn write_words(
     ensures { OnOk result (string_bytes out.new ≡ string_bytes out.old ++ words_of classes.now entry.now) }
 {
     match entry {
-        Entry::New(id, name) => write_id_and_name(out, "new ", *id, name),
-        Entry::Name(id, name) => write_id_and_name(out, "name ", *id, name),
-        Entry::Add(id) => write_id(out, "add ", *id),
-        Entry::Fire(id, value) => write_id_and_outcome(alloc, classes, out, "fire ", *id, value),
-        Entry::Swallow(id) => write_id(out, "swallow ", *id),
-        Entry::Refuse(id) => write_id(out, "refuse ", *id),
-        Entry::Run(id) => write_id(out, "run ", *id),
-        Entry::Set(id, value) => write_id_and_outcome(alloc, classes, out, "set ", *id, value),
+        Entry::New(id, name) => write_id_and_name(out, "new #", *id, name),
+        Entry::Name(id, name) => write_id_and_name(out, "name #", *id, name),
+        Entry::Add(id) => write_id(out, "add #", *id),
+        Entry::Fire(id, value) => write_id_and_outcome(alloc, classes, out, "fire #", *id, value),
+        Entry::Swallow(id) => write_id(out, "swallow #", *id),
+        Entry::Refuse(id) => write_id(out, "refuse #", *id),
+        Entry::Run(id) => write_id(out, "run #", *id),
+        Entry::Set(id, value) => write_id_and_outcome(alloc, classes, out, "set #", *id, value),
         Entry::Take(id, from, value) => {
-            write_ids_and_outcome(alloc, classes, out, "take ", (*id, *from), value)
+            write_ids_and_outcome(alloc, classes, out, "take #", (*id, *from), value.get())
         }
-        Entry::Wait(id, on) => write_ids(out, "wait ", *id, *on),
+        Entry::Wait(id, on) => write_ids(out, "wait #", *id, *on),
         Entry::Hand(from, id, value) => {
-            write_ids_and_outcome(alloc, classes, out, "hand ", (*from, *id), value)
+            write_ids_and_outcome(alloc, classes, out, "hand #", (*from, *id), value.get())
         }
-        Entry::Pause(id) => write_id(out, "pause ", *id),
-        Entry::Unpause(id) => write_id(out, "unpause ", *id),
-        Entry::Cancel(id) => write_id(out, "cancel ", *id),
+        Entry::Pause(id) => write_id(out, "pause #", *id),
+        Entry::Unpause(id) => write_id(out, "unpause #", *id),
+        Entry::Cancel(id) => write_id(out, "cancel #", *id),
         Entry::Note(text) => write_note(alloc, out, text),
         Entry::Unhandled(failure) => write_unhandled(alloc, classes, out, failure.get()),
         Entry::Lock(name) => write_named(out, "lock ", name),
@@ -257,7 +286,7 @@ fn write_words(
         Entry::Acquire(name, id) => write_named_and_id(out, "acquire ", name, *id),
         Entry::Release(name) => write_named(out, "release ", name),
         Entry::Queue(name, most_stored, most_waiting) => {
-            write_queue(out, name, *most_stored, *most_waiting)
+            write_queue(out, name.get(), *most_stored, *most_waiting)
         }
         Entry::Put(name, value) => write_put(alloc, classes, out, name, value.get()),
         Entry::Get(name, id) => write_named_and_id(out, "get ", name, *id),
@@ -265,12 +294,12 @@ fn write_words(
         Entry::LaterLoop(name, due) => write_named_and_number(out, "later loop ", name, *due),
         Entry::LaterTick(due) => write_number(out, "later tick ", *due),
         Entry::LaterJob(job, due) => write_numbers(out, "later job ", u64::from(*job), *due),
-        Entry::LaterTimeout(id, due) => write_id_and_number(out, "later timeout ", *id, *due),
+        Entry::LaterTimeout(id, due) => write_id_and_number(out, "later timeout #", *id, *due),
         Entry::Uncall(name) => write_named(out, "uncall ", name),
         Entry::Call(name) => write_named(out, "call ", name),
-        Entry::Tick => write!(out, "tick"),
+        Entry::Tick => write_text(out, "tick"),
         Entry::Deliver(job) => write_number(out, "deliver ", u64::from(*job)),
-        Entry::Timeout(id) => write_id(out, "timeout ", *id),
+        Entry::Timeout(id) => write_id(out, "timeout #", *id),
         Entry::Loop(name, id) => write_named_and_id(out, "loop ", name, *id),
         Entry::Turn(name) => write_named(out, "turn ", name),
         Entry::Stop(name) => write_named(out, "stop ", name),
@@ -281,10 +310,10 @@ fn write_words(
         Entry::PauseTask(name) => write_named(out, "pausetask ", name),
         Entry::ResumeTask(name) => write_named(out, "resumetask ", name),
         Entry::WhenDone(name, id) => write_named_and_id(out, "whendone ", name, *id),
-        Entry::Await(id, on) => write_ids(out, "await ", *id, *on),
+        Entry::Await(id, on) => write_ids(out, "await #", *id, *on),
         Entry::Job(job, id) => write_job(out, *job, *id),
         Entry::Advance(time) => write_number(out, "advance ", *time),
-        Entry::Drain => write!(out, "drain"),
+        Entry::Drain => write_text(out, "drain"),
         Entry::Post(caller, index) => {
             write_numbers(out, "post ", u64::from(*caller), u64::from(*index))
         }
@@ -301,5 +330,5 @@ pub fn write_line(
     ensures { OnOk result (string_bytes out.new ≡ string_bytes out.old ++ line_of classes.now entry.now) }
 {
     write_words(alloc, classes, out, entry)?;
-    write!(out, "\n")
+    out.push('\n')
 }

@@ -13,7 +13,7 @@ use Rattle.dv_store.specs.Record.{with_item, new_record, changing}
 use Rattle.dv_store.specs.declared.record.Item.{Item}
 use Rattle.dv_store.specs.declared.record.Item.TheVariants as item
 use Rattle.dv_objects.specs.Refusals.{cancelled}
-use Rattle.dv_objects.specs.declared.pair.Pair.{Pair}
+use Rattle.dv_objects.specs.Pair.{Pair}
 use Rattle.dv_posts.specs.Batches.{Batch}
 use Rattle.dv_performing.specs.Meaning.{Means}
 use Rattle.dv_performing.proofs.Kept.{Both, Kind, telling_of}

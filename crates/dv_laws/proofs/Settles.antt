@@ -26,7 +26,7 @@ use Rattle.dv_objects.specs.Objects.{Objects}
 use Rattle.dv_world.specs.World.{World, fired, step, put, put_deferred, fire, fire_guarded, guarded, with_state, with_stop}
 use Rattle.dv_objects.specs.Refusals.{cancelled}
 use Rattle.dv_objects.specs.declared.follow.Follow.TheVariants as follow
-use Rattle.dv_objects.specs.declared.pair.Pair.{Pair}
+use Rattle.dv_objects.specs.Pair.{Pair}
 use Rattle.std.specs.Prelude.{min}
 use Rattle.dv_clock.specs.declared.limits.TheConstants.{MOST_TICKS}
 use Rattle.dv_objects.specs.Objects.{naming_where, with_time}

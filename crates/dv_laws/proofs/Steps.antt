@@ -36,7 +36,7 @@ use Rattle.dv_objects.specs.declared.canceller.Canceller.{Canceller}
 use Rattle.dv_objects.specs.Objects.{Objects}
 use Rattle.dv_world.specs.World.{World, Records, state_of, after, moved, named, unpaused, step, put, put_deferred, append, make, cancel, reached_from, pause, with_state, with_stop, unpause, aside, arrange, submit}
 use Rattle.dv_objects.specs.declared.follow.Follow.TheVariants as follow
-use Rattle.dv_objects.specs.declared.pair.Pair.{Pair}
+use Rattle.dv_objects.specs.Pair.{Pair}
 use Rattle.dv_objects.specs.declared.reached.Reached.{Reached}
 use Rattle.dv_objects.specs.declared.reached.Reached.TheVariants as reached
 use Rattle.dv_objects.specs.Objects.{naming_where}

@@ -3,7 +3,7 @@ use Rattle.std.proofs.Common.{◌≡◌, ℕ, ◌+◌, ◌<◌, suc, List, [], �
 use Rattle.std.proofs.lemmas.List.{map-append}
 use Rattle.std.specs.List.{flat_map}
 use Rattle.dv_objects.specs.declared.canceller.Canceller.{Canceller}
-use Rattle.dv_objects.specs.declared.pair.Pair.{Pair}
+use Rattle.dv_objects.specs.Pair.{Pair}
 use Rattle.dv_objects.specs.declared.pair.Side.{Side}
 use Rattle.dv_store.specs.declared.record.Item.{Item}
 use Rattle.dv_store.specs.declared.record.Record.{Record}

@@ -6,7 +6,7 @@ use Rattle.dv_clock.specs.declared.call.CallState.{CallState}
 use Rattle.dv_clock.specs.declared.call.CallState.TheVariants.{Waiting, Called, Cancelled, Dropped}
 use Rattle.dv_clock.specs.declared.due.Due.TheVariants as what
 use Rattle.dv_objects.specs.declared.looping_call.LoopingCall.{LoopingCall}
-use Rattle.dv_objects.specs.declared.pair.Pair.{Pair}
+use Rattle.dv_objects.specs.Pair.{Pair}
 use Rattle.dv_objects.specs.declared.pair.Side.{Side}
 use Rattle.dv_objects.specs.declared.pair.Side.TheVariants as side
 use Rattle.dv_store.specs.declared.record.Item.{Item}

@@ -11,7 +11,7 @@ use Rattle.dv_journal.specs.Told.{is_unhandled}
 use Rattle.dv_journal.specs.declared.entry.Entry.{Entry}
 use Rattle.dv_objects.specs.declared.canceller.Canceller.{Canceller}
 use Rattle.dv_objects.specs.declared.looping_call.LoopingCall.{LoopingCall}
-use Rattle.dv_objects.specs.declared.pair.Pair.{Pair}
+use Rattle.dv_objects.specs.Pair.{Pair}
 use Rattle.dv_objects.specs.declared.task.Task.{Task}
 use Rattle.dv_prims.specs.Queue.{Queue}
 use Rattle.dv_prims.specs.Tokens.{Semaphore}

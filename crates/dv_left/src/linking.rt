@@ -58,19 +58,19 @@ impl Links {
             let Some(item) = unused.pop_front() else {
                 return Ok(());
             };
-            self.add_item(at, &item)?;
+            self.add_item(at, item)?;
         }
         Ok(())
     }
 
-    fn add_item<'s>(&mut self, at: DeferredId, item: &Item<Pair<'s>>) -> Result<(), AllocError>
-        ensures { OnOk result (self.new ≡ with_links (by_item hung_by at item.now) (by_item turn_held_by at item.now) (by_item task_held_by at item.now) self.old) }
+    fn add_item<'s>(&mut self, at: DeferredId, item: Item<Pair<'s>>) -> Result<(), AllocError>
+        ensures { OnOk result (self.new ≡ with_links (by_item hung_by at item.entry) (by_item turn_held_by at item.entry) (by_item task_held_by at item.entry) self.old) }
     {
         match item {
             Item::HandOver(_) => Ok(()),
-            Item::Pair(pair) => match &pair.callback {
+            Item::Pair(pair) => match pair.into_side(false) {
                 None => Ok(()),
-                Some(side) => self.add_side(at, side),
+                Some(side) => self.add_side(at, &side),
             },
         }
     }

@@ -353,6 +353,22 @@ took_none Adding left e = ap (λ (p : Took). p.1) e
 took_none (Came input) left e = absurd (no_input input (sym (ap (λ (p : Took). p.0) e)))
 took_none (Awaiting awaited key) left e = ap (λ (p : Took). p.1) e
 
+waiting_is : (w x : Waiting ℕ) → Some w ≡ Some x → w ≡ x
+waiting_is w x e = cc
+
+-- what was found is put back
+set_found : (kept : List (Waiting ℕ)) (place : ℕ) (w : Waiting ℕ) → slice_get kept place ≡ Some w → slice_set kept place w ≡ kept
+set_found [] place w g = refl
+set_found (x ∷ kept) zero w g = ap (λ (y : Waiting ℕ). y ∷ kept) (sym (waiting_is x w g))
+set_found (x ∷ kept) (suc place) w g = ap (λ (l : List (Waiting ℕ)). x ∷ l) (set_found kept place w g)
+
+-- so all is as it was, where nothing came and nothing was parked
+pub none_put : (old new : Bodies) (place : ℕ) (kept : List (Waiting ℕ)) (w left : Waiting ℕ) → slice_get kept place ≡ Some w → (None, left) ≡ taken w → new ≡ old → seen_all new (slice_set kept place left) ≡ seen_all old kept
+none_put old new place kept w left g e h =
+    ap (λ (b : Bodies). seen_all b (slice_set kept place left)) h
+    ∙ ap (λ (x : Waiting ℕ). seen_all old (slice_set kept place x)) (took_none w left e)
+    ∙ ap (seen_all old) (set_found kept place w g)
+
 none_added_by : (awaited earlier : ℕ) (body : Position) (o : Option Position) → left_none (awaiting earlier o) ≡ added awaited body (awaiting earlier o)
 none_added_by awaited earlier body None = refl
 none_added_by awaited earlier body (Some other) = refl

@@ -12,3 +12,4 @@ pub mod Refusals
 pub mod Reached
 pub mod Trap
 pub mod Timed
+pub mod Input

@@ -3,9 +3,15 @@ use Rattle.std.specs.Prelude.{ℕ, Bool, Option, Some, None, is_none, if◌then�
 use Rattle.dv_script.specs.declared.body.Body.{Body}
 use Rattle.dv_objects.specs.declared.inline_id.Inline.{Inline}
 use Rattle.dv_objects.specs.declared.pair.Child.{Child}
-use Rattle.dv_objects.specs.declared.pair.Pair.{Pair}
+use Rattle.dv_objects.specs.declared.pair.Kind.{Kind}
+use Rattle.dv_objects.specs.declared.pair.Kind.TheVariants as kind
 use Rattle.dv_objects.specs.declared.pair.Side.{Side}
 use Rattle.dv_objects.specs.declared.pair.Side.TheVariants as side
+
+-- what runs on a plain result, and what on a failure, where there is something
+pub record Pair : Type 0 where
+  pub callback : Option Side
+  pub errback : Option Side
 
 -- a callback alone
 abbrev pub callback : Body → Pair
@@ -58,6 +64,22 @@ resuming t = record { callback = Some (side.ResumeTask t); errback = Some (side.
 -- both go on with an inline body
 abbrev pub continuing : Inline → Pair
 continuing inline = record { callback = Some (side.Resume inline); errback = Some (side.Resume inline) }
+
+-- each by its kind
+abbrev pub pair_of : Kind → Pair
+pair_of (kind.Callback body) = callback body
+pair_of (kind.Errback body) = errback body
+pair_of (kind.Both on_value on_failure) = both on_value on_failure
+pair_of (kind.Chain to) = chain to
+pair_of (kind.Timing t) = timing t
+pair_of (kind.Ending t) = ending t
+pair_of (kind.Coming child) = coming child
+pair_of kind.Results = results
+pair_of (kind.Holding lock body) = holding lock body
+pair_of (kind.Releasing lock) = releasing lock
+pair_of (kind.Turning l) = turning l
+pair_of (kind.Resuming t) = resuming t
+pair_of (kind.Continuing inline) = continuing inline
 
 -- the side for a value: the errback for a failure, else the callback
 abbrev pub side_for : Pair → Bool → Option Side

@@ -3,7 +3,7 @@ use Rattle.std.specs.Prelude.{ℕ, if◌then◌else◌, Option, None, Some}
 use Rattle.dv_store.specs.declared.record.Record.{Record}
 use Rattle.dv_objects.specs.declared.canceller.Canceller.{Canceller}
 use Rattle.dv_objects.specs.declared.canceller.Canceller.TheVariants as canceller
-use Rattle.dv_objects.specs.declared.pair.Pair.{Pair}
+use Rattle.dv_objects.specs.Pair.{Pair}
 use Rattle.dv_objects.specs.declared.reached.Reached.{Reached}
 use Rattle.dv_objects.specs.declared.reached.Reached.TheVariants as reached
 

@@ -3,6 +3,7 @@ ghost use Rattle.dv_value.specs.Failure.{failure_in};
 ghost use Rattle.dv_objects.specs.Given.{value_held};
 
 use dv_script::lent::{TextRef, ValueRef};
+use dv_value::boxed::Boxed;
 use dv_value::class_id::ClassId;
 use dv_value::failure::Failure;
 use dv_value::fault::{failure, fault};
@@ -80,7 +81,7 @@ impl<'s> Given<'s> {
 
     /// The failure, where the value is one. AllocError where it isn't made yet and memory is refused; a value that is no
     /// failure takes no memory.
-    pub fn into_failure(self, alloc: Global) -> Result<Option<Failure>, AllocError>
+    pub fn into_failure(self, alloc: Global) -> Result<Option<Boxed<Failure>>, AllocError>
         ensures { IfOk result (λ f. f ≡ failure_in self.entry) }
     {
         failure_of(alloc, self.held)
@@ -99,7 +100,7 @@ fn made<'s>(alloc: Global, held: Held<'s>) -> Result<Value, AllocError>
 }
 
 /// The failure, where the value that is held is one.
-fn failure_of<'s>(alloc: Global, held: Held<'s>) -> Result<Option<Failure>, AllocError>
+fn failure_of<'s>(alloc: Global, held: Held<'s>) -> Result<Option<Boxed<Failure>>, AllocError>
     ensures { IfOk result (λ f. f ≡ failure_in (value_held held.entry)) }
 {
     match held {
@@ -110,11 +111,11 @@ fn failure_of<'s>(alloc: Global, held: Held<'s>) -> Result<Option<Failure>, Allo
 }
 
 /// A copy of the failure, where a value is one.
-fn failure_copy(alloc: Global, value: &Value) -> Result<Option<Failure>, AllocError>
+fn failure_copy(alloc: Global, value: &Value) -> Result<Option<Boxed<Failure>>, AllocError>
     ensures { IfOk result (λ f. f ≡ failure_in value.now) }
 {
     match value {
-        Value::Fault(failure) => Ok(Some(failure.get().copy(alloc)?)),
+        Value::Fault(failure) => Ok(Some(Boxed::new(alloc, failure.get().copy(alloc)?)?)),
         Value::Null | Value::Bool(_) | Value::Int(_) | Value::Text(_) | Value::List(_) => Ok(None),
     }
 }

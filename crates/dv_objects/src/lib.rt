@@ -7,6 +7,7 @@ pub mod follow;
 pub mod given;
 pub mod inline_id;
 pub mod inlines;
+pub mod input;
 pub mod looping_call;
 pub mod names;
 pub mod pair;

@@ -1,4 +1,5 @@
-ghost use Rattle.std.specs.Prelude.{◌≡◌, Some, None};
+ghost use Rattle.std.specs.Prelude.{◌≡◌};
+ghost use Rattle.dv_objects.specs.Pair.{pair_of, passes};
 
 use crate::inline_id::Inline;
 use dv_clock::call_id::CallId;
@@ -10,6 +11,7 @@ use dv_prims::lock_id::LockId;
 use dv_script::body::Body;
 use dv_script::lent::BodyRef;
 use dv_store::sides::Sides;
+use std::marker::Model;
 
 /// A child of a DeferredList.
 #[derive(Clone, Copy, Debug, PartialEq, Eq)]
@@ -60,11 +62,48 @@ pub enum Side<'s> {
     Resume(Inline),
 }
 
-/// A callback and an errback, either of which may be missing (Twisted: `Deferred.addCallbacks`).
+/// Which pair it is, of those that are added.
+#[derive(Drop)]
+enum Kind<'s> {
+    /// A body, for a plain result.
+    Callback(BodyRef<'s>),
+    /// A body, for a failure.
+    Errback(BodyRef<'s>),
+    /// A body for each.
+    Both(BodyRef<'s>, BodyRef<'s>),
+    Chain(DeferredId),
+    Timing(CallId),
+    Ending(CallId),
+    Coming(Child),
+    Results,
+    Holding(LockId, BodyRef<'s>),
+    Releasing(LockId),
+    Turning(LoopId),
+    Resuming(TaskId),
+    Continuing(Inline),
+}
+
+/// A callback and an errback, either of which may be missing (Twisted: `Deferred.addCallbacks`). It says which two these are, in
+/// less room than they take. Contracts see it as the two.
 #[derive(Drop)]
 pub struct Pair<'s> {
-    pub callback: Option<Side<'s>>,
-    pub errback: Option<Side<'s>>,
+    kind: Kind<'s>,
+}
+
+impl<'s> Model for Pair<'s> {
+    ghost use Rattle.dv_objects.specs.Pair.{Pair as Seen, pair_of};
+    ghost use Rattle.dv_script.specs.contracts.action.Action as action_contract;
+    ghost use Rattle.dv_script.specs.contracts.body.Body as body_contract;
+    ghost use Rattle.dv_script.specs.contracts.body.Statement as statement_contract;
+    ghost use Rattle.dv_value.specs.contracts.failure.Failure as failure_contract;
+    ghost use Rattle.dv_value.specs.contracts.value.Value as value_contract;
+    ghost use Rattle.std.specs.Coded.{codes};
+
+    ghost Value = { Seen };
+
+    ghost coded = { Prim.hlevel (codes, action_contract.the_row.coded, body_contract.the_row.coded, statement_contract.the_row.coded, failure_contract.the_row.coded, value_contract.the_row.coded) };
+
+    ghost view = { λ p. pair_of p.kind };
 }
 
 impl<'s> Pair<'s> {
@@ -75,8 +114,7 @@ impl<'s> Pair<'s> {
         ensures { result ≡ callback body.now }
     {
         Pair {
-            callback: Some(Side::Body(BodyRef::new(body))),
-            errback: None,
+            kind: Kind::Callback(BodyRef::new(body)),
         }
     }
 
@@ -85,8 +123,7 @@ impl<'s> Pair<'s> {
         ensures { result ≡ errback body.now }
     {
         Pair {
-            callback: None,
-            errback: Some(Side::Body(BodyRef::new(body))),
+            kind: Kind::Errback(BodyRef::new(body)),
         }
     }
 
@@ -95,8 +132,7 @@ impl<'s> Pair<'s> {
         ensures { result ≡ both callback.now errback.now }
     {
         Pair {
-            callback: Some(Side::Body(BodyRef::new(callback))),
-            errback: Some(Side::Body(BodyRef::new(errback))),
+            kind: Kind::Both(BodyRef::new(callback), BodyRef::new(errback)),
         }
     }
 
@@ -105,8 +141,7 @@ impl<'s> Pair<'s> {
         ensures { result ≡ chain to }
     {
         Pair {
-            callback: Some(Side::Fire(to)),
-            errback: Some(Side::Fire(to)),
+            kind: Kind::Chain(to),
         }
     }
 
@@ -115,8 +150,7 @@ impl<'s> Pair<'s> {
         ensures { result ≡ timing timer }
     {
         Pair {
-            callback: Some(Side::Timed(timer)),
-            errback: Some(Side::Timed(timer)),
+            kind: Kind::Timing(timer),
         }
     }
 
@@ -125,8 +159,7 @@ impl<'s> Pair<'s> {
         ensures { result ≡ ending timer }
     {
         Pair {
-            callback: Some(Side::EndTimer(timer)),
-            errback: Some(Side::EndTimer(timer)),
+            kind: Kind::Ending(timer),
         }
     }
 
@@ -134,10 +167,8 @@ impl<'s> Pair<'s> {
     pub fn coming(child: Child) -> Pair<'s>
         ensures { result ≡ coming child }
     {
-        let Child { list, place, of } = child;
         Pair {
-            callback: Some(Side::Come(Child { list, place, of })),
-            errback: Some(Side::Come(Child { list, place, of })),
+            kind: Kind::Coming(child),
         }
     }
 
@@ -146,8 +177,7 @@ impl<'s> Pair<'s> {
         ensures { result ≡ results }
     {
         Pair {
-            callback: Some(Side::Results),
-            errback: None,
+            kind: Kind::Results,
         }
     }
 
@@ -156,8 +186,7 @@ impl<'s> Pair<'s> {
         ensures { result ≡ holding lock body.entry }
     {
         Pair {
-            callback: Some(Side::Hold(lock, body)),
-            errback: None,
+            kind: Kind::Holding(lock, body),
         }
     }
 
@@ -166,8 +195,7 @@ impl<'s> Pair<'s> {
         ensures { result ≡ releasing lock }
     {
         Pair {
-            callback: Some(Side::Release(lock)),
-            errback: Some(Side::Release(lock)),
+            kind: Kind::Releasing(lock),
         }
     }
 
@@ -176,8 +204,7 @@ impl<'s> Pair<'s> {
         ensures { result ≡ turning looping }
     {
         Pair {
-            callback: Some(Side::NextTurn(looping)),
-            errback: Some(Side::EndLoop(looping)),
+            kind: Kind::Turning(looping),
         }
     }
 
@@ -186,8 +213,7 @@ impl<'s> Pair<'s> {
         ensures { result ≡ resuming task }
     {
         Pair {
-            callback: Some(Side::ResumeTask(task)),
-            errback: Some(Side::FailTask(task)),
+            kind: Kind::Resuming(task),
         }
     }
 
@@ -195,10 +221,8 @@ impl<'s> Pair<'s> {
     pub fn continuing(inline: Inline) -> Pair<'s>
         ensures { result ≡ continuing inline }
     {
-        let Inline { id, of } = inline;
         Pair {
-            callback: Some(Side::Resume(Inline { id, of })),
-            errback: Some(Side::Resume(Inline { id, of })),
+            kind: Kind::Continuing(inline),
         }
     }
 
@@ -206,7 +230,68 @@ impl<'s> Pair<'s> {
     pub fn into_side(self, failed: bool) -> Option<Side<'s>>
         ensures { result ≡ side_for self.entry failed }
     {
-        if failed { self.errback } else { self.callback }
+        if failed {
+            errback_of(self.kind)
+        } else {
+            callback_of(self.kind)
+        }
+    }
+}
+
+/// The callback.
+fn callback_of<'s>(kind: Kind<'s>) -> Option<Side<'s>>
+    ensures { result ≡ (pair_of kind.entry).callback }
+{
+    match kind {
+        Kind::Callback(body) | Kind::Both(body, _) => Some(Side::Body(body)),
+        Kind::Errback(_) => None,
+        Kind::Chain(to) => Some(Side::Fire(to)),
+        Kind::Timing(timer) => Some(Side::Timed(timer)),
+        Kind::Ending(timer) => Some(Side::EndTimer(timer)),
+        Kind::Coming(child) => Some(Side::Come(child)),
+        Kind::Results => Some(Side::Results),
+        Kind::Holding(lock, body) => Some(Side::Hold(lock, body)),
+        Kind::Releasing(lock) => Some(Side::Release(lock)),
+        Kind::Turning(looping) => Some(Side::NextTurn(looping)),
+        Kind::Resuming(task) => Some(Side::ResumeTask(task)),
+        Kind::Continuing(inline) => Some(Side::Resume(inline)),
+    }
+}
+
+/// The errback.
+fn errback_of<'s>(kind: Kind<'s>) -> Option<Side<'s>>
+    ensures { result ≡ (pair_of kind.entry).errback }
+{
+    match kind {
+        Kind::Errback(body) | Kind::Both(_, body) => Some(Side::Body(body)),
+        Kind::Callback(_) | Kind::Results | Kind::Holding(..) => None,
+        Kind::Chain(to) => Some(Side::Fire(to)),
+        Kind::Timing(timer) => Some(Side::Timed(timer)),
+        Kind::Ending(timer) => Some(Side::EndTimer(timer)),
+        Kind::Coming(child) => Some(Side::Come(child)),
+        Kind::Releasing(lock) => Some(Side::Release(lock)),
+        Kind::Turning(looping) => Some(Side::EndLoop(looping)),
+        Kind::Resuming(task) => Some(Side::FailTask(task)),
+        Kind::Continuing(inline) => Some(Side::Resume(inline)),
+    }
+}
+
+/// Whether a side is missing: the errback for a failure, else the callback.
+fn lacks<'s>(kind: &Kind<'s>, failed: bool) -> bool
+    ensures { result ≡ passes (pair_of kind.now) failed }
+{
+    match kind {
+        Kind::Callback(_) | Kind::Results | Kind::Holding(..) => failed,
+        Kind::Errback(_) => !failed,
+        Kind::Both(..)
+        | Kind::Chain(_)
+        | Kind::Timing(_)
+        | Kind::Ending(_)
+        | Kind::Coming(_)
+        | Kind::Releasing(_)
+        | Kind::Turning(_)
+        | Kind::Resuming(_)
+        | Kind::Continuing(_) => false,
     }
 }
 
@@ -216,10 +301,6 @@ impl<'s> Sides for Pair<'s> {
     ghost passes_at = { passes };
 
     fn passes(&self, failed: bool) -> bool {
-        if failed {
-            self.errback.is_none()
-        } else {
-            self.callback.is_none()
-        }
+        lacks(&self.kind, failed)
     }
 }

@@ -2,6 +2,7 @@ ghost use Rattle.std.specs.Prelude.{◌≡◌, IfOk};
 
 use crate::given::Given;
 use dv_journal::deferred_id::DeferredId;
+use dv_value::boxed::Boxed;
 use dv_value::failure::Failure;
 use std::alloc::{AllocError, Global};
 
@@ -13,7 +14,7 @@ pub enum Performed<'s> {
     /// A body gave this, a failure where its value is one.
     Gave(Given<'s>),
     /// It raised this, and the rest of it is left out.
-    Raised(Failure),
+    Raised(Boxed<Failure>),
     /// A body gave this Deferred.
     Awaits(DeferredId),
 }
@@ -23,7 +24,7 @@ impl<'s> Performed<'s> {
 
     /// The failure that it came to, where it raised one or gave one. AllocError where it gave one that isn't made yet and
     /// memory is refused.
-    pub fn into_failure(self, alloc: Global) -> Result<Option<Failure>, AllocError>
+    pub fn into_failure(self, alloc: Global) -> Result<Option<Boxed<Failure>>, AllocError>
         ensures { IfOk result (λ f. f ≡ failed_with self.entry) }
     {
         match self {

@@ -20,7 +20,7 @@ pub enum TaskEnd {
     /// It was stopped.
     Stopped,
     /// A body of it, or a Deferred that it waited for, came to this failure.
-    Failed(Failure),
+    Failed(Boxed<Failure>),
 }
 
 /// A task of the Cooperator (Twisted: `CooperativeTask`).
@@ -46,12 +46,14 @@ impl TaskEnd {
         match self {
             TaskEnd::Finished => Ok(Value::Text(Text::of(alloc, name)?)),
             TaskEnd::Stopped => fault(alloc, ClassId::TASK_STOPPED, ""),
-            TaskEnd::Failed(failure) => Ok(Value::Fault(Boxed::new(alloc, failure.copy(alloc)?)?)),
+            TaskEnd::Failed(failure) => {
+                Ok(Value::Fault(Boxed::new(alloc, failure.get().copy(alloc)?)?))
+            }
         }
     }
 
     /// What is raised where a task has ended (Twisted: `TaskDone`, `TaskStopped`, `TaskFailed`).
-    pub fn raised(&self, alloc: Global) -> Result<Failure, AllocError>
+    pub fn raised(&self, alloc: Global) -> Result<Boxed<Failure>, AllocError>
         ensures { IfOk result (λ failure. failure ≡ how_ended self.now) }
     {
         match self {

@@ -27,7 +27,7 @@ use Rattle.dv_objects.specs.Pair.{passes}
 use Rattle.dv_objects.specs.Objects.{Objects}
 use Rattle.dv_world.specs.World.{World, Records, aside, state_of, moved, step, cancel, reached_from}
 use Rattle.dv_objects.specs.Refusals.{cancelled}
-use Rattle.dv_objects.specs.declared.pair.Pair.{Pair}
+use Rattle.dv_objects.specs.Pair.{Pair}
 use Rattle.dv_objects.specs.declared.reached.Reached.{Reached}
 use Rattle.dv_objects.specs.declared.reached.Reached.TheVariants as reached
 

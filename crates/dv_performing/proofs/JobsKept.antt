@@ -28,7 +28,7 @@ use Rattle.dv_objects.specs.declared.follow.Follow.TheVariants as follow
 use Rattle.dv_value.specs.declared.value.Value.{Value}
 use Rattle.dv_world.specs.World.{World, after, moved, named, fired, unpaused, guarded, step, put, put_deferred, append, make, fire, fire_guarded, cancel, pause, unpause, arrange, submit}
 use Rattle.dv_objects.specs.declared.canceller.Canceller.{Canceller}
-use Rattle.dv_objects.specs.declared.pair.Pair.{Pair}
+use Rattle.dv_objects.specs.Pair.{Pair}
 use Rattle.dv_objects.specs.declared.performed.Performed.{Performed}
 use Rattle.dv_bodies.proofs.JobLemmas.{aside_same}
 
@@ -134,17 +134,17 @@ delivered_same : (d : ℕ) (o : Option Value) (w : World) → (delivered d o w).
 delivered_same d None w = refl
 delivered_same d (Some value) w = ap (λ (u : World). u.works) (settle_same d (fire d value w).0 (fire d value w).1) ∙ fire_same d value w
 
-ended_same : (end : TurnEnd) (w : World) → (ended_with end w).2.works ≡ w.works
-ended_same (Came p) w = refl
-ended_same (Delivers job d) w = delivered_same d (job_result job w.works) w
+ended_same : (end : TurnEnd) (p : Performed) (w : World) → (ended_with end p w).2.works ≡ w.works
+ended_same Came p w = refl
+ended_same (Delivers job d) p w = delivered_same d (job_result job w.works) w
 
 pub delivered_works : (d : ℕ) (o : Option Value) (below : List Frame) (w : World) (t : Turned) → t ≡ (delivered d o w over below) → t.2.works ≡ w.works
 delivered_works d o below w t e = subst (λ (x : Turned). x.2.works ≡ w.works) (sym e) (delivered_same d o w)
 
 -- they go on by a turn, and when an event begins
-pub turned_goes_on : (below left : List Frame) (f : Frame) (o : Performed) (w u : World) (end : TurnEnd) → ◌≡◌ {A = Turned} (ended_with end u over left) (turned f o w over below) → GoesOn w.works u.works
-turned_goes_on below left f o w u end e =
-    subst (λ works. GoesOn w.works works) (ended_same end u) (subst (λ (x : Turned). GoesOn w.works x.2.works) (sym e) (((turned_fair f o w).comes.keeps Grows grow).goes_on))
+pub turned_goes_on : (below left : List Frame) (f : Frame) (o p : Performed) (w u : World) (end : TurnEnd) → ◌≡◌ {A = Turned} (ended_with end p u over left) (turned f o w over below) → GoesOn w.works u.works
+turned_goes_on below left f o p w u end e =
+    subst (λ works. GoesOn w.works works) (ended_same end p u) (subst (λ (x : Turned). GoesOn w.works x.2.works) (sym e) (((turned_fair f o w).comes.keeps Grows grow).goes_on))
 
 pub happening_goes_on : (occurrence : Occurrence) (below : List Frame) (w : World) (t : Turned) → t ≡ (happening occurrence w over below) → GoesOn w.works t.2.works
 happening_goes_on occurrence below w t e = subst (λ (x : Turned). GoesOn w.works x.2.works) (sym e) (((happening_comes occurrence w).keeps Grows grow).goes_on)

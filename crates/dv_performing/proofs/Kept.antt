@@ -41,7 +41,7 @@ use Rattle.dv_objects.specs.Objects.{Objects}
 use Rattle.dv_world.specs.World.{World, Records, state_of, after, moved, named, fired, unpaused, step, put, put_deferred, append, make, fire, fire_guarded, guarded, cancel, reached_from, pause, unpause, aside, arrange, submit}
 use Rattle.dv_objects.specs.Refusals.{cancelled}
 use Rattle.dv_objects.specs.declared.follow.Follow.TheVariants as follow
-use Rattle.dv_objects.specs.declared.pair.Pair.{Pair}
+use Rattle.dv_objects.specs.Pair.{Pair}
 use Rattle.dv_objects.specs.declared.reached.Reached.{Reached}
 use Rattle.dv_objects.specs.declared.reached.Reached.TheVariants as reached
 

@@ -34,7 +34,7 @@ use Rattle.dv_objects.specs.declared.follow.Follow.{Follow}
 use Rattle.dv_objects.specs.declared.inline_id.Inline.{Inline}
 use Rattle.dv_objects.specs.declared.looping_call.LoopingCall.{LoopingCall}
 use Rattle.dv_objects.specs.declared.pair.Child.{Child}
-use Rattle.dv_objects.specs.declared.pair.Pair.{Pair}
+use Rattle.dv_objects.specs.Pair.{Pair}
 use Rattle.dv_objects.specs.declared.pair.Side.{Side}
 use Rattle.dv_objects.specs.declared.pair.Side.TheVariants as side
 use Rattle.dv_objects.specs.declared.performed.Performed.{Performed}

@@ -17,7 +17,7 @@ use Rattle.dv_frames.specs.declared.frame.Purpose.TheVariants.{Holding}
 use Rattle.dv_objects.specs.Pair.{side_for}
 use Rattle.dv_objects.specs.Timed.{timed}
 use Rattle.dv_world.specs.World.{World, put, put_deferred, fire, has_timed_out, end_timer, end_loop, value_of}
-use Rattle.dv_objects.specs.declared.pair.Pair.{Pair}
+use Rattle.dv_objects.specs.Pair.{Pair}
 use Rattle.dv_objects.specs.declared.pair.Side.{Side}
 use Rattle.dv_objects.specs.declared.pair.Side.TheVariants as side
 use Rattle.dv_objects.specs.declared.performed.Performed.{Performed}

@@ -1,4 +1,5 @@
-ghost use Rattle.std.specs.Prelude.{◌≡◌, IfOk};
+ghost use Rattle.std.specs.Prelude.{◌≡◌, OnOk};
+ghost use Rattle.dv_objects.specs.declared.performed.Performed.TheVariants.{Done};
 ghost use Rattle.dv_script.specs.declared.action.Action.{out-Action};
 ghost use Rattle.dv_performing.specs.Acting.{begun};
 ghost use Rattle.dv_frames.specs.Bounds.{Bounded};
@@ -7,7 +8,6 @@ ghost use Rattle.dv_frames.specs.Turn.{◌over◌};
 use dv_bodies::inlining::begin_inline;
 use dv_bodies::threading::thread;
 use dv_firing::firing::{add, cancel_named, chain, fire, make, maybe, note, pause, unpause};
-use dv_frames::following::done;
 use dv_frames::frame::Frame;
 use dv_journal::deferred_id::DeferredId;
 use dv_objects::given::Given;
@@ -32,11 +32,13 @@ pub fn begin<'s>(
     alloc: Global,
     world: &mut World<'s>,
     stack: &mut Stack<Frame<'s>>,
+    performed: &mut Performed<'s>,
     itself: Option<DeferredId>,
     action: &'s Action,
-) -> Result<Performed<'s>, AllocError>
+) -> Result<(), AllocError>
     requires bounded { Bounded world.old }
-    ensures { IfOk result (λ performed. (stack.new, performed, world.new) ≡ begun itself (out-Action action.now) world.old over stack.old) }
+    requires done { performed.old ≡ Done }
+    ensures { OnOk result ((stack.new, performed.new, world.new) ≡ begun itself (out-Action action.now) world.old over stack.old) }
 {
     match action {
         Action::Note(text) => note(alloc, world, text),
@@ -46,6 +48,7 @@ pub fn begin<'s>(
                 alloc,
                 world,
                 stack,
+                performed,
                 itself,
                 name.as_str(),
                 Given::lent(value),
@@ -53,13 +56,14 @@ pub fn begin<'s>(
         }
         Action::Errback(name, class, message) => {
             let given = Given::failed(*class, message);
-            fire(alloc, world, stack, itself, name.as_str(), given)
+            fire(alloc, world, stack, performed, itself, name.as_str(), given)
         }
         Action::AddCallback(name, body) => {
             add(
                 alloc,
                 world,
                 stack,
+                performed,
                 itself,
                 name.as_str(),
                 Pair::callback(body),
@@ -70,6 +74,7 @@ pub fn begin<'s>(
                 alloc,
                 world,
                 stack,
+                performed,
                 itself,
                 name.as_str(),
                 Pair::errback(body),
@@ -80,6 +85,7 @@ pub fn begin<'s>(
                 alloc,
                 world,
                 stack,
+                performed,
                 itself,
                 name.as_str(),
                 Pair::both(body, body),
@@ -87,40 +93,84 @@ pub fn begin<'s>(
         }
         Action::AddCallbacks(name, callback, errback) => {
             let pair = Pair::both(callback, errback);
-            add(alloc, world, stack, itself, name.as_str(), pair)
+            add(alloc, world, stack, performed, itself, name.as_str(), pair)
         }
         Action::Chain(name, next) => {
-            chain(alloc, world, stack, itself, name.as_str(), next.as_str())
+            chain(
+                alloc,
+                world,
+                stack,
+                performed,
+                itself,
+                name.as_str(),
+                next.as_str(),
+            )
         }
-        Action::Pause(name) => pause(alloc, world, itself, name.as_str()),
-        Action::Unpause(name) => unpause(alloc, world, stack, itself, name.as_str()),
-        Action::Cancel(name) => cancel_named(alloc, world, stack, itself, name.as_str()),
+        Action::Pause(name) => pause(alloc, world, performed, itself, name.as_str()),
+        Action::Unpause(name) => unpause(alloc, world, stack, performed, itself, name.as_str()),
+        Action::Cancel(name) => cancel_named(alloc, world, stack, performed, itself, name.as_str()),
         Action::AddTimeout(name, delay) => {
-            add_timeout(alloc, world, stack, itself, name.as_str(), *delay)
+            add_timeout(
+                alloc,
+                world,
+                stack,
+                performed,
+                itself,
+                name.as_str(),
+                *delay,
+            )
         }
-        Action::Lock(name) => done(world.make_lock(name.as_str())),
-        Action::Semaphore(name, tokens) => done(world.make_semaphore(name.as_str(), *tokens)),
+        Action::Lock(name) => world.make_lock(name.as_str()),
+        Action::Semaphore(name, tokens) => world.make_semaphore(name.as_str(), *tokens),
         Action::Acquire(name, lock) => {
-            acquire(alloc, world, stack, TextRef::new(name), lock.as_str())
+            acquire(
+                alloc,
+                world,
+                stack,
+                performed,
+                TextRef::new(name),
+                lock.as_str(),
+            )
         }
-        Action::Release(lock) => release(alloc, world, stack, lock.as_str()),
+        Action::Release(lock) => release(alloc, world, stack, performed, lock.as_str()),
         Action::RunWith(name, lock, body) => {
             let body = BodyRef::new(body);
-            run_with(alloc, world, stack, TextRef::new(name), lock.as_str(), body)
+            run_with(
+                alloc,
+                world,
+                stack,
+                performed,
+                TextRef::new(name),
+                lock.as_str(),
+                body,
+            )
         }
         Action::Maybe(name, body) => maybe(stack, name, body),
-        Action::Queue(name, size, backlog) => {
-            done(world.make_queue(name.as_str(), *size, *backlog))
-        }
+        Action::Queue(name, size, backlog) => { world.make_queue(name.as_str(), *size, *backlog) }
         Action::Put(queue, value) => {
-            put(alloc, world, stack, queue.as_str(), Given::lent(value))
+            put(
+                alloc,
+                world,
+                stack,
+                performed,
+                queue.as_str(),
+                Given::lent(value),
+            )
         }
-        Action::Get(name, queue) => get(alloc, world, stack, TextRef::new(name), queue.as_str()),
+        Action::Get(name, queue) => get(
+            alloc,
+            world,
+            stack,
+            performed,
+            TextRef::new(name),
+            queue.as_str(),
+        ),
         Action::List(name, children, flags) => {
             list(
                 alloc,
                 world,
                 stack,
+                performed,
                 itself,
                 name,
                 children,
@@ -132,6 +182,7 @@ pub fn begin<'s>(
                 alloc,
                 world,
                 stack,
+                performed,
                 itself,
                 name,
                 children,
@@ -139,9 +190,9 @@ pub fn begin<'s>(
             )
         }
         Action::Later(name, delay, body) => {
-            done(world.call_later(TextRef::new(name), *delay, BodyRef::new(body)))
+            world.call_later(TextRef::new(name), *delay, BodyRef::new(body))
         }
-        Action::CancelCall(name) => cancel_call(alloc, world, name.as_str()),
+        Action::CancelCall(name) => cancel_call(alloc, world, performed, name.as_str()),
         Action::Loop(name, of, interval, at_once, body) => {
             let of = TextRef::new(of);
             let body = BodyRef::new(body);
@@ -156,16 +207,23 @@ pub fn begin<'s>(
                 body,
             )
         }
-        Action::StopLoop(name) => stop_loop(alloc, world, stack, name.as_str()),
+        Action::StopLoop(name) => stop_loop(alloc, world, stack, performed, name.as_str()),
         Action::Cooperate(name, bodies) => {
             cooperate(world, TextRef::new(name), BodiesRef::new(bodies.as_slice()))
         }
         Action::WhenDone(name, task) => {
-            when_done(alloc, world, stack, TextRef::new(name), task.as_str())
+            when_done(
+                alloc,
+                world,
+                stack,
+                performed,
+                TextRef::new(name),
+                task.as_str(),
+            )
         }
-        Action::PauseTask(name) => pause_task(alloc, world, name.as_str()),
-        Action::StopTask(name) => stop_task(alloc, world, stack, name.as_str()),
-        Action::ResumeTask(name) => resume_task(alloc, world, name.as_str()),
+        Action::PauseTask(name) => pause_task(alloc, world, performed, name.as_str()),
+        Action::StopTask(name) => stop_task(alloc, world, stack, performed, name.as_str()),
+        Action::ResumeTask(name) => resume_task(alloc, world, performed, name.as_str()),
         Action::Inline(name, statements) => {
             let statements = Statements::new(statements.as_slice());
             begin_inline(alloc, world, stack, TextRef::new(name), statements)
@@ -174,6 +232,7 @@ pub fn begin<'s>(
             thread(
                 alloc,
                 world,
+                performed,
                 TextRef::new(name),
                 None,
                 *delay,
@@ -183,6 +242,7 @@ pub fn begin<'s>(
         Action::ThreadIn(name, pool, delay, work) => thread(
             alloc,
             world,
+            performed,
             TextRef::new(name),
             Some(TextRef::new(pool)),
             *delay,

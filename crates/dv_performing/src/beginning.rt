@@ -1,21 +1,22 @@
 //! What an event or a post begins with.
 
-ghost use Rattle.std.specs.Prelude.{◌≡◌, IfOk};
+ghost use Rattle.std.specs.Prelude.{◌≡◌, OnOk};
+ghost use Rattle.dv_objects.specs.declared.performed.Performed.TheVariants.{Done};
 ghost use Rattle.dv_performing.specs.Beginning.{happening, Occurs, Comes};
 ghost use Rattle.dv_frames.specs.Bounds.{Bounded};
 ghost use Rattle.dv_frames.specs.Turn.{◌over◌};
 
 use crate::acting::begin;
-use dv_frames::following::{done, whole};
+use dv_frames::following::whole;
 use dv_frames::frame::Frame;
 use dv_journal::entry::Entry;
+use dv_objects::input::Input;
 use dv_objects::performed::Performed;
 use dv_posts::posted::Posted;
 use dv_script::body::Body;
 use dv_script::event::Event;
 use dv_script::lent::BodyRef;
 use dv_value::stack::Stack;
-use dv_value::value::Value;
 use dv_world::world::World;
 use std::alloc::{AllocError, Global};
 
@@ -25,21 +26,23 @@ pub fn begin_event<'s>(
     alloc: Global,
     world: &mut World<'s>,
     stack: &mut Stack<Frame<'s>>,
+    performed: &mut Performed<'s>,
     event: &'s Event,
-) -> Result<Performed<'s>, AllocError>
+) -> Result<(), AllocError>
     requires bounded { Bounded world.old }
-    ensures { IfOk result (λ performed. (stack.new, performed, world.new) ≡ happening (Occurs event.now) world.old over stack.old) }
+    requires done { performed.old ≡ Done }
+    ensures { OnOk result ((stack.new, performed.new, world.new) ≡ happening (Occurs event.now) world.old over stack.old) }
 {
     match event {
         Event::Action(action) => {
             stack.push(Frame::Tell)?;
-            begin(alloc, world, stack, None, action)
+            begin(alloc, world, stack, performed, None, action)
         }
         Event::Advance(ticks) => {
             stack.push(Frame::Due)?;
-            done(world.advance(*ticks))
+            world.advance(*ticks)
         }
-        Event::Drain(_) => done(world.tell(Entry::Drain)),
+        Event::Drain(_) => world.tell(Entry::Drain),
     }
 }
 
@@ -50,10 +53,10 @@ pub fn begin_post<'s>(
     stack: &mut Stack<Frame<'s>>,
     posted: &Posted,
     body: &'s Body,
-) -> Result<Performed<'s>, AllocError>
-    ensures { IfOk result (λ performed. (stack.new, performed, world.new) ≡ happening (Comes posted.now body.now) world.old over stack.old) }
+) -> Result<(), AllocError>
+    ensures { OnOk result ((stack.new, Done, world.new) ≡ happening (Comes posted.now body.now) world.old over stack.old) }
 {
     stack.push(Frame::Tell)?;
-    stack.push(Frame::Rest(whole(None, BodyRef::new(body), Value::Null)))?;
-    done(world.tell(Entry::Post(posted.caller, posted.index)))
+    stack.push(Frame::Rest(whole(None, BodyRef::new(body), Input::null())))?;
+    world.tell(Entry::Post(posted.caller, posted.index))
 }

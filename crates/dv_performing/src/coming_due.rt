@@ -3,19 +3,19 @@ ghost use Rattle.dv_performing.specs.ComingDue.{body_called, timed_of, timed_out
 ghost use Rattle.dv_performing.specs.TurnEnds.{ended_with};
 ghost use Rattle.dv_frames.specs.declared.frame.Frame.TheVariants.{Tell, Due as DueNext};
 ghost use Rattle.dv_frames.specs.Turn.{◌over◌};
+ghost use Rattle.dv_objects.specs.declared.performed.Performed.TheVariants.{Done};
 ghost use Rattle.dv_world.specs.World.{World as Seen, come_due};
 
 use crate::turn_end::{TurnEnd, came};
 use dv_clock::due::Due;
 use dv_clock::loop_id::LoopId;
-use dv_frames::following::{done, whole};
+use dv_frames::following::whole;
 use dv_frames::frame::Frame;
 use dv_journal::deferred_id::DeferredId;
-use dv_objects::performed::Performed;
+use dv_objects::input::Input;
 use dv_script::lent::BodyRef;
 use dv_timing::looping::take_turn;
 use dv_value::stack::Stack;
-use dv_value::value::Value;
 use dv_world::world::World;
 use std::alloc::AllocError;
 
@@ -23,8 +23,8 @@ use std::alloc::AllocError;
 pub fn run_due<'s>(
     world: &mut World<'s>,
     stack: &mut Stack<Frame<'s>>,
-) -> Result<TurnEnd<'s>, AllocError>
-    ensures { IfOk result (λ end. (ended_with end world.new over stack.new) ≡ (come_due_with (come_due world.old).0 (come_due world.old).1 over stack.old)) }
+) -> Result<TurnEnd, AllocError>
+    ensures { IfOk result (λ end. (ended_with end Done world.new over stack.new) ≡ (come_due_with (come_due world.old).0 (come_due world.old).1 over stack.old)) }
 {
     let what = world.come_due()?;
     run_what(world, stack, what)
@@ -35,12 +35,12 @@ fn run_what<'s>(
     world: &mut World<'s>,
     stack: &mut Stack<Frame<'s>>,
     what: Option<Due>,
-) -> Result<TurnEnd<'s>, AllocError>
-    ensures { IfOk result (λ end. (ended_with end world.new over stack.new) ≡ (come_due_with what world.old over stack.old)) }
+) -> Result<TurnEnd, AllocError>
+    ensures { IfOk result (λ end. (ended_with end Done world.new over stack.new) ≡ (come_due_with what world.old over stack.old)) }
 {
     let timed = timed_of(&what);
     match what {
-        None => Ok(TurnEnd::Came(Performed::Done)),
+        None => Ok(TurnEnd::Came),
         Some(Due::Call(name, key)) => {
             drop(name);
             came(call_body(stack, world.body(key)))
@@ -48,11 +48,11 @@ fn run_what<'s>(
         Some(Due::Turn(name, key)) => {
             drop(name);
             stack.push(Frame::Due)?;
-            came(done(take_turn(world, stack, LoopId::new(key))))
+            came(take_turn(world, stack, LoopId::new(key)))
         }
         Some(Due::Tick) => {
             stack.push(Frame::Due)?;
-            came(done(stack.push(Frame::Tick(world.begin_tick()))))
+            came(stack.push(Frame::Tick(world.begin_tick())))
         }
         Some(Due::Delivery(job, key)) => {
             tell_and_go_on(stack)?;
@@ -71,18 +71,15 @@ fn tell_and_go_on<'s>(stack: &mut Stack<Frame<'s>>) -> Result<(), AllocError>
 }
 
 /// The body of a delayed call is to be performed, and then what is due next.
-fn call_body<'s>(
-    stack: &mut Stack<Frame<'s>>,
-    body: Option<BodyRef<'s>>,
-) -> Result<Performed<'s>, AllocError>
-    ensures { IfOk result (λ performed. (w : Seen) → (stack.new, performed, w) ≡ body_called body.entry w over stack.old) }
+fn call_body<'s>(stack: &mut Stack<Frame<'s>>, body: Option<BodyRef<'s>>) -> Result<(), AllocError>
+    ensures { OnOk result ((w : Seen) → (stack.new, Done, w) ≡ body_called body.entry w over stack.old) }
 {
     stack.push(Frame::Due)?;
     match body {
-        None => Ok(Performed::Done),
+        None => Ok(()),
         Some(body) => {
             stack.push(Frame::Tell)?;
-            done(stack.push(Frame::Rest(whole(None, body, Value::Null))))
+            stack.push(Frame::Rest(whole(None, body, Input::null())))
         }
     }
 }
@@ -98,18 +95,15 @@ fn timed_of(what: &Option<Due>) -> Option<DeferredId>
 }
 
 /// A Deferred whose time is over is cancelled, what that raises is told, and then what is due next follows.
-fn time_out<'s>(
-    stack: &mut Stack<Frame<'s>>,
-    timed: Option<DeferredId>,
-) -> Result<Performed<'s>, AllocError>
-    ensures { IfOk result (λ performed. (w : Seen) → (stack.new, performed, w) ≡ timed_out timed w over stack.old) }
+fn time_out<'s>(stack: &mut Stack<Frame<'s>>, timed: Option<DeferredId>) -> Result<(), AllocError>
+    ensures { OnOk result ((w : Seen) → (stack.new, Done, w) ≡ timed_out timed w over stack.old) }
 {
     match timed {
-        None => Ok(Performed::Done),
+        None => Ok(()),
         Some(id) => {
             stack.push(Frame::Due)?;
             stack.push(Frame::Tell)?;
-            done(stack.push(Frame::Cancel(id)))
+            stack.push(Frame::Cancel(id))
         }
     }
 }

@@ -8,6 +8,7 @@ mod coming_due;
 pub mod laws;
 pub mod runner;
 mod settling;
+mod taking;
 mod turn_end;
 mod turning;
 mod wanting;

@@ -1,4 +1,4 @@
-ghost use Rattle.std.specs.Prelude.{◌≡◌, IfOk, OnOk};
+ghost use Rattle.std.specs.Prelude.{◌≡◌, OnOk};
 ghost use Rattle.dv_performing.specs.Beginning.{Occurs, Comes};
 ghost use Rattle.dv_frames.specs.Bounds.{Bounded};
 ghost use Rattle.dv_frames.specs.Turn.{◌over◌};
@@ -25,7 +25,7 @@ use std::random::RandomSource;
 use std::sync::Wait;
 
 /// What an event comes to, with all that follows from it. It is one loop over a stack of what is still to be done, so that
-/// what a run nests isn't on the machine's stack. The jobs that are made are submitted, and where a job's result is due it may
+/// what a run nests isn't on the machine's stack. What lies on that stack at first is dropped, and its room is used again. The jobs that are made are submitted, and where a job's result is due it may
 /// wait for that. In a run that has stopped nothing is done, and that is no error; the error is want of memory alone.
 #[tactic(auto, using(crate::proofs::Stopped::happens_stopped, crate::proofs::Turns::happening_bounded, crate::proofs::JobsKept::happening_goes_on))]
 pub fn happen<'s, R, J>(
@@ -34,6 +34,7 @@ pub fn happen<'s, R, J>(
     poller: &Poller,
     jobs: &mut Submissions<'s, J>,
     world: &mut World<'s>,
+    stack: &mut Stack<Frame<'s>>,
     event: &'s Event,
 ) -> Result<(), AllocError>
 where
@@ -47,8 +48,9 @@ where
     if world.is_stopped() {
         return Ok(());
     }
-    let mut stack = Stack::new(alloc);
-    let performed = begin_event(alloc, world, &mut stack, event)?;
+    stack.clear();
+    let mut performed = Performed::Done;
+    begin_event(alloc, world, stack, &mut performed, event)?;
     let Ok(()) = jobs.submit_all(alloc, world.works()) else {
         drop(performed);
         return Err(AllocError);
@@ -64,6 +66,7 @@ pub fn come<'s, R, J>(
     poller: &Poller,
     jobs: &mut Submissions<'s, J>,
     world: &mut World<'s>,
+    stack: &mut Stack<Frame<'s>>,
     posted: &Posted,
     body: &'s Body,
 ) -> Result<(), AllocError>
@@ -78,13 +81,10 @@ where
     if world.is_stopped() {
         return Ok(());
     }
-    let mut stack = Stack::new(alloc);
-    let performed = begin_post(world, &mut stack, posted, body)?;
-    let Ok(()) = jobs.submit_all(alloc, world.works()) else {
-        drop(performed);
-        return Err(AllocError);
-    };
-    run(rt, alloc, poller, jobs, world, stack, performed)
+    stack.clear();
+    begin_post(world, stack, posted, body)?;
+    jobs.submit_all(alloc, world.works())?;
+    run(rt, alloc, poller, jobs, world, stack, Performed::Done)
 }
 
 /// Goes on until the stack is empty, or the run has stopped: then what is left on the stack would change nothing.
@@ -95,7 +95,7 @@ fn run<'s, R, J>(
     poller: &Poller,
     jobs: &mut Submissions<'s, J>,
     world: &mut World<'s>,
-    stack: Stack<Frame<'s>>,
+    stack: &mut Stack<Frame<'s>>,
     performed: Performed<'s>,
 ) -> Result<(), AllocError>
 where
@@ -103,17 +103,16 @@ where
     J: JobSource,
     requires bounded { Bounded world.old }
     requires jobs { jobs.old ≡ world.old.works }
-    ensures ends { OnOk result (Ends stack.entry performed.entry world.old world.new) }
+    ensures ends { OnOk result (Ends stack.old performed.entry world.old world.new) }
     ensures jobs { OnOk result (jobs.new ≡ world.new.works) }
 {
-    let mut stack = stack;
     let mut last = performed;
     'turns: while !world.is_stopped() {
         let Some(frame) = stack.pop() else {
             drop(last);
             return Ok(());
         };
-        last = go_on_with(rt, alloc, poller, jobs, world, &mut stack, frame, last)?;
+        go_on_with(rt, alloc, poller, jobs, world, stack, &mut last, frame)?;
     }
     drop(last);
     Ok(())
@@ -128,23 +127,20 @@ fn go_on_with<'s, R, J>(
     jobs: &mut Submissions<'s, J>,
     world: &mut World<'s>,
     stack: &mut Stack<Frame<'s>>,
+    performed: &mut Performed<'s>,
     frame: Frame<'s>,
-    performed: Performed<'s>,
-) -> Result<Performed<'s>, AllocError>
+) -> Result<(), AllocError>
 where
     R: Wait + RandomSource + AllocGlobal,
     J: JobSource,
     requires bounded { Bounded world.old }
     requires jobs { jobs.old ≡ world.old.works }
-    ensures turned { IfOk result (λ next. (stack.new, next, world.new) ≡ turned frame.entry performed.entry world.old over stack.old) }
+    ensures turned { OnOk result ((stack.new, performed.new, world.new) ≡ turned frame.entry performed.old world.old over stack.old) }
     ensures jobs { OnOk result (jobs.new ≡ world.new.works) }
 {
-    let end = turn(alloc, poller, world, stack, frame, performed)?;
-    let Ok(()) = jobs.submit_all(alloc, world.works()) else {
-        drop(end);
-        return Err(AllocError);
-    };
-    finish_turn(rt, alloc, jobs, world, stack, end)
+    let end = turn(alloc, poller, world, stack, performed, frame)?;
+    jobs.submit_all(alloc, world.works())?;
+    finish_turn(rt, alloc, jobs, world, stack, performed, end)
 }
 
 /// What a turn has come to; where that is a job's result, the Deferred is fired with it, and it may wait for the job.
@@ -155,20 +151,22 @@ fn finish_turn<'s, R, J>(
     jobs: &mut Submissions<'s, J>,
     world: &mut World<'s>,
     stack: &mut Stack<Frame<'s>>,
-    end: TurnEnd<'s>,
-) -> Result<Performed<'s>, AllocError>
+    performed: &mut Performed<'s>,
+    end: TurnEnd,
+) -> Result<(), AllocError>
 where
     R: Wait + RandomSource + AllocGlobal,
     J: JobSource,
     requires { jobs.old ≡ world.old.works }
-    ensures ended { IfOk result (λ next. (stack.new, next, world.new) ≡ ended_with end.entry world.old over stack.old) }
+    ensures ended { OnOk result ((stack.new, performed.new, world.new) ≡ ended_with end performed.old world.old over stack.old) }
     ensures jobs { OnOk result (jobs.new ≡ world.new.works) }
 {
     match end {
-        TurnEnd::Came(performed) => Ok(performed),
+        TurnEnd::Came => Ok(()),
         TurnEnd::Delivers(job, id) => {
             let value = jobs.outcome(rt, alloc, job)?;
-            deliver(world, stack, id, value)
+            *performed = Performed::Done;
+            deliver(world, stack, performed, id, value)
         }
     }
 }

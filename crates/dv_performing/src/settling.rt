@@ -1,24 +1,25 @@
-ghost use Rattle.std.specs.Prelude.{◌≡◌, Some, IfOk, OnOk};
+ghost use Rattle.std.specs.Prelude.{◌≡◌, Some, OnOk};
 ghost use Rattle.dv_value.specs.Failure.{is_fault};
 ghost use Rattle.dv_objects.specs.Pair.{side_for};
 ghost use Rattle.dv_store.specs.declared.store.Step.TheVariants.{Run};
 ghost use Rattle.dv_world.specs.World.{step};
+ghost use Rattle.dv_objects.specs.declared.performed.Performed.TheVariants.{Done};
 ghost use Rattle.dv_performing.specs.Settling.{place, side_begun, settled};
 ghost use Rattle.dv_frames.specs.Turn.{◌over◌, settling};
 
 use dv_bodies::inlining::resume;
-use dv_frames::following::{done, fire_and_settle, settle_after, settle_both, whole};
+use dv_frames::following::{fire_and_settle, settle_after, settle_both, whole};
 use dv_frames::frame::{Frame, Purpose};
 use dv_frames::maybe::perform_for;
 use dv_journal::deferred_id::DeferredId;
 use dv_objects::given::Given;
+use dv_objects::input::Input;
 use dv_objects::pair::{Pair, Side};
 use dv_objects::performed::Performed;
 use dv_objects::timed::timed;
 use dv_store::store::Step;
 use dv_timing::cooperating::{end_hold, fail_where};
 use dv_timing::looping::{end_turn, fail_turn};
-use dv_value::boxed::Boxed;
 use dv_value::stack::Stack;
 use dv_value::value::Value;
 use dv_waiting::listing::{come, results};
@@ -32,14 +33,16 @@ pub fn settle<'s>(
     alloc: Global,
     world: &mut World<'s>,
     stack: &mut Stack<Frame<'s>>,
+    performed: &mut Performed<'s>,
     id: DeferredId,
-) -> Result<Performed<'s>, AllocError>
-    ensures { IfOk result (λ performed. (stack.new, performed, world.new) ≡ settled id (step id world.old).0 (step id world.old).1 over stack.old) }
+) -> Result<(), AllocError>
+    requires done { performed.old ≡ Done }
+    ensures { OnOk result ((stack.new, performed.new, world.new) ≡ settled id (step id world.old).0 (step id world.old).1 over stack.old) }
 {
     match world.step(id)? {
-        Step::Nothing => Ok(Performed::Done),
+        Step::Nothing => Ok(()),
         Step::Passed => settle_after(stack, id),
-        Step::Run(pair) => run(alloc, world, stack, id, pair),
+        Step::Run(pair) => run(alloc, world, stack, performed, id, pair),
         Step::Handed(to) => settle_both(stack, id, to),
     }
 }
@@ -49,17 +52,19 @@ fn run<'s>(
     alloc: Global,
     world: &mut World<'s>,
     stack: &mut Stack<Frame<'s>>,
+    performed: &mut Performed<'s>,
     id: DeferredId,
     pair: Pair<'s>,
-) -> Result<Performed<'s>, AllocError>
-    ensures { IfOk result (λ performed. (stack.new, performed, world.new) ≡ settled id (Run pair.entry) world.old over stack.old) }
+) -> Result<(), AllocError>
+    requires done { performed.old ≡ Done }
+    ensures { OnOk result ((stack.new, performed.new, world.new) ≡ settled id (Run pair.entry) world.old over stack.old) }
 {
     if stack.push(Frame::Place(id)).is_err() {
         drop(pair);
         return Err(AllocError);
     }
     match world.value(id) {
-        Ok(input) => begin_side(alloc, world, stack, id, pair, input),
+        Ok(input) => begin_side(alloc, world, stack, performed, id, pair, input),
         Err(AllocError) => {
             drop(pair);
             Err(AllocError)
@@ -72,15 +77,20 @@ fn begin_side<'s>(
     alloc: Global,
     world: &mut World<'s>,
     stack: &mut Stack<Frame<'s>>,
+    performed: &mut Performed<'s>,
     id: DeferredId,
     pair: Pair<'s>,
     input: Value,
-) -> Result<Performed<'s>, AllocError>
-    ensures { IfOk result (λ performed. (stack.new, performed, world.new) ≡ side_begun id (side_for pair.entry (is_fault input)) input world.old over stack.old) }
+) -> Result<(), AllocError>
+    requires done { performed.old ≡ Done }
+    ensures { OnOk result ((stack.new, performed.new, world.new) ≡ side_begun id (side_for pair.entry (is_fault input)) input world.old over stack.old) }
 {
     match pair.into_side(input.is_fault()) {
-        None => Ok(Performed::Gave(Given::own(input))),
-        Some(side) => begin(alloc, world, stack, id, side, input),
+        None => {
+            *performed = Performed::Gave(Given::own(input));
+            Ok(())
+        }
+        Some(side) => begin(alloc, world, stack, performed, id, side, input),
     }
 }
 
@@ -89,45 +99,52 @@ fn begin<'s>(
     alloc: Global,
     world: &mut World<'s>,
     stack: &mut Stack<Frame<'s>>,
+    performed: &mut Performed<'s>,
     id: DeferredId,
     side: Side<'s>,
     input: Value,
-) -> Result<Performed<'s>, AllocError>
-    ensures { IfOk result (λ performed. (stack.new, performed, world.new) ≡ side_begun id (Some side.entry) input world.old over stack.old) }
+) -> Result<(), AllocError>
+    requires done { performed.old ≡ Done }
+    ensures { OnOk result ((stack.new, performed.new, world.new) ≡ side_begun id (Some side.entry) input world.old over stack.old) }
 {
     match side {
-        Side::Body(body) => done(stack.push(Frame::Rest(whole(Some(id), body, input)))),
-        Side::Fire(to) => fire_and_settle(world, stack, to, input),
+        Side::Body(body) => {
+            let input = Input::new(alloc, input)?;
+            stack.push(Frame::Rest(whole(Some(id), body, input)))
+        }
+        Side::Fire(to) => fire_and_settle(world, stack, performed, to, input),
         Side::Timed(timer) => {
             let over = world.has_timed_out(timer);
             let given = timed(alloc, world.classes(), over, input)?;
-            Ok(Performed::Gave(given))
+            *performed = Performed::Gave(given);
+            Ok(())
         }
         Side::EndTimer(timer) => {
             world.end_timer(timer);
-            Ok(Performed::Gave(Given::own(input)))
+            *performed = Performed::Gave(Given::own(input));
+            Ok(())
         }
-        Side::Come(child) => come(world, stack, child, input),
-        Side::Results => results(alloc, input),
+        Side::Come(child) => come(world, stack, performed, child, input),
+        Side::Results => results(alloc, performed, input),
         Side::Hold(lock, body) => {
             drop(input);
-            done(perform_for(stack, Purpose::Holding(lock), body))
+            perform_for(stack, Purpose::Holding(lock), body)
         }
         Side::Release(lock) => {
             stack.push(Frame::Give(Performed::Gave(Given::own(input))))?;
-            give_back(alloc, world, stack, lock)
+            give_back(alloc, world, stack, performed, lock)
         }
         Side::NextTurn(looping) => {
             drop(input);
-            end_turn(alloc, world, stack, looping)
+            end_turn(alloc, world, stack, performed, looping)
         }
         Side::EndLoop(looping) => {
             world.end_loop(looping);
-            fail_turn(world, stack, looping, input)
+            fail_turn(world, stack, performed, looping, input)
         }
         Side::ResumeTask(task) => {
             drop(input);
-            end_hold(alloc, world, task)
+            end_hold(alloc, world, performed, task)
         }
         Side::FailTask(task) => fail_where(world, stack, task, input.into_failure()),
         Side::Resume(inline) => resume(world, stack, inline, input),
@@ -140,11 +157,11 @@ pub fn end_side<'s>(
     world: &mut World<'s>,
     stack: &mut Stack<Frame<'s>>,
     id: DeferredId,
-    performed: Performed<'s>,
-) -> Result<Performed<'s>, AllocError>
-    ensures { IfOk result (λ next. (stack.new, next, world.new) ≡ settling id (place id performed.entry world.old) over stack.old) }
+    came: Performed<'s>,
+) -> Result<(), AllocError>
+    ensures { OnOk result ((stack.new, Done, world.new) ≡ settling id (place id came.entry world.old) over stack.old) }
 {
-    place(alloc, world, id, performed)?;
+    place(alloc, world, id, came)?;
     settle_after(stack, id)
 }
 
@@ -160,7 +177,7 @@ fn place<'s>(
     match performed {
         Performed::Done => world.put(id, Value::Null),
         Performed::Gave(given) => world.put(id, given.make(alloc)?),
-        Performed::Raised(failure) => world.put(id, Value::Fault(Boxed::new(alloc, failure)?)),
+        Performed::Raised(failure) => world.put(id, Value::Fault(failure)),
         Performed::Awaits(given) => world.put_deferred(id, given),
     }
 }

@@ -2,24 +2,23 @@ ghost use Rattle.std.specs.Prelude.{◌≡◌};
 ghost use Rattle.dv_performing.specs.TurnEnds.{once_come};
 
 use dv_journal::deferred_id::DeferredId;
-use dv_objects::performed::Performed;
 use std::alloc::AllocError;
 
 /// How a turn ends.
 #[derive(Drop)]
-pub enum TurnEnd<'s> {
-    /// It has come to this.
-    Came(Performed<'s>),
+pub enum TurnEnd {
+    /// It has come to something.
+    Came,
     /// The Deferred is to be fired with what the job of this number has come to.
     Delivers(u32, DeferredId),
 }
 
-/// A turn has come to this, where it was done.
-pub fn came<'s>(what: Result<Performed<'s>, AllocError>) -> Result<TurnEnd<'s>, AllocError>
-    ensures { result ≡ once_come what.entry }
+/// A turn has come to something, where it was done.
+pub fn came(what: Result<(), AllocError>) -> Result<TurnEnd, AllocError>
+    ensures { result ≡ once_come what }
 {
     match what {
-        Ok(performed) => Ok(TurnEnd::Came(performed)),
+        Ok(()) => Ok(TurnEnd::Came),
         Err(error) => Err(error),
     }
 }

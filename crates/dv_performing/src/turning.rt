@@ -1,6 +1,7 @@
 //! One turn: the frame on top of the stack, by its rule.
 
-ghost use Rattle.std.specs.Prelude.{◌≡◌, IfOk};
+ghost use Rattle.std.specs.Prelude.{◌≡◌, IfOk, OnOk};
+ghost use Rattle.dv_objects.specs.declared.performed.Performed.TheVariants.{Done};
 ghost use Rattle.dv_frames.specs.Bounds.{Bounded};
 ghost use Rattle.dv_performing.specs.TurnEnds.{ended_with};
 ghost use Rattle.dv_performing.specs.Performing.{gone_on, rest_turned};
@@ -10,13 +11,14 @@ ghost use Rattle.dv_performing.specs.Turning.{turned};
 use crate::acting::begin;
 use crate::coming_due::run_due;
 use crate::settling::{end_side, settle};
+use crate::taking::taken;
 use crate::turn_end::{TurnEnd, came};
 use crate::wanting;
 use dv_frames::cancelling::{cancel, end_canceller};
 use dv_frames::following::add_and_settle;
 use dv_frames::frame::{Frame, Rest};
 use dv_frames::maybe::{end_maybe, give_after};
-use dv_frames::raising::{raised_by, tell_failure};
+use dv_frames::raising::tell_failure;
 use dv_inline::poller::Poller;
 use dv_objects::performed::Performed;
 use dv_timing::cooperating::{end_step, go_on_ticking, notify};
@@ -31,46 +33,55 @@ pub fn turn<'s>(
     poller: &Poller,
     world: &mut World<'s>,
     stack: &mut Stack<Frame<'s>>,
+    performed: &mut Performed<'s>,
     frame: Frame<'s>,
-    performed: Performed<'s>,
-) -> Result<TurnEnd<'s>, AllocError>
+) -> Result<TurnEnd, AllocError>
     requires bounded { Bounded world.old }
-    ensures { IfOk result (λ end. (ended_with end world.new over stack.new) ≡ (turned frame.entry performed.entry world.old over stack.old)) }
+    ensures { IfOk result (λ end. (ended_with end performed.new world.new over stack.new) ≡ (turned frame.entry performed.old world.old over stack.old)) }
 {
     match frame {
         Frame::Settle(id) => {
-            drop(performed);
-            came(settle(alloc, world, stack, id))
+            *performed = Performed::Done;
+            came(settle(alloc, world, stack, performed, id))
         }
-        Frame::Place(id) => came(end_side(alloc, world, stack, id, performed)),
-        Frame::Rest(rest) => came(go_on_unless_raised(alloc, world, stack, rest, performed)),
-        Frame::Canceller(id) => came(end_canceller(alloc, world, stack, id, performed)),
-        Frame::Maybe(purpose) => came(end_maybe(alloc, world, stack, purpose, performed)),
+        Frame::Place(id) => came(end_side(alloc, world, stack, id, taken(performed))),
+        Frame::Rest(rest) => came(go_on_unless_raised(alloc, world, stack, performed, rest)),
+        Frame::Canceller(id) => {
+            let came_to = taken(performed);
+            came(end_canceller(alloc, world, stack, performed, id, came_to))
+        }
+        Frame::Maybe(purpose) => {
+            let came_to = taken(performed);
+            came(end_maybe(alloc, world, stack, performed, purpose, came_to))
+        }
         Frame::Add(id, pair) => {
-            drop(performed);
+            *performed = Performed::Done;
             came(add_and_settle(world, stack, id, pair))
         }
         Frame::Cancel(id) => {
-            drop(performed);
-            came(cancel(alloc, world, stack, id))
+            *performed = Performed::Done;
+            came(cancel(alloc, world, stack, performed, id))
         }
-        Frame::Give(given) => Ok(TurnEnd::Came(give_after(given, performed))),
+        Frame::Give(given) => {
+            give_after(performed, given);
+            Ok(TurnEnd::Came)
+        }
         Frame::Notify(id, task) => {
-            drop(performed);
-            came(notify(alloc, world, stack, id, task))
+            *performed = Performed::Done;
+            came(notify(alloc, world, stack, performed, id, task))
         }
-        Frame::Stepped(task) => came(end_step(alloc, world, stack, task, performed)),
+        Frame::Stepped(task) => came(end_step(alloc, world, stack, task, taken(performed))),
         Frame::Tick(units) => {
-            drop(performed);
+            *performed = Performed::Done;
             came(go_on_ticking(world, stack, units))
         }
-        Frame::Tell => came(tell_failure(alloc, world, performed)),
+        Frame::Tell => came(tell_failure(alloc, world, taken(performed))),
         Frame::Due => {
-            drop(performed);
+            *performed = Performed::Done;
             run_due(world, stack)
         }
         Frame::Inline(inlining) => {
-            came(wanting::go_on(alloc, poller, world, stack, inlining, performed))
+            came(wanting::go_on(alloc, poller, world, stack, performed, inlining))
         }
     }
 }
@@ -80,18 +91,21 @@ fn go_on_unless_raised<'s>(
     alloc: Global,
     world: &mut World<'s>,
     stack: &mut Stack<Frame<'s>>,
+    performed: &mut Performed<'s>,
     rest: Rest<'s>,
-    performed: Performed<'s>,
-) -> Result<Performed<'s>, AllocError>
+) -> Result<(), AllocError>
     requires bounded { Bounded world.old }
-    ensures { IfOk result (λ next. (stack.new, next, world.new) ≡ rest_turned rest.entry performed.entry world.old over stack.old) }
+    ensures { OnOk result ((stack.new, performed.new, world.new) ≡ rest_turned rest.entry performed.old world.old over stack.old) }
 {
-    match raised_by(performed) {
-        Some(failure) => {
+    match performed {
+        Performed::Raised(_) => {
             drop(rest);
-            Ok(Performed::Raised(failure))
+            Ok(())
         }
-        None => go_on(alloc, world, stack, rest),
+        Performed::Done | Performed::Gave(_) | Performed::Awaits(_) => {
+            *performed = Performed::Done;
+            go_on(alloc, world, stack, performed, rest)
+        }
     }
 }
 
@@ -100,10 +114,12 @@ fn go_on<'s>(
     alloc: Global,
     world: &mut World<'s>,
     stack: &mut Stack<Frame<'s>>,
+    performed: &mut Performed<'s>,
     rest: Rest<'s>,
-) -> Result<Performed<'s>, AllocError>
+) -> Result<(), AllocError>
     requires bounded { Bounded world.old }
-    ensures { IfOk result (λ next. (stack.new, next, world.new) ≡ gone_on rest.entry.itself rest.entry.actions rest.entry.end rest.entry.input world.old over stack.old) }
+    requires done { performed.old ≡ Done }
+    ensures { OnOk result ((stack.new, performed.new, world.new) ≡ gone_on rest.entry.itself rest.entry.actions rest.entry.end rest.entry.input world.old over stack.old) }
 {
     let Rest {
         itself,
@@ -111,16 +127,20 @@ fn go_on<'s>(
         end,
         input,
     } = rest;
+    let bound = &itself;
     match actions.split() {
-        None => Ok(ended(alloc, world, itself, end.get(), input)?),
+        None => {
+            *performed = ended(alloc, world, *bound, end.get(), input.into_value())?;
+            Ok(())
+        }
         Some((action, actions)) => {
             stack.push(Frame::Rest(Rest {
-                itself,
+                itself: *bound,
                 actions,
                 end,
                 input,
             }))?;
-            begin(alloc, world, stack, itself, action)
+            begin(alloc, world, stack, performed, *bound, action)
         }
     }
 }

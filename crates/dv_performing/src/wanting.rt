@@ -1,10 +1,12 @@
-ghost use Rattle.std.specs.Prelude.{◌≡◌, IfOk};
+ghost use Rattle.std.specs.Prelude.{◌≡◌, OnOk};
+ghost use Rattle.dv_objects.specs.declared.performed.Performed.TheVariants.{Done};
 ghost use Rattle.dv_frames.specs.Bounds.{Bounded};
 ghost use Rattle.dv_frames.specs.Turn.{◌over◌};
 ghost use Rattle.dv_performing.specs.Wanting.{wanted, reached, inline_turned};
 ghost use Rattle.dv_inline.specs.Position.{come, want_at};
 
 use crate::acting::begin;
+use crate::taking::taken;
 use dv_bodies::inlining::{begin_await, end_action, end_await};
 use dv_frames::following::fire_and_settle;
 use dv_frames::frame::{Frame, Inlining};
@@ -24,20 +26,22 @@ pub fn go_on<'s>(
     poller: &Poller,
     world: &mut World<'s>,
     stack: &mut Stack<Frame<'s>>,
+    performed: &mut Performed<'s>,
     inlining: Inlining<'s>,
-    performed: Performed<'s>,
-) -> Result<Performed<'s>, AllocError>
+) -> Result<(), AllocError>
     requires bounded { Bounded world.old }
-    ensures { IfOk result (λ next. (stack.new, next, world.new) ≡ inline_turned inlining.entry performed.entry world.old over stack.old) }
+    ensures { OnOk result ((stack.new, performed.new, world.new) ≡ inline_turned inlining.entry performed.old world.old over stack.old) }
 {
     match inlining {
         Inlining::Goes(inline, body) => {
-            drop(performed);
-            poll(alloc, poller, world, stack, inline, body)
+            *performed = Performed::Done;
+            poll(alloc, poller, world, stack, performed, inline, body)
         }
-        Inlining::Acted(inline, body) => end_action(alloc, world, stack, inline, body, performed),
+        Inlining::Acted(inline, body) => {
+            end_action(world, stack, inline, body, taken(performed))
+        }
         Inlining::Awaited(inline, awaited, body) => {
-            drop(performed);
+            *performed = Performed::Done;
             end_await(world, stack, inline, awaited, body)
         }
     }
@@ -49,16 +53,18 @@ fn poll<'s>(
     poller: &Poller,
     world: &mut World<'s>,
     stack: &mut Stack<Frame<'s>>,
+    performed: &mut Performed<'s>,
     inline: Inline,
     body: InlineBody<'s>,
-) -> Result<Performed<'s>, AllocError>
+) -> Result<(), AllocError>
     requires bounded { Bounded world.old }
-    ensures { IfOk result (λ next. (stack.new, next, world.new) ≡ reached inline (come body.entry).result (come body.entry) world.old over stack.old) }
+    requires done { performed.old ≡ Done }
+    ensures { OnOk result ((stack.new, performed.new, world.new) ≡ reached inline (come body.entry).result (come body.entry) world.old over stack.old) }
 {
     let mut body = body;
     match poller.poll(&mut body) {
-        Poll::Ready(outcome) => fire_and_settle(world, stack, inline.of, outcome?),
-        Poll::Pending => want(alloc, world, stack, inline, body),
+        Poll::Ready(outcome) => fire_and_settle(world, stack, performed, inline.of, outcome?),
+        Poll::Pending => want(alloc, world, stack, performed, inline, body),
     }
 }
 
@@ -67,21 +73,25 @@ fn want<'s>(
     alloc: Global,
     world: &mut World<'s>,
     stack: &mut Stack<Frame<'s>>,
+    performed: &mut Performed<'s>,
     inline: Inline,
     body: InlineBody<'s>,
-) -> Result<Performed<'s>, AllocError>
+) -> Result<(), AllocError>
     requires bounded { Bounded world.old }
-    ensures { IfOk result (λ next. (stack.new, next, world.new) ≡ wanted inline (want_at body.entry) body.entry world.old over stack.old) }
+    requires done { performed.old ≡ Done }
+    ensures { OnOk result ((stack.new, performed.new, world.new) ≡ wanted inline (want_at body.entry) body.entry world.old over stack.old) }
 {
     match body.want() {
         None => {
             drop(body);
-            Ok(Performed::Done)
+            Ok(())
         }
         Some(Want::Do(action)) => {
+            let of = inline.of;
+            let action = action.get();
             stack.push(Frame::Inline(Inlining::Acted(inline, body)))?;
-            begin(alloc, world, stack, Some(inline.of), action.get())
+            begin(alloc, world, stack, performed, Some(of), action)
         }
-        Some(Want::Await(name)) => Ok(begin_await(alloc, world, stack, inline, name, body)?),
+        Some(Want::Await(name)) => begin_await(alloc, world, stack, inline, name, body),
     }
 }

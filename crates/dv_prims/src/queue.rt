@@ -74,7 +74,7 @@ impl Queue {
             return Err(Stop::Limit);
         }
         let kept = Text::of(alloc, name)?;
-        let shown = Text::of(alloc, name)?;
+        let shown = Boxed::new(alloc, Text::of(alloc, name)?)?;
         journal.write(Entry::Queue(shown, size, backlog))?;
         Ok(empty(alloc, kept, size, backlog))
     }

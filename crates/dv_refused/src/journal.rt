@@ -5,7 +5,6 @@ use dv_journal::entry::Entry;
 use dv_journal::error::{PrintFault, Stop};
 use dv_journal::journal::Journal;
 use dv_journal::memory_sink::MemorySink;
-use dv_value::boxed::Boxed;
 use dv_value::class_id::ClassId;
 use dv_value::fault::failure;
 use dv_value::text::Text;
@@ -40,8 +39,7 @@ fn entry(alloc: Global, number: u32) -> Result<Entry, AllocError> {
 
 /// That a failure of this message was handled by nobody.
 fn unhandled(alloc: Global, message: Text) -> Result<Entry, AllocError> {
-    let failure = failure(alloc, ClassId::VALUE_ERROR, message.as_str())?;
-    Ok(Entry::Unhandled(Boxed::new(alloc, failure)?))
+    Ok(Entry::Unhandled(failure(alloc, ClassId::VALUE_ERROR, message.as_str())?))
 }
 
 fn write(alloc: Global, trial: &mut Trial, journal: &mut Journal, number: u32) -> Result<(), Stop> {

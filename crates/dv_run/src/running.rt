@@ -88,6 +88,7 @@ where
     G: Gate + Sync,
     requires { workers ≤ MOST_WORKERS }
     ensures ok { IfOk result (λ kept. Prints (R.left reader.old) (W.taken writer.old) (W.taken writer.new) kept.report) }
+    ensures script { IfOk result (λ kept. SaysScript (R.left reader.old) kept.script) }
     ensures err { IfErr result (λ fault. GivesUp fault (R.left reader.old) (W.taken writer.old) (W.taken writer.new)) }
     ensures reader { ReaderFailed (reported result) (R.failures reader.old) (R.failures reader.new) }
     ensures writer { WriterFailed (reported result) (W.failures writer.old) (W.failures writer.new) }

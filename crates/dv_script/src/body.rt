@@ -1,4 +1,5 @@
 use crate::action::Action;
+use dv_value::boxed::Boxed;
 use dv_value::class_id::ClassId;
 use dv_value::items::Items;
 use dv_value::text::Text;
@@ -16,7 +17,7 @@ pub enum End {
     /// A failure of this class and message.
     Raise(ClassId, Text),
     /// The value, where the input is a failure of one of these classes (Twisted: `Failure.trap`).
-    Trap(Items<ClassId>, Value),
+    Trap(Items<ClassId>, Boxed<Value>),
     /// The Deferred of this name.
     Wait(Text),
 }

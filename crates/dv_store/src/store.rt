@@ -325,8 +325,9 @@ impl<P: Sides + Drop, K: Drop> Store<P, K> {
     fn drop_first(&mut self, id: DeferredId)
         ensures { self.new ≡ changing id without_first self.old }
     {
+        let alloc = self.alloc;
         if let Some(record) = self.records.get_mut(id.number() as usize) {
-            let _ = record.items.pop_front();
+            let _ = record.items.take_front(alloc);
         }
     }
 
@@ -338,9 +339,10 @@ impl<P: Sides + Drop, K: Drop> Store<P, K> {
     {
         let place = id.number() as usize;
         journal.write(Entry::Run(id))?;
+        let alloc = self.alloc;
         let record = &mut self.records[place];
         record.running = true;
-        match record.items.pop_front() {
+        match record.items.take_front(alloc) {
             Some(Item::Pair(pair)) => Ok(Step::Run(pair)),
             Some(Item::HandOver(_)) | None => unreachable!(),
         }
@@ -358,8 +360,9 @@ impl<P: Sides + Drop, K: Drop> Store<P, K> {
     {
         let place = id.number() as usize;
         tell_hand(self.alloc, journal, id, to, &self.records[place].value)?;
+        let alloc = self.alloc;
         let record = &mut self.records[place];
-        let _ = record.items.pop_front();
+        let _ = record.items.take_front(alloc);
         let value = mem::replace(&mut record.value, Value::Null);
         self.set_handed(to, value);
         Ok(Step::Handed(to))

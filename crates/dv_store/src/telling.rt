@@ -9,6 +9,7 @@ use dv_journal::deferred_id::DeferredId;
 use dv_journal::entry::Entry;
 use dv_journal::error::Stop;
 use dv_journal::journal::Journal;
+use dv_value::boxed::Boxed;
 use dv_value::value::Value;
 use std::alloc::Global;
 
@@ -54,7 +55,7 @@ pub(crate) fn tell_take(
     ensures limit { IsErrOf result Stop.Limit ↔ (fits journal.old (entry.Take id from value.now) ≡ false) }
     ensures err { OnErr result (journal.new ≡ journal.old) }
 {
-    let shown = shown(alloc, journal, value)?;
+    let shown = Boxed::new(alloc, shown(alloc, journal, value)?)?;
     journal.write(Entry::Take(id, from, shown))
 }
 
@@ -70,7 +71,7 @@ pub(crate) fn tell_hand(
     ensures limit { IsErrOf result Stop.Limit ↔ (fits journal.old (entry.Hand from to value.now) ≡ false) }
     ensures err { OnErr result (journal.new ≡ journal.old) }
 {
-    let shown = shown(alloc, journal, value)?;
+    let shown = Boxed::new(alloc, shown(alloc, journal, value)?)?;
     journal.write(Entry::Hand(from, to, shown))
 }
 

@@ -1,22 +1,23 @@
-ghost use Rattle.std.specs.Prelude.{◌≡◌, [], ◌++◌, slice_get, IfOk, OnOk};
+ghost use Rattle.std.specs.Prelude.{◌≡◌, [], ◌++◌, slice_get, OnOk};
 ghost use Rattle.dv_frames.specs.Bounds.{Bounded};
 ghost use Rattle.dv_timing.specs.Cooperating.{cooperated, notices, notified, when_done, when_done_named, pause_task_named, stop_task_named, resume_task_named, is_over, paused_of, resumed_of, stopped_of, task_over, hold_over, failed_by, stepped, stepped_by, step_begun, ticked, tick_stepped, tick_gone_on};
 ghost use Rattle.dv_frames.specs.Turn.{◌over◌};
 ghost use Rattle.dv_world.specs.World.{take_step as taken};
-ghost use Rattle.dv_objects.specs.declared.performed.Performed.TheVariants.{Awaits};
+ghost use Rattle.dv_objects.specs.declared.performed.Performed.TheVariants.{Done, Awaits};
 
 use dv_clock::task_id::TaskId;
-use dv_frames::following::{done, fire_and_settle, whole};
+use dv_frames::following::{fire_and_settle, whole};
 use dv_frames::frame::Frame;
 use dv_journal::deferred_id::DeferredId;
+use dv_objects::input::Input;
 use dv_objects::pair::Pair;
 use dv_objects::performed::Performed;
 use dv_objects::refusals::unbound;
 use dv_objects::task::TaskEnd;
 use dv_script::lent::{BodiesRef, BodyRef, TextRef};
+use dv_value::boxed::Boxed;
 use dv_value::failure::Failure;
 use dv_value::stack::Stack;
-use dv_value::value::Value;
 use dv_world::world::World;
 use dv_world::world::cooperating::not_paused;
 use std::alloc::{AllocError, Global};
@@ -26,11 +27,11 @@ pub fn cooperate<'s>(
     world: &mut World<'s>,
     name: TextRef<'s>,
     bodies: BodiesRef<'s>,
-) -> Result<Performed<'s>, AllocError>
-    ensures { IfOk result (λ performed. ([], performed, world.new) ≡ cooperated name.entry bodies.entry world.old) }
+) -> Result<(), AllocError>
+    ensures { OnOk result (([], Done, world.new) ≡ cooperated name.entry bodies.entry world.old) }
 {
     world.make_task(name, bodies)?;
-    done(world.keep_tick())
+    world.keep_tick()
 }
 
 /// Makes a Deferred that is fired when a task ends, which is given by its name (Twisted: `CooperativeTask.whenDone`).
@@ -38,15 +39,20 @@ pub fn when_done<'s>(
     alloc: Global,
     world: &mut World<'s>,
     stack: &mut Stack<Frame<'s>>,
+    performed: &mut Performed<'s>,
     name: TextRef<'s>,
     task: &str,
-) -> Result<Performed<'s>, AllocError>
+) -> Result<(), AllocError>
     requires bounded { Bounded world.old }
-    ensures { IfOk result (λ performed. (stack.new, performed, world.new) ≡ when_done_named name.entry task.now world.old over stack.old) }
+    requires done { performed.old ≡ Done }
+    ensures { OnOk result ((stack.new, performed.new, world.new) ≡ when_done_named name.entry task.now world.old over stack.old) }
 {
     match world.find_task(task) {
-        None => unbound(alloc, task),
-        Some(found) => ask_when(alloc, world, stack, name, found),
+        None => {
+            *performed = unbound(alloc, task)?;
+            Ok(())
+        }
+        Some(found) => ask_when(alloc, world, stack, performed, name, found),
     }
 }
 
@@ -56,16 +62,18 @@ fn ask_when<'s>(
     alloc: Global,
     world: &mut World<'s>,
     stack: &mut Stack<Frame<'s>>,
+    performed: &mut Performed<'s>,
     name: TextRef<'s>,
     task: TaskId,
-) -> Result<Performed<'s>, AllocError>
+) -> Result<(), AllocError>
     requires bounded { Bounded world.old }
-    ensures { IfOk result (λ performed. (stack.new, performed, world.new) ≡ when_done name.entry task world.old over stack.old) }
+    requires done { performed.old ≡ Done }
+    ensures { OnOk result ((stack.new, performed.new, world.new) ≡ when_done name.entry task world.old over stack.old) }
 {
     let id = world.next_id();
     world.make(Some(name), None)?;
     world.await_task(task, id)?;
-    notify(alloc, world, stack, id, task)
+    notify(alloc, world, stack, performed, id, task)
 }
 
 /// Fires a Deferred with what a task has come to, if it has ended.
@@ -73,32 +81,39 @@ pub fn notify<'s>(
     alloc: Global,
     world: &mut World<'s>,
     stack: &mut Stack<Frame<'s>>,
+    performed: &mut Performed<'s>,
     id: DeferredId,
     task: TaskId,
-) -> Result<Performed<'s>, AllocError>
-    ensures { IfOk result (λ performed. (stack.new, performed, world.new) ≡ notified id (slice_get world.old.objects.cooperator.tasks task) world.old over stack.old) }
+) -> Result<(), AllocError>
+    requires done { performed.old ≡ Done }
+    ensures { OnOk result ((stack.new, performed.new, world.new) ≡ notified id (slice_get world.old.objects.cooperator.tasks task) world.old over stack.old) }
 {
     let Some(found) = world.task(task) else {
-        return Ok(Performed::Done);
+        return Ok(());
     };
     let Some(end) = &found.end else {
-        return Ok(Performed::Done);
+        return Ok(());
     };
     let result = end.result(alloc, found.name.as_str())?;
-    fire_and_settle(world, stack, id, result)
+    fire_and_settle(world, stack, performed, id, result)
 }
 
 /// Pauses a task by its name (Twisted: `CooperativeTask.pause`).
 pub fn pause_task<'s>(
     alloc: Global,
     world: &mut World<'s>,
+    performed: &mut Performed<'s>,
     name: &str,
-) -> Result<Performed<'s>, AllocError>
-    ensures { IfOk result (λ performed. ([], performed, world.new) ≡ pause_task_named name.now world.old) }
+) -> Result<(), AllocError>
+    requires done { performed.old ≡ Done }
+    ensures { OnOk result (([], performed.new, world.new) ≡ pause_task_named name.now world.old) }
 {
     match world.find_task(name) {
-        None => unbound(alloc, name),
-        Some(task) => pause(alloc, world, task),
+        None => {
+            *performed = unbound(alloc, name)?;
+            Ok(())
+        }
+        Some(task) => pause(alloc, world, performed, task),
     }
 }
 
@@ -106,31 +121,41 @@ pub fn pause_task<'s>(
 fn pause<'s>(
     alloc: Global,
     world: &mut World<'s>,
+    performed: &mut Performed<'s>,
     task: TaskId,
-) -> Result<Performed<'s>, AllocError>
-    ensures { IfOk result (λ performed. ([], performed, world.new) ≡ paused_of task (slice_get world.old.objects.cooperator.tasks task) world.old) }
+) -> Result<(), AllocError>
+    requires done { performed.old ≡ Done }
+    ensures { OnOk result (([], performed.new, world.new) ≡ paused_of task (slice_get world.old.objects.cooperator.tasks task) world.old) }
 {
     let Some(found) = world.task(task) else {
-        return Ok(Performed::Done);
+        return Ok(());
     };
     if let Some(end) = &found.end {
-        return Ok(Performed::Raised(end.raised(alloc)?));
+        return {
+            *performed = Performed::Raised(end.raised(alloc)?);
+            Ok(())
+        };
     }
     world.pause_task(task)?;
-    done(world.keep_tick())
+    world.keep_tick()
 }
 
 /// Resumes a task by its name (Twisted: `CooperativeTask.resume`).
 pub fn resume_task<'s>(
     alloc: Global,
     world: &mut World<'s>,
+    performed: &mut Performed<'s>,
     name: &str,
-) -> Result<Performed<'s>, AllocError>
-    ensures { IfOk result (λ performed. ([], performed, world.new) ≡ resume_task_named name.now world.old) }
+) -> Result<(), AllocError>
+    requires done { performed.old ≡ Done }
+    ensures { OnOk result (([], performed.new, world.new) ≡ resume_task_named name.now world.old) }
 {
     match world.find_task(name) {
-        None => unbound(alloc, name),
-        Some(task) => resume(alloc, world, task),
+        None => {
+            *performed = unbound(alloc, name)?;
+            Ok(())
+        }
+        Some(task) => resume(alloc, world, performed, task),
     }
 }
 
@@ -138,18 +163,21 @@ pub fn resume_task<'s>(
 fn resume<'s>(
     alloc: Global,
     world: &mut World<'s>,
+    performed: &mut Performed<'s>,
     task: TaskId,
-) -> Result<Performed<'s>, AllocError>
-    ensures { IfOk result (λ performed. ([], performed, world.new) ≡ resumed_of task (slice_get world.old.objects.cooperator.tasks task) world.old) }
+) -> Result<(), AllocError>
+    requires done { performed.old ≡ Done }
+    ensures { OnOk result (([], performed.new, world.new) ≡ resumed_of task (slice_get world.old.objects.cooperator.tasks task) world.old) }
 {
     let Some(found) = world.task(task) else {
-        return Ok(Performed::Done);
+        return Ok(());
     };
     if found.pauses == 0 {
-        return not_paused(alloc);
+        *performed = not_paused(alloc)?;
+        return Ok(());
     }
     world.resume_task(task)?;
-    done(world.keep_tick())
+    world.keep_tick()
 }
 
 /// Stops a task by its name (Twisted: `CooperativeTask.stop`).
@@ -157,13 +185,18 @@ pub fn stop_task<'s>(
     alloc: Global,
     world: &mut World<'s>,
     stack: &mut Stack<Frame<'s>>,
+    performed: &mut Performed<'s>,
     name: &str,
-) -> Result<Performed<'s>, AllocError>
-    ensures { IfOk result (λ performed. (stack.new, performed, world.new) ≡ stop_task_named name.now world.old over stack.old) }
+) -> Result<(), AllocError>
+    requires done { performed.old ≡ Done }
+    ensures { OnOk result ((stack.new, performed.new, world.new) ≡ stop_task_named name.now world.old over stack.old) }
 {
     match world.find_task(name) {
-        None => unbound(alloc, name),
-        Some(task) => stop(alloc, world, stack, task),
+        None => {
+            *performed = unbound(alloc, name)?;
+            Ok(())
+        }
+        Some(task) => stop(alloc, world, stack, performed, task),
     }
 }
 
@@ -172,15 +205,20 @@ fn stop<'s>(
     alloc: Global,
     world: &mut World<'s>,
     stack: &mut Stack<Frame<'s>>,
+    performed: &mut Performed<'s>,
     task: TaskId,
-) -> Result<Performed<'s>, AllocError>
-    ensures { IfOk result (λ performed. (stack.new, performed, world.new) ≡ stopped_of task (slice_get world.old.objects.cooperator.tasks task) world.old over stack.old) }
+) -> Result<(), AllocError>
+    requires done { performed.old ≡ Done }
+    ensures { OnOk result ((stack.new, performed.new, world.new) ≡ stopped_of task (slice_get world.old.objects.cooperator.tasks task) world.old over stack.old) }
 {
     let Some(found) = world.task(task) else {
-        return Ok(Performed::Done);
+        return Ok(());
     };
     if let Some(end) = &found.end {
-        return Ok(Performed::Raised(end.raised(alloc)?));
+        return {
+            *performed = Performed::Raised(end.raised(alloc)?);
+            Ok(())
+        };
     }
     end(world, stack, task, TaskEnd::Stopped)
 }
@@ -191,12 +229,12 @@ fn end<'s>(
     stack: &mut Stack<Frame<'s>>,
     task: TaskId,
     end: TaskEnd,
-) -> Result<Performed<'s>, AllocError>
-    ensures { IfOk result (λ performed. (stack.new, performed, world.new) ≡ task_over task end world.old over stack.old) }
+) -> Result<(), AllocError>
+    ensures { OnOk result ((stack.new, Done, world.new) ≡ task_over task end world.old over stack.old) }
 {
     let waiting = world.end_task(task, end)?;
     notify_all(stack, task, waiting.as_slice())?;
-    done(world.keep_tick())
+    world.keep_tick()
 }
 
 /// Each Deferred that waits for the end of a task is to be fired, in order.
@@ -218,14 +256,16 @@ fn notify_all<'s>(
 pub fn end_hold<'s>(
     alloc: Global,
     world: &mut World<'s>,
+    performed: &mut Performed<'s>,
     task: TaskId,
-) -> Result<Performed<'s>, AllocError>
-    ensures { IfOk result (λ performed. ([], performed, world.new) ≡ hold_over task world.old) }
+) -> Result<(), AllocError>
+    requires done { performed.old ≡ Done }
+    ensures { OnOk result (([], performed.new, world.new) ≡ hold_over task world.old) }
 {
     if has_ended(world, task) {
-        return Ok(Performed::Done);
+        return Ok(());
     }
-    resume(alloc, world, task)
+    resume(alloc, world, performed, task)
 }
 
 /// A task ends with a failure, where there is one, unless it has ended.
@@ -233,12 +273,12 @@ pub fn fail_where<'s>(
     world: &mut World<'s>,
     stack: &mut Stack<Frame<'s>>,
     task: TaskId,
-    failure: Option<Failure>,
-) -> Result<Performed<'s>, AllocError>
-    ensures { IfOk result (λ performed. (stack.new, performed, world.new) ≡ failed_by task failure world.old over stack.old) }
+    failure: Option<Boxed<Failure>>,
+) -> Result<(), AllocError>
+    ensures { OnOk result ((stack.new, Done, world.new) ≡ failed_by task failure world.old over stack.old) }
 {
     match failure {
-        None => Ok(Performed::Done),
+        None => Ok(()),
         Some(failure) => end(world, stack, task, TaskEnd::Failed(failure)),
     }
 }
@@ -249,15 +289,15 @@ pub fn end_step<'s>(
     world: &mut World<'s>,
     stack: &mut Stack<Frame<'s>>,
     task: TaskId,
-    performed: Performed<'s>,
-) -> Result<Performed<'s>, AllocError>
-    ensures { IfOk result (λ next. (stack.new, next, world.new) ≡ stepped task performed.entry world.old over stack.old) }
+    came: Performed<'s>,
+) -> Result<(), AllocError>
+    ensures { OnOk result ((stack.new, Done, world.new) ≡ stepped task came.entry world.old over stack.old) }
 {
     if has_ended(world, task) {
-        drop(performed);
-        return Ok(Performed::Done);
+        drop(came);
+        return Ok(());
     }
-    use_step(alloc, world, stack, task, performed)
+    use_step(alloc, world, stack, task, came)
 }
 
 /// A body of a task that hasn't ended has ended.
@@ -266,12 +306,12 @@ fn use_step<'s>(
     world: &mut World<'s>,
     stack: &mut Stack<Frame<'s>>,
     task: TaskId,
-    performed: Performed<'s>,
-) -> Result<Performed<'s>, AllocError>
-    ensures { IfOk result (λ next. (stack.new, next, world.new) ≡ stepped_by task performed.entry world.old over stack.old) }
+    came: Performed<'s>,
+) -> Result<(), AllocError>
+    ensures { OnOk result ((stack.new, Done, world.new) ≡ stepped_by task came.entry world.old over stack.old) }
 {
-    match performed {
-        Performed::Done => Ok(Performed::Done),
+    match came {
+        Performed::Done => Ok(()),
         Performed::Gave(given) => fail_where(world, stack, task, given.into_failure(alloc)?),
         Performed::Raised(failure) => end(world, stack, task, TaskEnd::Failed(failure)),
         Performed::Awaits(id) => hold(world, stack, task, id),
@@ -284,12 +324,12 @@ fn hold<'s>(
     stack: &mut Stack<Frame<'s>>,
     task: TaskId,
     id: DeferredId,
-) -> Result<Performed<'s>, AllocError>
-    ensures { IfOk result (λ next. (stack.new, next, world.new) ≡ stepped_by task (Awaits id) world.old over stack.old) }
+) -> Result<(), AllocError>
+    ensures { OnOk result ((stack.new, Done, world.new) ≡ stepped_by task (Awaits id) world.old over stack.old) }
 {
     world.hold_task(task, id)?;
     world.keep_tick()?;
-    done(stack.push(Frame::Add(id, Pair::resuming(task))))
+    stack.push(Frame::Add(id, Pair::resuming(task)))
 }
 
 /// Whether a task has ended, or there is none of that id.
@@ -307,8 +347,8 @@ pub fn go_on_ticking<'s>(
     world: &mut World<'s>,
     stack: &mut Stack<Frame<'s>>,
     units: u32,
-) -> Result<Performed<'s>, AllocError>
-    ensures { IfOk result (λ performed. (stack.new, performed, world.new) ≡ tick_gone_on units world.old over stack.old) }
+) -> Result<(), AllocError>
+    ensures { OnOk result ((stack.new, Done, world.new) ≡ tick_gone_on units world.old over stack.old) }
 {
     match units.checked_sub(1) {
         None => end_tick(world),
@@ -321,8 +361,8 @@ fn take_step<'s>(
     world: &mut World<'s>,
     stack: &mut Stack<Frame<'s>>,
     left: u32,
-) -> Result<Performed<'s>, AllocError>
-    ensures { IfOk result (λ performed. (stack.new, performed, world.new) ≡ tick_stepped left (taken world.old).0 (taken world.old).1 over stack.old) }
+) -> Result<(), AllocError>
+    ensures { OnOk result ((stack.new, Done, world.new) ≡ tick_stepped left (taken world.old).0 (taken world.old).1 over stack.old) }
 {
     match world.take_step()? {
         None => end_tick(world),
@@ -339,22 +379,22 @@ fn begin_step<'s>(
     stack: &mut Stack<Frame<'s>>,
     task: TaskId,
     body: Option<BodyRef<'s>>,
-) -> Result<Performed<'s>, AllocError>
-    ensures { IfOk result (λ performed. (stack.new, performed, world.new) ≡ step_begun task body.entry world.old over stack.old) }
+) -> Result<(), AllocError>
+    ensures { OnOk result ((stack.new, Done, world.new) ≡ step_begun task body.entry world.old over stack.old) }
 {
     match body {
         None => end(world, stack, task, TaskEnd::Finished),
         Some(body) => {
             stack.push(Frame::Stepped(task))?;
-            done(stack.push(Frame::Rest(whole(None, body, Value::Null))))
+            stack.push(Frame::Rest(whole(None, body, Input::null())))
         }
     }
 }
 
 /// No step is left in a tick.
-fn end_tick<'s>(world: &mut World<'s>) -> Result<Performed<'s>, AllocError>
-    ensures { IfOk result (λ performed. ([], performed, world.new) ≡ ticked world.old) }
+fn end_tick<'s>(world: &mut World<'s>) -> Result<(), AllocError>
+    ensures { OnOk result (([], Done, world.new) ≡ ticked world.old) }
 {
     world.end_tick();
-    done(world.keep_tick())
+    world.keep_tick()
 }

@@ -1,10 +1,11 @@
-ghost use Rattle.std.specs.Prelude.{◌≡◌, true, ◌++◌, slice_get, IfOk, OnOk};
+ghost use Rattle.std.specs.Prelude.{◌≡◌, true, ◌++◌, slice_get, OnOk};
 ghost use Rattle.dv_frames.specs.Bounds.{Bounded};
 ghost use Rattle.dv_timing.specs.Looping.{looped, loop_begun, turn_begun, turn_taken, turn_ended, turn_failed, over_where, stopped_of, stop_loop_named};
 ghost use Rattle.dv_frames.specs.Turn.{◌over◌};
+ghost use Rattle.dv_objects.specs.declared.performed.Performed.TheVariants.{Done};
 
 use dv_clock::loop_id::LoopId;
-use dv_frames::following::{done, fire_and_settle};
+use dv_frames::following::fire_and_settle;
 use dv_frames::frame::{Frame, Purpose};
 use dv_frames::maybe::perform_for;
 use dv_journal::deferred_id::DeferredId;
@@ -30,9 +31,9 @@ pub fn start_loop<'s>(
     interval: u64,
     at_once: bool,
     body: BodyRef<'s>,
-) -> Result<Performed<'s>, AllocError>
+) -> Result<(), AllocError>
     requires bounded { Bounded world.old }
-    ensures { IfOk result (λ performed. (stack.new, performed, world.new) ≡ looped name.entry of.entry interval at_once body.entry world.old over stack.old) }
+    ensures { OnOk result ((stack.new, Done, world.new) ≡ looped name.entry of.entry interval at_once body.entry world.old over stack.old) }
 {
     let id = world.next_id();
     world.make(Some(of), None)?;
@@ -49,8 +50,8 @@ fn begin_loop<'s>(
     interval: u64,
     at_once: bool,
     body: BodyRef<'s>,
-) -> Result<Performed<'s>, AllocError>
-    ensures { IfOk result (λ performed. (stack.new, performed, world.new) ≡ loop_begun name.entry of interval at_once body.entry world.old over stack.old) }
+) -> Result<(), AllocError>
+    ensures { OnOk result ((stack.new, Done, world.new) ≡ loop_begun name.entry of interval at_once body.entry world.old over stack.old) }
 {
     let shown = name.as_str();
     let body = body.get();
@@ -58,7 +59,7 @@ fn begin_loop<'s>(
     if at_once {
         begin_at_once(alloc, world, stack, looping, shown, BodyRef::new(body))
     } else {
-        done(world.schedule_turn(looping))
+        world.schedule_turn(looping)
     }
 }
 
@@ -70,11 +71,11 @@ fn begin_at_once<'s>(
     looping: LoopId,
     name: &str,
     body: BodyRef<'s>,
-) -> Result<Performed<'s>, AllocError>
-    ensures { IfOk result (λ performed. (stack.new, performed, world.new) ≡ turn_begun true name.now looping body.entry world.old over stack.old) }
+) -> Result<(), AllocError>
+    ensures { OnOk result ((stack.new, Done, world.new) ≡ turn_begun true name.now looping body.entry world.old over stack.old) }
 {
     world.tell(Entry::Turn(Text::of(alloc, name)?))?;
-    done(perform_for(stack, Purpose::Turning(looping), body))
+    perform_for(stack, Purpose::Turning(looping), body)
 }
 
 /// The body of a loop is to be performed, as a turn of it.
@@ -100,37 +101,41 @@ pub fn end_turn<'s>(
     alloc: Global,
     world: &mut World<'s>,
     stack: &mut Stack<Frame<'s>>,
+    performed: &mut Performed<'s>,
     looping: LoopId,
-) -> Result<Performed<'s>, AllocError>
-    ensures { IfOk result (λ performed. (stack.new, performed, world.new) ≡ turn_ended looping (slice_get world.old.objects.loops looping) world.old over stack.old) }
+) -> Result<(), AllocError>
+    requires done { performed.old ≡ Done }
+    ensures { OnOk result ((stack.new, performed.new, world.new) ≡ turn_ended looping (slice_get world.old.objects.loops looping) world.old over stack.old) }
 {
     let Some(found) = world.looping(looping) else {
-        return Ok(Performed::Done);
+        return Ok(());
     };
     if found.running {
         world.schedule_turn(looping)?;
-        return Ok(Performed::Done);
+        return Ok(());
     }
     let of = found.of;
     let name = Text::of(alloc, found.name.as_str())?;
-    fire_and_settle(world, stack, of, Value::Text(name))
+    fire_and_settle(world, stack, performed, of, Value::Text(name))
 }
 
 /// A turn of a loop has failed, and its Deferred is fired with the failure.
 pub fn fail_turn<'s>(
     world: &mut World<'s>,
     stack: &mut Stack<Frame<'s>>,
+    performed: &mut Performed<'s>,
     looping: LoopId,
     failure: Value,
-) -> Result<Performed<'s>, AllocError>
-    ensures { IfOk result (λ performed. (stack.new, performed, world.new) ≡ turn_failed looping failure world.old over stack.old) }
+) -> Result<(), AllocError>
+    requires done { performed.old ≡ Done }
+    ensures { OnOk result ((stack.new, performed.new, world.new) ≡ turn_failed looping failure world.old over stack.old) }
 {
     let Some(found) = world.looping(looping) else {
         drop(failure);
-        return Ok(Performed::Done);
+        return Ok(());
     };
     let of = found.of;
-    fire_and_settle(world, stack, of, failure)
+    fire_and_settle(world, stack, performed, of, failure)
 }
 
 /// Stops a loop by its name; where no turn of it is under way, its Deferred is fired with its name (Twisted:
@@ -139,13 +144,18 @@ pub fn stop_loop<'s>(
     alloc: Global,
     world: &mut World<'s>,
     stack: &mut Stack<Frame<'s>>,
+    performed: &mut Performed<'s>,
     name: &str,
-) -> Result<Performed<'s>, AllocError>
-    ensures { IfOk result (λ performed. (stack.new, performed, world.new) ≡ stop_loop_named name.now world.old over stack.old) }
+) -> Result<(), AllocError>
+    requires done { performed.old ≡ Done }
+    ensures { OnOk result ((stack.new, performed.new, world.new) ≡ stop_loop_named name.now world.old over stack.old) }
 {
     match world.find_loop(name) {
-        None => unbound(alloc, name),
-        Some(looping) => stop(alloc, world, stack, looping),
+        None => {
+            *performed = unbound(alloc, name)?;
+            Ok(())
+        }
+        Some(looping) => stop(alloc, world, stack, performed, looping),
     }
 }
 
@@ -154,36 +164,41 @@ fn stop<'s>(
     alloc: Global,
     world: &mut World<'s>,
     stack: &mut Stack<Frame<'s>>,
+    performed: &mut Performed<'s>,
     looping: LoopId,
-) -> Result<Performed<'s>, AllocError>
-    ensures { IfOk result (λ performed. (stack.new, performed, world.new) ≡ stopped_of looping (slice_get world.old.objects.loops looping) world.old over stack.old) }
+) -> Result<(), AllocError>
+    requires done { performed.old ≡ Done }
+    ensures { OnOk result ((stack.new, performed.new, world.new) ≡ stopped_of looping (slice_get world.old.objects.loops looping) world.old over stack.old) }
 {
     let Some(found) = world.looping(looping) else {
-        return Ok(Performed::Done);
+        return Ok(());
     };
     if !found.running {
-        return not_running(alloc);
+        *performed = not_running(alloc)?;
+        return Ok(());
     }
     let of = found.of;
     let name = Text::of(alloc, found.name.as_str())?;
     let scheduled = world.is_scheduled(found);
     world.stop_loop(looping)?;
-    end_where(world, stack, scheduled, of, name)
+    end_where(world, stack, performed, scheduled, of, name)
 }
 
 /// Fires the Deferred of a loop with its name, where the loop is over.
 fn end_where<'s>(
     world: &mut World<'s>,
     stack: &mut Stack<Frame<'s>>,
+    performed: &mut Performed<'s>,
     ended: bool,
     of: DeferredId,
     name: Text,
-) -> Result<Performed<'s>, AllocError>
-    ensures { IfOk result (λ performed. (stack.new, performed, world.new) ≡ over_where ended of name world.old over stack.old) }
+) -> Result<(), AllocError>
+    requires done { performed.old ≡ Done }
+    ensures { OnOk result ((stack.new, performed.new, world.new) ≡ over_where ended of name world.old over stack.old) }
 {
     if ended {
-        fire_and_settle(world, stack, of, Value::Text(name))
+        fire_and_settle(world, stack, performed, of, Value::Text(name))
     } else {
-        Ok(Performed::Done)
+        Ok(())
     }
 }

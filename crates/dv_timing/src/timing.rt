@@ -1,6 +1,7 @@
-ghost use Rattle.std.specs.Prelude.{◌≡◌, [], IfOk};
+ghost use Rattle.std.specs.Prelude.{◌≡◌, [], OnOk};
 ghost use Rattle.dv_timing.specs.Timing.{timer_begun, timeout_named, cancel_call_named};
 ghost use Rattle.dv_frames.specs.Turn.{◌over◌};
+ghost use Rattle.dv_objects.specs.declared.performed.Performed.TheVariants.{Done};
 
 use dv_frames::following::add_and_settle;
 use dv_frames::frame::Frame;
@@ -16,13 +17,21 @@ use std::alloc::{AllocError, Global};
 pub fn cancel_call<'s>(
     alloc: Global,
     world: &mut World<'s>,
+    performed: &mut Performed<'s>,
     name: &str,
-) -> Result<Performed<'s>, AllocError>
-    ensures { IfOk result (λ performed. ([], performed, world.new) ≡ cancel_call_named name.now world.old) }
+) -> Result<(), AllocError>
+    requires done { performed.old ≡ Done }
+    ensures { OnOk result (([], performed.new, world.new) ≡ cancel_call_named name.now world.old) }
 {
     match world.find_call(name) {
-        None => unbound(alloc, name),
-        Some(call) => world.cancel_call(call),
+        None => {
+            *performed = unbound(alloc, name)?;
+            Ok(())
+        }
+        Some(call) => {
+            *performed = world.cancel_call(call)?;
+            Ok(())
+        }
     }
 }
 
@@ -31,14 +40,19 @@ pub fn add_timeout<'s>(
     alloc: Global,
     world: &mut World<'s>,
     stack: &mut Stack<Frame<'s>>,
+    performed: &mut Performed<'s>,
     itself: Option<DeferredId>,
     name: &str,
     delay: u64,
-) -> Result<Performed<'s>, AllocError>
-    ensures { IfOk result (λ performed. (stack.new, performed, world.new) ≡ timeout_named itself name.now delay world.old over stack.old) }
+) -> Result<(), AllocError>
+    requires done { performed.old ≡ Done }
+    ensures { OnOk result ((stack.new, performed.new, world.new) ≡ timeout_named itself name.now delay world.old over stack.old) }
 {
     match world.find(itself, name) {
-        None => unbound(alloc, name),
+        None => {
+            *performed = unbound(alloc, name)?;
+            Ok(())
+        }
         Some(id) => begin_timer(world, stack, id, delay),
     }
 }
@@ -49,8 +63,8 @@ fn begin_timer<'s>(
     stack: &mut Stack<Frame<'s>>,
     id: DeferredId,
     delay: u64,
-) -> Result<Performed<'s>, AllocError>
-    ensures { IfOk result (λ performed. (stack.new, performed, world.new) ≡ timer_begun id delay world.old over stack.old) }
+) -> Result<(), AllocError>
+    ensures { OnOk result ((stack.new, Done, world.new) ≡ timer_begun id delay world.old over stack.old) }
 {
     let timer = world.start_timer(id, delay)?;
     stack.push(Frame::Add(id, Pair::ending(timer)))?;

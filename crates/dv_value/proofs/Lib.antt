@@ -1,3 +1,4 @@
+pub mod DigitLemmas
 pub mod Names
 pub mod Paths
 pub mod Quoted

@@ -9,16 +9,16 @@ use crate::value::Value;
 use std::alloc::{AllocError, Global};
 
 /// A failure of a class with a message, of which it keeps a copy. AllocError where memory is refused.
-pub fn failure(alloc: Global, class: ClassId, message: &str) -> Result<Failure, AllocError>
+pub fn failure(alloc: Global, class: ClassId, message: &str) -> Result<Boxed<Failure>, AllocError>
     ensures { IfOk result (λ f. f ≡ plain_failure class message.now) }
 {
-    Ok(Failure::new(class, Text::of(alloc, message)?))
+    let message = Text::of(alloc, message)?;
+    Boxed::new(alloc, Failure::new(class, message))
 }
 
 /// A failure of a class with a message, as a value. AllocError where memory is refused.
 pub fn fault(alloc: Global, class: ClassId, message: &str) -> Result<Value, AllocError>
     ensures { IfOk result (λ v. v ≡ fault class message.now) }
 {
-    let failure = failure(alloc, class, message)?;
-    Ok(Value::Fault(Boxed::new(alloc, failure)?))
+    Ok(Value::Fault(failure(alloc, class, message)?))
 }

@@ -15,3 +15,4 @@ pub mod stack;
 pub mod text;
 pub mod value;
 pub mod value_text;
+pub mod writing;

@@ -32,11 +32,11 @@ impl Value {
     }
 
     /// The failure, where a Deferred of this value has failed.
-    pub fn into_failure(self) -> Option<Failure>
+    pub fn into_failure(self) -> Option<Boxed<Failure>>
         ensures { result ≡ failure_in self }
     {
         match self {
-            Value::Fault(failure) => Some(failure.into_inner()),
+            Value::Fault(failure) => Some(failure),
             Value::Null | Value::Bool(_) | Value::Int(_) | Value::Text(_) | Value::List(_) => None,
         }
     }

@@ -1,4 +1,5 @@
-ghost use Rattle.std.specs.Prelude.{◌≡◌, ◌++◌, OnOk, map, string_bytes};
+ghost use Rattle.std.specs.Prelude.{◌≡◌, ◌++◌, [], ◌∷◌, OnOk, codes, map, string_bytes};
+ghost use Rattle.std.specs.Fmt.{decimal};
 ghost use Rattle.std.specs.List.{list_all};
 ghost use Rattle.json.specs.Print.{quoted};
 ghost use Rattle.dv_value.specs.Plain.{is_plain};
@@ -8,6 +9,7 @@ use crate::classes::Classes;
 use crate::failure::Failure;
 use crate::text::Text;
 use crate::value::Value;
+use crate::writing::{write_i64, write_space, write_text, write_u32};
 use json::Writer;
 use std::alloc::{AllocError, Global};
 
@@ -24,6 +26,15 @@ fn are_plain(bytes: &[u8]) -> bool
     bytes.iter().all(|byte| is_plain(*byte))
 }
 
+/// Adds a text as it is, between quotes.
+fn write_quoted(out: &mut String, text: &str) -> Result<(), AllocError>
+    ensures { OnOk result (string_bytes out.new ≡ string_bytes out.old ++ 34 ∷ (text.now ++ 34 ∷ [])) }
+{
+    out.push('"')?;
+    write_text(out, text)?;
+    out.push('"')
+}
+
 /// Adds a text as a JSON string, between quotes, with what JSON forbids escaped and all else as it is. Where memory is
 /// refused, it is left open what `out` holds.
 #[tactic(auto, using(crate::proofs::Quoted::one_string, crate::proofs::Quoted::plain_quoted))]
@@ -31,14 +42,23 @@ pub fn write_string(alloc: Global, out: &mut String, text: &str) -> Result<(), A
     ensures { OnOk result (string_bytes out.new ≡ string_bytes out.old ++ quoted text.now) }
 {
     if are_plain(text.as_bytes()) {
-        return write!(out, "\"{text}\"");
+        return write_quoted(out, text);
     }
     let mut writer = Writer::new(Vec::new(alloc));
     writer.string(text)?;
     match String::from_utf8(writer.into_inner()) {
-        Ok(string) => out.push_str(string.as_str()),
+        Ok(string) => write_text(out, string.as_str()),
         Err(_) => unreachable!(),
     }
+}
+
+/// Adds what stands before the message of a failure that has another inside: its place.
+fn write_index(out: &mut String, index: u32) -> Result<(), AllocError>
+    ensures { OnOk result (string_bytes out.new ≡ string_bytes out.old ++ (codes ",\"index\":" ++ decimal index ++ codes ",\"message\":")) }
+{
+    write_text(out, ",\"index\":")?;
+    write_u32(out, index)?;
+    write_text(out, ",\"message\":")
 }
 
 /// Adds the compact JSON of a failure, its keys in a fixed order. Where memory is refused, it is left open what `out` holds.
@@ -50,22 +70,31 @@ pub fn write_failure_json(
 ) -> Result<(), AllocError>
     ensures { OnOk result (string_bytes out.new ≡ string_bytes out.old ++ failure_json classes.now failure.now) }
 {
-    write!(out, "{{\"fail\":")?;
+    write_text(out, "{\"fail\":")?;
     write_string(alloc, out, classes.name(failure.class))?;
     match &failure.sub {
         None => {
-            write!(out, ",\"message\":")?;
+            write_text(out, ",\"message\":")?;
             write_string(alloc, out, failure.message.as_str())?;
-            write!(out, "}}")
+            write_text(out, "}")
         }
         Some(sub) => {
-            write!(out, ",\"index\":{},\"message\":", sub.index)?;
+            write_index(out, sub.index)?;
             write_string(alloc, out, failure.message.as_str())?;
-            write!(out, ",\"sub\":")?;
+            write_text(out, ",\"sub\":")?;
             write_failure_json(alloc, classes, out, sub.failure.get())?;
-            write!(out, "}}")
+            write_text(out, "}")
         }
     }
+}
+
+/// Adds what stands before the failure inside another: its place.
+fn write_place(out: &mut String, index: u32) -> Result<(), AllocError>
+    ensures { OnOk result (string_bytes out.new ≡ string_bytes out.old ++ (codes " at " ++ decimal index ++ codes " of ")) }
+{
+    write_text(out, " at ")?;
+    write_u32(out, index)?;
+    write_text(out, " of ")
 }
 
 /// Adds a failure as the journal shows it: its class, its message as a JSON string, and what is inside. Where memory is
@@ -78,12 +107,13 @@ pub fn write_failure(
 ) -> Result<(), AllocError>
     ensures { OnOk result (string_bytes out.new ≡ string_bytes out.old ++ failure_text classes.now failure.now) }
 {
-    write!(out, "{} ", classes.name(failure.class))?;
+    write_text(out, classes.name(failure.class))?;
+    write_space(out)?;
     write_string(alloc, out, failure.message.as_str())?;
     match &failure.sub {
         None => Ok(()),
         Some(sub) => {
-            write!(out, " at {} of ", sub.index)?;
+            write_place(out, sub.index)?;
             write_failure(alloc, classes, out, sub.failure.get())?;
             Ok(())
         }
@@ -101,10 +131,10 @@ pub fn write_json(
     ensures { OnOk result (string_bytes out.new ≡ string_bytes out.old ++ json classes.now value.now) }
 {
     match value {
-        Value::Null => write!(out, "null"),
-        Value::Bool(true) => write!(out, "true"),
-        Value::Bool(false) => write!(out, "false"),
-        Value::Int(n) => write!(out, "{n}"),
+        Value::Null => write_text(out, "null"),
+        Value::Bool(true) => write_text(out, "true"),
+        Value::Bool(false) => write_text(out, "false"),
+        Value::Int(n) => write_i64(out, *n),
         Value::Text(text) => write_string(alloc, out, text.as_str()),
         Value::List(values) => {
             write_list(alloc, classes, out, values.as_slice())?;
@@ -123,16 +153,16 @@ fn write_list(
 ) -> Result<(), AllocError>
     ensures { OnOk result (string_bytes out.new ≡ string_bytes out.old ++ list_text (map (json classes.now) values.now)) }
 {
-    write!(out, "[")?;
+    out.push('[')?;
     let mut later = false;
     for value in values {
         if later {
-            write!(out, ",")?;
+            out.push(',')?;
         }
         write_json(alloc, classes, out, value)?;
         later = true;
     }
-    write!(out, "]")?;
+    out.push(']')?;
     Ok(())
 }
 
@@ -148,11 +178,11 @@ pub fn write_outcome(
 {
     match value {
         Value::Null | Value::Bool(_) | Value::Int(_) | Value::Text(_) | Value::List(_) => {
-            write!(out, "ok ")?;
+            write_text(out, "ok ")?;
             write_json(alloc, classes, out, value)
         }
         Value::Fault(failure) => {
-            write!(out, "fail ")?;
+            write_text(out, "fail ")?;
             write_failure(alloc, classes, out, failure.get())
         }
     }

@@ -1,10 +1,11 @@
-ghost use Rattle.std.specs.Prelude.{◌≡◌, [], ◌++◌, length, IfOk, OnOk};
+ghost use Rattle.std.specs.Prelude.{◌≡◌, [], ◌++◌, length, OnOk};
 ghost use Rattle.dv_frames.specs.Bounds.{Bounded};
 ghost use Rattle.dv_waiting.specs.Listing.{added_to_children, has_all_at_once, fired_at_once, with_listed, listed, fired_by_child, come_by, results_given, list_named, gather_named};
 ghost use Rattle.dv_frames.specs.Turn.{◌over◌};
 ghost use Rattle.dv_waiting.specs.Flags.{list_flags, gather_flags};
 ghost use Rattle.dv_prims.specs.DeferredList.{seconds_of};
 ghost use Rattle.dv_world.specs.World.{World as Seen};
+ghost use Rattle.dv_objects.specs.declared.performed.Performed.TheVariants.{Done};
 
 use crate::flags::{gather_flags, list_flags};
 use dv_frames::following::fire_and_settle;
@@ -32,19 +33,32 @@ pub fn list<'s>(
     alloc: Global,
     world: &mut World<'s>,
     stack: &mut Stack<Frame<'s>>,
+    performed: &mut Performed<'s>,
     itself: Option<DeferredId>,
     name: &'s Text,
     children: &'s Items<Text>,
     flags: &[ListFlag],
-) -> Result<Performed<'s>, AllocError>
+) -> Result<(), AllocError>
     requires bounded { Bounded world.old }
-    ensures { IfOk result (λ performed. (stack.new, performed, world.new) ≡ list_named itself name.now children.now (list_flags flags.now) world.old over stack.old) }
+    requires done { performed.old ≡ Done }
+    ensures { OnOk result ((stack.new, performed.new, world.new) ≡ list_named itself name.now children.now (list_flags flags.now) world.old over stack.old) }
 {
     match find_all(alloc, world, &itself, children.as_slice())? {
-        Found::Unbound(name) => unbound(alloc, name.as_str()),
+        Found::Unbound(name) => {
+            *performed = unbound(alloc, name.as_str())?;
+            Ok(())
+        }
         Found::All(children) => {
             let flags = list_flags(flags);
-            make(alloc, world, stack, TextRef::new(name), children, flags)
+            make(
+                alloc,
+                world,
+                stack,
+                performed,
+                TextRef::new(name),
+                children,
+                flags,
+            )
         }
     }
 }
@@ -56,20 +70,33 @@ pub fn gather<'s>(
     alloc: Global,
     world: &mut World<'s>,
     stack: &mut Stack<Frame<'s>>,
+    performed: &mut Performed<'s>,
     itself: Option<DeferredId>,
     name: &'s Text,
     children: &'s Items<Text>,
     flags: &[GatherFlag],
-) -> Result<Performed<'s>, AllocError>
+) -> Result<(), AllocError>
     requires bounded { Bounded world.old }
-    ensures { IfOk result (λ performed. (stack.new, performed, world.new) ≡ gather_named itself name.now children.now (gather_flags flags.now) world.old over stack.old) }
+    requires done { performed.old ≡ Done }
+    ensures { OnOk result ((stack.new, performed.new, world.new) ≡ gather_named itself name.now children.now (gather_flags flags.now) world.old over stack.old) }
 {
     match find_all(alloc, world, &itself, children.as_slice())? {
-        Found::Unbound(name) => unbound(alloc, name.as_str()),
+        Found::Unbound(name) => {
+            *performed = unbound(alloc, name.as_str())?;
+            Ok(())
+        }
         Found::All(children) => {
             stack.push(Frame::Add(world.next_id(), Pair::results()))?;
             let flags = gather_flags(flags);
-            make(alloc, world, stack, TextRef::new(name), children, flags)
+            make(
+                alloc,
+                world,
+                stack,
+                performed,
+                TextRef::new(name),
+                children,
+                flags,
+            )
         }
     }
 }
@@ -80,17 +107,19 @@ fn make<'s>(
     alloc: Global,
     world: &mut World<'s>,
     stack: &mut Stack<Frame<'s>>,
+    performed: &mut Performed<'s>,
     name: TextRef<'s>,
     children: Items<DeferredId>,
     flags: Flags,
-) -> Result<Performed<'s>, AllocError>
+) -> Result<(), AllocError>
     requires bounded { Bounded world.old }
-    ensures { IfOk result (λ performed. (stack.new, performed, world.new) ≡ listed name.entry children flags world.old over stack.old) }
+    requires done { performed.old ≡ Done }
+    ensures { OnOk result ((stack.new, performed.new, world.new) ≡ listed name.entry children flags world.old over stack.old) }
 {
     let id = world.next_id();
     let at_once = has_all_at_once(children.as_slice(), flags);
     begin(world, stack, id, name, children, flags)?;
-    fire_at_once(alloc, world, stack, id, at_once)
+    fire_at_once(alloc, world, stack, performed, id, at_once)
 }
 
 /// Whether nobody comes to a DeferredList that waits for all.
@@ -148,25 +177,29 @@ fn fire_at_once<'s>(
     alloc: Global,
     world: &mut World<'s>,
     stack: &mut Stack<Frame<'s>>,
+    performed: &mut Performed<'s>,
     id: DeferredId,
     at_once: bool,
-) -> Result<Performed<'s>, AllocError>
-    ensures { IfOk result (λ performed. (stack.new, performed, world.new) ≡ fired_at_once id at_once world.old over stack.old) }
+) -> Result<(), AllocError>
+    requires done { performed.old ≡ Done }
+    ensures { OnOk result ((stack.new, performed.new, world.new) ≡ fired_at_once id at_once world.old over stack.old) }
 {
     if !at_once {
-        return Ok(Performed::Done);
+        return Ok(());
     }
-    fire_and_settle(world, stack, id, Value::List(Items::new(alloc)))
+    fire_and_settle(world, stack, performed, id, Value::List(Items::new(alloc)))
 }
 
 /// A child comes to its DeferredList with its value, which may fire the list; then it goes on with what the list leaves it.
 pub fn come<'s>(
     world: &mut World<'s>,
     stack: &mut Stack<Frame<'s>>,
+    performed: &mut Performed<'s>,
     child: Child,
     value: Value,
-) -> Result<Performed<'s>, AllocError>
-    ensures { IfOk result (λ performed. (stack.new, performed, world.new) ≡ come_by child value world.old over stack.old) }
+) -> Result<(), AllocError>
+    requires done { performed.old ≡ Done }
+    ensures { OnOk result ((stack.new, performed.new, world.new) ≡ come_by child value world.old over stack.old) }
 {
     let Came { fire, pass } = world.come(child.list, child.place, value)?;
     let give = Frame::Give(Performed::Gave(Given::own(pass)));
@@ -174,36 +207,49 @@ pub fn come<'s>(
         drop(fire);
         return Err(AllocError);
     }
-    fire_by_child(world, stack, child.of, fire)
+    fire_by_child(world, stack, performed, child.of, fire)
 }
 
 /// Fires a DeferredList with what is due, unless somebody has fired it.
 fn fire_by_child<'s>(
     world: &mut World<'s>,
     stack: &mut Stack<Frame<'s>>,
+    performed: &mut Performed<'s>,
     id: DeferredId,
     due: Option<Value>,
-) -> Result<Performed<'s>, AllocError>
-    ensures { IfOk result (λ performed. (stack.new, performed, world.new) ≡ fired_by_child id due world.old over stack.old) }
+) -> Result<(), AllocError>
+    requires done { performed.old ≡ Done }
+    ensures { OnOk result ((stack.new, performed.new, world.new) ≡ fired_by_child id due world.old over stack.old) }
 {
     let Some(value) = due else {
-        return Ok(Performed::Done);
+        return Ok(());
     };
     if !world.is_unfired(id) {
         drop(value);
-        return Ok(Performed::Done);
+        return Ok(());
     }
-    fire_and_settle(world, stack, id, value)
+    fire_and_settle(world, stack, performed, id, value)
 }
 
 /// What the children of a DeferredList gave, from its result. TypeError where the value is no such result.
-pub fn results<'s>(alloc: Global, value: Value) -> Result<Performed<'s>, AllocError>
-    ensures { IfOk result (λ performed. (w : Seen) → ([], performed, w) ≡ results_given (seconds_of value) w) }
+pub fn results<'s>(
+    alloc: Global,
+    performed: &mut Performed<'s>,
+    value: Value,
+) -> Result<(), AllocError>
+    requires done { performed.old ≡ Done }
+    ensures { OnOk result ((w : Seen) → ([], performed.new, w) ≡ results_given (seconds_of value) w) }
 {
     let seconds = seconds(alloc, &value);
     drop(value);
     match seconds? {
-        None => not_gathered(alloc),
-        Some(seconds) => Ok(Performed::Gave(Given::own(seconds))),
+        None => {
+            *performed = not_gathered(alloc)?;
+            Ok(())
+        }
+        Some(seconds) => {
+            *performed = Performed::Gave(Given::own(seconds));
+            Ok(())
+        }
     }
 }

@@ -1,7 +1,8 @@
-ghost use Rattle.std.specs.Prelude.{◌≡◌, slice_get, IfOk};
+ghost use Rattle.std.specs.Prelude.{◌≡◌, slice_get, OnOk};
 ghost use Rattle.dv_frames.specs.Bounds.{Bounded};
 ghost use Rattle.dv_waiting.specs.Locking.{granted, asked_of, acquired, released_of, acquire_named, run_named, release_named};
 ghost use Rattle.dv_frames.specs.Turn.{◌over◌};
+ghost use Rattle.dv_objects.specs.declared.performed.Performed.TheVariants.{Done};
 
 use dv_frames::following::fire_and_settle;
 use dv_frames::frame::Frame;
@@ -24,15 +25,20 @@ pub fn acquire<'s>(
     alloc: Global,
     world: &mut World<'s>,
     stack: &mut Stack<Frame<'s>>,
+    performed: &mut Performed<'s>,
     name: TextRef<'s>,
     lock: &str,
-) -> Result<Performed<'s>, AllocError>
+) -> Result<(), AllocError>
     requires bounded { Bounded world.old }
-    ensures { IfOk result (λ performed. (stack.new, performed, world.new) ≡ acquire_named name.entry lock.now world.old over stack.old) }
+    requires done { performed.old ≡ Done }
+    ensures { OnOk result ((stack.new, performed.new, world.new) ≡ acquire_named name.entry lock.now world.old over stack.old) }
 {
     match world.find_lock(lock) {
-        None => unbound(alloc, lock),
-        Some(found) => acquire_found(alloc, world, stack, name, found),
+        None => {
+            *performed = unbound(alloc, lock)?;
+            Ok(())
+        }
+        Some(found) => acquire_found(alloc, world, stack, performed, name, found),
     }
 }
 
@@ -43,19 +49,24 @@ pub fn run_with<'s>(
     alloc: Global,
     world: &mut World<'s>,
     stack: &mut Stack<Frame<'s>>,
+    performed: &mut Performed<'s>,
     name: TextRef<'s>,
     lock: &str,
     body: BodyRef<'s>,
-) -> Result<Performed<'s>, AllocError>
+) -> Result<(), AllocError>
     requires bounded { Bounded world.old }
-    ensures { IfOk result (λ performed. (stack.new, performed, world.new) ≡ run_named name.entry lock.now body.entry world.old over stack.old) }
+    requires done { performed.old ≡ Done }
+    ensures { OnOk result ((stack.new, performed.new, world.new) ≡ run_named name.entry lock.now body.entry world.old over stack.old) }
 {
     match world.find_lock(lock) {
-        None => unbound(alloc, lock),
+        None => {
+            *performed = unbound(alloc, lock)?;
+            Ok(())
+        }
         Some(found) => {
             let id = world.next_id();
             stack.push(Frame::Add(id, Pair::holding(found, body)))?;
-            acquire_found(alloc, world, stack, name, found)
+            acquire_found(alloc, world, stack, performed, name, found)
         }
     }
 }
@@ -66,15 +77,17 @@ fn acquire_found<'s>(
     alloc: Global,
     world: &mut World<'s>,
     stack: &mut Stack<Frame<'s>>,
+    performed: &mut Performed<'s>,
     name: TextRef<'s>,
     lock: LockId,
-) -> Result<Performed<'s>, AllocError>
+) -> Result<(), AllocError>
     requires bounded { Bounded world.old }
-    ensures { IfOk result (λ performed. (stack.new, performed, world.new) ≡ acquired name.entry lock world.old over stack.old) }
+    requires done { performed.old ≡ Done }
+    ensures { OnOk result ((stack.new, performed.new, world.new) ≡ acquired name.entry lock world.old over stack.old) }
 {
     let id = world.next_id();
     world.make(Some(name), Some(Canceller::Token(lock)))?;
-    ask(alloc, world, stack, lock, id)
+    ask(alloc, world, stack, performed, lock, id)
 }
 
 /// A Deferred asks a lock for a token, and is fired at once where it gets one.
@@ -82,18 +95,20 @@ fn ask<'s>(
     alloc: Global,
     world: &mut World<'s>,
     stack: &mut Stack<Frame<'s>>,
+    performed: &mut Performed<'s>,
     lock: LockId,
     id: DeferredId,
-) -> Result<Performed<'s>, AllocError>
-    ensures { IfOk result (λ performed. (stack.new, performed, world.new) ≡ asked_of lock id (slice_get world.old.objects.semaphores lock) world.old over stack.old) }
+) -> Result<(), AllocError>
+    requires done { performed.old ≡ Done }
+    ensures { OnOk result ((stack.new, performed.new, world.new) ≡ asked_of lock id (slice_get world.old.objects.semaphores lock) world.old over stack.old) }
 {
     let Some(semaphore) = world.lock(lock) else {
-        return Ok(Performed::Done);
+        return Ok(());
     };
     let to = if semaphore.has_free() { Some(id) } else { None };
     let name = Text::of(alloc, semaphore.name())?;
     world.ask(lock, id)?;
-    grant(world, stack, to, name)
+    grant(world, stack, performed, to, name)
 }
 
 /// Gives a token back to a lock by its name (Twisted: `DeferredLock.release`, `DeferredSemaphore.release`).
@@ -101,13 +116,18 @@ pub fn release<'s>(
     alloc: Global,
     world: &mut World<'s>,
     stack: &mut Stack<Frame<'s>>,
+    performed: &mut Performed<'s>,
     lock: &str,
-) -> Result<Performed<'s>, AllocError>
-    ensures { IfOk result (λ performed. (stack.new, performed, world.new) ≡ release_named lock.now world.old over stack.old) }
+) -> Result<(), AllocError>
+    requires done { performed.old ≡ Done }
+    ensures { OnOk result ((stack.new, performed.new, world.new) ≡ release_named lock.now world.old over stack.old) }
 {
     match world.find_lock(lock) {
-        None => unbound(alloc, lock),
-        Some(found) => give_back(alloc, world, stack, found),
+        None => {
+            *performed = unbound(alloc, lock)?;
+            Ok(())
+        }
+        Some(found) => give_back(alloc, world, stack, performed, found),
     }
 }
 
@@ -116,33 +136,38 @@ pub fn give_back<'s>(
     alloc: Global,
     world: &mut World<'s>,
     stack: &mut Stack<Frame<'s>>,
+    performed: &mut Performed<'s>,
     lock: LockId,
-) -> Result<Performed<'s>, AllocError>
-    ensures { IfOk result (λ performed. (stack.new, performed, world.new) ≡ released_of lock (slice_get world.old.objects.semaphores lock) world.old over stack.old) }
+) -> Result<(), AllocError>
+    requires done { performed.old ≡ Done }
+    ensures { OnOk result ((stack.new, performed.new, world.new) ≡ released_of lock (slice_get world.old.objects.semaphores lock) world.old over stack.old) }
 {
     let Some(semaphore) = world.lock(lock) else {
-        return Ok(Performed::Done);
+        return Ok(());
     };
     if semaphore.is_unheld() {
-        return not_held(alloc);
+        *performed = not_held(alloc)?;
+        return Ok(());
     }
     let to = semaphore.first_waiting();
     let name = Text::of(alloc, semaphore.name())?;
     world.release(lock)?;
-    grant(world, stack, to, name)
+    grant(world, stack, performed, to, name)
 }
 
 /// Fires whoever has got a token with the name of its lock.
 fn grant<'s>(
     world: &mut World<'s>,
     stack: &mut Stack<Frame<'s>>,
+    performed: &mut Performed<'s>,
     to: Option<DeferredId>,
     name: Text,
-) -> Result<Performed<'s>, AllocError>
-    ensures { IfOk result (λ performed. (stack.new, performed, world.new) ≡ granted to name world.old over stack.old) }
+) -> Result<(), AllocError>
+    requires done { performed.old ≡ Done }
+    ensures { OnOk result ((stack.new, performed.new, world.new) ≡ granted to name world.old over stack.old) }
 {
     match to {
-        None => Ok(Performed::Done),
-        Some(id) => fire_and_settle(world, stack, id, Value::Text(name)),
+        None => Ok(()),
+        Some(id) => fire_and_settle(world, stack, performed, id, Value::Text(name)),
     }
 }

@@ -58,7 +58,7 @@ use Rattle.dv_objects.specs.declared.follow.Follow.{Follow}
 use Rattle.dv_objects.specs.declared.follow.Follow.TheVariants as follow
 use Rattle.dv_objects.specs.declared.inline_id.Inline.{Inline}
 use Rattle.dv_objects.specs.declared.looping_call.LoopingCall.{LoopingCall}
-use Rattle.dv_objects.specs.declared.pair.Pair.{Pair}
+use Rattle.dv_objects.specs.Pair.{Pair}
 use Rattle.dv_objects.specs.declared.performed.Performed.{Performed}
 use Rattle.dv_objects.specs.declared.performed.Performed.TheVariants.{Done, Raised}
 use Rattle.dv_objects.specs.declared.task.Task.{Task}

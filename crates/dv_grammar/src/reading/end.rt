@@ -8,6 +8,7 @@ use dv_forms::leaf::{call, none};
 use dv_forms::leaving::may_leave;
 use dv_forms::stop::Stop;
 use dv_script::body::End;
+use dv_value::boxed::Boxed;
 use dv_value::classes::Classes;
 use serde_json::Value as Json;
 use std::alloc::Global;
@@ -41,7 +42,7 @@ fn end_of(alloc: Global, classes: &Classes, word: EndWord, arguments: &[Json]) -
         }
         EndWord::Trap => {
             let (listed, value) = classes_and_value(alloc, classes, arguments)?;
-            Ok(End::Trap(listed, value))
+            Ok(End::Trap(listed, Boxed::new(alloc, value)?))
         }
         EndWord::Wait => Ok(End::Wait(one_text(alloc, arguments)?)),
     }

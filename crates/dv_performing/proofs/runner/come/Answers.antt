@@ -1,5 +1,6 @@
 use Rattle.std.proofs.Common.{rules, ◌∙◌, List, sym, subst}
 use Rattle.dv_script.specs.declared.work.Work.{Work}
+use Rattle.dv_objects.specs.declared.performed.Performed.TheVariants.{Done}
 use Rattle.dv_performing.proofs.JobsKept.{happening_goes_on}
 use Rattle.dv_performing.proofs.Stopped.{happens_stopped}
 use Rattle.dv_performing.proofs.Turns.{happening_bounded}
@@ -11,12 +12,12 @@ pub submit_all-requires : goal.submit_all-requires
 submit_all-requires g c =
     subst (λ (works : List Work). GoesOn c.args.jobs.now works) (sym c.works.ensures.works)
     (subst (λ (works : List Work). GoesOn works c.begin_post.new.world.works) (sym c.requires.jobs)
-    (happening_goes_on (Comes c.args.posted.now c.args.body.now) c.new-stack.result c.args.world.now (c.begin_post.new.stack, c.in_ok-performed.performed, c.begin_post.new.world) c.in_ok-performed.ensures))
+    (happening_goes_on (Comes c.args.posted.now c.args.body.now) c.clear.new.self c.args.world.now (c.begin_post.new.stack, Done, c.begin_post.new.world) c.in_ok-begin_post.ensures))
 
 pub run-requires : goal.run-requires
 run-requires g c = record {
-  bounded = happening_bounded (Comes c.args.posted.now c.args.body.now) c.new-stack.result c.args.world.now (c.begin_post.new.stack, c.in_ok-performed.performed, c.begin_post.new.world) c.in_ok-performed.ensures c.requires.bounded;
-  jobs = c.in-Ok.ensures ∙ c.works.ensures.works;
+  bounded = happening_bounded (Comes c.args.posted.now c.args.body.now) c.clear.new.self c.args.world.now (c.begin_post.new.stack, Done, c.begin_post.new.world) c.in_ok-begin_post.ensures c.requires.bounded;
+  jobs = c.in_ok-submit_all.ensures ∙ c.works.ensures.works;
 }
 
 pub returns-then-is_stopped-clause-happens : goal.returns-then-is_stopped-clause-happens

@@ -8,4 +8,4 @@ pub submit_all-requires : goal.submit_all-requires
 submit_all-requires g c =
     subst (λ (works : List Work). GoesOn c.args.jobs.now works) (sym c.works.ensures.works)
     (subst (λ (works : List Work). GoesOn works c.turn.new.world.works) (sym c.requires.jobs)
-    (turned_goes_on c.args.stack.now c.turn.new.stack c.args.frame c.args.performed c.args.world.now c.turn.new.world c.in_ok-end.end c.in_ok-end.ensures))
+    (turned_goes_on c.args.stack.now c.turn.new.stack c.args.frame c.args.performed.now c.turn.new.performed c.args.world.now c.turn.new.world c.in_ok-end.end c.in_ok-end.ensures))

@@ -11,11 +11,11 @@ pub submit_all-requires : goal.submit_all-requires
 submit_all-requires g c =
     subst (λ (works : List Work). GoesOn c.args.jobs.now works) (sym c.works.ensures.works)
     (subst (λ (works : List Work). GoesOn works c.begin_event.new.world.works) (sym c.requires.jobs)
-    (happening_goes_on (Occurs c.args.event.now) c.new-stack.result c.args.world.now (c.begin_event.new.stack, c.in_ok-performed.performed, c.begin_event.new.world) c.in_ok-performed.ensures))
+    (happening_goes_on (Occurs c.args.event.now) c.clear.new.self c.args.world.now (c.begin_event.new.stack, c.begin_event.new.performed, c.begin_event.new.world) c.in_ok-begin_event.ensures))
 
 pub run-requires : goal.run-requires
 run-requires g c = record {
-  bounded = happening_bounded (Occurs c.args.event.now) c.new-stack.result c.args.world.now (c.begin_event.new.stack, c.in_ok-performed.performed, c.begin_event.new.world) c.in_ok-performed.ensures c.requires.bounded;
+  bounded = happening_bounded (Occurs c.args.event.now) c.clear.new.self c.args.world.now (c.begin_event.new.stack, c.begin_event.new.performed, c.begin_event.new.world) c.in_ok-begin_event.ensures c.requires.bounded;
   jobs = c.in-Ok.ensures ∙ c.works.ensures.works;
 }
 

@@ -1,6 +1,6 @@
 use Rattle.std.proofs.Common.{ap, sym, ◌∙◌}
 use Rattle.dv_objects.specs.Inlines.{end_adding}
-use Rattle.dv_objects.proofs.InlinesLemmas.{found_at, took_keyless, kept_put, end_some, end_none, kept_in, end_adds}
+use Rattle.dv_objects.proofs.InlinesLemmas.{found_at, took_keyless, kept_put, end_some, end_none, kept_in, end_adds, none_put}
 use Rattle.dv_objects.proofs.inlines.Inlines.end.Goals as goal
 
 pub invariant_of-self-in-Some-take : goal.invariant_of-self-in-Some-take
@@ -18,6 +18,12 @@ returns-then-not-is_adding-clause-ok c =
     let found = found_at c.self.inside.kept.items c.args.place c.in-Some.waiting.now c.in-Some.ensures.item.3.0 c.in-Some.ensures.value in
     end_none c.self.inside.parked c.args.place c.args.awaited c.self.inside.kept.items c.args.body c.in-Some.waiting.now c.take.new.self found c.in_default-take.ensures (sym c.is_adding.ensures ∙ c.if-not-is_adding.true)
     ∙ ap (end_adding c.args.place c.args.awaited c.args.body) c.self.view_is
+
+pub returns-in-Err-clause-err : goal.returns-in-Err-clause-err
+returns-in-Err-clause-err c =
+    let found = found_at c.self.inside.kept.items c.args.place c.in-Some.waiting.now c.in-Some.ensures.item.3.0 c.in-Some.ensures.value in
+    none_put c.self.inside.parked c.park.new.self c.args.place c.self.inside.kept.items c.in-Some.waiting.now c.take.new.self found c.in_default-take.ensures c.in-Err.ensures.err
+    ∙ c.self.view_is
 
 pub invariant_of-self-2 : goal.invariant_of-self-2
 invariant_of-self-2 c =
