@@ -9,6 +9,7 @@ ghost use Rattle.dv_objects.specs.declared.performed.Performed.TheVariants.{Done
 
 use dv_frames::following::add_and_settle;
 use dv_frames::frame::{Frame, Inlining};
+use dv_frames::frames::Frames;
 use dv_inline::body::InlineBody;
 use dv_journal::deferred_id::DeferredId;
 use dv_objects::canceller::Canceller;
@@ -18,7 +19,6 @@ use dv_objects::performed::Performed;
 use dv_script::lent::{Statements, TextRef};
 use dv_value::class_id::ClassId;
 use dv_value::fault::fault;
-use dv_value::stack::Stack;
 use dv_value::value::Value;
 use dv_world::world::World;
 use std::alloc::{AllocError, Global};
@@ -28,7 +28,7 @@ use std::alloc::{AllocError, Global};
 pub fn begin_inline<'s>(
     alloc: Global,
     world: &mut World<'s>,
-    stack: &mut Stack<Frame<'s>>,
+    stack: &mut Frames<'s>,
     name: TextRef<'s>,
     statements: Statements<'s>,
 ) -> Result<(), AllocError>
@@ -45,7 +45,7 @@ pub fn begin_inline<'s>(
 /// A body goes on with what an action of it came to.
 pub fn end_action<'s>(
     world: &World<'s>,
-    stack: &mut Stack<Frame<'s>>,
+    stack: &mut Frames<'s>,
     inline: Inline,
     body: InlineBody<'s>,
     came: Performed<'s>,
@@ -58,7 +58,7 @@ pub fn end_action<'s>(
 /// A body goes on with an answer.
 pub fn go_on_with<'s>(
     world: &World<'s>,
-    stack: &mut Stack<Frame<'s>>,
+    stack: &mut Frames<'s>,
     inline: Inline,
     body: InlineBody<'s>,
     answer: Value,
@@ -74,7 +74,7 @@ pub fn go_on_with<'s>(
 /// parked.
 pub fn end_await<'s>(
     world: &mut World<'s>,
-    stack: &mut Stack<Frame<'s>>,
+    stack: &mut Frames<'s>,
     inline: Inline,
     awaited: DeferredId,
     body: InlineBody<'s>,
@@ -88,7 +88,7 @@ pub fn end_await<'s>(
 /// What a body awaits has come: it goes on with that, inside the side that brings it.
 pub fn resume<'s>(
     world: &mut World<'s>,
-    stack: &mut Stack<Frame<'s>>,
+    stack: &mut Frames<'s>,
     inline: Inline,
     input: Value,
 ) -> Result<(), AllocError>
@@ -101,7 +101,7 @@ pub fn resume<'s>(
 /// A body goes on with what has come to it, where there is one.
 fn go_on_where<'s>(
     world: &World<'s>,
-    stack: &mut Stack<Frame<'s>>,
+    stack: &mut Frames<'s>,
     inline: Inline,
     came: Option<(InlineBody<'s>, Value)>,
 ) -> Result<(), AllocError>
@@ -131,7 +131,7 @@ fn answer_of<'s>(performed: Performed<'s>) -> Value
 pub fn begin_await<'s>(
     alloc: Global,
     world: &mut World<'s>,
-    stack: &mut Stack<Frame<'s>>,
+    stack: &mut Frames<'s>,
     inline: Inline,
     name: TextRef<'s>,
     body: InlineBody<'s>,
@@ -148,7 +148,7 @@ pub fn begin_await<'s>(
 fn throw<'s>(
     alloc: Global,
     world: &World<'s>,
-    stack: &mut Stack<Frame<'s>>,
+    stack: &mut Frames<'s>,
     inline: Inline,
     name: TextRef<'s>,
     body: InlineBody<'s>,
@@ -167,7 +167,7 @@ fn throw<'s>(
 /// Adds the pair by which a body awaits a Deferred, which is settled then.
 fn add<'s>(
     world: &mut World<'s>,
-    stack: &mut Stack<Frame<'s>>,
+    stack: &mut Frames<'s>,
     inline: Inline,
     awaited: DeferredId,
     body: InlineBody<'s>,

@@ -76,6 +76,7 @@ impl<'s, J: JobSource> Submissions<'s, J> {
 
     /// Submits what isn't yet of these works, of which the first were submitted, in order, each to its pool. AllocError where memory
     /// is refused.
+    #[inline(always)]
     #[tactic(auto, using(crate::proofs::JobLemmas::all_goes_on))]
     pub fn submit_all(&mut self, alloc: Global, works: &Works<'_>) -> Result<(), AllocError>
         requires { GoesOn self.old works.now.works }
@@ -88,6 +89,7 @@ impl<'s, J: JobSource> Submissions<'s, J> {
     }
 
     /// Submits a work to the pool of this name, for which there has to be room. AllocError where memory is refused.
+    #[inline(never)]
     fn submit(
         &mut self,
         alloc: Global,

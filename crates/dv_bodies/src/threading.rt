@@ -5,11 +5,10 @@ ghost use Rattle.dv_frames.specs.Turn.{◌over◌};
 ghost use Rattle.dv_objects.specs.declared.performed.Performed.TheVariants.{Done};
 
 use dv_frames::following::fire_and_settle;
-use dv_frames::frame::Frame;
+use dv_frames::frames::Frames;
 use dv_journal::deferred_id::DeferredId;
 use dv_objects::performed::Performed;
 use dv_script::lent::{TextRef, WorkRef};
-use dv_value::stack::Stack;
 use dv_value::value::Value;
 use dv_world::world::World;
 use dv_world::world::jobs::too_many_jobs;
@@ -59,7 +58,7 @@ fn begin_job<'s>(
 /// failed); nothing for a number of no job.
 pub fn deliver<'s>(
     world: &mut World<'s>,
-    stack: &mut Stack<Frame<'s>>,
+    stack: &mut Frames<'s>,
     performed: &mut Performed<'s>,
     id: DeferredId,
     value: Option<Value>,

@@ -8,7 +8,7 @@ ghost use Rattle.dv_posts.specs.Taking.{with_batch};
 
 use crate::engine::Phase;
 use dv_bodies::submissions::Submissions;
-use dv_frames::frame::Frame;
+use dv_frames::frames::Frames;
 use dv_inline::poller::Poller;
 use dv_jobs::source::JobSource;
 use dv_journal::entry::Entry;
@@ -17,7 +17,6 @@ use dv_posts::batches::Batches;
 use dv_posts::posted::Posted;
 use dv_script::body::Body;
 use dv_value::items::Items;
-use dv_value::stack::Stack;
 use dv_world::world::World;
 use std::alloc::{AllocError, AllocGlobal, Global};
 use std::random::RandomSource;
@@ -31,7 +30,7 @@ pub fn drain<'s, R, J>(
     poller: &Poller,
     jobs: &mut Submissions<'s, J>,
     world: &mut World<'s>,
-    stack: &mut Stack<Frame<'s>>,
+    stack: &mut Frames<'s>,
     batches: &mut Batches<'s>,
     phase: Phase,
     batch: Items<Posted>,
@@ -82,7 +81,7 @@ fn come_all<'s, R, J>(
     poller: &Poller,
     jobs: &mut Submissions<'s, J>,
     world: &mut World<'s>,
-    stack: &mut Stack<Frame<'s>>,
+    stack: &mut Frames<'s>,
     callers: &'s [Items<Body>],
     batch: &[Posted],
 ) -> Result<(), AllocError>
@@ -107,7 +106,7 @@ fn come_if_there<'s, R, J>(
     poller: &Poller,
     jobs: &mut Submissions<'s, J>,
     world: &mut World<'s>,
-    stack: &mut Stack<Frame<'s>>,
+    stack: &mut Frames<'s>,
     callers: &'s [Items<Body>],
     posted: &Posted,
 ) -> Result<(), AllocError>

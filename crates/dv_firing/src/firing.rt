@@ -12,6 +12,7 @@ ghost use Rattle.dv_world.specs.World.{fire};
 use dv_frames::cancelling::cancel;
 use dv_frames::following::{add_and_settle, fire_and_settle, settle_next};
 use dv_frames::frame::{Frame, Purpose};
+use dv_frames::frames::Frames;
 use dv_frames::maybe::perform_for;
 use dv_journal::deferred_id::DeferredId;
 use dv_journal::entry::Entry;
@@ -22,7 +23,6 @@ use dv_objects::performed::Performed;
 use dv_objects::refusals::unbound;
 use dv_script::body::Body;
 use dv_script::lent::{BodyRef, TextRef};
-use dv_value::stack::Stack;
 use dv_value::text::Text;
 use dv_value::value::Value;
 use dv_world::world::World;
@@ -49,11 +49,7 @@ pub fn make<'s>(
 }
 
 /// Performs a body that is to become a Deferred (Twisted: `maybeDeferred`).
-pub fn maybe<'s>(
-    stack: &mut Stack<Frame<'s>>,
-    name: &'s Text,
-    body: &'s Body,
-) -> Result<(), AllocError>
+pub fn maybe<'s>(stack: &mut Frames<'s>, name: &'s Text, body: &'s Body) -> Result<(), AllocError>
     ensures stack { OnOk result (stack.new ≡ body_for (Named name.now) body.now ++ stack.old) }
 {
     let purpose = Purpose::Named(TextRef::new(name));
@@ -74,7 +70,7 @@ fn canceller_of<'s>(canceller: &'s Option<Body>) -> Option<Canceller<'s>>
 pub fn fire<'s>(
     alloc: Global,
     world: &mut World<'s>,
-    stack: &mut Stack<Frame<'s>>,
+    stack: &mut Frames<'s>,
     performed: &mut Performed<'s>,
     itself: Option<DeferredId>,
     name: &str,
@@ -119,7 +115,7 @@ fn kept<'s>(
 pub fn add<'s>(
     alloc: Global,
     world: &mut World<'s>,
-    stack: &mut Stack<Frame<'s>>,
+    stack: &mut Frames<'s>,
     performed: &mut Performed<'s>,
     itself: Option<DeferredId>,
     name: &str,
@@ -142,7 +138,7 @@ pub fn add<'s>(
 pub fn chain<'s>(
     alloc: Global,
     world: &mut World<'s>,
-    stack: &mut Stack<Frame<'s>>,
+    stack: &mut Frames<'s>,
     performed: &mut Performed<'s>,
     itself: Option<DeferredId>,
     name: &str,
@@ -165,7 +161,7 @@ pub fn chain<'s>(
 fn chain_found<'s>(
     alloc: Global,
     world: &mut World<'s>,
-    stack: &mut Stack<Frame<'s>>,
+    stack: &mut Frames<'s>,
     performed: &mut Performed<'s>,
     id: DeferredId,
     itself: &Option<DeferredId>,
@@ -209,7 +205,7 @@ pub fn pause<'s>(
 pub fn unpause<'s>(
     alloc: Global,
     world: &mut World<'s>,
-    stack: &mut Stack<Frame<'s>>,
+    stack: &mut Frames<'s>,
     performed: &mut Performed<'s>,
     itself: Option<DeferredId>,
     name: &str,
@@ -233,7 +229,7 @@ pub fn unpause<'s>(
 pub fn cancel_named<'s>(
     alloc: Global,
     world: &mut World<'s>,
-    stack: &mut Stack<Frame<'s>>,
+    stack: &mut Frames<'s>,
     performed: &mut Performed<'s>,
     itself: Option<DeferredId>,
     name: &str,

@@ -4,3 +4,4 @@ pub mod Maybe
 pub mod Cancelling
 pub mod Bounds
 pub mod Raising
+pub mod Frames

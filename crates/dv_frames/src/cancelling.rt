@@ -8,13 +8,13 @@ ghost use Rattle.dv_objects.specs.declared.performed.Performed.TheVariants.{Done
 
 use crate::following::{fire_and_settle, settle_after, whole};
 use crate::frame::Frame;
+use crate::frames::Frames;
 use dv_journal::deferred_id::DeferredId;
 use dv_objects::inline_id::InlineId;
 use dv_objects::input::Input;
 use dv_objects::performed::Performed;
 use dv_objects::reached::Reached;
 use dv_objects::refusals::cancelled;
-use dv_value::stack::Stack;
 use dv_world::world::World;
 use std::alloc::{AllocError, Global};
 
@@ -22,7 +22,7 @@ use std::alloc::{AllocError, Global};
 pub fn cancel<'s>(
     alloc: Global,
     world: &mut World<'s>,
-    stack: &mut Stack<Frame<'s>>,
+    stack: &mut Frames<'s>,
     performed: &mut Performed<'s>,
     id: DeferredId,
 ) -> Result<(), AllocError>
@@ -56,7 +56,7 @@ pub fn cancel<'s>(
 fn fire_cancelled<'s>(
     alloc: Global,
     world: &mut World<'s>,
-    stack: &mut Stack<Frame<'s>>,
+    stack: &mut Frames<'s>,
     performed: &mut Performed<'s>,
     id: DeferredId,
 ) -> Result<(), AllocError>
@@ -68,10 +68,7 @@ fn fire_cancelled<'s>(
 
 /// The children of a DeferredList are to be cancelled in order; a failure that leaves the cancel of one is told, and the
 /// next one follows.
-fn cancel_children<'s>(
-    stack: &mut Stack<Frame<'s>>,
-    children: &[DeferredId],
-) -> Result<(), AllocError>
+fn cancel_children<'s>(stack: &mut Frames<'s>, children: &[DeferredId]) -> Result<(), AllocError>
     ensures { OnOk result (stack.new ≡ children_cancelled children.now ++ stack.old) }
 {
     for place in (0..children.len()).rev() {
@@ -84,7 +81,7 @@ fn cancel_children<'s>(
 /// What an inline body awaits is to be cancelled, where it awaits something, and nothing else happens.
 fn cancel_awaited<'s>(
     world: &World<'s>,
-    stack: &mut Stack<Frame<'s>>,
+    stack: &mut Frames<'s>,
     inline: InlineId,
 ) -> Result<(), AllocError>
     ensures { OnOk result ((stack.new, Done, world.now) ≡ awaited_cancelled (awaited_in inline world.now) world.now over stack.old) }
@@ -100,7 +97,7 @@ fn cancel_awaited<'s>(
 pub fn end_canceller<'s>(
     alloc: Global,
     world: &mut World<'s>,
-    stack: &mut Stack<Frame<'s>>,
+    stack: &mut Frames<'s>,
     performed: &mut Performed<'s>,
     id: DeferredId,
     came: Performed<'s>,

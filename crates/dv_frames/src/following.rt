@@ -7,13 +7,13 @@ ghost use Rattle.dv_frames.specs.declared.frame.Frame.TheVariants.{Settle};
 ghost use Rattle.dv_objects.specs.declared.performed.Performed.TheVariants.{Done};
 
 use crate::frame::{Frame, Rest};
+use crate::frames::Frames;
 use dv_journal::deferred_id::DeferredId;
 use dv_objects::follow::Follow;
 use dv_objects::input::Input;
 use dv_objects::pair::Pair;
 use dv_objects::performed::Performed;
 use dv_script::lent::{Actions, BodyRef, EndRef};
-use dv_value::stack::Stack;
 use dv_value::value::Value;
 use dv_world::world::World;
 use std::alloc::AllocError;
@@ -32,7 +32,7 @@ pub fn whole<'s>(itself: Option<DeferredId>, body: BodyRef<'s>, input: Input) ->
 }
 
 /// The Deferred is to be settled.
-pub fn settle_after<'s>(stack: &mut Stack<Frame<'s>>, id: DeferredId) -> Result<(), AllocError>
+pub fn settle_after<'s>(stack: &mut Frames<'s>, id: DeferredId) -> Result<(), AllocError>
     ensures { OnOk result (stack.new ≡ Settle id ∷ stack.old) }
 {
     stack.push(Frame::Settle(id))
@@ -40,7 +40,7 @@ pub fn settle_after<'s>(stack: &mut Stack<Frame<'s>>, id: DeferredId) -> Result<
 
 /// Who gets a value that is handed over is to be settled, and then who gave it.
 pub fn settle_both<'s>(
-    stack: &mut Stack<Frame<'s>>,
+    stack: &mut Frames<'s>,
     from: DeferredId,
     to: DeferredId,
 ) -> Result<(), AllocError>
@@ -53,7 +53,7 @@ pub fn settle_both<'s>(
 /// The Deferred is fired with a value, and is to be settled, where that is to follow. A refusal is raised.
 pub fn fire_and_settle<'s>(
     world: &mut World<'s>,
-    stack: &mut Stack<Frame<'s>>,
+    stack: &mut Frames<'s>,
     performed: &mut Performed<'s>,
     id: DeferredId,
     value: Value,
@@ -67,7 +67,7 @@ pub fn fire_and_settle<'s>(
 
 /// The Deferred is to be settled, where that is to follow.
 pub fn settle_next<'s>(
-    stack: &mut Stack<Frame<'s>>,
+    stack: &mut Frames<'s>,
     performed: &mut Performed<'s>,
     id: DeferredId,
     follow: Follow,
@@ -88,7 +88,7 @@ pub fn settle_next<'s>(
 /// A pair is added to a Deferred, which is to be settled.
 pub fn add_and_settle<'s>(
     world: &mut World<'s>,
-    stack: &mut Stack<Frame<'s>>,
+    stack: &mut Frames<'s>,
     id: DeferredId,
     pair: Pair<'s>,
 ) -> Result<(), AllocError>

@@ -4,5 +4,6 @@
 pub mod cancelling;
 pub mod following;
 pub mod frame;
+pub mod frames;
 pub mod maybe;
 pub mod raising;

@@ -7,19 +7,19 @@ ghost use Rattle.dv_world.specs.World.{World as Seen, make};
 
 use crate::following::{fire_and_settle, whole};
 use crate::frame::{Frame, Purpose};
+use crate::frames::Frames;
 use dv_journal::deferred_id::DeferredId;
 use dv_objects::input::Input;
 use dv_objects::pair::Pair;
 use dv_objects::performed::Performed;
 use dv_script::lent::{BodyRef, TextRef};
-use dv_value::stack::Stack;
 use dv_value::value::Value;
 use dv_world::world::World;
 use std::alloc::{AllocError, Global};
 
 /// A body, in which `@` isn't bound, is to be performed; what it gave becomes a Deferred for this (Twisted: `maybeDeferred`).
 pub fn perform_for<'s>(
-    stack: &mut Stack<Frame<'s>>,
+    stack: &mut Frames<'s>,
     purpose: Purpose<'s>,
     body: BodyRef<'s>,
 ) -> Result<(), AllocError>
@@ -33,7 +33,7 @@ pub fn perform_for<'s>(
 pub fn end_maybe<'s>(
     alloc: Global,
     world: &mut World<'s>,
-    stack: &mut Stack<Frame<'s>>,
+    stack: &mut Frames<'s>,
     performed: &mut Performed<'s>,
     purpose: Purpose<'s>,
     came: Performed<'s>,
@@ -56,7 +56,7 @@ pub fn end_maybe<'s>(
 #[tactic(auto, using(crate::proofs::BoundsLemmas::records_within))]
 fn make_with<'s>(
     world: &mut World<'s>,
-    stack: &mut Stack<Frame<'s>>,
+    stack: &mut Frames<'s>,
     performed: &mut Performed<'s>,
     purpose: Purpose<'s>,
     value: Value,
@@ -76,7 +76,7 @@ fn make_with<'s>(
 /// Makes a Deferred, and what it is for is to follow.
 fn make_for<'s>(
     world: &mut World<'s>,
-    stack: &mut Stack<Frame<'s>>,
+    stack: &mut Frames<'s>,
     purpose: Purpose<'s>,
     id: DeferredId,
 ) -> Result<(), AllocError>
@@ -90,7 +90,7 @@ fn make_for<'s>(
 
 /// What a Deferred is for is to follow, and the name that it gets is answered.
 fn begin_use<'s>(
-    stack: &mut Stack<Frame<'s>>,
+    stack: &mut Frames<'s>,
     purpose: Purpose<'s>,
     id: DeferredId,
 ) -> Result<Option<TextRef<'s>>, AllocError>
@@ -114,7 +114,7 @@ fn begin_use<'s>(
 /// A Deferred that a body gave is taken as it is.
 fn take_for<'s>(
     world: &mut World<'s>,
-    stack: &mut Stack<Frame<'s>>,
+    stack: &mut Frames<'s>,
     purpose: Purpose<'s>,
     id: DeferredId,
 ) -> Result<(), AllocError>

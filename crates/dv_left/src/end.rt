@@ -142,7 +142,7 @@ fn standings_of<'s>(
     for record in records {
         let id = id_of(outcomes.as_slice().len())?;
         standings.push(standing_of(&record))?;
-        let (outcome, items) = parted(record);
+        let (outcome, items) = parted(alloc, record);
         outcomes.push(outcome)?;
         links.add_items(id, items)?;
     }
@@ -162,7 +162,10 @@ fn standing_of<'s>(record: &Record<Pair<'s>, Canceller<'s>>) -> Standing
 }
 
 /// What has become of a Deferred, and what it hasn't used.
-fn parted<'s>(record: Record<Pair<'s>, Canceller<'s>>) -> (Outcome, Deque<Item<Pair<'s>>>)
+fn parted<'s>(
+    alloc: Global,
+    record: Record<Pair<'s>, Canceller<'s>>,
+) -> (Outcome, Deque<Item<Pair<'s>>>)
     ensures outcome { result.0 ≡ outcome_of record.entry }
     ensures items { result.1 ≡ record.entry.items }
 {
@@ -182,7 +185,7 @@ fn parted<'s>(record: Record<Pair<'s>, Canceller<'s>>) -> (Outcome, Deque<Item<P
         pauses,
         state: state_of(fired, waits_for, value),
     };
-    (outcome, items)
+    (outcome, items.into_deque(alloc))
 }
 
 /// Unfired, or waiting for another, or fired with a value.

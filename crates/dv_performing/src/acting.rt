@@ -8,7 +8,7 @@ ghost use Rattle.dv_frames.specs.Turn.{◌over◌};
 use dv_bodies::inlining::begin_inline;
 use dv_bodies::threading::thread;
 use dv_firing::firing::{add, cancel_named, chain, fire, make, maybe, note, pause, unpause};
-use dv_frames::frame::Frame;
+use dv_frames::frames::Frames;
 use dv_journal::deferred_id::DeferredId;
 use dv_objects::given::Given;
 use dv_objects::pair::Pair;
@@ -18,7 +18,6 @@ use dv_script::lent::{BodiesRef, BodyRef, Statements, TextRef, WorkRef};
 use dv_timing::cooperating::{cooperate, pause_task, resume_task, stop_task, when_done};
 use dv_timing::looping::{start_loop, stop_loop};
 use dv_timing::timing::{add_timeout, cancel_call};
-use dv_value::stack::Stack;
 use dv_waiting::listing::{gather, list};
 use dv_waiting::locking::{acquire, release, run_with};
 use dv_waiting::queueing::{get, put};
@@ -31,7 +30,7 @@ use std::alloc::{AllocError, Global};
 pub fn begin<'s>(
     alloc: Global,
     world: &mut World<'s>,
-    stack: &mut Stack<Frame<'s>>,
+    stack: &mut Frames<'s>,
     performed: &mut Performed<'s>,
     itself: Option<DeferredId>,
     action: &'s Action,

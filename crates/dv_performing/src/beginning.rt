@@ -9,6 +9,7 @@ ghost use Rattle.dv_frames.specs.Turn.{◌over◌};
 use crate::acting::begin;
 use dv_frames::following::whole;
 use dv_frames::frame::Frame;
+use dv_frames::frames::Frames;
 use dv_journal::entry::Entry;
 use dv_objects::input::Input;
 use dv_objects::performed::Performed;
@@ -16,7 +17,6 @@ use dv_posts::posted::Posted;
 use dv_script::body::Body;
 use dv_script::event::Event;
 use dv_script::lent::BodyRef;
-use dv_value::stack::Stack;
 use dv_world::world::World;
 use std::alloc::{AllocError, Global};
 
@@ -25,7 +25,7 @@ use std::alloc::{AllocError, Global};
 pub fn begin_event<'s>(
     alloc: Global,
     world: &mut World<'s>,
-    stack: &mut Stack<Frame<'s>>,
+    stack: &mut Frames<'s>,
     performed: &mut Performed<'s>,
     event: &'s Event,
 ) -> Result<(), AllocError>
@@ -50,7 +50,7 @@ pub fn begin_event<'s>(
 /// is told.
 pub fn begin_post<'s>(
     world: &mut World<'s>,
-    stack: &mut Stack<Frame<'s>>,
+    stack: &mut Frames<'s>,
     posted: &Posted,
     body: &'s Body,
 ) -> Result<(), AllocError>

@@ -11,19 +11,17 @@ use dv_clock::due::Due;
 use dv_clock::loop_id::LoopId;
 use dv_frames::following::whole;
 use dv_frames::frame::Frame;
+use dv_frames::frames::Frames;
 use dv_journal::deferred_id::DeferredId;
 use dv_objects::input::Input;
 use dv_script::lent::BodyRef;
 use dv_timing::looping::take_turn;
-use dv_value::stack::Stack;
 use dv_world::world::World;
 use std::alloc::AllocError;
 
 /// What is due next is run, where something is, and then what is due after it (Twisted: `Clock.advance`).
-pub fn run_due<'s>(
-    world: &mut World<'s>,
-    stack: &mut Stack<Frame<'s>>,
-) -> Result<TurnEnd, AllocError>
+#[inline(never)]
+pub fn run_due<'s>(world: &mut World<'s>, stack: &mut Frames<'s>) -> Result<TurnEnd, AllocError>
     ensures { IfOk result (λ end. (ended_with end Done world.new over stack.new) ≡ (come_due_with (come_due world.old).0 (come_due world.old).1 over stack.old)) }
 {
     let what = world.come_due()?;
@@ -33,7 +31,7 @@ pub fn run_due<'s>(
 /// This is run, and then what is due after it.
 fn run_what<'s>(
     world: &mut World<'s>,
-    stack: &mut Stack<Frame<'s>>,
+    stack: &mut Frames<'s>,
     what: Option<Due>,
 ) -> Result<TurnEnd, AllocError>
     ensures { IfOk result (λ end. (ended_with end Done world.new over stack.new) ≡ (come_due_with what world.old over stack.old)) }
@@ -63,7 +61,7 @@ fn run_what<'s>(
 }
 
 /// A refusal is told, and then what is due next follows.
-fn tell_and_go_on<'s>(stack: &mut Stack<Frame<'s>>) -> Result<(), AllocError>
+fn tell_and_go_on<'s>(stack: &mut Frames<'s>) -> Result<(), AllocError>
     ensures { OnOk result (stack.new ≡ Tell ∷ DueNext ∷ stack.old) }
 {
     stack.push(Frame::Due)?;
@@ -71,7 +69,7 @@ fn tell_and_go_on<'s>(stack: &mut Stack<Frame<'s>>) -> Result<(), AllocError>
 }
 
 /// The body of a delayed call is to be performed, and then what is due next.
-fn call_body<'s>(stack: &mut Stack<Frame<'s>>, body: Option<BodyRef<'s>>) -> Result<(), AllocError>
+fn call_body<'s>(stack: &mut Frames<'s>, body: Option<BodyRef<'s>>) -> Result<(), AllocError>
     ensures { OnOk result ((w : Seen) → (stack.new, Done, w) ≡ body_called body.entry w over stack.old) }
 {
     stack.push(Frame::Due)?;
@@ -95,7 +93,7 @@ fn timed_of(what: &Option<Due>) -> Option<DeferredId>
 }
 
 /// A Deferred whose time is over is cancelled, what that raises is told, and then what is due next follows.
-fn time_out<'s>(stack: &mut Stack<Frame<'s>>, timed: Option<DeferredId>) -> Result<(), AllocError>
+fn time_out<'s>(stack: &mut Frames<'s>, timed: Option<DeferredId>) -> Result<(), AllocError>
     ensures { OnOk result ((w : Seen) → (stack.new, Done, w) ≡ timed_out timed w over stack.old) }
 {
     match timed {

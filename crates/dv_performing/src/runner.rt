@@ -12,13 +12,13 @@ use crate::turning::turn;
 use dv_bodies::submissions::Submissions;
 use dv_bodies::threading::deliver;
 use dv_frames::frame::Frame;
+use dv_frames::frames::Frames;
 use dv_inline::poller::Poller;
 use dv_jobs::source::JobSource;
 use dv_objects::performed::Performed;
 use dv_posts::posted::Posted;
 use dv_script::body::Body;
 use dv_script::event::Event;
-use dv_value::stack::Stack;
 use dv_world::world::World;
 use std::alloc::{AllocError, AllocGlobal, Global};
 use std::random::RandomSource;
@@ -34,7 +34,7 @@ pub fn happen<'s, R, J>(
     poller: &Poller,
     jobs: &mut Submissions<'s, J>,
     world: &mut World<'s>,
-    stack: &mut Stack<Frame<'s>>,
+    stack: &mut Frames<'s>,
     event: &'s Event,
 ) -> Result<(), AllocError>
 where
@@ -66,7 +66,7 @@ pub fn come<'s, R, J>(
     poller: &Poller,
     jobs: &mut Submissions<'s, J>,
     world: &mut World<'s>,
-    stack: &mut Stack<Frame<'s>>,
+    stack: &mut Frames<'s>,
     posted: &Posted,
     body: &'s Body,
 ) -> Result<(), AllocError>
@@ -95,7 +95,7 @@ fn run<'s, R, J>(
     poller: &Poller,
     jobs: &mut Submissions<'s, J>,
     world: &mut World<'s>,
-    stack: &mut Stack<Frame<'s>>,
+    stack: &mut Frames<'s>,
     performed: Performed<'s>,
 ) -> Result<(), AllocError>
 where
@@ -126,7 +126,7 @@ fn go_on_with<'s, R, J>(
     poller: &Poller,
     jobs: &mut Submissions<'s, J>,
     world: &mut World<'s>,
-    stack: &mut Stack<Frame<'s>>,
+    stack: &mut Frames<'s>,
     performed: &mut Performed<'s>,
     frame: Frame<'s>,
 ) -> Result<(), AllocError>
@@ -150,7 +150,7 @@ fn finish_turn<'s, R, J>(
     alloc: Global,
     jobs: &mut Submissions<'s, J>,
     world: &mut World<'s>,
-    stack: &mut Stack<Frame<'s>>,
+    stack: &mut Frames<'s>,
     performed: &mut Performed<'s>,
     end: TurnEnd,
 ) -> Result<(), AllocError>

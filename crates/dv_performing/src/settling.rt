@@ -10,6 +10,7 @@ ghost use Rattle.dv_frames.specs.Turn.{◌over◌, settling};
 use dv_bodies::inlining::resume;
 use dv_frames::following::{fire_and_settle, settle_after, settle_both, whole};
 use dv_frames::frame::{Frame, Purpose};
+use dv_frames::frames::Frames;
 use dv_frames::maybe::perform_for;
 use dv_journal::deferred_id::DeferredId;
 use dv_objects::given::Given;
@@ -20,7 +21,6 @@ use dv_objects::timed::timed;
 use dv_store::store::Step;
 use dv_timing::cooperating::{end_hold, fail_where};
 use dv_timing::looping::{end_turn, fail_turn};
-use dv_value::stack::Stack;
 use dv_value::value::Value;
 use dv_waiting::listing::{come, results};
 use dv_waiting::locking::give_back;
@@ -29,10 +29,11 @@ use std::alloc::{AllocError, Global};
 
 /// Makes the first move of settling a Deferred, and puts on the stack what is to follow (Twisted:
 /// `Deferred._runCallbacks`).
+#[inline(never)]
 pub fn settle<'s>(
     alloc: Global,
     world: &mut World<'s>,
-    stack: &mut Stack<Frame<'s>>,
+    stack: &mut Frames<'s>,
     performed: &mut Performed<'s>,
     id: DeferredId,
 ) -> Result<(), AllocError>
@@ -51,7 +52,7 @@ pub fn settle<'s>(
 fn run<'s>(
     alloc: Global,
     world: &mut World<'s>,
-    stack: &mut Stack<Frame<'s>>,
+    stack: &mut Frames<'s>,
     performed: &mut Performed<'s>,
     id: DeferredId,
     pair: Pair<'s>,
@@ -76,7 +77,7 @@ fn run<'s>(
 fn begin_side<'s>(
     alloc: Global,
     world: &mut World<'s>,
-    stack: &mut Stack<Frame<'s>>,
+    stack: &mut Frames<'s>,
     performed: &mut Performed<'s>,
     id: DeferredId,
     pair: Pair<'s>,
@@ -98,7 +99,7 @@ fn begin_side<'s>(
 fn begin<'s>(
     alloc: Global,
     world: &mut World<'s>,
-    stack: &mut Stack<Frame<'s>>,
+    stack: &mut Frames<'s>,
     performed: &mut Performed<'s>,
     id: DeferredId,
     side: Side<'s>,
@@ -155,7 +156,7 @@ fn begin<'s>(
 pub fn end_side<'s>(
     alloc: Global,
     world: &mut World<'s>,
-    stack: &mut Stack<Frame<'s>>,
+    stack: &mut Frames<'s>,
     id: DeferredId,
     came: Performed<'s>,
 ) -> Result<(), AllocError>

@@ -10,22 +10,23 @@ use crate::taking::taken;
 use dv_bodies::inlining::{begin_await, end_action, end_await};
 use dv_frames::following::fire_and_settle;
 use dv_frames::frame::{Frame, Inlining};
+use dv_frames::frames::Frames;
 use dv_inline::body::InlineBody;
 use dv_inline::poller::Poller;
 use dv_inline::want::Want;
 use dv_objects::inline_id::Inline;
 use dv_objects::performed::Performed;
-use dv_value::stack::Stack;
 use dv_world::world::World;
 use futures::task::Poll;
 use std::alloc::{AllocError, Global};
 
 /// Goes on with an inline body by how far it is.
+#[inline(never)]
 pub fn go_on<'s>(
     alloc: Global,
     poller: &Poller,
     world: &mut World<'s>,
-    stack: &mut Stack<Frame<'s>>,
+    stack: &mut Frames<'s>,
     performed: &mut Performed<'s>,
     inlining: Inlining<'s>,
 ) -> Result<(), AllocError>
@@ -52,7 +53,7 @@ fn poll<'s>(
     alloc: Global,
     poller: &Poller,
     world: &mut World<'s>,
-    stack: &mut Stack<Frame<'s>>,
+    stack: &mut Frames<'s>,
     performed: &mut Performed<'s>,
     inline: Inline,
     body: InlineBody<'s>,
@@ -72,7 +73,7 @@ fn poll<'s>(
 fn want<'s>(
     alloc: Global,
     world: &mut World<'s>,
-    stack: &mut Stack<Frame<'s>>,
+    stack: &mut Frames<'s>,
     performed: &mut Performed<'s>,
     inline: Inline,
     body: InlineBody<'s>,

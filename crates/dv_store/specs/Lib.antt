@@ -7,3 +7,4 @@ pub mod Pausing
 pub mod Cancelling
 pub mod Laws
 pub mod Outcome
+pub mod BoxedDeque

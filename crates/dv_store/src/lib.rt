@@ -1,6 +1,7 @@
 //! The records of Deferreds, and the steps that use up their pairs.
 #![tactic(auto)]
 
+pub mod boxed_deque;
 pub mod error;
 pub mod laws;
 pub mod outcome;

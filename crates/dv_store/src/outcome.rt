@@ -1,10 +1,12 @@
-ghost use Rattle.std.specs.Prelude.{◌≡◌};
+ghost use Rattle.std.specs.Prelude.{◌≡◌, IfOk, map};
 ghost use Rattle.dv_store.specs.Outcome.{state_of, outcome_of};
 
 use crate::record::Record;
 use dv_journal::deferred_id::DeferredId;
+use dv_value::items::Items;
 use dv_value::text::Text;
 use dv_value::value::Value;
+use std::alloc::{AllocError, Global};
 
 /// Whether a Deferred is fired, and with what.
 #[derive(Debug, Drop)]
@@ -49,6 +51,37 @@ impl Outcome {
             pauses,
             state: state_of(fired, waits_for, value),
         }
+    }
+}
+
+/// How many of its places a list may leave unused, besides one in thirty-two.
+const SPARE: usize = 64;
+
+/// What has become of all Deferreds, in order of making. It gives their room back as it goes, so that a run takes little more at
+/// its end than it had. AllocError where memory is refused.
+pub fn outcomes_of<P: Drop, K: Drop>(
+    alloc: Global,
+    records: Vec<Record<P, K>>,
+) -> Result<Items<Outcome>, AllocError>
+    ensures { IfOk result (λ outcomes. outcomes ≡ map outcome_of records.items) }
+{
+    let mut outcomes = Items::new(alloc);
+    let mut left = records;
+    left.reverse();
+    while let Some(record) = left.pop() {
+        outcomes.push(Outcome::of(record))?;
+        give_room_back(&mut left);
+    }
+    Ok(outcomes)
+}
+
+/// Gives room back that a list doesn't use, where that is much of it. Where it can't be given back, it stays.
+fn give_room_back<T>(items: &mut Vec<T>)
+    ensures { items.new.items ≡ items.old.items }
+{
+    let room = items.capacity();
+    if room - items.len() > room / 32 + SPARE {
+        items.shrink_to_fit();
     }
 }
 

@@ -5,6 +5,7 @@ ghost use Rattle.dv_store.specs.Callbacks.{is_ready};
 ghost use Rattle.dv_store.specs.Chaining.{is_pending};
 ghost use Rattle.dv_journal.specs.declared.entry.Entry.TheVariants.{New};
 
+use crate::boxed_deque::BoxedDeque;
 use crate::error::{StoreFault, UnpauseFault};
 use crate::record::{Item, Record};
 use crate::sides::Sides;
@@ -13,7 +14,6 @@ use dv_journal::deferred_id::DeferredId;
 use dv_journal::entry::Entry;
 use dv_journal::error::Stop;
 use dv_journal::journal::Journal;
-use dv_value::deque::Deque;
 use dv_value::text::Text;
 use dv_value::value::Value;
 use std::alloc::{AllocError, Global};
@@ -128,7 +128,7 @@ impl<P: Sides + Drop, K: Drop> Store<P, K> {
             name,
             fired: false,
             value: Value::Null,
-            items: Deque::new(self.alloc),
+            items: BoxedDeque::new(),
             pauses: 0,
             waits_for: None,
             running: false,
@@ -173,7 +173,10 @@ impl<P: Sides + Drop, K: Drop> Store<P, K> {
         ensures ok { OnOk result (self.new ≡ changing id (with_item item) self.old) }
         ensures err { OnErr result (self.new ≡ self.old) }
     {
-        self.records[id.number() as usize].items.push_back(item)
+        let alloc = self.alloc;
+        self.records[id.number() as usize]
+            .items
+            .push_back(alloc, item)
     }
 
     /// Drops the item that was added last.
@@ -325,9 +328,8 @@ impl<P: Sides + Drop, K: Drop> Store<P, K> {
     fn drop_first(&mut self, id: DeferredId)
         ensures { self.new ≡ changing id without_first self.old }
     {
-        let alloc = self.alloc;
         if let Some(record) = self.records.get_mut(id.number() as usize) {
-            let _ = record.items.take_front(alloc);
+            let _ = record.items.take_front();
         }
     }
 
@@ -339,10 +341,9 @@ impl<P: Sides + Drop, K: Drop> Store<P, K> {
     {
         let place = id.number() as usize;
         journal.write(Entry::Run(id))?;
-        let alloc = self.alloc;
         let record = &mut self.records[place];
         record.running = true;
-        match record.items.take_front(alloc) {
+        match record.items.take_front() {
             Some(Item::Pair(pair)) => Ok(Step::Run(pair)),
             Some(Item::HandOver(_)) | None => unreachable!(),
         }
@@ -360,9 +361,8 @@ impl<P: Sides + Drop, K: Drop> Store<P, K> {
     {
         let place = id.number() as usize;
         tell_hand(self.alloc, journal, id, to, &self.records[place].value)?;
-        let alloc = self.alloc;
         let record = &mut self.records[place];
-        let _ = record.items.take_front(alloc);
+        let _ = record.items.take_front();
         let value = mem::replace(&mut record.value, Value::Null);
         self.set_handed(to, value);
         Ok(Step::Handed(to))

@@ -8,6 +8,7 @@ ghost use Rattle.dv_objects.specs.declared.performed.Performed.TheVariants.{Done
 use dv_clock::task_id::TaskId;
 use dv_frames::following::{fire_and_settle, whole};
 use dv_frames::frame::Frame;
+use dv_frames::frames::Frames;
 use dv_journal::deferred_id::DeferredId;
 use dv_objects::input::Input;
 use dv_objects::pair::Pair;
@@ -17,7 +18,6 @@ use dv_objects::task::TaskEnd;
 use dv_script::lent::{BodiesRef, BodyRef, TextRef};
 use dv_value::boxed::Boxed;
 use dv_value::failure::Failure;
-use dv_value::stack::Stack;
 use dv_world::world::World;
 use dv_world::world::cooperating::not_paused;
 use std::alloc::{AllocError, Global};
@@ -38,7 +38,7 @@ pub fn cooperate<'s>(
 pub fn when_done<'s>(
     alloc: Global,
     world: &mut World<'s>,
-    stack: &mut Stack<Frame<'s>>,
+    stack: &mut Frames<'s>,
     performed: &mut Performed<'s>,
     name: TextRef<'s>,
     task: &str,
@@ -61,7 +61,7 @@ pub fn when_done<'s>(
 fn ask_when<'s>(
     alloc: Global,
     world: &mut World<'s>,
-    stack: &mut Stack<Frame<'s>>,
+    stack: &mut Frames<'s>,
     performed: &mut Performed<'s>,
     name: TextRef<'s>,
     task: TaskId,
@@ -80,7 +80,7 @@ fn ask_when<'s>(
 pub fn notify<'s>(
     alloc: Global,
     world: &mut World<'s>,
-    stack: &mut Stack<Frame<'s>>,
+    stack: &mut Frames<'s>,
     performed: &mut Performed<'s>,
     id: DeferredId,
     task: TaskId,
@@ -184,7 +184,7 @@ fn resume<'s>(
 pub fn stop_task<'s>(
     alloc: Global,
     world: &mut World<'s>,
-    stack: &mut Stack<Frame<'s>>,
+    stack: &mut Frames<'s>,
     performed: &mut Performed<'s>,
     name: &str,
 ) -> Result<(), AllocError>
@@ -204,7 +204,7 @@ pub fn stop_task<'s>(
 fn stop<'s>(
     alloc: Global,
     world: &mut World<'s>,
-    stack: &mut Stack<Frame<'s>>,
+    stack: &mut Frames<'s>,
     performed: &mut Performed<'s>,
     task: TaskId,
 ) -> Result<(), AllocError>
@@ -226,7 +226,7 @@ fn stop<'s>(
 /// Ends a task, unless it has ended, and fires each that waits for that, in order.
 fn end<'s>(
     world: &mut World<'s>,
-    stack: &mut Stack<Frame<'s>>,
+    stack: &mut Frames<'s>,
     task: TaskId,
     end: TaskEnd,
 ) -> Result<(), AllocError>
@@ -239,7 +239,7 @@ fn end<'s>(
 
 /// Each Deferred that waits for the end of a task is to be fired, in order.
 fn notify_all<'s>(
-    stack: &mut Stack<Frame<'s>>,
+    stack: &mut Frames<'s>,
     task: TaskId,
     waiting: &[DeferredId],
 ) -> Result<(), AllocError>
@@ -271,7 +271,7 @@ pub fn end_hold<'s>(
 /// A task ends with a failure, where there is one, unless it has ended.
 pub fn fail_where<'s>(
     world: &mut World<'s>,
-    stack: &mut Stack<Frame<'s>>,
+    stack: &mut Frames<'s>,
     task: TaskId,
     failure: Option<Boxed<Failure>>,
 ) -> Result<(), AllocError>
@@ -287,7 +287,7 @@ pub fn fail_where<'s>(
 pub fn end_step<'s>(
     alloc: Global,
     world: &mut World<'s>,
-    stack: &mut Stack<Frame<'s>>,
+    stack: &mut Frames<'s>,
     task: TaskId,
     came: Performed<'s>,
 ) -> Result<(), AllocError>
@@ -304,7 +304,7 @@ pub fn end_step<'s>(
 fn use_step<'s>(
     alloc: Global,
     world: &mut World<'s>,
-    stack: &mut Stack<Frame<'s>>,
+    stack: &mut Frames<'s>,
     task: TaskId,
     came: Performed<'s>,
 ) -> Result<(), AllocError>
@@ -321,7 +321,7 @@ fn use_step<'s>(
 /// A task waits for a Deferred that a body of it gave.
 fn hold<'s>(
     world: &mut World<'s>,
-    stack: &mut Stack<Frame<'s>>,
+    stack: &mut Frames<'s>,
     task: TaskId,
     id: DeferredId,
 ) -> Result<(), AllocError>
@@ -345,7 +345,7 @@ fn has_ended<'s>(world: &World<'s>, task: TaskId) -> bool
 /// A tick goes on: a step is taken, while one is left and somebody takes turns; else the next tick is scheduled.
 pub fn go_on_ticking<'s>(
     world: &mut World<'s>,
-    stack: &mut Stack<Frame<'s>>,
+    stack: &mut Frames<'s>,
     units: u32,
 ) -> Result<(), AllocError>
     ensures { OnOk result ((stack.new, Done, world.new) ≡ tick_gone_on units world.old over stack.old) }
@@ -357,11 +357,7 @@ pub fn go_on_ticking<'s>(
 }
 
 /// A step is taken, and then so many more.
-fn take_step<'s>(
-    world: &mut World<'s>,
-    stack: &mut Stack<Frame<'s>>,
-    left: u32,
-) -> Result<(), AllocError>
+fn take_step<'s>(world: &mut World<'s>, stack: &mut Frames<'s>, left: u32) -> Result<(), AllocError>
     ensures { OnOk result ((stack.new, Done, world.new) ≡ tick_stepped left (taken world.old).0 (taken world.old).1 over stack.old) }
 {
     match world.take_step()? {
@@ -376,7 +372,7 @@ fn take_step<'s>(
 /// A task takes a step: its next body is performed, or it ends.
 fn begin_step<'s>(
     world: &mut World<'s>,
-    stack: &mut Stack<Frame<'s>>,
+    stack: &mut Frames<'s>,
     task: TaskId,
     body: Option<BodyRef<'s>>,
 ) -> Result<(), AllocError>

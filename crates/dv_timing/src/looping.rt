@@ -7,13 +7,13 @@ ghost use Rattle.dv_objects.specs.declared.performed.Performed.TheVariants.{Done
 use dv_clock::loop_id::LoopId;
 use dv_frames::following::fire_and_settle;
 use dv_frames::frame::{Frame, Purpose};
+use dv_frames::frames::Frames;
 use dv_frames::maybe::perform_for;
 use dv_journal::deferred_id::DeferredId;
 use dv_journal::entry::Entry;
 use dv_objects::performed::Performed;
 use dv_objects::refusals::unbound;
 use dv_script::lent::{BodyRef, TextRef};
-use dv_value::stack::Stack;
 use dv_value::text::Text;
 use dv_value::value::Value;
 use dv_world::world::World;
@@ -25,7 +25,7 @@ use std::alloc::{AllocError, Global};
 pub fn start_loop<'s>(
     alloc: Global,
     world: &mut World<'s>,
-    stack: &mut Stack<Frame<'s>>,
+    stack: &mut Frames<'s>,
     name: TextRef<'s>,
     of: TextRef<'s>,
     interval: u64,
@@ -44,7 +44,7 @@ pub fn start_loop<'s>(
 fn begin_loop<'s>(
     alloc: Global,
     world: &mut World<'s>,
-    stack: &mut Stack<Frame<'s>>,
+    stack: &mut Frames<'s>,
     name: TextRef<'s>,
     of: DeferredId,
     interval: u64,
@@ -67,7 +67,7 @@ fn begin_loop<'s>(
 fn begin_at_once<'s>(
     alloc: Global,
     world: &mut World<'s>,
-    stack: &mut Stack<Frame<'s>>,
+    stack: &mut Frames<'s>,
     looping: LoopId,
     name: &str,
     body: BodyRef<'s>,
@@ -81,7 +81,7 @@ fn begin_at_once<'s>(
 /// The body of a loop is to be performed, as a turn of it.
 pub fn take_turn<'s>(
     world: &World<'s>,
-    stack: &mut Stack<Frame<'s>>,
+    stack: &mut Frames<'s>,
     looping: LoopId,
 ) -> Result<(), AllocError>
     ensures { OnOk result (stack.new ≡ turn_taken looping (slice_get world.now.objects.loops looping) ++ stack.old) }
@@ -100,7 +100,7 @@ pub fn take_turn<'s>(
 pub fn end_turn<'s>(
     alloc: Global,
     world: &mut World<'s>,
-    stack: &mut Stack<Frame<'s>>,
+    stack: &mut Frames<'s>,
     performed: &mut Performed<'s>,
     looping: LoopId,
 ) -> Result<(), AllocError>
@@ -122,7 +122,7 @@ pub fn end_turn<'s>(
 /// A turn of a loop has failed, and its Deferred is fired with the failure.
 pub fn fail_turn<'s>(
     world: &mut World<'s>,
-    stack: &mut Stack<Frame<'s>>,
+    stack: &mut Frames<'s>,
     performed: &mut Performed<'s>,
     looping: LoopId,
     failure: Value,
@@ -143,7 +143,7 @@ pub fn fail_turn<'s>(
 pub fn stop_loop<'s>(
     alloc: Global,
     world: &mut World<'s>,
-    stack: &mut Stack<Frame<'s>>,
+    stack: &mut Frames<'s>,
     performed: &mut Performed<'s>,
     name: &str,
 ) -> Result<(), AllocError>
@@ -163,7 +163,7 @@ pub fn stop_loop<'s>(
 fn stop<'s>(
     alloc: Global,
     world: &mut World<'s>,
-    stack: &mut Stack<Frame<'s>>,
+    stack: &mut Frames<'s>,
     performed: &mut Performed<'s>,
     looping: LoopId,
 ) -> Result<(), AllocError>
@@ -187,7 +187,7 @@ fn stop<'s>(
 /// Fires the Deferred of a loop with its name, where the loop is over.
 fn end_where<'s>(
     world: &mut World<'s>,
-    stack: &mut Stack<Frame<'s>>,
+    stack: &mut Frames<'s>,
     performed: &mut Performed<'s>,
     ended: bool,
     of: DeferredId,

@@ -5,11 +5,11 @@ ghost use Rattle.dv_objects.specs.declared.performed.Performed.TheVariants.{Done
 
 use dv_frames::following::add_and_settle;
 use dv_frames::frame::Frame;
+use dv_frames::frames::Frames;
 use dv_journal::deferred_id::DeferredId;
 use dv_objects::pair::Pair;
 use dv_objects::performed::Performed;
 use dv_objects::refusals::unbound;
-use dv_value::stack::Stack;
 use dv_world::world::World;
 use std::alloc::{AllocError, Global};
 
@@ -39,7 +39,7 @@ pub fn cancel_call<'s>(
 pub fn add_timeout<'s>(
     alloc: Global,
     world: &mut World<'s>,
-    stack: &mut Stack<Frame<'s>>,
+    stack: &mut Frames<'s>,
     performed: &mut Performed<'s>,
     itself: Option<DeferredId>,
     name: &str,
@@ -60,7 +60,7 @@ pub fn add_timeout<'s>(
 /// Starts a timer of a Deferred, and adds the two pairs that go with it.
 fn begin_timer<'s>(
     world: &mut World<'s>,
-    stack: &mut Stack<Frame<'s>>,
+    stack: &mut Frames<'s>,
     id: DeferredId,
     delay: u64,
 ) -> Result<(), AllocError>

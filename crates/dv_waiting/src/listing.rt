@@ -10,6 +10,7 @@ ghost use Rattle.dv_objects.specs.declared.performed.Performed.TheVariants.{Done
 use crate::flags::{gather_flags, list_flags};
 use dv_frames::following::fire_and_settle;
 use dv_frames::frame::Frame;
+use dv_frames::frames::Frames;
 use dv_journal::deferred_id::DeferredId;
 use dv_objects::canceller::Canceller;
 use dv_objects::given::Given;
@@ -20,8 +21,8 @@ use dv_prims::gather::{Came, Flags, seconds};
 use dv_prims::list_id::ListId;
 use dv_script::action::{GatherFlag, ListFlag};
 use dv_script::lent::TextRef;
+use dv_value::boxed::Boxed;
 use dv_value::items::Items;
-use dv_value::stack::Stack;
 use dv_value::text::Text;
 use dv_value::value::Value;
 use dv_world::found::{Found, find_all};
@@ -32,7 +33,7 @@ use std::alloc::{AllocError, Global};
 pub fn list<'s>(
     alloc: Global,
     world: &mut World<'s>,
-    stack: &mut Stack<Frame<'s>>,
+    stack: &mut Frames<'s>,
     performed: &mut Performed<'s>,
     itself: Option<DeferredId>,
     name: &'s Text,
@@ -69,7 +70,7 @@ pub fn list<'s>(
 pub fn gather<'s>(
     alloc: Global,
     world: &mut World<'s>,
-    stack: &mut Stack<Frame<'s>>,
+    stack: &mut Frames<'s>,
     performed: &mut Performed<'s>,
     itself: Option<DeferredId>,
     name: &'s Text,
@@ -106,7 +107,7 @@ pub fn gather<'s>(
 fn make<'s>(
     alloc: Global,
     world: &mut World<'s>,
-    stack: &mut Stack<Frame<'s>>,
+    stack: &mut Frames<'s>,
     performed: &mut Performed<'s>,
     name: TextRef<'s>,
     children: Items<DeferredId>,
@@ -118,7 +119,7 @@ fn make<'s>(
 {
     let id = world.next_id();
     let at_once = has_all_at_once(children.as_slice(), flags);
-    begin(world, stack, id, name, children, flags)?;
+    begin(alloc, world, stack, id, name, children, flags)?;
     fire_at_once(alloc, world, stack, performed, id, at_once)
 }
 
@@ -132,8 +133,9 @@ fn has_all_at_once(children: &[DeferredId], flags: Flags) -> bool
 /// Makes a DeferredList and its Deferred; the pairs of its children are to be added.
 #[tactic(auto, using(dv_frames::proofs::BoundsLemmas::arranged_within))]
 fn begin<'s>(
+    alloc: Global,
     world: &mut World<'s>,
-    stack: &mut Stack<Frame<'s>>,
+    stack: &mut Frames<'s>,
     id: DeferredId,
     name: TextRef<'s>,
     children: Items<DeferredId>,
@@ -145,13 +147,14 @@ fn begin<'s>(
 {
     let list = world.make_list(children.as_slice().len(), flags)?;
     add_to_children(stack, list, id, children.as_slice())?;
+    let children = Boxed::new(alloc, children)?;
     world.make(Some(name), Some(Canceller::Children(children)))
 }
 
 /// A pair is to be added to each child, in order, by which it comes to a DeferredList. AllocError where there are more
 /// than numbers of 32 bits.
 fn add_to_children<'s>(
-    stack: &mut Stack<Frame<'s>>,
+    stack: &mut Frames<'s>,
     list: ListId,
     of: DeferredId,
     children: &[DeferredId],
@@ -176,7 +179,7 @@ fn add_to_children<'s>(
 fn fire_at_once<'s>(
     alloc: Global,
     world: &mut World<'s>,
-    stack: &mut Stack<Frame<'s>>,
+    stack: &mut Frames<'s>,
     performed: &mut Performed<'s>,
     id: DeferredId,
     at_once: bool,
@@ -193,7 +196,7 @@ fn fire_at_once<'s>(
 /// A child comes to its DeferredList with its value, which may fire the list; then it goes on with what the list leaves it.
 pub fn come<'s>(
     world: &mut World<'s>,
-    stack: &mut Stack<Frame<'s>>,
+    stack: &mut Frames<'s>,
     performed: &mut Performed<'s>,
     child: Child,
     value: Value,
@@ -213,7 +216,7 @@ pub fn come<'s>(
 /// Fires a DeferredList with what is due, unless somebody has fired it.
 fn fire_by_child<'s>(
     world: &mut World<'s>,
-    stack: &mut Stack<Frame<'s>>,
+    stack: &mut Frames<'s>,
     performed: &mut Performed<'s>,
     id: DeferredId,
     due: Option<Value>,

@@ -6,6 +6,7 @@ ghost use Rattle.dv_objects.specs.declared.performed.Performed.TheVariants.{Done
 
 use dv_frames::following::fire_and_settle;
 use dv_frames::frame::Frame;
+use dv_frames::frames::Frames;
 use dv_journal::deferred_id::DeferredId;
 use dv_objects::canceller::Canceller;
 use dv_objects::pair::Pair;
@@ -13,7 +14,6 @@ use dv_objects::performed::Performed;
 use dv_objects::refusals::{not_held, unbound};
 use dv_prims::lock_id::LockId;
 use dv_script::lent::{BodyRef, TextRef};
-use dv_value::stack::Stack;
 use dv_value::text::Text;
 use dv_value::value::Value;
 use dv_world::world::World;
@@ -24,7 +24,7 @@ use std::alloc::{AllocError, Global};
 pub fn acquire<'s>(
     alloc: Global,
     world: &mut World<'s>,
-    stack: &mut Stack<Frame<'s>>,
+    stack: &mut Frames<'s>,
     performed: &mut Performed<'s>,
     name: TextRef<'s>,
     lock: &str,
@@ -48,7 +48,7 @@ pub fn acquire<'s>(
 pub fn run_with<'s>(
     alloc: Global,
     world: &mut World<'s>,
-    stack: &mut Stack<Frame<'s>>,
+    stack: &mut Frames<'s>,
     performed: &mut Performed<'s>,
     name: TextRef<'s>,
     lock: &str,
@@ -76,7 +76,7 @@ pub fn run_with<'s>(
 fn acquire_found<'s>(
     alloc: Global,
     world: &mut World<'s>,
-    stack: &mut Stack<Frame<'s>>,
+    stack: &mut Frames<'s>,
     performed: &mut Performed<'s>,
     name: TextRef<'s>,
     lock: LockId,
@@ -94,7 +94,7 @@ fn acquire_found<'s>(
 fn ask<'s>(
     alloc: Global,
     world: &mut World<'s>,
-    stack: &mut Stack<Frame<'s>>,
+    stack: &mut Frames<'s>,
     performed: &mut Performed<'s>,
     lock: LockId,
     id: DeferredId,
@@ -115,7 +115,7 @@ fn ask<'s>(
 pub fn release<'s>(
     alloc: Global,
     world: &mut World<'s>,
-    stack: &mut Stack<Frame<'s>>,
+    stack: &mut Frames<'s>,
     performed: &mut Performed<'s>,
     lock: &str,
 ) -> Result<(), AllocError>
@@ -135,7 +135,7 @@ pub fn release<'s>(
 pub fn give_back<'s>(
     alloc: Global,
     world: &mut World<'s>,
-    stack: &mut Stack<Frame<'s>>,
+    stack: &mut Frames<'s>,
     performed: &mut Performed<'s>,
     lock: LockId,
 ) -> Result<(), AllocError>
@@ -158,7 +158,7 @@ pub fn give_back<'s>(
 /// Fires whoever has got a token with the name of its lock.
 fn grant<'s>(
     world: &mut World<'s>,
-    stack: &mut Stack<Frame<'s>>,
+    stack: &mut Frames<'s>,
     performed: &mut Performed<'s>,
     to: Option<DeferredId>,
     name: Text,

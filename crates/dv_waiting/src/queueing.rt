@@ -5,7 +5,7 @@ ghost use Rattle.dv_frames.specs.Turn.{◌over◌};
 ghost use Rattle.dv_objects.specs.declared.performed.Performed.TheVariants.{Done};
 
 use dv_frames::following::fire_and_settle;
-use dv_frames::frame::Frame;
+use dv_frames::frames::Frames;
 use dv_journal::deferred_id::DeferredId;
 use dv_objects::canceller::Canceller;
 use dv_objects::given::Given;
@@ -13,7 +13,6 @@ use dv_objects::performed::Performed;
 use dv_objects::refusals::{overflow, unbound, underflow};
 use dv_prims::queue_id::QueueId;
 use dv_script::lent::TextRef;
-use dv_value::stack::Stack;
 use dv_value::value::Value;
 use dv_world::world::World;
 use std::alloc::{AllocError, Global};
@@ -22,7 +21,7 @@ use std::alloc::{AllocError, Global};
 pub fn put<'s>(
     alloc: Global,
     world: &mut World<'s>,
-    stack: &mut Stack<Frame<'s>>,
+    stack: &mut Frames<'s>,
     performed: &mut Performed<'s>,
     queue: &str,
     given: Given<'s>,
@@ -44,7 +43,7 @@ pub fn put<'s>(
 fn put_where_it_may_be<'s>(
     alloc: Global,
     world: &mut World<'s>,
-    stack: &mut Stack<Frame<'s>>,
+    stack: &mut Frames<'s>,
     performed: &mut Performed<'s>,
     queue: QueueId,
     given: Given<'s>,
@@ -69,7 +68,7 @@ fn put_where_it_may_be<'s>(
 /// Fires whoever gets a value with it.
 fn hand_out<'s>(
     world: &mut World<'s>,
-    stack: &mut Stack<Frame<'s>>,
+    stack: &mut Frames<'s>,
     performed: &mut Performed<'s>,
     received: Option<(DeferredId, Value)>,
 ) -> Result<(), AllocError>
@@ -86,7 +85,7 @@ fn hand_out<'s>(
 pub fn get<'s>(
     alloc: Global,
     world: &mut World<'s>,
-    stack: &mut Stack<Frame<'s>>,
+    stack: &mut Frames<'s>,
     performed: &mut Performed<'s>,
     name: TextRef<'s>,
     queue: &str,
@@ -109,7 +108,7 @@ pub fn get<'s>(
 fn get_where_it_may<'s>(
     alloc: Global,
     world: &mut World<'s>,
-    stack: &mut Stack<Frame<'s>>,
+    stack: &mut Frames<'s>,
     performed: &mut Performed<'s>,
     name: TextRef<'s>,
     queue: QueueId,
@@ -133,7 +132,7 @@ fn get_where_it_may<'s>(
 /// A Deferred asks a queue for a value, and is fired at once where it gets one.
 fn ask<'s>(
     world: &mut World<'s>,
-    stack: &mut Stack<Frame<'s>>,
+    stack: &mut Frames<'s>,
     performed: &mut Performed<'s>,
     queue: QueueId,
     id: DeferredId,
@@ -148,7 +147,7 @@ fn ask<'s>(
 /// Fires a Deferred with the value that it got, if it did.
 fn give<'s>(
     world: &mut World<'s>,
-    stack: &mut Stack<Frame<'s>>,
+    stack: &mut Frames<'s>,
     performed: &mut Performed<'s>,
     id: DeferredId,
     value: Option<Value>,
