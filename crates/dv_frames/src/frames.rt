@@ -122,7 +122,7 @@ impl<'s> Frames<'s> {
         self.larges.clear();
     }
 
-    /// Adds a frame on top. Where memory is refused, it is dropped.
+    /// Adds a frame on top. Where memory is refused, a part of it may be left, and the frames are good for nothing but `clear`.
     #[inline(always)]
     #[tactic(auto, unfolding(crate::specs::Frames::frames_of))]
     pub fn push(&mut self, frame: Frame<'s>) -> Result<(), AllocError>
