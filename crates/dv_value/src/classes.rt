@@ -1,4 +1,4 @@
-ghost use Rattle.std.specs.Prelude.{◌≡◌, ◌++◌, ◌+◌, ◌≤◌, ◌<◌, ◌^◌, length, map, nat_eq, IfOk, OnOk, OnErr, IfSome};
+ghost use Rattle.std.specs.Prelude.{◌≡◌, ◌++◌, ◌+◌, ◌<◌, ◌^◌, length, map, nat_eq, IfOk, OnOk, OnErr, IfSome};
 ghost use Rattle.dv_value.specs.Classes.{find_class};
 ghost use Rattle.std.specs.List.{list_any};
 ghost use Rattle.dv_value.specs.Builtin.{children_of};

@@ -79,18 +79,6 @@ impl<T: Drop> Deque<T> {
         let _ = self.items.pop_back();
     }
 
-    /// Takes the item that was pushed first of those that are left, in constant time, and gives the room back where it was the last.
-    pub fn take_front(&mut self, alloc: Global) -> Option<T>
-        ensures value { result ≡ slice_get self.old 0 }
-        ensures rest { self.new ≡ drop 1 self.old }
-    {
-        let item = self.items.pop_front();
-        if self.items.is_empty() {
-            self.items = VecDeque::new(alloc);
-        }
-        item
-    }
-
     /// Adds an item at the end. Where memory is refused, the item is dropped and the others stay.
     pub fn push_back(&mut self, item: T) -> Result<(), AllocError>
         ensures ok { OnOk result (self.new ≡ self.old ++ item ∷ []) }
