@@ -108,12 +108,10 @@ def is_right(script: Script, fault: Fault, end: End) -> bool:
     """Whether a run under a fault ended as it may."""
     if not end.met:
         return is_whole(script, end)
-    match fault.kind:
-        case Kind.GROWTH | Kind.GROWTHS:
-            return is_whole(script, end) or (gave_up(OUT_OF_MEMORY, end) and wrote_prefix(script, end))
-        case Kind.READ_FAILS:
-            return gave_up(READ_FAILED, end) and not end.output
-        case Kind.READ_ENDS:
-            return is_cut_off(script, fault, end)
-        case Kind.WRITE_FAILS | Kind.WRITE_TAKES_NOTHING:
-            return gave_up(WRITE_FAILED, end) and wrote_as_much(script, fault, end)
+    if fault.kind.is_of_memory:
+        return is_whole(script, end) or (gave_up(OUT_OF_MEMORY, end) and wrote_prefix(script, end))
+    if fault.kind is Kind.READ_FAILS:
+        return gave_up(READ_FAILED, end) and not end.output
+    if fault.kind is Kind.READ_ENDS:
+        return is_cut_off(script, fault, end)
+    return gave_up(WRITE_FAILED, end) and wrote_as_much(script, fault, end)

@@ -53,3 +53,9 @@ def told_scripts() -> list[Script]:
     """Those of which the run is swept as JSON too, where each line takes many growths: a few, with all kinds of lines."""
     names = {"loop_and_later", "held_task", "inline_goes_on", "jobs", "posts", "cancelled_again", "unknown_action"}
     return [script for script in all_scripts() if script.name in names]
+
+
+def sample_scripts() -> list[Script]:
+    """A few that take seconds: a hand-over, jobs and posts on threads of their own, and a script that is refused."""
+    names = {"chained_hand_over", "posts", "unknown_action"}
+    return [script for script in all_scripts() if script.name in names]

@@ -1,10 +1,10 @@
 #!/usr/bin/env python3
-"""Runs the built programs on scripts of `scripts/` with each growth of memory refused, and each read and write failed, in turn.
+"""Runs the program on scripts of `scripts/` with each growth of memory refused, and each read and write failed, in turn.
 
-    faults/sweep.py [--cmd PROGRAM] [--json PROGRAM] [--cc COMPILER]
+    faults/sweep.py [--cmd PROGRAM] [--cc COMPILER] [--sample]
 
-The program that runs scripts is swept on all of them, and that which tells runs as JSON on some; what this one comes to where nothing
-fails is first held against the text of the script, line by line.
+Runs are swept on all scripts, and runs as JSON on some. What is printed as JSON where nothing fails is first held against the text of
+the script, line by line. A sample takes a few scripts, and seconds.
 
 Each run is given one fault by a shim that is preloaded, and the next one the next number, until three in a row have met none.
 A run that wants memory ends by status 3 with a prefix of its text, or has done without. A run whose reader or writer failed
@@ -27,12 +27,10 @@ from pathlib import Path
 from threading import Lock
 
 from faults import End, Fault, Kind, is_right
-from scripts import Script, all_scripts, told_scripts
+from scripts import Script, all_scripts, sample_scripts, told_scripts
 
 HERE = Path(__file__).resolve().parent
-CRATES = HERE.parent / "crates"
-PROGRAM = CRATES / "deferreds" / "out" / "deferreds"
-JSON_PROGRAM = CRATES / "deferreds_json" / "out" / "deferreds_json"
+LAUNCHER = HERE.parent / "deferreds"
 WORKERS = (0, 2)
 IN_VAIN = 3
 MOST_WRONG = 20
@@ -99,6 +97,7 @@ class Program:
     path: Path
     shim: Path
     seconds: float
+    words: tuple[str, ...] = ()
 
     def run(self, script: Script, workers: int, fault: Fault) -> End:
         """Runs a script under a fault."""
@@ -106,7 +105,8 @@ class Program:
 
     def run_in(self, script: Script, workers: int, environment: dict[str, str]) -> End:
         """Runs a script in an environment."""
-        return run_under(self.shim, [str(self.path), str(workers)], script.source, environment, self.seconds)
+        words = [str(self.path), *self.words, str(workers)]
+        return run_under(self.shim, words, script.source, environment, self.seconds)
 
 
 @dataclass(frozen=True)
@@ -187,22 +187,31 @@ def compiled_shim(compiler: str, folder: Path) -> Path:
     return compiled(compiler, HERE / "shim.c", folder / "shim.so", "-fPIC", "-shared")
 
 
+def program_here() -> Path:
+    """The program that the launcher runs: built from the sources that stand here, or released for them."""
+    asked = subprocess.run([str(LAUNCHER), "--program"], stdout=subprocess.PIPE, text=True, check=False)
+    if asked.returncode != 0:
+        sys.exit(asked.returncode)
+    return Path(asked.stdout.strip())
+
+
 def main() -> int:
     parser = argparse.ArgumentParser(description=__doc__, formatter_class=argparse.RawDescriptionHelpFormatter)
-    parser.add_argument("--cmd", type=Path, default=PROGRAM, metavar="PROGRAM", help="the program that is run")
-    parser.add_argument("--json", type=Path, default=JSON_PROGRAM, metavar="PROGRAM", help="the one that tells runs as JSON")
+    parser.add_argument("--cmd", type=Path, metavar="PROGRAM", help="the program that runs, in place of the one that is built or released")
     parser.add_argument("--cc", default=os.environ.get("CC", "cc"), metavar="COMPILER", help="the C compiler for the shim")
+    parser.add_argument("--sample", action="store_true", help="take a few scripts alone")
     asked = parser.parse_args()
-    for path in (asked.cmd, asked.json):
-        if not os.access(path, os.X_OK):
-            print(f"{path} isn't there: rt ci or ./deferreds --build builds it", file=sys.stderr)
-            return 2
+    path = asked.cmd or program_here()
+    if not os.access(path, os.X_OK):
+        print(f"{path} isn't there, or can't be run", file=sys.stderr)
+        return 2
+    scripts, told = (sample_scripts(), sample_scripts()) if asked.sample else (all_scripts(), told_scripts())
     findings = Findings()
     with tempfile.TemporaryDirectory() as folder:
-        shim = compiled_shim(asked.cc, Path(folder))
-        sweep(Program(asked.cmd.resolve(), shim, 20), all_scripts(), findings)
-        telling = Program(asked.json.resolve(), shim, 20)
-        sweep(telling, list(told_as_json(telling, told_scripts(), findings)), findings)
+        runs = Program(path.resolve(), compiled_shim(asked.cc, Path(folder)), 20)
+        sweep(runs, scripts, findings)
+        runs_as_json = replace(runs, words=("--json",))
+        sweep(runs_as_json, list(told_as_json(runs_as_json, told, findings)), findings)
     print(findings)
     return 0 if findings.wrong == 0 else 1
 

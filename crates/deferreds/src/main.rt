@@ -1,67 +1,94 @@
-//! Runs the script on standard input, and prints its journal and the outcome of each Deferred.
+//! Runs a script, and prints its journal and the outcome of each Deferred, or prints the run as JSON Lines, or explains where the
+//! script is refused.
 #![tactic(auto)]
 
-ghost use Rattle.std.specs.Prelude.{◌≤◌, IfOk, IfSome};
-ghost use Rattle.dv_script.specs.declared.limits.TheConstants.{MOST_WORKERS};
+ghost use Rattle.std.specs.Prelude.{IfOk, IfSome};
 
-use dv_jobs::gate::PlainGate;
+mod exit;
+mod help;
+mod performing;
+mod version;
+
+use crate::exit::Exit;
+use crate::help::HELP;
+use crate::performing::perform;
+use crate::version::VERSION;
 use dv_journal::io_sink::IoSink;
-use dv_journal::sink::Sink;
-use dv_run::{IoSource, Kept, RunFault, Source, exit_of, run_and_keep, workers_of};
+use dv_journal::sink::{Sink, write_all};
+use dv_run::{Asked, Input, IoSource, RunFault, asked_of, exit_of};
 use std::alloc::AllocGlobal;
+use std::io::IsTerminal;
 use std::process::ExitCode;
-use std::random::RandomSource;
-use std::rt::Env;
-use std::sync::Wait;
-use std::thread::Threads;
-use std::{env, io, mem};
+use std::rt::{Env, Files};
+use std::{env, fs, io};
 
 fn main(rt: HostRuntime) -> ExitCode {
-    let (status, text) = match workers(&rt) {
-        Ok(Some(workers)) => {
-            let mut reader = IoSource::new(rt.stdin());
-            let mut writer = IoSink::new(rt.stdout());
-            end_of_run(&rt, &mut reader, &mut writer, workers)
-        }
+    let exit = match words(&rt) {
+        Ok(words) => match asked_of(words.as_slice()) {
+            Some(Asked::Script(task, Input::Standard)) => {
+                if rt.stdin().is_terminal() {
+                    let _ = eprintln!(rt;
+                        "deferreds: reading a script from this terminal; Ctrl-D ends it, and --help says more"
+                    );
+                }
+                perform(
+                    &rt,
+                    task,
+                    &mut IoSource::new(rt.stdin()),
+                    &mut IoSink::new(rt.stdout()),
+                )
+            }
+            Some(Asked::Script(task, Input::File)) => match open_last(&rt, words.as_slice()) {
+                Ok(file) => perform(
+                    &rt,
+                    task,
+                    &mut IoSource::new(file),
+                    &mut IoSink::new(rt.stdout()),
+                ),
+                Err(error) => {
+                    let _ = eprintln!(rt; "deferreds: the file can't be opened: {error}");
+                    Exit::plain((4, ""))
+                }
+            },
+            Some(Asked::Version) => print(&mut IoSink::new(rt.stdout()), VERSION),
+            Some(Asked::Help) => print(&mut IoSink::new(rt.stdout()), HELP),
+            None => Exit::wrong_words(words.as_slice()),
+        },
         Err(error) if error.kind() == io::ErrorKind::OutOfMemory => {
-            exit_of(&Err(RunFault::OutOfMemory))
+            Exit::plain(exit_of(&Err(RunFault::OutOfMemory)))
         }
-        Ok(None) | Err(_) => (64, "usage: deferreds [WORKERS]"),
+        Err(_) => Exit::wrong_words(&[]),
     };
-    if !text.is_empty() {
-        let _ = eprintln!(rt; "{text}");
+    if !exit.text.is_empty() {
+        let _ = eprintln!(rt; "{}", exit.text);
     }
-    ExitCode::from(status)
+    if !exit.hint.is_empty() && rt.stderr().is_terminal() {
+        let _ = eprintln!(rt; "{}", exit.hint);
+    }
+    ExitCode::from(exit.status)
 }
 
-/// Runs the script of the reader with so many workers, and gives the status and the text with which the program ends. What the
-/// run has left isn't let go of, since the program ends.
-fn end_of_run<S, R, W>(rt: &S, reader: &mut R, writer: &mut W, workers: u32) -> (u8, &'static str)
-where
-    S: Threads + Wait + RandomSource + AllocGlobal + Sync,
-    R: Source,
-    W: Sink,
-    requires { workers ≤ MOST_WORKERS }
-{
-    match run_and_keep(rt, reader, writer, workers, &PlainGate) {
-        Ok(Kept { script, report }) => {
-            mem::forget(script);
-            let ended = Ok(report);
-            let exit = exit_of(&ended);
-            mem::forget(ended);
-            exit
-        }
-        Err(fault) => exit_of(&Err(fault)),
-    }
-}
-
-/// How many workers the words after the program's name ask for; None where these are wrong. A word that isn't text is an error.
-fn workers(rt: &(impl Env + AllocGlobal)) -> io::Result<Option<u32>>
-    ensures { IfOk result (λ asked. IfSome asked (λ workers. workers ≤ MOST_WORKERS)) }
-{
+/// The words after the program's name. A word that isn't text is an error.
+fn words(rt: &(impl Env + AllocGlobal)) -> io::Result<Vec<String>> {
     let mut words = Vec::new(rt.alloc());
     for word in env::args(rt)?.skip(1) {
         words.push(word)?;
     }
-    Ok(workers_of(words.as_slice()))
+    Ok(words)
+}
+
+/// Opens the file that the last word names.
+fn open_last<R: Files>(rt: &R, words: &[String]) -> io::Result<R::File> {
+    match words.last() {
+        Some(path) => fs::open(rt, path.as_str()),
+        None => Err(io::Error::from(io::ErrorKind::NotFound)),
+    }
+}
+
+/// Prints a text.
+fn print<W: Sink>(writer: &mut W, text: &str) -> Exit {
+    match write_all(writer, text.as_bytes()) {
+        Ok(()) => Exit::plain((0, "")),
+        Err(_) => Exit::plain(exit_of(&Err(RunFault::WriteFault))),
+    }
 }

@@ -2,3 +2,4 @@ pub mod Headline
 pub mod Run
 pub mod Driving
 pub mod Workers
+pub mod Words

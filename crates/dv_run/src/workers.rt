@@ -18,7 +18,7 @@ pub fn workers_of(words: &[String]) -> Option<u32>
 }
 
 /// As many workers, where there may be so many.
-fn few_workers(workers: Option<u32>) -> Option<u32>
+pub(crate) fn few_workers(workers: Option<u32>) -> Option<u32>
     ensures workers { result ≡ few_workers workers }
     ensures few { IfSome result (λ workers. workers ≤ MOST_WORKERS) }
 {
@@ -29,7 +29,7 @@ fn few_workers(workers: Option<u32>) -> Option<u32>
 }
 
 /// A number of one decimal digit or two.
-fn number_in(bytes: &[u8]) -> Option<u32>
+pub(crate) fn number_in(bytes: &[u8]) -> Option<u32>
     ensures { result ≡ number_in bytes.now }
 {
     match bytes {

@@ -1,0 +1,158 @@
+"""`check [STAGE ..]`: runs the checks that need no proof, on the program that is built or released for the sources that stand here.
+
+Without words all stages run, two side by side. What a stage needs and isn't here leaves it out, and the last lines name it. Status 0:
+all that ran passed; 1: a stage failed; 64: words that aren't known; 70: there is no program for these sources.
+"""
+
+from __future__ import annotations
+
+import argparse
+import os
+import shutil
+import subprocess
+import sys
+import time
+from concurrent.futures import ThreadPoolExecutor
+from typing import Callable, List, NamedTuple, Optional
+
+from programs import TOP, program_here
+
+_PYTHON = sys.executable
+_MOST_SHOWN = 4_000
+
+
+def nothing() -> Optional[str]:
+    """What a stage that needs nothing lacks."""
+    return None
+
+
+def no_compiler() -> Optional[str]:
+    """What the sweep of faults lacks."""
+    return None if shutil.which(os.environ.get("CC", "cc")) else "a C compiler isn't here"
+
+
+def no_mypy() -> Optional[str]:
+    """What the checking of types lacks."""
+    return None if shutil.which("mypy") else "mypy isn't here"
+
+
+def twisted_python() -> Optional[str]:
+    """A Python that has Twisted."""
+    asked = subprocess.run(
+        ["sh", "-c", '. python/find_python; printf "%s" "$python"'], cwd=TOP, capture_output=True, text=True, check=False
+    )
+    return asked.stdout if asked.returncode == 0 else None
+
+
+def no_twisted() -> Optional[str]:
+    """What the comparison with real Twisted lacks."""
+    return None if twisted_python() else "no Python here has Twisted"
+
+
+class Stage(NamedTuple):
+    """Some checks: their name, what they show, their commands, and what they lack."""
+
+    name: str
+    shows: str
+    commands: List[List[str]]
+    lacks: Callable[[], Optional[str]] = nothing
+
+
+def unittests(folder: str, *words: str) -> List[str]:
+    """The command that runs the tests of a folder."""
+    return [_PYTHON, "-m", "unittest", "discover", "-s", folder, *words]
+
+
+STAGES = [
+    Stage("release", "the release is whole, and names its own sources", [["./release", "--check"]]),
+    Stage("launcher", "./deferreds runs the right program, or says why it runs none", [unittests("checks")]),
+    Stage("rows", "each row ends and prints as it says", [[_PYTHON, "checks/rows.py"]]),
+    Stage("outputs", "each output that a page shows is what is printed", [[_PYTHON, "checks/documented.py"]]),
+    Stage("json", "runs as JSON agree with their journals", [["python/check_json", "--random", "500"]]),
+    Stage("faults", "refused memory and failed reads and writes, on a sample", [unittests("faults"), ["faults/sweep.py", "--sample"]], no_compiler),
+    Stage("bench", "the measuring of speed", [unittests("bench")]),
+    Stage("view", "the view, but for what needs a browser", [unittests("python/view_tests", "-t", "python")]),
+    Stage("packages", "the wheel and the Debian package install and run", [unittests("python/packaging_tests", "-t", "python")]),
+    Stage("types", "the types of the Python package", [["python/check_types"]], no_mypy),
+    Stage("recorder", "the recorder, and scripts on real Twisted", [unittests("python/tests", "-t", "python")], no_twisted),
+    Stage("conform", "real Twisted agrees with all rows, and with random scripts", [
+        ["./conform", "--rows", "--many", "--", "./on_twisted"],
+        ["./conform", "--random", "500", "--seed", "1", "--many", "--", "./on_twisted"],
+    ], no_twisted),
+]
+
+
+class Result(NamedTuple):
+    """How a stage ended: what it lacked, or what it printed where it failed."""
+
+    stage: Stage
+    seconds: float
+    lacks: Optional[str] = None
+    failed: Optional[str] = None
+    last: str = ""
+
+
+def run_stage(stage: Stage) -> Result:
+    """Runs a stage to its first command that fails."""
+    began = time.monotonic()
+    lacks = stage.lacks()
+    if lacks is not None:
+        return Result(stage, 0, lacks=lacks)
+    last = ""
+    environment = {**os.environ, "PYTHON": twisted_python() or _PYTHON} if stage.lacks is no_twisted else dict(os.environ)
+    for command in stage.commands:
+        words = [environment["PYTHON"], *command[1:]] if stage.lacks is no_twisted and command[0] == _PYTHON else command
+        ran = subprocess.run(words, cwd=TOP, env=environment, stdout=subprocess.PIPE, stderr=subprocess.STDOUT, check=False)
+        said = ran.stdout.decode("utf-8", "replace").strip()
+        if ran.returncode != 0:
+            return Result(stage, time.monotonic() - began, failed=f"{' '.join(command)}: status {ran.returncode}\n{said[-_MOST_SHOWN:]}")
+        last = said.rsplit("\n", 1)[-1]
+    return Result(stage, time.monotonic() - began, last=last)
+
+
+def show(result: Result) -> None:
+    """Prints how a stage ended, as soon as it has."""
+    if result.failed is not None:
+        print(f"{result.stage.name}: FAILED: {result.stage.shows}\n{result.failed}", flush=True)
+    elif result.lacks is None:
+        print(f"{result.stage.name}: passed in {result.seconds:.0f} s: {result.stage.shows} ({result.last})", flush=True)
+
+
+def run_stages(stages: List[Stage]) -> List[Result]:
+    """Runs stages, two side by side, and shows each as it ends."""
+    results: List[Result] = []
+    with ThreadPoolExecutor(2) as pool:
+        for result in pool.map(run_stage, stages):
+            show(result)
+            results.append(result)
+    return results
+
+
+def main() -> int:
+    parser = argparse.ArgumentParser(
+        prog="check", description=__doc__, formatter_class=argparse.RawDescriptionHelpFormatter,
+        epilog="stages:\n" + "\n".join(f"  {stage.name:10} {stage.shows}" for stage in STAGES),
+    )
+    parser.add_argument("stages", nargs="*", metavar="STAGE", help="a stage to run alone")
+    try:
+        asked = parser.parse_args()
+    except SystemExit as ended:
+        return 64 if ended.code else 0
+    named = {stage.name: stage for stage in STAGES}
+    for name in asked.stages:
+        if name not in named:
+            print(f"check: {name} is no stage: {', '.join(named)}", file=sys.stderr)
+            return 64
+    program_here()
+    began = time.monotonic()
+    results = run_stages([named[name] for name in asked.stages] or STAGES)
+    left_out = [result for result in results if result.lacks is not None]
+    for result in left_out:
+        print(f"left out: {result.stage.name}: {result.lacks}")
+    failed = sum(result.failed is not None for result in results)
+    print(f"{len(results) - len(left_out) - failed} stages passed, {failed} failed, {len(left_out)} left out, in {time.monotonic() - began:.0f} s")
+    return 1 if failed else 0
+
+
+if __name__ == "__main__":
+    sys.exit(main())

@@ -1,0 +1,26 @@
+/// How the program is used.
+pub const HELP: &str = "\
+deferreds [WORKERS] [FILE]         runs a script, and prints its journal and the outcome of each Deferred
+deferreds --json [WORKERS] [FILE]  prints the run as JSON Lines, for tools
+deferreds --why [FILE]             prints, as a line of JSON, where a script is refused, and why
+deferreds --version                prints the version, the checksum of the sources, and the kit that proved them
+deferreds --help                   prints this
+
+A formally verified simulator of Twisted's Deferreds, on a virtual clock.
+
+WORKERS  the number of threads that do the jobs of deferToThread, 0 to 16 (0: the program's own thread does them)
+FILE     a script as JSON; its name has a . or a / in it. None, or -, is standard input
+
+Example:
+
+  echo '{\"version\":1,\"events\":[[\"deferred\",\"d\"],[\"callback\",\"d\",42]]}' | deferreds
+
+Status:
+
+  0   all events were performed, or the script is accepted
+  1   the run stopped at the limit of its journal
+  2   the script is refused: --why says where
+  3   out of memory
+  4   a read or a write failed
+  64  the words are wrong
+";

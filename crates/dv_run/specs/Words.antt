@@ -1,0 +1,93 @@
+-- What the words after the program's name ask for.
+use Rattle.std.specs.Prelude.{Bool, false, not, ℕ, nat_eq, ◌&&◌, ◌||◌, if◌then◌else◌, List, [], ◌∷◌, Option, None, Some, bytes_eq, codes, ◌≤◌, ⊤}
+use Rattle.std.specs.List.{list_any}
+use Rattle.dv_run.specs.Workers.{few_workers, number_in}
+use Rattle.dv_script.specs.declared.limits.TheConstants.{MOST_WORKERS}
+use Rattle.dv_run.specs.declared.words.Form.{Form}
+use Rattle.dv_run.specs.declared.words.Form.TheVariants as form
+use Rattle.dv_run.specs.declared.words.Input.{Input}
+use Rattle.dv_run.specs.declared.words.Input.TheVariants.{Standard, File}
+use Rattle.dv_run.specs.declared.words.Task.{Task}
+use Rattle.dv_run.specs.declared.words.Task.TheVariants as task
+use Rattle.dv_run.specs.declared.words.Asked.{Asked}
+use Rattle.dv_run.specs.declared.words.Asked.TheVariants as asked
+use Rattle.dv_run.specs.declared.words.Flag.{Flag}
+use Rattle.dv_run.specs.declared.words.Flag.TheVariants as flag
+
+-- whether a byte is `/` or `.`
+abbrev pub marks_file : ℕ → Bool
+marks_file byte = nat_eq byte 47 || nat_eq byte 46
+
+-- whether a word names a file: it has a `/` or a `.`, and doesn't begin with `-`
+abbrev pub names_file : List ℕ → Bool
+names_file [] = false
+names_file (byte ∷ bytes) = not (nat_eq byte 45) && list_any marks_file (byte ∷ bytes)
+
+-- what is read where this is the last word: `-` is standard input
+abbrev pub input_in : List ℕ → Option Input
+input_in word = if bytes_eq word (codes "-") then Some Standard else if names_file word then Some File else None
+
+-- a run with so many workers, where both are known
+abbrev pub run_with : Form → Option ℕ → Option Input → Option Asked
+run_with form (Some workers) (Some input) = Some (asked.Script (task.Run form workers) input)
+run_with form (Some workers) None = None
+run_with form None input = None
+
+-- one word is a number of workers, or else what is read
+abbrev pub run_by_one : Form → List ℕ → Option ℕ → Option Asked
+run_by_one form word (Some workers) = Some (asked.Script (task.Run form workers) Standard)
+run_by_one form word None = run_with form (Some 0) (input_in word)
+
+-- a run: no words, a number of workers, what is read, or both in this order
+abbrev pub run_in : Form → List (List ℕ) → Option Asked
+run_in form [] = Some (asked.Script (task.Run form 0) Standard)
+run_in form (word ∷ []) = run_by_one form word (few_workers (number_in word))
+run_in form (word ∷ last ∷ []) = run_with form (few_workers (number_in word)) (input_in last)
+run_in form (word ∷ second ∷ third ∷ words) = None
+
+-- why a script is refused, where what is read is known
+abbrev pub why_of : Option Input → Option Asked
+why_of (Some input) = Some (asked.Script task.Why input)
+why_of None = None
+
+-- why a script is refused: no words, or what is read
+abbrev pub why_in : List (List ℕ) → Option Asked
+why_in [] = Some (asked.Script task.Why Standard)
+why_in (word ∷ []) = why_of (input_in word)
+why_in (word ∷ second ∷ words) = None
+
+-- what stands alone
+abbrev pub alone : Asked → List (List ℕ) → Option Asked
+alone asked [] = Some asked
+alone asked (word ∷ words) = None
+
+-- the option that a word is
+abbrev pub flag_in : List ℕ → Option Flag
+flag_in word = if bytes_eq word (codes "--json") then Some flag.Json else if bytes_eq word (codes "--why") then Some flag.Why else if bytes_eq word (codes "--version") then Some flag.Version else if bytes_eq word (codes "--help") then Some flag.Help else None
+
+-- what an option asks for, with the words after it
+abbrev pub asked_by : Flag → List (List ℕ) → Option Asked
+asked_by flag.Json words = run_in form.Json words
+asked_by flag.Why words = why_in words
+asked_by flag.Version words = alone asked.Version words
+asked_by flag.Help words = alone asked.Help words
+
+-- without an option first, a run whose journal is printed
+abbrev pub asked_after : Option Flag → List ℕ → List (List ℕ) → Option Asked
+asked_after None word words = run_in form.Lines (word ∷ words)
+asked_after (Some flag) word words = asked_by flag words
+
+abbrev pub asked_in : List (List ℕ) → Option Asked
+asked_in [] = run_in form.Lines []
+asked_in (word ∷ words) = asked_after (flag_in word) word words
+
+-- no more workers than a run may have
+abbrev pub HasFewWorkers : Task → Type 0
+HasFewWorkers (task.Run form workers) = workers ≤ MOST_WORKERS
+HasFewWorkers task.Why = ⊤
+
+-- no more workers than a run may have, where a run is asked for
+abbrev pub AsksFew : Asked → Type 0
+AsksFew (asked.Script task input) = HasFewWorkers task
+AsksFew asked.Version = ⊤
+AsksFew asked.Help = ⊤
