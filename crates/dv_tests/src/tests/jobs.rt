@@ -2,7 +2,6 @@ ghost use Rattle.std.specs.Prelude.{◌≤◌};
 
 use super::gates::{Counting, Holding, Noting};
 use super::runs::{fault_of, run_text};
-use dv_jobs::gate::Gate;
 use dv_journal::entry::Entry;
 use dv_run::RunFault;
 use std::alloc::{AllocError, AllocGlobal, Global};

@@ -105,11 +105,17 @@ fn many_drains(alloc: Global) -> Result<String, AllocError> {
     Ok(text)
 }
 
+/// Whether the second post is in a batch.
+fn has_second(batch: &[Posted]) -> bool {
+    batch.iter().any(|posted| posted.index == 1)
+}
+
 /// In which batch of a run the second post was taken.
 fn batch_of_the_second(report: &Report) -> Option<usize> {
-    report.batches.as_slice().iter().position(|batch| {
-        batch.as_slice().iter().any(|posted| posted.index == 1)
-    })
+    let batches = report.batches.as_slice();
+    batches
+        .iter()
+        .position(|batch| has_second(batch.as_slice()))
 }
 
 #[test]
