@@ -46,6 +46,7 @@ def all_scripts() -> list[Script]:
         script("whole_language"),
         script("cancelled_again", status=1),
         script("unknown_action", status=2, errors=b"script refused: 4 BadShape\n"),
+        script("no_utf8", status=2, errors=b"script refused: 2 NotJson\n"),
     ]
 
 

@@ -9,9 +9,7 @@
    FAULT_REPORT=FD   each fault that is met writes a byte to this file
 
    A growth is a call of malloc, calloc, realloc, posix_memalign or aligned_alloc, of the program, of its threads or of the
-   C library. Growths are counted from the first to the last of the process. A thread can also arm its own count, in which
-   no other thread takes part: a request for 2^62 + N bytes, which no system grants, has the thread's N-th growth after it
-   refused, and a request for 2^62 bytes has none refused. */
+   C library. Growths are counted from the first to the last of the process. */
 #define _GNU_SOURCE
 #include <errno.h>
 #include <stdatomic.h>
@@ -27,13 +25,9 @@ extern void *__libc_calloc(size_t, size_t);
 extern void *__libc_realloc(void *, size_t);
 extern void *__libc_memalign(size_t, size_t);
 
-static const size_t ARMING = (size_t)1 << 62;
-static const size_t MOST_ARMED = 1 << 20;
-
 static unsigned long one_growth, first_growth, one_read, one_write, piece;
 static int answers_nothing, report = -1;
 static atomic_ulong growths, reads, writes;
-static __thread unsigned long left __attribute__((tls_model("initial-exec")));
 
 static unsigned long number(const char *name)
 {
@@ -62,16 +56,10 @@ static void tell(void)
     errno = kept;
 }
 
-static int refuses(size_t size)
+static int refuses(void)
 {
-    unsigned long count;
-    if (size >= ARMING && size - ARMING <= MOST_ARMED) {
-        left = size - ARMING;
-        errno = ENOMEM;
-        return 1;
-    }
-    count = atomic_fetch_add(&growths, 1) + 1;
-    if (count == one_growth || (first_growth && count >= first_growth) || (left && --left == 0)) {
+    unsigned long count = atomic_fetch_add(&growths, 1) + 1;
+    if (count == one_growth || (first_growth && count >= first_growth)) {
         tell();
         errno = ENOMEM;
         return 1;
@@ -81,27 +69,27 @@ static int refuses(size_t size)
 
 void *malloc(size_t size)
 {
-    return refuses(size) ? NULL : __libc_malloc(size);
+    return refuses() ? NULL : __libc_malloc(size);
 }
 
 void *calloc(size_t count, size_t size)
 {
-    return refuses(size) ? NULL : __libc_calloc(count, size);
+    return refuses() ? NULL : __libc_calloc(count, size);
 }
 
 void *realloc(void *place, size_t size)
 {
-    return refuses(size) ? NULL : __libc_realloc(place, size);
+    return refuses() ? NULL : __libc_realloc(place, size);
 }
 
 void *aligned_alloc(size_t alignment, size_t size)
 {
-    return refuses(size) ? NULL : __libc_memalign(alignment, size);
+    return refuses() ? NULL : __libc_memalign(alignment, size);
 }
 
 int posix_memalign(void **place, size_t alignment, size_t size)
 {
-    void *made = refuses(size) ? NULL : __libc_memalign(alignment, size);
+    void *made = refuses() ? NULL : __libc_memalign(alignment, size);
     if (!made)
         return ENOMEM;
     *place = made;

@@ -12,8 +12,8 @@ _COUNTED = re.compile(r"\*(\d+) (.*)", re.DOTALL)
 #: the line that stands for any lines, or none
 ANY_LINES = "..."
 
-#: rows that are wrong on purpose
-WRONG = "wrong.rows"
+#: rows that are wrong on purpose, and those that say why scripts are refused
+NOT_RUN = {"wrong.rows", "why.rows"}
 
 
 class Expected(NamedTuple):
@@ -75,9 +75,9 @@ def _scripts(lines: List[str]) -> Iterator[str]:
 
 
 def row_files(top: Path) -> List[Path]:
-    """The files of rows of the repository, but for that of the wrong ones."""
+    """The files of rows of the repository whose runs end and print as the rows say."""
     folder = top / "crates" / "dv_rows" / "data"
-    return [path for path in sorted(folder.glob("*.rows")) if path.name != WRONG]
+    return [path for path in sorted(folder.glob("*.rows")) if path.name not in NOT_RUN]
 
 
 def written(rows: List[Expected]) -> str:

@@ -2,6 +2,7 @@ use crate::lines::{first_difference, unfolded};
 use dv_jobs::gate::PlainGate;
 use dv_journal::memory_sink::MemorySink;
 use dv_run::{MemorySource, exit_of, run};
+use dv_why::why::tell;
 use std::alloc::{AllocError, AllocGlobal, Global};
 use std::random::RandomSource;
 use std::sync::Wait;
@@ -10,13 +11,16 @@ use std::thread::Threads;
 /// How many bytes a run may print.
 const ROOM: usize = 8_388_608;
 
+/// The ending of a row whose output is the line that says why the script is refused.
+const WHY: &str = "why";
+
 /// A script, or scripts of one kind, and what each run of them comes to.
 #[derive(Drop)]
 pub struct Row<'a> {
     pub name: &'a str,
     /// The lines of the script; or frames, which are lines `:: FRAME`, and the lines that are put into each.
     pub script: &'a str,
-    /// The exit status, and after a space the text for standard error where there is one.
+    /// The exit status, and after a space the text for standard error where there is one; or `WHY`.
     ending: &'a str,
     /// The lines of the output.
     output: &'a str,
@@ -46,11 +50,25 @@ impl<'a> Row<'a> {
         unfolded(alloc, self.script)
     }
 
-    /// Runs a script, and tells where the run first differs from what the row says.
+    /// Tells where a script first differs from what the row says: its run, or the line that says why it is refused.
     pub fn difference<S: Threads + Wait + RandomSource + AllocGlobal + Sync>(
         &self,
         rt: &S,
         script: &str,
+    ) -> Result<Option<String>, AllocError> {
+        let output = unfolded(rt.alloc(), self.output)?;
+        if self.ending == WHY {
+            return difference_of_why(rt.alloc(), script, output.as_str());
+        }
+        self.difference_of_run(rt, script, output.as_str())
+    }
+
+    /// Runs a script, and tells where the run first differs from the row, with this output.
+    fn difference_of_run<S: Threads + Wait + RandomSource + AllocGlobal + Sync>(
+        &self,
+        rt: &S,
+        script: &str,
+        output: &str,
     ) -> Result<Option<String>, AllocError> {
         let alloc = rt.alloc();
         let mut source = MemorySource::new(script.as_bytes(), 4096);
@@ -68,10 +86,20 @@ impl<'a> Row<'a> {
             let expected = self.ending;
             return Ok(Some(format!(in alloc; "ends by `{ending}`, not `{expected}`")?));
         }
-        let output = unfolded(alloc, self.output)?;
         match std::str::from_utf8(sink.bytes()) {
-            Ok(printed) => first_difference(alloc, printed, output.as_str()),
+            Ok(printed) => first_difference(alloc, printed, output),
             Err(_) => Ok(Some(format!(in alloc; "prints what isn't text")?)),
         }
     }
+}
+
+/// Tells where the line that says why a script is refused differs from this one.
+fn difference_of_why(
+    alloc: Global,
+    script: &str,
+    expected: &str,
+) -> Result<Option<String>, AllocError> {
+    let told = tell(alloc, script.as_bytes())?;
+    let line = format!(in alloc; "{}\n", told.line)?;
+    first_difference(alloc, line.as_str(), expected)
 }

@@ -1,17 +1,6 @@
-mod changed;
 mod engine;
-mod errors;
-mod exit;
 mod faults;
 mod gates;
 mod jobs;
-mod journal;
-mod lines;
-mod long;
-mod pieces;
-mod pools;
 mod posts;
 mod runs;
-mod scripts;
-mod sources;
-mod values;

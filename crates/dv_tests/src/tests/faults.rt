@@ -5,7 +5,7 @@ use dv_journal::sink::Sink;
 use dv_run::{RunFault, run};
 use dv_source::io_source::IoSource;
 use dv_source::memory_source::MemorySource;
-use dv_source::source::{Source, read_up_to};
+use dv_source::source::Source;
 use std::alloc::AllocGlobal;
 use std::io::{self, Read};
 use std::random::RandomSource;
@@ -49,21 +49,6 @@ fn a_reader_that_fails_at_any_call_is_a_read_fault(rt: HostRuntime) -> Result<()
 }
 
 #[test]
-fn a_byte_a_call_gives_the_same_text(rt: HostRuntime) -> Result<(), Fail> {
-    for (read, written) in [(1usize, 1usize), (1, 100), (4096, 1), (7, 3)] {
-        let mut source = MemorySource::new(SCRIPT, read);
-        let mut sink = MemorySink::new(rt.alloc(), 100, written)?;
-        let ended = run_here(&rt, &mut source, &mut sink);
-        assert_eq!(rt;
-            (ended, sink.bytes()),
-            (Ok(false), TEXT),
-            "{read} and {written}"
-        );
-    }
-    Ok(())
-}
-
-#[test]
 fn a_writer_that_fails_at_any_call_has_a_prefix(rt: HostRuntime) -> Result<(), Fail> {
     for trouble in [Trouble::Fails, Trouble::TakesNothing] {
         for calls_before in 0..TEXT.len() {
@@ -79,43 +64,6 @@ fn a_writer_that_fails_at_any_call_has_a_prefix(rt: HostRuntime) -> Result<(), F
                 "{trouble:?} after {calls_before}"
             );
         }
-    }
-    Ok(())
-}
-
-#[test]
-fn the_journal_and_the_outcomes_are_written_in_one_call_each(rt: HostRuntime) -> Result<(), Fail> {
-    for (calls_before, answer, len) in [
-        (0, Err(RunFault::WriteFault), 0),
-        (1, Err(RunFault::WriteFault), 31),
-        (2, Ok(false), TEXT.len()),
-    ] {
-        let mut source = MemorySource::new(SCRIPT, 100);
-        let mut sink = MemorySink::new(rt.alloc(), 100, 100)?.with_trouble(
-            calls_before,
-            Trouble::Fails,
-        );
-        let ended = run_here(&rt, &mut source, &mut sink);
-        assert_eq!(rt;
-            (ended, sink.bytes()),
-            (answer, &TEXT[..len]),
-            "after {calls_before}"
-        );
-    }
-    Ok(())
-}
-
-#[test]
-fn a_full_sink_is_a_write_fault_with_a_prefix(rt: HostRuntime) -> Result<(), Fail> {
-    for room in 0..TEXT.len() {
-        let mut source = MemorySource::new(SCRIPT, 100);
-        let mut sink = MemorySink::new(rt.alloc(), room, 100)?;
-        let ended = run_here(&rt, &mut source, &mut sink);
-        assert_eq!(rt;
-            (ended, sink.bytes()),
-            (Err(RunFault::WriteFault), &TEXT[..room]),
-            "room for {room}"
-        );
     }
     Ok(())
 }
@@ -140,23 +88,5 @@ fn a_reader_and_a_writer_of_std_serve_a_run(rt: HostRuntime) -> Result<(), Fail>
         (served, printed, refused, text.as_slice()),
         (Ok(false), TEXT.len(), Err(RunFault::ReadFault), TEXT)
     );
-    Ok(())
-}
-
-#[test]
-fn a_full_writer_of_std_is_a_write_fault(rt: HostRuntime) {
-    let mut room = [0u8; 4];
-    let mut writer = IoSink::new(room.as_mut_slice());
-    let ended = run_here(&rt, &mut IoSource::new(SCRIPT), &mut writer);
-    assert_eq!(rt;
-        (ended, room.as_slice()),
-        (Err(RunFault::WriteFault), &TEXT[..4])
-    );
-}
-
-#[test]
-fn a_read_stops_at_its_bound(rt: HostRuntime) -> Result<(), Fail> {
-    let bytes = read_up_to(rt.alloc(), &mut MemorySource::new(TEXT, 3), 8)?;
-    assert_eq!(rt; bytes.as_slice(), &TEXT[..8]);
     Ok(())
 }

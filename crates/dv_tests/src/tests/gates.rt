@@ -1,5 +1,6 @@
 use dv_jobs::gate::{Gate, OWNER};
 use dv_jobs::job::{Answer, Job};
+use dv_script::work::Work;
 use std::alloc::{AllocError, Global};
 use std::sync::atomic::{AtomicU32, Ordering};
 use std::thread;
@@ -7,9 +8,10 @@ use std::thread;
 /// How often one thread looks for what another one does, and lets others run in between. This is some seconds.
 pub const MOST_LOOKS: u32 = 2_000_000;
 
-/// Holds each job until two have come.
+/// Holds each job until so many have come.
 #[derive(Drop)]
 pub struct Holding {
+    wanted: u32,
     came: AtomicU32,
     /// How many jobs were held in vain.
     pub alone: AtomicU32,
@@ -18,18 +20,19 @@ pub struct Holding {
 }
 
 impl Holding {
-    pub fn new() -> Holding {
+    pub fn new(wanted: u32) -> Holding {
         Holding {
+            wanted,
             came: AtomicU32::new(0),
             alone: AtomicU32::new(0),
             worker: AtomicU32::new(OWNER),
         }
     }
 
-    /// Whether two jobs have come, which is looked for as long as a job is held.
-    pub fn have_two_come(&self) -> bool {
+    /// Whether all have come, which is looked for as long as a job is held.
+    fn have_all_come(&self) -> bool {
         for _ in 0..MOST_LOOKS {
-            if self.came.load(Ordering::SeqCst) >= 2 {
+            if self.came.load(Ordering::SeqCst) >= self.wanted {
                 return true;
             }
             thread::yield_now();
@@ -44,60 +47,49 @@ impl Gate for Holding {
             self.worker.store(worker, Ordering::SeqCst);
         }
         self.came.fetch_add(1, Ordering::SeqCst);
-        if !self.have_two_come() {
+        if !self.have_all_come() {
             self.alone.fetch_add(1, Ordering::SeqCst);
         }
         job.done(alloc)
     }
 }
 
-/// Counts how often the job of each number was answered.
+/// Counts how often the job of each number came. It may give the first one back.
 #[derive(Drop)]
 pub struct Counting {
-    answers: Vec<AtomicU32>,
+    came: Vec<AtomicU32>,
+    gives_back: bool,
 }
 
 impl Counting {
     /// For so many jobs.
-    pub fn new(alloc: Global, jobs: u32) -> Result<Counting, AllocError> {
-        let mut answers = Vec::new(alloc);
+    pub fn new(alloc: Global, jobs: u32, gives_back: bool) -> Result<Counting, AllocError> {
+        let mut came = Vec::new(alloc);
         for _ in 0..jobs {
-            answers.push(AtomicU32::new(0))?;
+            came.push(AtomicU32::new(0))?;
         }
-        Ok(Counting { answers })
+        Ok(Counting { came, gives_back })
     }
 
-    /// Whether each job was answered so often.
-    pub fn are_all(&self, count: u32) -> bool {
-        self.answers
+    /// Whether each job came once.
+    pub fn have_all_come_once(&self) -> bool {
+        self.came
             .iter()
-            .all(|answers| answers.load(Ordering::SeqCst) == count)
+            .all(|came| came.load(Ordering::SeqCst) == 1)
     }
 
-    /// Whether a job was answered more than once.
-    pub fn is_any_answered_again(&self) -> bool {
-        self.answers
-            .iter()
-            .any(|answers| answers.load(Ordering::SeqCst) > 1)
+    /// Whether a job came more than once.
+    pub fn has_any_come_again(&self) -> bool {
+        self.came.iter().any(|came| came.load(Ordering::SeqCst) > 1)
     }
 }
 
 impl Gate for Counting {
     fn answer(&self, alloc: Global, _worker: u32, job: Job) -> Answer {
-        if let Some(answers) = self.answers.get(job.number as usize) {
-            answers.fetch_add(1, Ordering::SeqCst);
+        if let Some(came) = self.came.get(job.number as usize) {
+            came.fetch_add(1, Ordering::SeqCst);
         }
-        job.done(alloc)
-    }
-}
-
-/// Gives the job 1 back.
-#[derive(Drop)]
-pub struct Refusing;
-
-impl Gate for Refusing {
-    fn answer(&self, alloc: Global, _worker: u32, job: Job) -> Answer {
-        if job.number == 1 {
+        if self.gives_back && job.number == 0 {
             Err(job)
         } else {
             job.done(alloc)
@@ -105,13 +97,39 @@ impl Gate for Refusing {
     }
 }
 
-/// Lets others run before each answer.
+/// How often others are let run before a job is answered.
+const YIELDS: u32 = 500;
+
+/// Lets others run before each answer, until a sum has come.
 #[derive(Drop)]
-pub struct Yielding;
+pub struct Yielding {
+    sums: AtomicU32,
+}
+
+impl Yielding {
+    pub fn new() -> Yielding {
+        Yielding {
+            sums: AtomicU32::new(0),
+        }
+    }
+
+    /// Lets others run.
+    fn let_others_run(&self) {
+        for _ in 0..YIELDS {
+            if self.sums.load(Ordering::SeqCst) > 0 {
+                return;
+            }
+            thread::yield_now();
+        }
+    }
+}
 
 impl Gate for Yielding {
     fn answer(&self, alloc: Global, _worker: u32, job: Job) -> Answer {
-        thread::yield_now();
+        if matches!(job.work, Work::Sum(_)) {
+            self.sums.fetch_add(1, Ordering::SeqCst);
+        }
+        self.let_others_run();
         job.done(alloc)
     }
 }

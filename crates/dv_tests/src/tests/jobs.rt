@@ -1,140 +1,127 @@
-ghost use Rattle.std.specs.Prelude.{◌≡◌, ◌≤◌, []};
-ghost use Rattle.dv_jobs.specs.Sources.{AreInRow};
+ghost use Rattle.std.specs.Prelude.{◌≤◌};
 
-use super::gates::{Counting, Holding, Refusing};
-use super::sources::{outcome, submit};
-use dv_jobs::error::JobFault;
-use dv_jobs::gate::Gate;
-use dv_jobs::source::JobSource;
-use dv_script::work::Work;
-use dv_threads::pool::Pool;
-use dv_value::value::Value;
+use super::gates::{Counting, Holding, Noting};
+use super::runs::{fault_of, run_text};
+use dv_journal::entry::Entry;
+use dv_run::RunFault;
 use std::alloc::{AllocError, AllocGlobal, Global};
 use std::random::RandomSource;
 use std::sync::Wait;
 use std::sync::atomic::Ordering;
 use std::test::Fail;
-use std::thread;
 use std::thread::Threads;
 
-/// Two sums, through a source whose gate is given too: their values, and how many were done. Their outcomes aren't asked for
-/// before both have come to the gate, so that the owner of a pool doesn't help; a job that doesn't come is a failure.
-fn two_sums<R, J>(
-    rt: &R,
-    alloc: Global,
-    source: J,
-    gate: &Holding,
-) -> Result<(Value, Value, usize), Fail>
+/// Runs a script whose jobs hold each other, so many at a time: the worker that answered one of them last, and how many were held in
+/// vain.
+fn worker_of<S>(rt: &S, script: &str, workers: u32, jobs: u32) -> Result<(u32, u32), Fail>
 where
-    R: Threads + Wait + RandomSource + AllocGlobal,
-    J: JobSource,
-    requires { J.jobs source ≡ [] }
+    S: Threads + Wait + RandomSource + AllocGlobal + Sync,
+    requires { workers ≤ 16 }
 {
-    let mut source = source;
-    let first = submit(alloc, &mut source, 0, Work::Sum(4))?;
-    let second = submit(alloc, &mut source, 0, Work::Sum(9))?;
-    if !gate.have_two_come() {
-        return Err("no two workers answer side by side".into());
-    }
-    let one = outcome(rt, alloc, &mut source, first)?;
-    let two = outcome(rt, alloc, &mut source, second)?;
-    let ran = source.close(rt, alloc)?;
-    Ok((one, two, ran.dones().len()))
+    let gate = Holding::new(jobs);
+    let (_, report) = run_text(rt, script, workers, &gate)?;
+    report.discard();
+    Ok((
+        gate.worker.load(Ordering::SeqCst),
+        gate.alone.load(Ordering::SeqCst),
+    ))
 }
+
+/// Three jobs, for whose results the run waits.
+const THREE: &str =
+    r#"{"version":1,"events":[["thread","a",0,["sum",4]],["thread","b",0,["sum",9]],["thread","c",0,["sum",2]],["advance",0]]}"#;
 
 #[test]
 fn two_workers_answer_side_by_side(rt: HostRuntime) -> Result<(), Fail> {
-    let gate = Holding::new();
-    let (one, two, done) = thread::scope(
-        thread::scope_env(),
-        &rt,
-        |scope| -> Result<(Value, Value, usize), Fail> {
-            let pool = Pool::open(&rt, rt.alloc(), scope, 1, 2, &gate)?;
-            two_sums(&rt, rt.alloc(), pool, &gate)
-        },
-    )?;
-    assert!(rt; matches!(one, Value::Int(10)));
-    assert!(rt; matches!(two, Value::Int(45)));
-    assert_eq!(rt; done, 2);
-    assert_eq!(rt; gate.alone.load(Ordering::SeqCst), 0);
+    // The owner, which helps where it waits, holds the third job.
+    let (_, alone) = worker_of(&rt, THREE, 2, 3)?;
+    assert_eq!(rt; alone, 0);
     Ok(())
 }
 
-/// Submits as many works as may be: whether the source is full then, and not before.
-fn fill<J: JobSource>(alloc: Global, source: &mut J) -> bool
-    requires { AreInRow (J.jobs source.old) }
-{
-    for n in 0..4096u32 {
-        if submit(alloc, source, 0, Work::Sum(n)).is_err() {
-            return false;
-        }
+/// Two jobs of the first pool, and two of the second.
+const TWO_OF_IO: &str =
+    r#"{"version":2,"pools":[["io",1],["net",1]],"events":[["threadIn","a","io",0,["sum",4]],["threadIn","b","io",0,["sum",9]],["advance",0]]}"#;
+
+const TWO_OF_NET: &str =
+    r#"{"version":2,"pools":[["io",1],["net",1]],"events":[["threadIn","a","net",0,["sum",4]],["threadIn","b","net",0,["sum",9]],["advance",0]]}"#;
+
+#[test]
+fn jobs_of_a_script_are_done_by_the_pool_of_their_name(rt: HostRuntime) -> Result<(), Fail> {
+    // One job is held by the only worker of the pool, and the other by the owner.
+    let io = worker_of(&rt, TWO_OF_IO, 0, 2)?;
+    let net = worker_of(&rt, TWO_OF_NET, 0, 2)?;
+    assert_eq!(rt; (io, net), ((1, 0), (2, 0)));
+    Ok(())
+}
+
+/// A script of two pools that has this event so many times, and then another one.
+fn repeated(alloc: Global, times: u32, event: &str, last: &str) -> Result<String, AllocError> {
+    let mut text = String::from_str(
+        alloc,
+        r#"{"version":2,"limit":200000,"pools":[["io",1],["net",1]],"events":["#,
+    )?;
+    for _ in 0..times {
+        text.push_str(event)?;
     }
-    source.may_submit() == Err(JobFault::Full)
+    text.push_str(last)?;
+    text.push_str("]}")?;
+    Ok(text)
 }
 
+/// A job of each of the two pools.
+const ONE_OF_EACH: &str =
+    r#"["threadIn","a","io",0,["value",0]],["threadIn","b","net",0,["value",0]],"#;
+
 #[test]
-fn each_of_4096_jobs_comes_to_the_gate_once(rt: HostRuntime) -> Result<(), Fail> {
-    let gate = Counting::new(rt.alloc(), 4096)?;
-    let (is_full, done) = thread::scope(
-        thread::scope_env(),
-        &rt,
-        |scope| -> Result<(bool, usize), AllocError> {
-            let mut pool = Pool::open(&rt, rt.alloc(), scope, 1, 4, &gate)?;
-            let is_full = fill(rt.alloc(), &mut pool);
-            let ran = pool.close(&rt, rt.alloc())?;
-            Ok((is_full, ran.dones().len()))
-        },
-    )?;
-    assert!(rt; is_full);
-    assert_eq!(rt; done, 4096);
-    assert!(rt; gate.are_all(1));
+fn no_job_of_a_pool_is_answered_by_a_worker_of_another(rt: HostRuntime) -> Result<(), Fail> {
+    let text = repeated(rt.alloc(), 1_000, ONE_OF_EACH, r#"["note","end"]"#)?;
+    let gate = Noting::new(rt.alloc(), 2_000)?;
+    let (_, report) = run_text(&rt, text.as_str(), 0, &gate)?;
+    let done = report.ran.dones().len();
+    report.discard();
+    // The jobs of `io` have the even numbers, and its worker is 1; those of `net` the odd ones, and its worker is 2.
+    assert_eq!(rt;
+        (done, gate.is_none_of(0, 2), gate.is_none_of(1, 1)),
+        (2_000, true, true)
+    );
     Ok(())
 }
 
-/// Two works, of which the second is given back: whether each has an outcome, and whether the source can be closed.
-fn one_given_back<R, J>(rt: &R, alloc: Global, source: J) -> Result<(bool, bool, bool), Fail>
-where
-    R: Threads + Wait + RandomSource + AllocGlobal,
-    J: JobSource,
-    requires { J.jobs source ≡ [] }
-{
-    let mut source = source;
-    let first = submit(alloc, &mut source, 0, Work::Sum(4))?;
-    let second = submit(alloc, &mut source, 0, Work::Sum(9))?;
-    let one = outcome(rt, alloc, &mut source, first).is_ok();
-    let two = outcome(rt, alloc, &mut source, second).is_ok();
-    let closed = source.close(rt, alloc).is_ok();
-    Ok((one, two, closed))
-}
+/// A job.
+const JOB: &str = r#"["thread","d",0,["value",0]],"#;
 
 #[test]
-fn a_job_that_is_given_back_is_want_of_memory(rt: HostRuntime) -> Result<(), Fail> {
-    let (one, two, closed) = thread::scope(
-        thread::scope_env(),
-        &rt,
-        |scope| -> Result<(bool, bool, bool), Fail> {
-            let pool = Pool::open(&rt, rt.alloc(), scope, 1, 2, &Refusing)?;
-            one_given_back(&rt, rt.alloc(), pool)
-        },
-    )?;
-    assert!(rt; one);
-    assert!(rt; !two);
-    assert!(rt; !closed);
+fn each_job_of_a_run_comes_to_its_gate_once_and_one_more_raises(
+    rt: HostRuntime,
+) -> Result<(), Fail> {
+    let text = repeated(rt.alloc(), 4_096, JOB, r#"["thread","d",0,["value",0]]"#)?;
+    let gate = Counting::new(rt.alloc(), 4_096, false)?;
+    let (_, report) = run_text(&rt, text.as_str(), 2, &gate)?;
+    let raised = match report.journal.entries().last() {
+        Some(Entry::Unhandled(failure)) => failure.get().message.as_str() == "too many jobs",
+        Some(_) | None => false,
+    };
+    let done = report.ran.dones().len();
+    report.discard();
+    assert_eq!(rt;
+        (raised, done, gate.have_all_come_once()),
+        (true, 4_096, true)
+    );
     Ok(())
 }
 
 #[test]
-fn the_workers_of_a_dropped_pool_leave(rt: HostRuntime) -> Result<(), Fail> {
-    let gate = Counting::new(rt.alloc(), 4096)?;
-    let is_full = thread::scope(
-        thread::scope_env(),
-        &rt,
-        |scope| -> Result<bool, AllocError> {
-            let mut pool = Pool::open(&rt, rt.alloc(), scope, 1, 16, &gate)?;
-            Ok(fill(rt.alloc(), &mut pool))
-        },
-    )?;
-    assert!(rt; is_full);
-    assert!(rt; !gate.is_any_answered_again());
+fn a_job_that_is_given_back_is_want_of_memory_and_the_workers_leave(
+    rt: HostRuntime,
+) -> Result<(), Fail> {
+    // The run gives up where it waits for the first job. Then it drops the pool, in which others wait for the workers.
+    let text = repeated(rt.alloc(), 4_096, JOB, r#"["advance",0]"#)?;
+    let gate = Counting::new(rt.alloc(), 4_096, true)?;
+    let fault = fault_of(&rt, text.as_str(), 16, &gate)?;
+    assert_eq!(rt;
+        (fault, gate.has_any_come_again()),
+        (Some(RunFault::OutOfMemory), false)
+    );
     Ok(())
 }

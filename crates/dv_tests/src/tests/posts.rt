@@ -1,9 +1,12 @@
 ghost use Rattle.dv_posts.specs.Posts.{SamePoster};
 
-use super::gates::MOST_LOOKS;
+use super::gates::{MOST_LOOKS, Yielding};
+use super::runs::run_text;
+use dv_engine::report::Report;
 use dv_posts::inbox::Inbox;
 use dv_posts::posted::Posted;
 use dv_posts::poster::Poster;
+use std::alloc::{AllocError, Global};
 use std::sync::Wait;
 use std::test::Fail;
 use std::thread;
@@ -15,25 +18,6 @@ fn post(poster: &mut Poster, index: u32) -> Result<(), Posted>
 {
     let caller = poster.caller();
     poster.post(Posted { caller, index })
-}
-
-#[test]
-fn a_full_ring_gives_the_post_back(rt: HostRuntime) -> Result<(), Fail> {
-    let (mut inbox, mut posters) = Inbox::open(rt.alloc(), 1, 1)?;
-    let poster = &mut posters[0];
-    let given_back = Posted {
-        caller: 0,
-        index: 1,
-    };
-    assert_eq!(rt; post(poster, 0), Ok(()));
-    assert_eq!(rt; post(poster, 1), Err(given_back));
-    assert!(rt; inbox.take().is_some());
-    inbox.learn(poster);
-    assert_eq!(rt; inbox.take(), None);
-    let taken = inbox.gather(rt.alloc(), posters)?;
-    assert_eq!(rt; taken.rest.as_slice().len(), 0);
-    assert_eq!(rt; taken.counts, vec![in rt.alloc(); 1u32]?);
-    Ok(())
 }
 
 #[test]
@@ -103,4 +87,46 @@ fn what_a_thread_posts_is_taken_in_order_without_its_end(rt: HostRuntime) -> Res
     }
     assert_eq!(rt; inbox.take(), None);
     Ok(())
+}
+
+/// A drain of one post, and a job for whose result the run waits.
+const ONE_DRAIN: &str = r#"["drain",1],["thread","j",0,["value",0]],["advance",0],"#;
+
+/// A caller of two posts, of which the second submits a sum, and a thousand drains of one post each, with a job after each.
+fn many_drains(alloc: Global) -> Result<String, AllocError> {
+    let mut text = String::from_str(
+        alloc,
+        r#"{"version":1,"limit":200000,"callers":[[{},{"do":[["thread","s",0,["sum",1]]]}]],"events":["#,
+    )?;
+    for _ in 0..1_000u32 {
+        text.push_str(ONE_DRAIN)?;
+    }
+    text.push_str(r#"["note","end"]]}"#)?;
+    Ok(text)
+}
+
+/// Whether the second post is in a batch.
+fn has_second(batch: &[Posted]) -> bool {
+    batch.iter().any(|posted| posted.index == 1)
+}
+
+/// In which batch of a run the second post was taken.
+fn batch_of_the_second(report: &Report) -> Option<usize> {
+    let batches = report.batches.as_slice();
+    batches
+        .iter()
+        .position(|batch| has_second(batch.as_slice()))
+}
+
+#[test]
+fn a_post_is_taken_while_events_are_performed(rt: HostRuntime) -> Result<(), Fail> {
+    // The first drain takes no second post. At the gate the caller's thread is let run until the second one was taken.
+    let text = many_drains(rt.alloc())?;
+    let (_, report) = run_text(&rt, text.as_str(), 0, &Yielding::new())?;
+    let place = batch_of_the_second(&report);
+    report.discard();
+    match place {
+        Some(place) if 0 < place && place < 1_000 => Ok(()),
+        Some(_) | None => Err("the second post was taken after the last event".into()),
+    }
 }

@@ -1,18 +1,16 @@
 ghost use Rattle.std.specs.Prelude.{◌<◌, ◌≤◌, ◌^◌, ◌-◌, length, IfOk};
 
-use super::gates::{Counting, Yielding};
 use dv_engine::engine::{Engine, Next};
 use dv_engine::report::Report;
 use dv_inline::poller::Poller;
 use dv_jobs::gate::{Gate, PlainGate};
 use dv_jobs::one_thread::OneThread;
 use dv_jobs::source::JobSource;
-use dv_journal::entry::Entry;
 use dv_journal::memory_sink::MemorySink;
 use dv_output::output::print_report;
 use dv_posts::posted::Posted;
 use dv_reader::read_script::ReadScript;
-use dv_run::run;
+use dv_run::{RunFault, run};
 use dv_script::script::Script;
 use dv_source::memory_source::MemorySource;
 use dv_value::items::Items;
@@ -27,7 +25,7 @@ use std::thread::Threads;
 const ROOM: usize = 262_144;
 
 /// Runs a script: what it prints, and its report.
-fn run_text<S, G>(
+pub fn run_text<S, G>(
     rt: &S,
     script: &str,
     workers: u32,
@@ -42,6 +40,29 @@ where
     let mut sink = MemorySink::new(rt.alloc(), ROOM, 4096)?;
     let report = run(rt, &mut source, &mut sink, workers, gate)?;
     Ok((sink, report))
+}
+
+/// Runs a script: why it gave up, if it did.
+pub fn fault_of<S, G>(
+    rt: &S,
+    script: &str,
+    workers: u32,
+    gate: &G,
+) -> Result<Option<RunFault>, AllocError>
+where
+    S: Threads + Wait + RandomSource + AllocGlobal + Sync,
+    G: Gate + Sync,
+    requires { workers ≤ 16 }
+{
+    let mut source = MemorySource::new(script.as_bytes(), 4096);
+    let mut sink = MemorySink::new(rt.alloc(), ROOM, 4096)?;
+    match run(rt, &mut source, &mut sink, workers, gate) {
+        Ok(report) => {
+            report.discard();
+            Ok(None)
+        }
+        Err(fault) => Ok(Some(fault)),
+    }
 }
 
 /// The same posts.
@@ -162,13 +183,13 @@ where
     Ok(printed.bytes() == expected?.bytes())
 }
 
-/// Whether each of a thousand runs does.
+/// Whether each of a hundred runs does.
 fn are_of_their_batches<S>(rt: &S, text: &str, workers: u32) -> Result<bool, Fail>
 where
     S: Threads + Wait + RandomSource + AllocGlobal + Sync,
     requires { workers ≤ 16 }
 {
-    for _ in 0..1_000u32 {
+    for _ in 0..100u32 {
         if !is_of_its_batches(rt, text, workers)? {
             return Ok(false);
         }
@@ -185,7 +206,7 @@ const SCRIPTS: [&str; 4] = [
     r#"{"version":1,"callers":[[{"do":[["acquire","ann","door"]]},{"do":[["release","door"]]}],[{"do":[["acquire","bob","door"]]},{"do":[["thread","j",1,["sum",4]]]},{"do":[["release","door"]]}]],"events":[["lock","door"],["drain",1],["drain",2],["advance",1],["note","drained"],["drain",3],["advance",2]]}"#,
 ];
 
-/// The first script of which not each of a thousand runs does.
+/// The first script of which not each of a hundred runs does.
 fn first_other<S>(rt: &S, workers: u32) -> Result<Option<&'static str>, Fail>
 where
     S: Threads + Wait + RandomSource + AllocGlobal + Sync,
@@ -200,103 +221,12 @@ where
 }
 
 #[test]
-fn a_thousand_runs_with_no_workers_print_the_text_of_their_batches(
+fn runs_with_and_without_workers_print_the_text_of_their_batches(
     rt: HostRuntime,
 ) -> Result<(), Fail> {
     assert_eq!(rt; first_other(&rt, 0)?, None);
-    Ok(())
-}
-
-#[test]
-fn a_thousand_runs_with_one_worker_print_the_text_of_their_batches(
-    rt: HostRuntime,
-) -> Result<(), Fail> {
     assert_eq!(rt; first_other(&rt, 1)?, None);
-    Ok(())
-}
-
-#[test]
-fn a_thousand_runs_with_4_workers_print_the_text_of_their_batches(
-    rt: HostRuntime,
-) -> Result<(), Fail> {
     assert_eq!(rt; first_other(&rt, 4)?, None);
-    Ok(())
-}
-
-#[test]
-fn a_thousand_runs_with_16_workers_print_the_text_of_their_batches(
-    rt: HostRuntime,
-) -> Result<(), Fail> {
     assert_eq!(rt; first_other(&rt, 16)?, None);
-    Ok(())
-}
-
-/// Ten drains, and a job for whose result the run waits.
-const TEN_DRAINS: &str =
-    r#"["drain",1],["drain",1],["drain",1],["drain",1],["drain",1],["drain",1],["drain",1],["drain",1],["drain",1],["drain",1],["thread","j",0,["value",0]],["advance",0],"#;
-
-/// A caller of one post, and a thousand drains, with jobs between them.
-fn many_drains(alloc: Global) -> Result<String, AllocError> {
-    let mut text = String::from_str(
-        alloc,
-        r#"{"version":1,"limit":200000,"callers":[[{}]],"events":["#,
-    )?;
-    for _ in 0..100u32 {
-        text.push_str(TEN_DRAINS)?;
-    }
-    text.push_str(r#"["note","end"]]}"#)?;
-    Ok(text)
-}
-
-/// In which batch of a run its only post was taken. With a worker each job comes to the gate, where others are let run.
-fn batch_of_the_post<S>(rt: &S, text: &str) -> Result<Option<usize>, Fail>
-where
-    S: Threads + Wait + RandomSource + AllocGlobal + Sync,
-{
-    let (_, report) = run_text(rt, text, 1, &Yielding)?;
-    let batches = report.batches.as_slice();
-    let place = batches
-        .iter()
-        .position(|batch| !batch.as_slice().is_empty());
-    report.discard();
-    Ok(place)
-}
-
-#[test]
-fn a_post_is_taken_while_events_are_performed(rt: HostRuntime) -> Result<(), Fail> {
-    let text = many_drains(rt.alloc())?;
-    for _ in 0..1_000u32 {
-        match batch_of_the_post(&rt, text.as_str())? {
-            Some(place) if 0 < place && place < 1_000 => return Ok(()),
-            Some(_) | None => {}
-        }
-    }
-    Err("at the first drain or after the last event in all runs".into())
-}
-
-/// One job more than a run has.
-pub fn too_many_jobs(alloc: Global) -> Result<String, AllocError> {
-    let mut text = String::from_str(alloc, r#"{"version":1,"limit":200000,"events":["#)?;
-    for _ in 0..4_096u32 {
-        text.push_str(r#"["thread","d",0,["value",0]],"#)?;
-    }
-    text.push_str(r#"["thread","d",0,["value",0]]]}"#)?;
-    Ok(text)
-}
-
-#[test]
-fn each_job_of_a_run_comes_to_its_gate_once_and_one_more_raises(
-    rt: HostRuntime,
-) -> Result<(), Fail> {
-    let text = too_many_jobs(rt.alloc())?;
-    let gate = Counting::new(rt.alloc(), 4_096)?;
-    let (_, report) = run_text(&rt, text.as_str(), 2, &gate)?;
-    let raised = match report.journal.entries().last() {
-        Some(Entry::Unhandled(failure)) => failure.get().message.as_str() == "too many jobs",
-        Some(_) | None => false,
-    };
-    let done = report.ran.dones().len();
-    report.discard();
-    assert_eq!(rt; (raised, done, gate.are_all(1)), (true, 4_096, true));
     Ok(())
 }
