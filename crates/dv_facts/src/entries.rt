@@ -1,13 +1,15 @@
 //! The entries of a journal, each with its place.
 
 use crate::facts::{Facts, News, Shown, facts_of};
+use crate::members::{write_index_or_null, write_number, write_number_or_null, write_quoted};
 use crate::names::{Object, Objects};
 use crate::places::{Place, Places};
-use crate::values::{Deferreds, failure_json, object_json, value_json};
+use crate::values::{Deferreds, write_object};
 use dv_journal::entry::Entry;
 use dv_journal::line::write_line;
 use dv_value::classes::Classes;
-use serde_json::{Value as Json, json};
+use dv_value::value_text::{write_failure_json, write_json, write_string};
+use dv_value::writing::write_text;
 use std::alloc::{AllocError, Global};
 
 /// What is known of a journal after so many of its entries.
@@ -50,22 +52,23 @@ impl<'e> Story<'e> {
         }
     }
 
-    /// What is told of the next entry.
-    pub fn next(
+    /// Adds the line of the next entry, without its end.
+    pub fn write_next(
         &mut self,
         alloc: Global,
         classes: &Classes,
+        out: &mut String,
         entry: &'e Entry,
-    ) -> Result<Json, AllocError> {
+    ) -> Result<(), AllocError> {
         let event = self.event();
         let facts = facts_of(entry);
         self.learn(&facts.news)?;
         let place = self.places.next(self.entry, facts.nesting)?;
         let object = self.objects.take(&facts.named)?;
         let standing = Standing { event, place };
-        let told = self.told(alloc, classes, entry, &facts, object, &standing)?;
+        self.write(alloc, classes, out, entry, &facts, object, &standing)?;
         self.entry = self.entry.saturating_add(1);
-        Ok(told)
+        Ok(())
     }
 
     /// What an entry says of Deferreds and of time.
@@ -107,52 +110,91 @@ impl<'e> Story<'e> {
         }
     }
 
-    fn told(
+    fn write(
         &self,
         alloc: Global,
         classes: &Classes,
+        out: &mut String,
         entry: &Entry,
         facts: &Facts<'e>,
         object: Option<Object<'e>>,
         standing: &Standing,
-    ) -> Result<Json, AllocError> {
-        let mut deferreds = Vec::new(alloc);
+    ) -> Result<(), AllocError> {
+        let place = standing.place;
+        self.write_deferreds(alloc, out, facts)?;
+        write_number(out, r#","depth":"#, place.depth as u64)?;
+        write_number_or_null(out, r#","due":"#, facts.due)?;
+        write_index_or_null(out, r#","ends":"#, place.ends)?;
+        write_index_or_null(out, r#","event":"#, standing.event)?;
+        write_quoted(alloc, out, r#","kind":"#, facts.word)?;
+        write_journal_line(alloc, classes, out, entry)?;
+        write_number(out, r#","number":"#, self.entry as u64)?;
+        write_objects(alloc, out, object)?;
+        write_index_or_null(out, r#","section":"#, place.section)?;
+        write_number(out, r#","time":"#, self.time)?;
+        write_index_or_null(out, r#","type":"entry","under":"#, place.under)?;
+        write_shown(alloc, classes, out, facts.shown)?;
+        write_number(out, r#","weight":"#, entry.weight())?;
+        write_text(out, "}")
+    }
+
+    /// Adds the Deferreds that an entry names.
+    fn write_deferreds(
+        &self,
+        alloc: Global,
+        out: &mut String,
+        facts: &Facts<'e>,
+    ) -> Result<(), AllocError> {
+        write_text(out, r#"{"deferreds":["#)?;
         if let Some(id) = facts.first {
-            deferreds.push(self.deferreds.json(alloc, id)?)?;
+            self.deferreds.write(alloc, out, id)?;
         }
         if let Some(id) = facts.second {
-            deferreds.push(self.deferreds.json(alloc, id)?)?;
+            write_text(out, ",")?;
+            self.deferreds.write(alloc, out, id)?;
         }
-        let mut objects = Vec::new(alloc);
-        if let Some(object) = object {
-            objects.push(object_json(alloc, object)?)?;
-        }
-        let value = match facts.shown {
-            Shown::Nothing => Json::Null,
-            Shown::Value(value) => value_json(alloc, classes, value)?,
-            Shown::Text(text) => Json::try_from_str(alloc, text.as_str())?,
-            Shown::Failure(failure) => failure_json(alloc, classes, failure)?,
-        };
-        let mut line = String::new(alloc);
-        write_line(alloc, classes, &mut line, entry)?;
-        let _ = line.pop();
-        let place = standing.place;
-        json!(in alloc; {
-            "deferreds": Json::Array(deferreds),
-            "depth": place.depth,
-            "due": facts.due,
-            "ends": place.ends,
-            "event": standing.event,
-            "kind": facts.word,
-            "line": line.as_str(),
-            "number": self.entry,
-            "objects": Json::Array(objects),
-            "section": place.section,
-            "time": self.time,
-            "type": "entry",
-            "under": place.under,
-            "value": value,
-            "weight": entry.weight(),
-        })
+        write_text(out, "]")
+    }
+}
+
+/// Adds the line of an entry in the journal.
+fn write_journal_line(
+    alloc: Global,
+    classes: &Classes,
+    out: &mut String,
+    entry: &Entry,
+) -> Result<(), AllocError> {
+    let mut line = String::new(alloc);
+    write_line(alloc, classes, &mut line, entry)?;
+    let _ = line.pop();
+    write_quoted(alloc, out, r#","line":"#, line.as_str())
+}
+
+/// Adds the object that an entry names, where it names one.
+fn write_objects(
+    alloc: Global,
+    out: &mut String,
+    object: Option<Object<'_>>,
+) -> Result<(), AllocError> {
+    write_text(out, r#","objects":["#)?;
+    if let Some(object) = object {
+        write_object(alloc, out, object)?;
+    }
+    write_text(out, "]")
+}
+
+/// Adds what the line of an entry shows.
+fn write_shown(
+    alloc: Global,
+    classes: &Classes,
+    out: &mut String,
+    shown: Shown<'_>,
+) -> Result<(), AllocError> {
+    write_text(out, r#","value":"#)?;
+    match shown {
+        Shown::Nothing => write_text(out, "null"),
+        Shown::Value(value) => write_json(alloc, classes, out, value),
+        Shown::Text(text) => write_string(alloc, out, text.as_str()),
+        Shown::Failure(failure) => write_failure_json(alloc, classes, out, failure),
     }
 }

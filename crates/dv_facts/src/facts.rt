@@ -5,7 +5,7 @@ use dv_value::text::Text;
 use dv_value::value::Value;
 
 /// A kind of objects that have numbers of their own.
-#[derive(Clone, Copy, Debug, PartialEq, Eq)]
+#[derive(Clone, Copy)]
 pub enum Kind {
     /// Locks and semaphores.
     Lock,
@@ -52,7 +52,7 @@ pub enum News<'e> {
 }
 
 /// What an entry does to what lies in what.
-#[derive(Clone, Copy, Debug, PartialEq, Eq)]
+#[derive(Clone, Copy, PartialEq, Eq)]
 pub enum Nesting {
     /// It lies in what is open, and has nothing in it.
     Plain,
@@ -81,7 +81,7 @@ pub enum Nesting {
 pub struct Facts<'e> {
     /// The first word of its line, or the first two.
     pub word: &'e str,
-    /// The Deferreds that it names, in the order of its line.
+    /// The Deferreds that it names, in the order of its line. Without a first there is no second.
     pub first: Option<DeferredId>,
     pub second: Option<DeferredId>,
     pub named: Named<'e>,

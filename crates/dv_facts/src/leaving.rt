@@ -1,9 +1,10 @@
-//! What is left, as JSON.
+//! What is left, as JSON, which is added at the end of a text.
 
 use crate::entries::Story;
 use crate::facts::Kind;
+use crate::members::{write_bool, write_comma, write_number, write_number_or_null, write_quoted};
 use crate::names::{Object, job};
-use crate::values::{failure_json, object_json, value_json};
+use crate::values::write_object;
 use dv_journal::deferred_id::DeferredId;
 use dv_journal::entry::Entry;
 use dv_left::left::{Hang, Left, LeftDeferred, LeftLoop, LeftTask, LeftTokens, Stage};
@@ -11,7 +12,8 @@ use dv_store::outcome::{Outcome, State};
 use dv_value::classes::Classes;
 use dv_value::deque::Deque;
 use dv_value::value::Value;
-use serde_json::{Value as Json, json};
+use dv_value::value_text::{write_failure_json, write_json};
+use dv_value::writing::write_text;
 use std::alloc::{AllocError, Global};
 
 /// What is known of a run when what is left is told.
@@ -33,199 +35,271 @@ fn stage_word(stage: Stage) -> &'static str {
 }
 
 impl<'k, 'e> Known<'k, 'e> {
-    /// What is told of what is left.
-    pub fn json(&self, left: Left) -> Result<Json, AllocError> {
+    /// Adds the line of what is left, without its end. The values of a queue are taken out of it.
+    pub fn write(&self, out: &mut String, left: &mut Left) -> Result<(), AllocError> {
         match left {
-            Left::Deferred(left) => self.deferred(&left),
-            Left::Failure(id) => self.failure(id),
-            Left::Call(number, due) => self.call(number, due),
-            Left::Tick(due) => {
-                json!(in self.alloc; {"due": due, "kind": "tick", "type": "left"})
-            }
-            Left::Delivery(number, id, due) => self.delivery(number, id, due),
-            Left::Timeout(id, due) => self.timeout(id, due),
-            Left::Loop(left) => self.turning(&left),
-            Left::Task(left) => self.task(&left),
-            Left::Tokens(left) => self.tokens(&left),
-            Left::Getters(number, waiting) => self.getters(number, waiting.as_slice()),
-            Left::Values(number, values) => self.values(number, values),
-            Left::Unhandled(place) => self.unhandled(place),
+            Left::Deferred(left) => self.write_deferred(out, left),
+            Left::Failure(id) => self.write_failure(out, *id),
+            Left::Call(number, due) => self.write_call(out, *number, *due),
+            Left::Tick(due) => write_tick(out, *due),
+            Left::Delivery(number, id, due) => self.write_delivery(out, *number, *id, *due),
+            Left::Timeout(id, due) => self.write_timeout(out, *id, *due),
+            Left::Loop(left) => self.write_loop(out, left),
+            Left::Task(left) => self.write_task(out, left),
+            Left::Tokens(left) => self.write_tokens(out, left),
+            Left::Getters(number, waiting) => self.write_getters(out, *number, waiting.as_slice()),
+            Left::Values(number, values) => self.write_values(out, *number, values),
+            Left::Unhandled(place) => self.write_unhandled(out, *place),
         }
     }
 
-    fn ids(&self, ids: &[DeferredId]) -> Result<Json, AllocError> {
-        self.story.deferreds.all_json(self.alloc, ids)
+    fn id(&self, out: &mut String, before: &str, id: DeferredId) -> Result<(), AllocError> {
+        write_text(out, before)?;
+        self.story.deferreds.write(self.alloc, out, id)
     }
 
-    fn id(&self, id: DeferredId) -> Result<Json, AllocError> {
-        self.story.deferreds.json(self.alloc, id)
+    fn ids(&self, out: &mut String, before: &str, ids: &[DeferredId]) -> Result<(), AllocError> {
+        write_text(out, before)?;
+        self.story.deferreds.write_all(self.alloc, out, ids)
     }
 
-    fn object(&self, kind: Kind, number: usize) -> Result<Json, AllocError> {
-        object_json(self.alloc, self.story.objects.at(kind, number))
+    fn object(&self, out: &mut String, before: &str, object: Object<'_>) -> Result<(), AllocError> {
+        write_text(out, before)?;
+        write_object(self.alloc, out, object)
     }
 
-    fn deferred(&self, left: &LeftDeferred) -> Result<Json, AllocError> {
-        let mut hangs = Vec::new(self.alloc);
-        for hang in left.hangs.as_slice() {
-            hangs.push(self.hang(*hang)?)?;
+    fn at(&self, kind: Kind, number: usize) -> Object<'e> {
+        self.story.objects.at(kind, number)
+    }
+
+    fn write_deferred(&self, out: &mut String, left: &LeftDeferred) -> Result<(), AllocError> {
+        self.id(out, r#"{"deferred":"#, left.id)?;
+        self.write_hangs(out, left.hangs.as_slice())?;
+        write_number(
+            out,
+            r#","kind":"deferred","pauses":"#,
+            u64::from(left.pauses),
+        )?;
+        write_bool(out, r#","running":"#, left.running)?;
+        write_quoted(self.alloc, out, r#","state":"#, stage_word(left.stage))?;
+        write_text(out, r#","type":"left"}"#)
+    }
+
+    fn write_hangs(&self, out: &mut String, hangs: &[Hang]) -> Result<(), AllocError> {
+        write_text(out, r#","hangs":["#)?;
+        for (place, hang) in hangs.iter().enumerate() {
+            write_comma(out, place)?;
+            self.write_hang(out, *hang)?;
         }
-        let deferred = self.id(left.id)?;
-        json!(in self.alloc; {
-            "deferred": deferred,
-            "hangs": Json::Array(hangs),
-            "kind": "deferred",
-            "pauses": left.pauses,
-            "running": left.running,
-            "state": stage_word(left.stage),
-            "type": "left",
-        })
+        write_text(out, "]")
     }
 
-    fn hang(&self, hang: Hang) -> Result<Json, AllocError> {
+    fn write_hang(&self, out: &mut String, hang: Hang) -> Result<(), AllocError> {
         match hang {
-            Hang::Waits(id) => self.at_deferred("deferred", id),
-            Hang::Child(id, place) => {
-                let deferred = self.id(id)?;
-                json!(in self.alloc; {"at": "child", "deferred": deferred, "place": place})
-            }
-            Hang::Chain(id) => self.at_deferred("chain", id),
-            Hang::Await(id) => self.at_deferred("await", id),
-            Hang::Lock(number) => self.at_object(self.story.objects.at(Kind::Lock, number)),
-            Hang::Queue(number) => self.at_object(self.story.objects.at(Kind::Queue, number)),
-            Hang::Job(number) => self.at_object(job(number)),
-            Hang::Loop(number) => self.at_object(self.story.objects.at(Kind::Loop, number)),
-            Hang::Task(number) => self.at_object(self.story.objects.at(Kind::Task, number)),
+            Hang::Waits(id) => self.write_at_deferred(out, r#"{"at":"deferred","deferred":"#, id),
+            Hang::Child(id, place) => self.write_at_child(out, id, place),
+            Hang::Chain(id) => self.write_at_deferred(out, r#"{"at":"chain","deferred":"#, id),
+            Hang::Await(id) => self.write_at_deferred(out, r#"{"at":"await","deferred":"#, id),
+            Hang::Lock(number) => self.write_at_object(out, self.at(Kind::Lock, number)),
+            Hang::Queue(number) => self.write_at_object(out, self.at(Kind::Queue, number)),
+            Hang::Job(number) => self.write_at_object(out, job(number)),
+            Hang::Loop(number) => self.write_at_object(out, self.at(Kind::Loop, number)),
+            Hang::Task(number) => self.write_at_object(out, self.at(Kind::Task, number)),
         }
     }
 
-    fn at_deferred(&self, at: &'static str, id: DeferredId) -> Result<Json, AllocError> {
-        let deferred = self.id(id)?;
-        json!(in self.alloc; {"at": at, "deferred": deferred})
+    fn write_at_child(
+        &self,
+        out: &mut String,
+        id: DeferredId,
+        place: u32,
+    ) -> Result<(), AllocError> {
+        self.id(out, r#"{"at":"child","deferred":"#, id)?;
+        write_number(out, r#","place":"#, u64::from(place))?;
+        write_text(out, "}")
     }
 
-    fn at_object(&self, object: Object<'_>) -> Result<Json, AllocError> {
-        let at = object.kind;
-        let object = object_json(self.alloc, object)?;
-        json!(in self.alloc; {"at": at, "object": object})
+    fn write_at_deferred(
+        &self,
+        out: &mut String,
+        before: &str,
+        id: DeferredId,
+    ) -> Result<(), AllocError> {
+        self.id(out, before, id)?;
+        write_text(out, "}")
     }
 
-    fn failure(&self, id: DeferredId) -> Result<Json, AllocError> {
-        let value = self.value_of(id)?;
-        let deferred = self.id(id)?;
-        json!(in self.alloc; {"deferred": deferred, "kind": "failure", "type": "left", "value": value})
+    fn write_at_object(&self, out: &mut String, object: Object<'_>) -> Result<(), AllocError> {
+        write_quoted(self.alloc, out, r#"{"at":"#, object.kind)?;
+        self.object(out, r#","object":"#, object)?;
+        write_text(out, "}")
     }
 
-    /// The value of a Deferred at the end.
-    fn value_of(&self, id: DeferredId) -> Result<Json, AllocError> {
+    fn write_failure(&self, out: &mut String, id: DeferredId) -> Result<(), AllocError> {
+        self.id(out, r#"{"deferred":"#, id)?;
+        write_text(out, r#","kind":"failure","type":"left","value":"#)?;
+        self.write_value_of(out, id)?;
+        write_text(out, "}")
+    }
+
+    /// Adds the value of a Deferred at the end.
+    fn write_value_of(&self, out: &mut String, id: DeferredId) -> Result<(), AllocError> {
         match self.outcomes.get(id.number() as usize) {
-            None => Ok(Json::Null),
-            Some(outcome) => match &outcome.state {
-                State::Unfired | State::Waiting(_) => Ok(Json::Null),
-                State::Fired(value) => value_json(self.alloc, self.classes, value),
-            },
+            None => write_text(out, "null"),
+            Some(outcome) => write_value(self.alloc, self.classes, out, &outcome.state),
         }
     }
 
-    fn call(&self, number: u32, due: u64) -> Result<Json, AllocError> {
-        let object = self.object(Kind::Call, number as usize)?;
-        json!(in self.alloc; {"due": due, "kind": "call", "object": object, "type": "left"})
+    fn write_call(&self, out: &mut String, number: u32, due: u64) -> Result<(), AllocError> {
+        write_number(out, r#"{"due":"#, due)?;
+        self.object(
+            out,
+            r#","kind":"call","object":"#,
+            self.at(Kind::Call, number as usize),
+        )?;
+        write_text(out, r#","type":"left"}"#)
     }
 
-    fn delivery(&self, number: u32, id: DeferredId, due: u64) -> Result<Json, AllocError> {
-        let object = object_json(self.alloc, job(number))?;
-        let deferred = self.id(id)?;
-        json!(in self.alloc; {
-            "deferred": deferred,
-            "due": due,
-            "kind": "delivery",
-            "object": object,
-            "type": "left",
-        })
+    fn write_delivery(
+        &self,
+        out: &mut String,
+        number: u32,
+        id: DeferredId,
+        due: u64,
+    ) -> Result<(), AllocError> {
+        self.id(out, r#"{"deferred":"#, id)?;
+        write_number(out, r#","due":"#, due)?;
+        self.object(out, r#","kind":"delivery","object":"#, job(number))?;
+        write_text(out, r#","type":"left"}"#)
     }
 
-    fn timeout(&self, id: DeferredId, due: u64) -> Result<Json, AllocError> {
-        let deferred = self.id(id)?;
-        json!(in self.alloc; {"deferred": deferred, "due": due, "kind": "timeout", "type": "left"})
+    fn write_timeout(&self, out: &mut String, id: DeferredId, due: u64) -> Result<(), AllocError> {
+        self.id(out, r#"{"deferred":"#, id)?;
+        write_number(out, r#","due":"#, due)?;
+        write_text(out, r#","kind":"timeout","type":"left"}"#)
     }
 
-    fn turning(&self, left: &LeftLoop) -> Result<Json, AllocError> {
-        let object = self.object(Kind::Loop, left.number)?;
-        let deferred = self.id(left.of)?;
-        let waits_for = self.ids(left.waits_for.as_slice())?;
-        json!(in self.alloc; {
-            "deferred": deferred,
-            "due": left.due,
-            "kind": "loop",
-            "object": object,
-            "type": "left",
-            "waits_for": waits_for,
-        })
+    fn write_loop(&self, out: &mut String, left: &LeftLoop) -> Result<(), AllocError> {
+        self.id(out, r#"{"deferred":"#, left.of)?;
+        write_number_or_null(out, r#","due":"#, left.due)?;
+        self.object(
+            out,
+            r#","kind":"loop","object":"#,
+            self.at(Kind::Loop, left.number),
+        )?;
+        self.ids(
+            out,
+            r#","type":"left","waits_for":"#,
+            left.waits_for.as_slice(),
+        )?;
+        write_text(out, "}")
     }
 
-    fn task(&self, left: &LeftTask) -> Result<Json, AllocError> {
-        let object = self.object(Kind::Task, left.number)?;
-        let waits_for = self.ids(left.waits_for.as_slice())?;
-        json!(in self.alloc; {
-            "bodies": left.bodies,
-            "kind": "task",
-            "object": object,
-            "pauses": left.pauses,
-            "type": "left",
-            "waits_for": waits_for,
-        })
+    fn write_task(&self, out: &mut String, left: &LeftTask) -> Result<(), AllocError> {
+        write_number(out, r#"{"bodies":"#, left.bodies as u64)?;
+        self.object(
+            out,
+            r#","kind":"task","object":"#,
+            self.at(Kind::Task, left.number),
+        )?;
+        write_number(out, r#","pauses":"#, left.pauses)?;
+        self.ids(
+            out,
+            r#","type":"left","waits_for":"#,
+            left.waits_for.as_slice(),
+        )?;
+        write_text(out, "}")
     }
 
-    fn tokens(&self, left: &LeftTokens) -> Result<Json, AllocError> {
-        let object = self.object(Kind::Lock, left.number)?;
-        let waiting = self.ids(left.waiting.as_slice())?;
-        json!(in self.alloc; {
-            "given": left.given,
-            "kind": "tokens",
-            "object": object,
-            "tokens": left.tokens,
-            "type": "left",
-            "waiting": waiting,
-        })
+    fn write_tokens(&self, out: &mut String, left: &LeftTokens) -> Result<(), AllocError> {
+        write_number(out, r#"{"given":"#, u64::from(left.given))?;
+        self.object(
+            out,
+            r#","kind":"tokens","object":"#,
+            self.at(Kind::Lock, left.number),
+        )?;
+        write_number(out, r#","tokens":"#, u64::from(left.tokens))?;
+        self.ids(out, r#","type":"left","waiting":"#, left.waiting.as_slice())?;
+        write_text(out, "}")
     }
 
-    fn getters(&self, number: usize, waiting: &[DeferredId]) -> Result<Json, AllocError> {
-        let object = self.object(Kind::Queue, number)?;
-        let waiting = self.ids(waiting)?;
-        json!(in self.alloc; {
-            "kind": "getters",
-            "object": object,
-            "type": "left",
-            "waiting": waiting,
-        })
+    fn write_getters(
+        &self,
+        out: &mut String,
+        number: usize,
+        waiting: &[DeferredId],
+    ) -> Result<(), AllocError> {
+        self.object(
+            out,
+            r#"{"kind":"getters","object":"#,
+            self.at(Kind::Queue, number),
+        )?;
+        self.ids(out, r#","type":"left","waiting":"#, waiting)?;
+        write_text(out, "}")
     }
 
-    fn values(&self, number: usize, values: Deque<Value>) -> Result<Json, AllocError> {
-        let mut values = values;
-        let mut items = Vec::new(self.alloc);
-        for _ in 0..values.len() {
-            if let Some(value) = values.pop_front() {
-                items.push(value_json(self.alloc, self.classes, &value)?)?;
-            }
+    fn write_values(
+        &self,
+        out: &mut String,
+        number: usize,
+        values: &mut Deque<Value>,
+    ) -> Result<(), AllocError> {
+        self.object(
+            out,
+            r#"{"kind":"values","object":"#,
+            self.at(Kind::Queue, number),
+        )?;
+        write_text(out, r#","type":"left","values":["#)?;
+        for place in 0..values.len() {
+            write_comma(out, place)?;
+            self.write_first(out, values)?;
         }
-        let object = self.object(Kind::Queue, number)?;
-        json!(in self.alloc; {
-            "kind": "values",
-            "object": object,
-            "type": "left",
-            "values": Json::Array(items),
-        })
+        write_text(out, "]}")
     }
 
-    fn unhandled(&self, place: usize) -> Result<Json, AllocError> {
-        let value = match self.entries.get(place) {
-            Some(Entry::Unhandled(failure)) => failure_json(
+    /// Adds the first of these values, which is taken out of them.
+    fn write_first(&self, out: &mut String, values: &mut Deque<Value>) -> Result<(), AllocError> {
+        match values.pop_front() {
+            None => Ok(()),
+            Some(value) => write_json(self.alloc, self.classes, out, &value),
+        }
+    }
+
+    fn write_unhandled(&self, out: &mut String, place: usize) -> Result<(), AllocError> {
+        write_number(out, r#"{"entry":"#, place as u64)?;
+        write_text(out, r#","kind":"unhandled","type":"left","value":"#)?;
+        self.write_failure_at(out, place)?;
+        write_text(out, "}")
+    }
+
+    /// Adds the failure that an entry tells as unhandled.
+    fn write_failure_at(&self, out: &mut String, place: usize) -> Result<(), AllocError> {
+        match self.entries.get(place) {
+            Some(Entry::Unhandled(failure)) => write_failure_json(
                 self.alloc,
                 self.classes,
+                out,
                 failure.get(),
-            )?,
-            Some(_) | None => Json::Null,
-        };
-        json!(in self.alloc; {"entry": place, "kind": "unhandled", "type": "left", "value": value})
+            ),
+            Some(_) | None => write_text(out, "null"),
+        }
+    }
+}
+
+fn write_tick(out: &mut String, due: u64) -> Result<(), AllocError> {
+    write_number(out, r#"{"due":"#, due)?;
+    write_text(out, r#","kind":"tick","type":"left"}"#)
+}
+
+/// Adds the value of a state, or null where it has none.
+pub fn write_value(
+    alloc: Global,
+    classes: &Classes,
+    out: &mut String,
+    state: &State,
+) -> Result<(), AllocError> {
+    match state {
+        State::Unfired | State::Waiting(_) => write_text(out, "null"),
+        State::Fired(value) => write_json(alloc, classes, out, value),
     }
 }

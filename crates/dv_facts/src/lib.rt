@@ -4,6 +4,7 @@
 pub mod entries;
 pub mod facts;
 pub mod leaving;
+pub mod members;
 pub mod names;
 mod places;
 pub mod values;

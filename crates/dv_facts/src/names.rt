@@ -5,7 +5,7 @@ use std::alloc::{AllocError, Global};
 use std::collections::BTreeMap;
 
 /// What was made under a name.
-#[derive(Clone, Copy, Debug, PartialEq, Eq)]
+#[derive(Clone, Copy)]
 struct Bound {
     /// The number of the last that was made.
     last: usize,
@@ -16,15 +16,13 @@ struct Bound {
 /// The objects of one kind.
 #[derive(Drop)]
 pub struct Names<'e> {
-    alloc: Global,
     names: Vec<&'e str>,
-    bound: BTreeMap<String, Bound>,
+    bound: BTreeMap<&'e str, Bound>,
 }
 
 impl<'e> Names<'e> {
     fn new(alloc: Global) -> Names<'e> {
         Names {
-            alloc,
             names: Vec::new(alloc),
             bound: BTreeMap::new(alloc),
         }
@@ -34,9 +32,8 @@ impl<'e> Names<'e> {
     fn make(&mut self, name: &'e str) -> Result<usize, AllocError> {
         let number = self.names.len();
         let others = self.bound.get(name).is_some();
-        let key = String::from_str(self.alloc, name)?;
         self.bound.insert(
-            key,
+            name,
             Bound {
                 last: number,
                 others,

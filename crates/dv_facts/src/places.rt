@@ -4,7 +4,7 @@ use crate::facts::Nesting;
 use std::alloc::{AllocError, Global};
 
 /// What an entry is in which others lie.
-#[derive(Clone, Copy, Debug, PartialEq, Eq)]
+#[derive(Clone, Copy, PartialEq, Eq)]
 enum Part {
     /// The rest of an event: an advance, or a drain.
     Outer,
@@ -17,14 +17,14 @@ enum Part {
 }
 
 /// An entry in which others lie.
-#[derive(Clone, Copy, Debug, PartialEq, Eq)]
+#[derive(Clone, Copy)]
 struct Open {
     entry: usize,
     part: Part,
 }
 
 /// Where an entry lies.
-#[derive(Clone, Copy, Debug, PartialEq, Eq)]
+#[derive(Clone, Copy)]
 pub struct Place {
     /// The entry of the innermost part that came due, or the post, or the step.
     pub section: Option<usize>,

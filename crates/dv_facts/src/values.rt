@@ -1,65 +1,19 @@
-//! Values, Deferreds and objects as JSON.
+//! Deferreds and objects as JSON, which is added at the end of a text.
 
+use crate::members::{
+    write_comma, write_index_or_null, write_number, write_quoted, write_quoted_or_null,
+};
 use crate::names::Object;
 use dv_journal::deferred_id::DeferredId;
-use dv_value::classes::Classes;
-use dv_value::failure::Failure;
-use dv_value::value::Value;
-use serde_json::{Value as Json, json};
+use dv_value::writing::write_text;
 use std::alloc::{AllocError, Global};
 
-/// A value as JSON.
-#[cycle(json)]
-pub fn value_json(alloc: Global, classes: &Classes, value: &Value) -> Result<Json, AllocError> {
-    match value {
-        Value::Null => Ok(Json::Null),
-        Value::Bool(b) => Ok(Json::Bool(*b)),
-        Value::Int(n) => Ok(Json::from(*n)),
-        Value::Text(text) => Json::try_from_str(alloc, text.as_str()),
-        Value::List(values) => values_json(alloc, classes, values.as_slice()),
-        Value::Fault(failure) => failure_json(alloc, classes, failure.get()),
-    }
-}
-
-/// Values as an array.
-#[cycle(json)]
-pub fn values_json(alloc: Global, classes: &Classes, values: &[Value]) -> Result<Json, AllocError> {
-    let mut items = Vec::new(alloc);
-    for value in values {
-        items.push(value_json(alloc, classes, value)?)?;
-    }
-    Ok(Json::Array(items))
-}
-
-/// A failure as JSON, as the journal shows it in a list.
-pub fn failure_json(
-    alloc: Global,
-    classes: &Classes,
-    failure: &Failure,
-) -> Result<Json, AllocError> {
-    let class = classes.name(failure.class);
-    let message = failure.message.as_str();
-    match &failure.sub {
-        None => json!(in alloc; {"fail": class, "message": message}),
-        Some(sub) => {
-            let inside = failure_json(alloc, classes, sub.failure.get())?;
-            json!(in alloc; {"fail": class, "index": sub.index, "message": message, "sub": inside})
-        }
-    }
-}
-
-/// A text, or null.
-pub fn text_json(alloc: Global, text: Option<&str>) -> Result<Json, AllocError> {
-    match text {
-        None => Ok(Json::Null),
-        Some(text) => Json::try_from_str(alloc, text),
-    }
-}
-
-/// An object by its kind, its name and its number.
-pub fn object_json(alloc: Global, object: Object<'_>) -> Result<Json, AllocError> {
-    let name = text_json(alloc, object.name)?;
-    json!(in alloc; {"kind": object.kind, "name": name, "number": object.number})
+/// Adds an object: its kind, its name and its number.
+pub fn write_object(alloc: Global, out: &mut String, object: Object<'_>) -> Result<(), AllocError> {
+    write_quoted(alloc, out, r#"{"kind":"#, object.kind)?;
+    write_quoted_or_null(alloc, out, r#","name":"#, object.name)?;
+    write_index_or_null(out, r#","number":"#, object.number)?;
+    write_text(out, "}")
 }
 
 /// The names of all Deferreds, by number.
@@ -74,18 +28,25 @@ impl<'e> Deferreds<'e> {
         *self.names.get(id.number() as usize)?
     }
 
-    /// A Deferred by its name and its number.
-    pub fn json(&self, alloc: Global, id: DeferredId) -> Result<Json, AllocError> {
-        let name = text_json(alloc, self.name(id))?;
-        json!(in alloc; {"name": name, "number": id.number()})
+    /// Adds a Deferred: its name and its number.
+    pub fn write(&self, alloc: Global, out: &mut String, id: DeferredId) -> Result<(), AllocError> {
+        write_quoted_or_null(alloc, out, r#"{"name":"#, self.name(id))?;
+        write_number(out, r#","number":"#, u64::from(id.number()))?;
+        write_text(out, "}")
     }
 
-    /// Deferreds as an array.
-    pub fn all_json(&self, alloc: Global, ids: &[DeferredId]) -> Result<Json, AllocError> {
-        let mut items = Vec::new(alloc);
-        for id in ids {
-            items.push(self.json(alloc, *id)?)?;
+    /// Adds Deferreds as an array.
+    pub fn write_all(
+        &self,
+        alloc: Global,
+        out: &mut String,
+        ids: &[DeferredId],
+    ) -> Result<(), AllocError> {
+        write_text(out, "[")?;
+        for (place, id) in ids.iter().enumerate() {
+            write_comma(out, place)?;
+            self.write(alloc, out, *id)?;
         }
-        Ok(Json::Array(items))
+        write_text(out, "]")
     }
 }

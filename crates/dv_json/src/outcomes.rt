@@ -2,11 +2,12 @@
 
 use dv_facts::entries::Story;
 use dv_facts::facts::text_of;
-use dv_facts::values::{text_json, value_json};
+use dv_facts::leaving::write_value;
+use dv_facts::members::{write_index_or_null, write_number, write_quoted, write_quoted_or_null};
 use dv_output::output::write_line;
 use dv_store::outcome::{Outcome, State};
 use dv_value::classes::Classes;
-use serde_json::{Value as Json, json};
+use dv_value::writing::write_text;
 use std::alloc::{AllocError, Global};
 
 fn state_word(state: &State) -> &'static str {
@@ -17,36 +18,56 @@ fn state_word(state: &State) -> &'static str {
     }
 }
 
-/// What is told of the Deferred of a number.
-pub fn outcome_json(
+/// Adds the line of the Deferred of a number, without its end.
+pub fn write_outcome(
     alloc: Global,
     classes: &Classes,
     story: &Story<'_>,
+    out: &mut String,
     number: usize,
     outcome: &Outcome,
-) -> Result<Json, AllocError> {
+) -> Result<(), AllocError> {
+    write_index_or_null(out, r#"{"fired_by":"#, fired_by(story, number))?;
+    write_outcome_line(alloc, classes, out, number, outcome)?;
+    write_quoted_or_null(alloc, out, r#","name":"#, text_of(&outcome.name))?;
+    write_number(out, r#","number":"#, number as u64)?;
+    write_number(out, r#","pauses":"#, u64::from(outcome.pauses))?;
+    write_quoted(alloc, out, r#","state":"#, state_word(&outcome.state))?;
+    write_text(out, r#","type":"deferred","value":"#)?;
+    write_value(alloc, classes, out, &outcome.state)?;
+    write_text(out, r#","waits_for":"#)?;
+    write_waits_for(alloc, story, out, &outcome.state)?;
+    write_text(out, "}")
+}
+
+/// The entry by which the Deferred of a number was fired.
+fn fired_by(story: &Story<'_>, number: usize) -> Option<usize> {
+    *story.fired_by.get(number)?
+}
+
+/// Adds the line that is printed after the journal.
+fn write_outcome_line(
+    alloc: Global,
+    classes: &Classes,
+    out: &mut String,
+    number: usize,
+    outcome: &Outcome,
+) -> Result<(), AllocError> {
     let mut line = String::new(alloc);
     write_line(alloc, classes, &mut line, number, outcome)?;
     let _ = line.pop();
-    let name = text_json(alloc, text_of(&outcome.name))?;
-    let (value, waits_for) = match &outcome.state {
-        State::Unfired => (Json::Null, Json::Null),
-        State::Waiting(id) => (Json::Null, story.deferreds.json(alloc, *id)?),
-        State::Fired(value) => (value_json(alloc, classes, value)?, Json::Null),
-    };
-    let fired_by = match story.fired_by.get(number) {
-        None => None,
-        Some(fired_by) => *fired_by,
-    };
-    json!(in alloc; {
-        "fired_by": fired_by,
-        "line": line.as_str(),
-        "name": name,
-        "number": number,
-        "pauses": outcome.pauses,
-        "state": state_word(&outcome.state),
-        "type": "deferred",
-        "value": value,
-        "waits_for": waits_for,
-    })
+    write_quoted(alloc, out, r#","line":"#, line.as_str())
+}
+
+/// Adds the Deferred that one of this state waits for, or null.
+fn write_waits_for(
+    alloc: Global,
+    story: &Story<'_>,
+    out: &mut String,
+    state: &State,
+) -> Result<(), AllocError> {
+    match state {
+        State::Unfired | State::Fired(_) => write_text(out, "null"),
+        State::Waiting(id) => story.deferreds.write(alloc, out, *id),
+    }
 }

@@ -1,10 +1,10 @@
 //! The lines of a run.
 
 use crate::marked::Marked;
-use crate::outcomes::outcome_json;
+use crate::outcomes::write_outcome;
 use dv_facts::entries::Story;
 use dv_facts::leaving::Known;
-use dv_facts::values::value_json;
+use dv_facts::members::{write_bool, write_comma, write_number};
 use dv_jobs::job::Done;
 use dv_journal::entry::Entry;
 use dv_journal::error::PrintFault;
@@ -16,21 +16,19 @@ use dv_posts::posted::Posted;
 use dv_store::outcome::Outcome;
 use dv_value::classes::Classes;
 use dv_value::items::Items;
-use serde_json::{Value as Json, json};
+use dv_value::value_text::write_json;
+use dv_value::writing::write_text;
 use std::alloc::{AllocError, Global};
 
-/// Adds a line to what is gathered, and writes that where it has come to a piece of some kilobytes.
-fn add_line<W: Sink>(
-    alloc: Global,
-    told: &Json,
-    gathered: &mut String,
-    sink: &mut W,
-) -> Result<(), PrintFault> {
-    let line = told.to_string(alloc)?;
-    gathered.push_str(line.as_str())?;
-    gathered.push('\n')?;
-    write_when_full(sink, gathered)?;
-    Ok(())
+/// A run that has ended, without what is left of it.
+#[derive(Clone, Copy)]
+struct Run<'r> {
+    journal: &'r Journal,
+    stopped: bool,
+    outcomes: &'r [Outcome],
+    batches: &'r [Items<Posted>],
+    dones: &'r [Done],
+    marks: &'r [usize],
 }
 
 /// Writes a run, a line of JSON an object. WriteFault where the sink fails or takes no byte, OutOfMemory where memory is refused;
@@ -53,45 +51,64 @@ pub fn print_run<W: Sink>(
         outcomes,
         left,
     } = remains;
+    let mut left = left.into_vec();
+    let run = Run {
+        journal: &journal,
+        stopped,
+        outcomes: outcomes.as_slice(),
+        batches: batches.as_slice(),
+        dones: ran.dones(),
+        marks: marks.as_slice(),
+    };
+    print_borrowed(alloc, classes, run, left.as_mut_slice(), sink)
+}
+
+/// Writes a run and what is left of it.
+fn print_borrowed<W: Sink>(
+    alloc: Global,
+    classes: &Classes,
+    run: Run<'_>,
+    left: &mut [Left],
+    sink: &mut W,
+) -> Result<(), PrintFault> {
+    let mut story = Story::new(alloc, run.marks);
     let mut gathered = String::new(alloc);
-    let start = json!(in alloc; {"type": "start", "version": 1})?;
-    add_line(alloc, &start, &mut gathered, sink)?;
-    let mut story = Story::new(alloc, marks.as_slice());
-    print_entries(
-        alloc,
-        classes,
-        &mut story,
-        journal.entries(),
-        &mut gathered,
-        sink,
-    )?;
-    print_outcomes(
-        alloc,
-        classes,
-        &story,
-        outcomes.as_slice(),
-        &mut gathered,
-        sink,
-    )?;
+    print_lines(alloc, classes, run, left, &mut story, &mut gathered, sink)
+}
+
+/// Writes all lines, some kilobytes at a time.
+fn print_lines<'r, W: Sink>(
+    alloc: Global,
+    classes: &Classes,
+    run: Run<'r>,
+    left: &mut [Left],
+    story: &mut Story<'r>,
+    gathered: &mut String,
+    sink: &mut W,
+) -> Result<(), PrintFault> {
+    write_text(gathered, r#"{"type":"start","version":1}"#)?;
+    end_line(gathered, sink)?;
+    let entries = run.journal.entries();
+    print_entries(alloc, classes, story, entries, gathered, sink)?;
+    print_outcomes(alloc, classes, story, run.outcomes, gathered, sink)?;
     let known = Known {
         alloc,
         classes,
-        story: &story,
-        entries: journal.entries(),
-        outcomes: outcomes.as_slice(),
+        story,
+        entries,
+        outcomes: run.outcomes,
     };
-    print_left(known, left, &mut gathered, sink)?;
-    let last = end_json(
-        alloc,
-        classes,
-        &journal,
-        stopped,
-        story.time,
-        batches.as_slice(),
-        ran.dones(),
-    )?;
-    add_line(alloc, &last, &mut gathered, sink)?;
+    print_left(known, left, gathered, sink)?;
+    write_end(alloc, classes, run, story.time, gathered)?;
+    end_line(gathered, sink)?;
     write_all(sink, gathered.as_bytes())?;
+    Ok(())
+}
+
+/// Ends a line, and writes what is gathered where it has come to a piece of some kilobytes.
+fn end_line<W: Sink>(gathered: &mut String, sink: &mut W) -> Result<(), PrintFault> {
+    gathered.push('\n')?;
+    write_when_full(sink, gathered)?;
     Ok(())
 }
 
@@ -105,24 +122,24 @@ fn print_entries<'e, W: Sink>(
     sink: &mut W,
 ) -> Result<(), PrintFault> {
     for entry in entries {
-        let told = story.next(alloc, classes, entry)?;
-        add_line(alloc, &told, gathered, sink)?;
+        story.write_next(alloc, classes, gathered, entry)?;
+        end_line(gathered, sink)?;
     }
     Ok(())
 }
 
 /// Writes a line for each Deferred.
-fn print_outcomes<'e, W: Sink>(
+fn print_outcomes<W: Sink>(
     alloc: Global,
     classes: &Classes,
-    story: &Story<'e>,
+    story: &Story<'_>,
     outcomes: &[Outcome],
     gathered: &mut String,
     sink: &mut W,
 ) -> Result<(), PrintFault> {
     for (number, outcome) in outcomes.iter().enumerate() {
-        let told = outcome_json(alloc, classes, story, number, outcome)?;
-        add_line(alloc, &told, gathered, sink)?;
+        write_outcome(alloc, classes, story, gathered, number, outcome)?;
+        end_line(gathered, sink)?;
     }
     Ok(())
 }
@@ -130,62 +147,73 @@ fn print_outcomes<'e, W: Sink>(
 /// Writes a line for each thing that is left.
 fn print_left<W: Sink>(
     known: Known<'_, '_>,
-    left: Items<Left>,
+    left: &mut [Left],
     gathered: &mut String,
     sink: &mut W,
 ) -> Result<(), PrintFault> {
-    for left in left.into_vec() {
-        let told = known.json(left)?;
-        add_line(known.alloc, &told, gathered, sink)?;
+    for left in left {
+        known.write(gathered, left)?;
+        end_line(gathered, sink)?;
     }
     Ok(())
 }
 
-fn end_json(
+/// Adds the last line, without its end.
+fn write_end(
     alloc: Global,
     classes: &Classes,
-    journal: &Journal,
-    stopped: bool,
+    run: Run<'_>,
     time: u64,
-    batches: &[Items<Posted>],
+    out: &mut String,
+) -> Result<(), AllocError> {
+    write_text(out, r#"{"batches":"#)?;
+    write_batches(out, run.batches)?;
+    write_text(out, r#","jobs":"#)?;
+    write_jobs(alloc, classes, out, run.dones)?;
+    write_number(out, r#","limit":"#, run.journal.limit())?;
+    write_bool(out, r#","stopped":"#, run.stopped)?;
+    write_number(out, r#","time":"#, time)?;
+    write_number(out, r#","type":"end","weight":"#, run.journal.weight())?;
+    write_text(out, "}")
+}
+
+fn write_batches(out: &mut String, batches: &[Items<Posted>]) -> Result<(), AllocError> {
+    write_text(out, "[")?;
+    for (place, batch) in batches.iter().enumerate() {
+        write_comma(out, place)?;
+        write_batch(out, batch.as_slice())?;
+    }
+    write_text(out, "]")
+}
+
+fn write_batch(out: &mut String, batch: &[Posted]) -> Result<(), AllocError> {
+    write_text(out, "[")?;
+    for (place, posted) in batch.iter().enumerate() {
+        write_comma(out, place)?;
+        write_post(out, posted)?;
+    }
+    write_text(out, "]")
+}
+
+fn write_post(out: &mut String, posted: &Posted) -> Result<(), AllocError> {
+    write_number(out, "[", u64::from(posted.caller))?;
+    write_number(out, ",", u64::from(posted.index))?;
+    write_text(out, "]")
+}
+
+fn write_jobs(
+    alloc: Global,
+    classes: &Classes,
+    out: &mut String,
     dones: &[Done],
-) -> Result<Json, AllocError> {
-    let batches = batches_json(alloc, batches)?;
-    let jobs = jobs_json(alloc, classes, dones)?;
-    json!(in alloc; {
-        "batches": batches,
-        "jobs": jobs,
-        "limit": journal.limit(),
-        "stopped": stopped,
-        "time": time,
-        "type": "end",
-        "weight": journal.weight(),
-    })
-}
-
-fn batches_json(alloc: Global, batches: &[Items<Posted>]) -> Result<Json, AllocError> {
-    let mut all = Vec::new(alloc);
-    for batch in batches {
-        all.push(batch_json(alloc, batch.as_slice())?)?;
-    }
-    Ok(Json::Array(all))
-}
-
-fn batch_json(alloc: Global, batch: &[Posted]) -> Result<Json, AllocError> {
-    let mut all = Vec::new(alloc);
-    for posted in batch {
-        let post = json!(in alloc; [posted.caller, posted.index])?;
-        all.push(post)?;
-    }
-    Ok(Json::Array(all))
-}
-
-fn jobs_json(alloc: Global, classes: &Classes, dones: &[Done]) -> Result<Json, AllocError> {
-    let mut all = Vec::new(alloc);
+) -> Result<(), AllocError> {
+    write_text(out, "[")?;
     for (number, done) in dones.iter().enumerate() {
-        let value = value_json(alloc, classes, done.outcome())?;
-        let job = json!(in alloc; {"number": number, "value": value})?;
-        all.push(job)?;
+        write_comma(out, number)?;
+        write_number(out, r#"{"number":"#, number as u64)?;
+        write_text(out, r#","value":"#)?;
+        write_json(alloc, classes, out, done.outcome())?;
+        write_text(out, "}")?;
     }
-    Ok(Json::Array(all))
+    write_text(out, "]")
 }
