@@ -10,7 +10,7 @@ import time
 import unittest
 from typing import Callable, Dict, Iterator, List, NamedTuple
 
-from dv_loops import make_and_chain, make_and_fire
+from ...loops import make_and_chain, make_and_fire
 
 from ..instruments import install
 from ..running import be_quiet

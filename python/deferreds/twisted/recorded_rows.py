@@ -6,13 +6,14 @@ import json
 from pathlib import Path
 from typing import Iterator, List, Tuple
 
-from .programs import TOP
+from ..checkout import TOP
+from .rows import ROWS as FOLDER
 from .rows import Expected, written
 from .running import run
 
 #: the scripts, by the names of their rows
 RULES = TOP / "python" / "data" / "rules.txt"
-ROWS = TOP / "crates" / "dv_rows" / "data" / "twisted.rows"
+ROWS = FOLDER / "twisted.rows"
 
 
 class Quirky(Exception):

@@ -109,7 +109,7 @@ def _slower() -> int:
 def main(words: List[str]) -> int:
     """The command."""
     parser = argparse.ArgumentParser(prog="measure", description=__doc__.split("\n", 1)[0])
-    parser.add_argument("--ours", metavar="COMMAND", help="our program (what ./deferreds --build has built)")
+    parser.add_argument("--ours", metavar="COMMAND", help="our program (deferreds, as it is built or installed)")
     parser.add_argument("--slower", action="store_true", help="measure how much slower a recorded program is")
     parser.add_argument("modules", nargs="*", metavar="MODULE")
     arguments = parser.parse_args(words)

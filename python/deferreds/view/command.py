@@ -1,4 +1,4 @@
-"""`view [-o FILE] [--text] [SCRIPT..]`: runs a script, and shows what happened in which order, and what is left and
+"""`./view [-o FILE] [--text] [SCRIPT..]`: runs a script, and shows what happened in which order, and what is left and
 why.
 
 Writes a page that any browser opens: SCRIPT's name with `.html`, in the folder where the command is given, or FILE.
@@ -22,14 +22,13 @@ import webbrowser
 from pathlib import Path
 from typing import List, Optional, Tuple
 
+from ..checkout import as_called, command_name
+from ..program import NOT_RUN, NotRun, found
 from .facts import NotFacts, read_facts
 from .page import Page
 from .run import Run, run_of_facts, run_of_journal
 from .scripts import Script
 from .terminal import Terminal
-
-#: the top of the repository
-TOP = Path(__file__).resolve().parents[2]
 
 _USAGE, _NO_INPUT, _NO_OUTPUT = 64, 66, 73
 _STOPPED = 1
@@ -45,7 +44,7 @@ class Failed(Exception):
 
 def _arguments(words: List[str]) -> argparse.Namespace:
     parser = argparse.ArgumentParser(
-        prog="view", description=__doc__, formatter_class=argparse.RawDescriptionHelpFormatter
+        prog=command_name("view"), description=as_called(__doc__), formatter_class=argparse.RawDescriptionHelpFormatter
     )
     add = parser.add_argument
     add(
@@ -65,7 +64,7 @@ def _arguments(words: List[str]) -> argparse.Namespace:
     source.add_argument(
         "--json",
         metavar="FILE",
-        help="show what ./deferreds --json has told; SCRIPT may be the script of it",
+        help=as_called("show what ./deferreds --json has told; SCRIPT may be the script of it"),
     )
     add("--from", dest="first", type=int, metavar="N", help="the first line that the chart shows (1)")
     add("--to", dest="last", type=int, metavar="N", help="the last line (5000 lines at most)")
@@ -82,7 +81,7 @@ def _arguments(words: List[str]) -> argparse.Namespace:
 
 
 def _say(text: str) -> None:
-    print(f"view: {text}", file=sys.stderr)
+    print(f"{command_name('view')}: {text}", file=sys.stderr)
 
 
 def _read(name: str) -> bytes:
@@ -128,11 +127,12 @@ def run_script(name: str) -> Run:
 def _deferreds(data: bytes, *words: str) -> Tuple[int, bytes]:
     """The status and the output of `./deferreds` with these words."""
     try:
-        ran = subprocess.run(
-            [os.fspath(TOP / "deferreds"), *words], input=data, stdout=subprocess.PIPE, check=False
-        )
+        program = os.fspath(found())
+        ran = subprocess.run([program, *words], input=data, stdout=subprocess.PIPE, check=False)
+    except NotRun as why:
+        raise Failed(NOT_RUN, f"deferreds isn't run: {why}") from None
     except OSError as error:
-        raise Failed(70, f"./deferreds can't be run: {error.strerror}") from None
+        raise Failed(NOT_RUN, f"{program} can't be run: {error.strerror}") from None
     return ran.returncode, ran.stdout
 
 

@@ -1,6 +1,6 @@
 """Who watches Twisted, and tells what happens as lines of a journal.
 
-The instruments (`dv_twisted.instruments`) change Twisted's classes so that each thing that happens is told to the
+The instruments (`deferreds.twisted.instruments`) change Twisted's classes so that each thing that happens is told to the
 observer that is on, and is done by Twisted's own code. Where no observer is on they change nothing.
 
 A call from the program into Twisted is an *action*. What the program is called back for is a *body*. While Twisted's own

@@ -5,7 +5,6 @@ from __future__ import annotations
 import json
 import subprocess
 from dataclasses import dataclass
-from pathlib import Path
 from typing import Any, Dict, Iterator, List, Optional, Sequence
 
 from .fold import Fold, Rebound, Told
@@ -77,10 +76,10 @@ class Ran:
     errors: str
 
 
-def run(program: Path, script: str) -> Ran:
-    """Runs a program on a script."""
+def run(command: Sequence[str], script: str) -> Ran:
+    """Runs a command on a script."""
     ran = subprocess.run(
-        [str(program)], input=script.encode(), capture_output=True, timeout=_SECONDS, check=False
+        list(command), input=script.encode(), capture_output=True, timeout=_SECONDS, check=False
     )
     return Ran(ran.returncode, ran.stdout.decode(), ran.stderr.decode())
 

@@ -3,9 +3,9 @@
 from __future__ import annotations
 
 import functools
+import os
 import re
 import sys
-from pathlib import Path
 from types import FrameType
 from typing import Dict, Optional, Tuple
 
@@ -22,7 +22,8 @@ _INNER = {"<listcomp>", "<genexpr>", "<dictcomp>", "<setcomp>"}
 
 #: the files whose code is no program's
 _OWN = {module.__file__ for module in (base, defer, task, threads, context, failure)}
-_PACKAGE = str(Path(__file__).resolve().parents[1])
+#: the folder of what watches Twisted, as code objects name it: a link on the way to it stays one
+_PACKAGE = os.path.dirname(os.path.dirname(__file__)) + os.sep
 
 
 class _Files(Dict[str, bool]):

@@ -15,29 +15,14 @@ import sys
 from concurrent.futures import ThreadPoolExecutor
 from typing import List
 
-from dv_twisted import grammar
-from dv_twisted.randoms import Scripts
+from ..program import NOT_RUN, NotRun, built
+from ..twisted import grammar
+from ..twisted.randoms import Scripts
 
 from .agreeing import Agreement, agreement
-from .command import TOP
 from .facts import NotFacts, read_facts
 
 _MOST_SHOWN = 20
-
-
-def _built() -> str:
-    """Where the program is that `./deferreds --build` has built."""
-    asked = subprocess.run(
-        [os.fspath(TOP / "deferreds"), "--json", "--program"],
-        stdout=subprocess.PIPE,
-        text=True,
-        check=False,
-    )
-    if asked.returncode != 0:
-        raise NotFacts(
-            "./deferreds --json isn't built; ./deferreds --build builds it, and --ours names one"
-        )
-    return asked.stdout.strip()
 
 
 def _checked(script: str, command: List[str]) -> Agreement:
@@ -74,11 +59,13 @@ def main(words: List[str]) -> int:
         return 64 if exit_.code else 0
     made = Scripts(arguments.seed, list(grammar.LEVELS)[-1])
     try:
-        command = arguments.ours.split() if arguments.ours else [_built()]
+        command = arguments.ours.split() if arguments.ours else [os.fspath(built()), "--json"]
         return check([made.script(number) for number in range(arguments.random)], command)
+    except NotRun as why:
+        print(f"view_check: {why}; --ours names a program", file=sys.stderr)
     except (OSError, NotFacts) as error:
         print(f"view_check: a script was not run: {error}", file=sys.stderr)
-        return 70
+    return NOT_RUN
 
 
 if __name__ == "__main__":

@@ -1,4 +1,4 @@
-"""`record [-o NAME] [--view] PROGRAM [ARGS..]`: runs a program that uses Twisted, and tells the run as a script and a journal.
+"""`./record [-o NAME] [--view] PROGRAM [ARGS..]`: runs a program that uses Twisted, and tells the run as a script and a journal.
 
 `-m MODULE` runs a module, `--test MODULE.CLASS.METHOD` one test. The program runs as it is. NAME.json is the script,
 NAME.journal the journal and the outcomes as real Twisted gave them. `--view` writes NAME.html, a page of the run, too. What a
@@ -14,9 +14,10 @@ import sys
 from pathlib import Path
 from typing import List, Optional, Set
 
-from dv_view.page import Page
-from dv_view.run import run_of_journal
-from dv_view.scripts import Script
+from ...checkout import as_called, command_name
+from ...view.page import Page
+from ...view.run import run_of_journal
+from ...view.scripts import Script
 
 from ..recording.programs import LADDER, record_program, record_test, tests_of
 from ..recording.recorder import Recorder
@@ -26,8 +27,8 @@ from ..telling import KINDS
 
 def _arguments(words: List[str]) -> argparse.Namespace:
     parser = argparse.ArgumentParser(
-        prog="record",
-        description=__doc__,
+        prog=command_name("record"),
+        description=as_called(__doc__),
         formatter_class=argparse.RawDescriptionHelpFormatter,
     )
     add = parser.add_argument
@@ -56,7 +57,7 @@ def _arguments(words: List[str]) -> argparse.Namespace:
 
 
 def _say(text: str) -> None:
-    print(f"record: {text}", file=sys.stderr)
+    print(f"{command_name('record')}: {text}", file=sys.stderr)
 
 
 def _refused(said: Said) -> int:

@@ -1,6 +1,6 @@
 """Loops that do nothing but use Deferreds, by which `python/measure --slower` measures the recorder.
 
-They stand outside of the package, since its own code is no program that is recorded.
+They stand outside of `deferreds.twisted`, whose own code is no program that is recorded.
 """
 
 from __future__ import annotations

@@ -6,6 +6,8 @@ import re
 from pathlib import Path
 from typing import Iterator, List, NamedTuple
 
+from ..checkout import TOP
+
 _ENDING = re.compile(r"-- (\d+) ?(.*)")
 _COUNTED = re.compile(r"\*(\d+) (.*)", re.DOTALL)
 
@@ -14,6 +16,10 @@ ANY_LINES = "..."
 
 #: rows that are wrong on purpose
 WRONG = "wrong.rows"
+
+#: where the repository has its files of rows, and where an installed package has them
+ROWS = TOP / "crates" / "dv_rows" / "data"
+PACKAGED = Path(__file__).resolve().parents[1] / "rows"
 
 
 class Expected(NamedTuple):
@@ -74,9 +80,9 @@ def _scripts(lines: List[str]) -> Iterator[str]:
                 yield frame.replace("%", line)
 
 
-def row_files(top: Path) -> List[Path]:
-    """The files of rows of the repository, but for that of the wrong ones."""
-    folder = top / "crates" / "dv_rows" / "data"
+def row_files() -> List[Path]:
+    """The files of rows, but for that of the wrong ones: an installed package holds those of the repository."""
+    folder = PACKAGED if PACKAGED.is_dir() else ROWS
     return [path for path in sorted(folder.glob("*.rows")) if path.name != WRONG]
 
 

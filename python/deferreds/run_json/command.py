@@ -1,24 +1,25 @@
-"""`check_json [--random N] [--seed S] [--json PROGRAM] [--plain PROGRAM]`: holds what `./deferreds --json` tells against its journal.
+"""`check_json [--random N] [--seed S] [--ours PROGRAM]`: holds what `./deferreds --json` tells against its journal.
 
 Over all rows of the repository, the lines joined are what `./deferreds` prints, and what is left is what a fold of the journal
 gives; over the rows of `left.rows`, what is left is as it stands there, worked out by hand; and over N random scripts in which
 no name is made twice, what is left is what the fold gives. The last line is `N passed, M failed`, and the status is 0 exactly
-where M is 0.
+where M is 0. Without PROGRAM it is the one that `./deferreds --build` has built. Status 70: the program can't be run.
 """
 
 from __future__ import annotations
 
 import argparse
+import os
 import sys
 from pathlib import Path
 from typing import Iterator, List
 
-from dv_twisted.randoms import Scripts
-from dv_twisted.rows import Expected, filled, read_rows, row_files
+from ..program import NOT_RUN, NotRun, built
+from ..twisted.randoms import Scripts
+from ..twisted.rows import Expected, filled, read_rows, row_files
 
 from .checking import Ran, Wrong, check_left, check_run, rows_of, run
 
-TOP = Path(__file__).resolve().parents[2]
 LEFT_ROWS = Path(__file__).resolve().parent / "data" / "left.rows"
 
 _MOST_SHOWN = 20
@@ -30,9 +31,9 @@ _MOST_TRIED = 10
 class Checks:
     """Counts what passed and what didn't."""
 
-    def __init__(self, told: Path, plain: Path) -> None:
-        self._told = told
-        self._plain = plain
+    def __init__(self, program: Path) -> None:
+        self._plain = [os.fspath(program)]
+        self._told = [*self._plain, "--json"]
         self.passed = 0
         self.failed = 0
 
@@ -91,30 +92,40 @@ def _joined(told: Ran) -> str:
 
 def all_rows() -> Iterator[Expected]:
     """Each row of the repository."""
-    for path in row_files(TOP):
+    for path in row_files():
         yield from read_rows(path)
 
 
 def main(words: List[str]) -> int:
+    """The command."""
     parser = argparse.ArgumentParser(prog="check_json", description=__doc__)
-    built = TOP / "crates"
     parser.add_argument("--random", type=int, default=2000, metavar="N")
     parser.add_argument("--seed", type=int, default=1, metavar="S")
-    parser.add_argument("--json", type=Path, default=built / "deferreds_json" / "out" / "deferreds_json")
-    parser.add_argument("--plain", type=Path, default=built / "deferreds" / "out" / "deferreds")
+    parser.add_argument("--ours", type=Path, metavar="PROGRAM")
     asked = parser.parse_args(words)
-    checks = Checks(asked.json, asked.plain)
+    try:
+        return _check(asked.ours or built(), asked.seed, asked.random)
+    except NotRun as why:
+        print(f"check_json: {why}; --ours names a program", file=sys.stderr)
+    except OSError as error:
+        print(f"check_json: {asked.ours} can't be run: {error.strerror}", file=sys.stderr)
+    return NOT_RUN
+
+
+def _check(program: Path, seed: int, randoms: int) -> int:
+    """Checks the program by all rows, and by so many random scripts; the status."""
+    checks = Checks(program)
     for row in all_rows():
         checks.check_row(row)
     for row in read_rows(LEFT_ROWS):
         checks.check_left_row(row)
-    scripts = Scripts(asked.seed, "pools")
+    scripts = Scripts(seed, "pools")
     found = 0
-    for number in range(_MOST_TRIED * asked.random):
-        if found == asked.random:
+    for number in range(_MOST_TRIED * randoms):
+        if found == randoms:
             break
         found += checks.check_random(number, scripts.script(number))
-    if found < asked.random:
+    if found < randoms:
         checks.count("random scripts", "", f"only {found} make no name twice")
     print(f"{checks.passed} passed, {checks.failed} failed")
     return 0 if checks.failed == 0 else 1

@@ -5,13 +5,11 @@ from __future__ import annotations
 import json
 import os
 import subprocess
-from pathlib import Path
 from typing import IO, NamedTuple, Optional, Protocol, Sequence, Tuple
 
-Batches = Sequence[Sequence[Tuple[int, int]]]
+from ..program import NotRun, built
 
-#: the top of the repository
-TOP = Path(__file__).resolve().parents[2]
+Batches = Sequence[Sequence[Tuple[int, int]]]
 
 _SECONDS = 120
 
@@ -115,18 +113,10 @@ def _text(data: bytes) -> str:
 
 
 def ours(command: Optional[Sequence[str]] = None) -> Program:
-    """Our own program: the one that is named, or the one that is built from the sources that stand here."""
+    """Our own program: the one that is named, or else the one that is found, or in a checkout built."""
     if command:
         return Once(command, takes_batches=False)
-    asked = subprocess.run(
-        [os.fspath(TOP / "deferreds"), "--program"],
-        capture_output=True,
-        text=True,
-        check=False,
-    )
-    if asked.returncode != 0:
-        raise Broken(
-            "./deferreds isn't built from the sources that stand here; ./deferreds --build proves and builds it, "
-            "and --ours names a program that is built"
-        )
-    return Once([asked.stdout.strip()], takes_batches=False)
+    try:
+        return Once([os.fspath(built())], takes_batches=False)
+    except NotRun as why:
+        raise Broken(f"{why}; --ours names another program") from None
