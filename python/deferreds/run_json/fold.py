@@ -8,7 +8,7 @@ from __future__ import annotations
 
 import json
 from dataclasses import dataclass, field
-from typing import Any, Callable, Dict, List, Optional, Sequence, Set
+from typing import Any, Callable, Dict, Iterator, List, Optional, Sequence, Set, Tuple, Union
 
 from .journal import Line, read_line
 
@@ -400,6 +400,13 @@ class Fold:
             "hangs": self._hangs(deferred),
         }
 
+    def _waited_for(self) -> Iterator[Tuple[str, Union[Lock, Queue]]]:
+        """The locks and the queues, each with its kind."""
+        for lock in self.locks.values():
+            yield "lock", lock
+        for queue in self.queues.values():
+            yield "queue", queue
+
     def _hangs(self, deferred: Deferred) -> List[Told]:
         if deferred.waits_for is not None:
             return [{"at": "deferred", "deferred": self._id(deferred.waits_for)}]
@@ -408,10 +415,9 @@ class Fold:
         hangs: List[Told] = []
         if deferred.awaits is not None:
             hangs.append({"at": "await", "deferred": self._id(deferred.awaits)})
-        for kind, things in (("lock", self.locks), ("queue", self.queues)):
-            for thing in things.values():
-                times = thing.waiting.count(deferred.number)
-                hangs += [{"at": kind, "object": self._object(kind, thing)}] * times
+        for kind, thing in self._waited_for():
+            times = thing.waiting.count(deferred.number)
+            hangs += [{"at": kind, "object": self._object(kind, thing)}] * times
         hangs += [
             {"at": "job", "object": {"kind": "job", "name": None, "number": upcoming.number}}
             for upcoming in self.upcoming

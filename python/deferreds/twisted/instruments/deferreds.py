@@ -685,7 +685,7 @@ def _waits_in_a_circle(deferred: Deferred[Any]) -> bool:
         if not isinstance(held, Deferred):
             return False
         deferred = held
-    return deferred.called
+    return bool(deferred.called)
 
 
 

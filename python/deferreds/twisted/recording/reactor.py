@@ -5,11 +5,11 @@ from __future__ import annotations
 import contextlib
 import sys
 from types import ModuleType
-from typing import Any, Callable, Iterator, List, Tuple
+from typing import Any, Callable, Iterator, List, Tuple, cast
 
 import twisted.internet
 from twisted.internet import error, interfaces, task
-from zope.interface import implementer  # type: ignore[import]
+from zope.interface import implementer
 
 _MOST_ADVANCES = 100_000
 
@@ -83,7 +83,7 @@ def in_place_of_the_real(reactor: VirtualReactor, *users: ModuleType) -> Iterato
     missing = object()
     before = sys.modules.get(name), getattr(twisted.internet, "reactor", missing)
     had = [(user, user.__dict__["reactor"]) for user in users if "reactor" in user.__dict__]
-    sys.modules[name] = reactor  # type: ignore[assignment]
+    sys.modules[name] = cast(ModuleType, reactor)
     setattr(twisted.internet, "reactor", reactor)
     for user, _ in had:
         setattr(user, "reactor", reactor)
