@@ -7,6 +7,7 @@ from __future__ import annotations
 import json
 from typing import Any, Callable, Dict, List, NamedTuple, Optional, Tuple
 
+from ..checkout import as_called
 from .left import (
     At,
     Hang,
@@ -70,12 +71,12 @@ def read_facts(text: str) -> Facts:
             or start.get("type") != "start"
             or start.get("version") != _VERSION
         ):
-            raise NotFacts(f"it isn't version {_VERSION} of what ./deferreds --json tells")
+            raise NotFacts(as_called(f"it isn't version {_VERSION} of what ./deferreds --json tells"))
         facts = Facts()
         for line in lines[1:-1]:
             _take(facts, json.loads(line))
     except (ValueError, KeyError, TypeError, IndexError, AttributeError, RecursionError):
-        raise NotFacts("it isn't what ./deferreds --json tells") from None
+        raise NotFacts(as_called("it isn't what ./deferreds --json tells")) from None
     return facts
 
 
