@@ -12,7 +12,7 @@ from workloads import MOST_WEIGHT, WORKLOADS, Json, Script, Workload, nested_can
 
 sys.path.insert(0, str(HERE.parent / "python"))
 
-from dv_twisted.script import Refused, read  # noqa: E402
+from deferreds.twisted.script import Refused, read  # noqa: E402
 
 #: the classes of the table that workloads use
 CLASSES = ("Exception", "ValueError", "TypeError")

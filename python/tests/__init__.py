@@ -1,1 +1,1 @@
-"""Tests of dv_twisted, by unittest: `python3 -m unittest discover -t python -s python/tests` at the top."""
+"""Tests of deferreds.twisted, by unittest: `python3 -m unittest discover -t python -s python/tests` at the top."""

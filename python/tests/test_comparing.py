@@ -6,16 +6,16 @@ import json
 import unittest
 from typing import Callable, List, Optional
 
-from dv_twisted import grammar
-from dv_twisted.classes import BUILT_IN
-from dv_twisted.comparing import Comparison, compared, difference, is_of_level
-from dv_twisted.cutting import cut_down
-from dv_twisted.posts import batches_of
-from dv_twisted.profile import Entry
-from dv_twisted.programs import Answer, Batches
-from dv_twisted.randoms import Scripts
-from dv_twisted.running import be_quiet, run
-from dv_twisted.script import read
+from deferreds.twisted import grammar
+from deferreds.twisted.classes import BUILT_IN
+from deferreds.twisted.comparing import Comparison, compared, difference, is_of_level
+from deferreds.twisted.cutting import cut_down
+from deferreds.twisted.posts import batches_of
+from deferreds.twisted.profile import Entry
+from deferreds.twisted.programs import Answer, Batches
+from deferreds.twisted.randoms import Scripts
+from deferreds.twisted.running import be_quiet, run
+from deferreds.twisted.script import read
 
 
 class Twisted:

@@ -6,7 +6,7 @@ import subprocess
 import unittest
 from unittest import mock
 
-from dv_twisted.commands import conform
+from deferreds.twisted.commands import conform
 
 
 def conforming(*words: str) -> "tuple[int, str]":
@@ -22,7 +22,7 @@ class OursTest(unittest.TestCase):
 
     def test_without_a_program_of_ours_random_scripts_end_with_status_70(self) -> None:
         absent = subprocess.CompletedProcess(["deferreds"], 70, stdout="", stderr="")
-        with mock.patch("dv_twisted.programs.subprocess.run", return_value=absent):
+        with mock.patch("deferreds.program.subprocess.run", return_value=absent):
             status, errors = conforming("--random", "1", "--", "true")
         self.assertEqual(status, 70)
         self.assertIn("./deferreds --build", errors)

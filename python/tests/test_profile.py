@@ -5,10 +5,10 @@ from __future__ import annotations
 import re
 import unittest
 
-from dv_twisted.profile import Entry
-from dv_twisted.programs import TOP
-from dv_twisted.recorded_rows import Quirky, row, rules
-from dv_twisted.running import be_quiet
+from deferreds.twisted.profile import Entry
+from deferreds.checkout import TOP
+from deferreds.twisted.recorded_rows import Quirky, row, rules
+from deferreds.twisted.running import be_quiet
 
 
 class Profile(unittest.TestCase):

@@ -14,11 +14,11 @@ from typing import Any, Callable, List
 from twisted.internet import defer, task
 from twisted.python.failure import Failure
 
-from dv_twisted.instruments import install
-from dv_twisted.recording.recorder import Recorder
-from dv_twisted.recording.saying import Said
-from dv_twisted.running import be_quiet, run
-from dv_twisted.telling import KINDS
+from deferreds.twisted.instruments import install
+from deferreds.twisted.recording.recorder import Recorder
+from deferreds.twisted.recording.saying import Said
+from deferreds.twisted.running import be_quiet, run
+from deferreds.twisted.telling import KINDS
 
 
 def recorded(program: Callable[[], object], kinds: frozenset[str] = KINDS) -> Said:
@@ -211,7 +211,7 @@ class Shown(unittest.TestCase):
 
     def test_it_is_written_beside_the_script_and_the_journal(self) -> None:
         example = Path(__file__).resolve().parents[2] / "examples" / "python" / "workers.py"
-        command = [sys.executable, "-m", "dv_twisted.commands.record", "--virtual", "--view"]
+        command = [sys.executable, "-m", "deferreds.twisted.commands.record", "--virtual", "--view"]
         with tempfile.TemporaryDirectory() as folder:
             name = Path(folder, "workers")
             subprocess.run(

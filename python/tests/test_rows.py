@@ -6,7 +6,7 @@ import tempfile
 import unittest
 from pathlib import Path
 
-from dv_twisted.rows import Expected, filled, read_rows, written
+from deferreds.twisted.rows import Expected, filled, read_rows, written
 
 ROWS = """== two lines
 {"version":1,"events":[

@@ -6,8 +6,8 @@ import json
 import unittest
 from typing import Any, List, Optional
 
-from dv_twisted.profile import Entry
-from dv_twisted.running import Batches, Run, be_quiet, run
+from deferreds.twisted.profile import Entry
+from deferreds.twisted.running import Batches, Run, be_quiet, run
 
 
 def ran(

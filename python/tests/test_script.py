@@ -5,8 +5,8 @@ from __future__ import annotations
 import json
 import unittest
 
-from dv_twisted.classes import BUILT_IN
-from dv_twisted.script import Refused, nodes, read
+from deferreds.twisted.classes import BUILT_IN
+from deferreds.twisted.script import Refused, nodes, read
 
 
 def refusal(text: str | bytes) -> int:

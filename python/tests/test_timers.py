@@ -9,10 +9,10 @@ from typing import Any, Callable, List
 
 from twisted.internet import defer, task
 
-from dv_twisted.instruments import install
-from dv_twisted.profile import Entry
-from dv_twisted.running import run
-from dv_twisted.telling import KINDS
+from deferreds.twisted.instruments import install
+from deferreds.twisted.profile import Entry
+from deferreds.twisted.running import run
+from deferreds.twisted.telling import KINDS
 
 from .test_recording import recorded
 from .test_running import entries, ran

@@ -6,12 +6,12 @@ import json
 from pathlib import Path
 from typing import Iterator, List, NamedTuple
 
-from dv_twisted.rows import ANY_LINES, read_rows, row_files
+from deferreds.twisted.rows import ANY_LINES, read_rows, row_files
 
-from dv_view.command import TOP
-from dv_view.facts import read_facts
-from dv_view.run import Run, run_of_facts, run_of_journal
-from dv_view.scripts import Script
+from deferreds.checkout import TOP
+from deferreds.view.facts import read_facts
+from deferreds.view.run import Run, run_of_facts, run_of_journal
+from deferreds.view.scripts import Script
 
 from .stand_in import told
 
@@ -108,7 +108,7 @@ def told_by_the_program() -> Iterator[Sample]:
 
 def rows() -> Iterator[Sample]:
     """Runs of the repository's rows, some of each topic, and those that stop at their limit."""
-    for path in row_files(TOP):
+    for path in row_files():
         found = [
             row
             for row in read_rows(path)

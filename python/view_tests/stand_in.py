@@ -7,8 +7,8 @@ from __future__ import annotations
 import json
 from typing import Any, Dict, List, Optional, Sequence
 
-from dv_view.lines import read_end, read_line, split
-from dv_view.sections import places_of
+from deferreds.view.lines import read_end, read_line, split
+from deferreds.view.sections import places_of
 
 Json = Dict[str, Any]
 

@@ -10,9 +10,9 @@ from io import StringIO
 from pathlib import Path
 from typing import List
 
-from dv_view import checking
-from dv_view.agreeing import agreement
-from dv_view.facts import read_facts
+from deferreds.view import checking
+from deferreds.view.agreeing import agreement
+from deferreds.view.facts import read_facts
 
 from .stand_in import Json, stuck, thing, told
 

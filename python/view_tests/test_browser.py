@@ -11,11 +11,11 @@ from pathlib import Path
 from typing import Any, Dict, Iterator, List, Tuple
 from unittest import mock
 
-from dv_view import texts
-from dv_view.layout import SLOT
-from dv_view.page import Page
-from dv_view.run import Run
-from dv_view.texts import Html, clipped, shortened, visible
+from deferreds.view import texts
+from deferreds.view.layout import SLOT
+from deferreds.view.page import Page
+from deferreds.view.run import Run
+from deferreds.view.texts import Html, clipped, shortened, visible
 
 from . import samples
 from .browser import Browser, found
@@ -209,12 +209,12 @@ class Hostile(InBrowser):
         self.assertEqual(titles, [visible(clipped(line, 1000)) for line in lines if len(line) > 60])
 
     def test_without_the_escaping_it_would_be_seen(self) -> None:
-        with mock.patch("dv_view.markup.escaped", Html), mock.patch("dv_view.page.escaped", Html):
+        with mock.patch("deferreds.view.markup.escaped", Html), mock.patch("deferreds.view.page.escaped", Html):
             self.show(samples.hostile())
         self.assertNotEqual(self._harm(), [])
 
     def test_a_script_of_theirs_would_not_run_even_so(self) -> None:
-        with mock.patch("dv_view.markup.escaped", Html), mock.patch("dv_view.page.escaped", Html):
+        with mock.patch("deferreds.view.markup.escaped", Html), mock.patch("deferreds.view.page.escaped", Html):
             self.show(samples.hostile())
         self.assertIsNone(self.asked("window.harm"))
         self.assertFalse(

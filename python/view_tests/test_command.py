@@ -12,11 +12,12 @@ from pathlib import Path
 from typing import List, Tuple
 from unittest import mock
 
-from dv_view import command
+from deferreds.checkout import TOP
+from deferreds.view import command
 
 from .stand_in import told
 
-_JOURNAL = command.TOP / "examples" / "python" / "workers.journal"
+_JOURNAL = TOP / "examples" / "python" / "workers.journal"
 
 
 class Command(unittest.TestCase):
@@ -117,7 +118,7 @@ class Command(unittest.TestCase):
             (self.folder / f"{name}.json").write_text(
                 f'{{"version":1,"events":[["deferred","{name}"]]}}'
             )
-        with mock.patch.object(command, "TOP", self.folder):
+        with mock.patch.object(command, "found", lambda: stand_in):
             status, _, errors = self.run_view(
                 self.folder / "bad.json", self.folder / "good.json", "-o", self.folder / "pages"
             )
@@ -132,7 +133,7 @@ class Command(unittest.TestCase):
         )
         stand_in.chmod(0o755)
         (self.folder / "s.json").write_text("{}")
-        with mock.patch.object(command, "TOP", self.folder):
+        with mock.patch.object(command, "found", lambda: stand_in):
             status, output, _ = self.run_view("--text", self.folder / "s.json")
         self.assertEqual(status, 0)
         self.assertIn("Read from a journal alone", output)
@@ -140,7 +141,7 @@ class Command(unittest.TestCase):
 
     def test_it_runs_from_the_top_and_ends_where_its_reader_does(self) -> None:
         view = subprocess.run(
-            f"{command.TOP / 'view'} --text --journal {_JOURNAL} | head -n 1",
+            f"{TOP / 'view'} --text --journal {_JOURNAL} | head -n 1",
             shell=True,
             capture_output=True,
             text=True,

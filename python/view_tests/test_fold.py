@@ -5,14 +5,14 @@ from __future__ import annotations
 import unittest
 from typing import List
 
-from dv_twisted.rows import ANY_LINES, read_rows, row_files
+from deferreds.twisted.rows import ANY_LINES, read_rows, row_files
 
-from dv_view.command import TOP
-from dv_view.phrases import OfDeferred, OfLine, Phrase
-from dv_view.records import ArrowKind, Look, State
-from dv_view.run import Run, run_of_facts, run_of_journal
-from dv_view.facts import read_facts
-from dv_view.scripts import Script
+from deferreds.checkout import TOP
+from deferreds.view.phrases import OfDeferred, OfLine, Phrase
+from deferreds.view.records import ArrowKind, Look, State
+from deferreds.view.run import Run, run_of_facts, run_of_journal
+from deferreds.view.facts import read_facts
+from deferreds.view.scripts import Script
 
 from .stand_in import told
 
@@ -48,7 +48,7 @@ class Fold(unittest.TestCase):
 
     def test_the_lines_tell_the_outcomes_of_all_rows(self) -> None:
         runs = 0
-        for path in row_files(TOP):
+        for path in row_files():
             for row in read_rows(path):
                 if row.status < 2 and f"{ANY_LINES}\n" not in row.output:
                     runs += 1

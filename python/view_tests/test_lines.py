@@ -5,8 +5,8 @@ from __future__ import annotations
 import re
 import unittest
 
-from dv_view.command import TOP
-from dv_view.lines import WORDS, End, read_end, read_line, split
+from deferreds.checkout import TOP
+from deferreds.view.lines import WORDS, End, read_end, read_line, split
 
 
 class Lines(unittest.TestCase):

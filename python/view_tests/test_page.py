@@ -12,9 +12,9 @@ from pathlib import Path
 from typing import Dict, List, Optional, Set, Tuple
 from unittest import mock
 
-from dv_view import texts
-from dv_view.page import MOST_ROWS, Page
-from dv_view.run import Run, run_of_journal
+from deferreds.view import texts
+from deferreds.view.page import MOST_ROWS, Page
+from deferreds.view.run import Run, run_of_journal
 
 from . import samples
 
@@ -100,7 +100,7 @@ class Escaping(unittest.TestCase):
         def as_it_is(text: str) -> texts.Html:
             return texts.Html(text)
 
-        for module in ("dv_view.markup", "dv_view.page"):
+        for module in ("deferreds.view.markup", "deferreds.view.page"):
             with self.subTest(module), mock.patch(f"{module}.escaped", as_it_is):
                 self.assertFalse(self._is_safe(page_of(samples.hostile())))
 

@@ -6,12 +6,12 @@ import json
 import unittest
 from typing import List, Optional, Sequence
 
-from dv_view.command import TOP
-from dv_view.facts import read_facts
-from dv_view.report import Severity
-from dv_view.run import Run, run_of_facts, run_of_journal
-from dv_view.scripts import Script
-from dv_view.terminal import Terminal
+from deferreds.checkout import TOP
+from deferreds.view.facts import read_facts
+from deferreds.view.report import Severity
+from deferreds.view.run import Run, run_of_facts, run_of_journal
+from deferreds.view.scripts import Script
+from deferreds.view.terminal import Terminal
 
 from .stand_in import Json, deferred, stuck, thing, told
 

@@ -6,11 +6,11 @@ import re
 import unittest
 from typing import List
 
-from dv_view.facts import read_facts
-from dv_view.run import Run, run_of_facts, run_of_journal
-from dv_view.scripts import Script
-from dv_view.terminal import Terminal
-from dv_view.texts import _UNSEEN
+from deferreds.view.facts import read_facts
+from deferreds.view.run import Run, run_of_facts, run_of_journal
+from deferreds.view.scripts import Script
+from deferreds.view.terminal import Terminal
+from deferreds.view.texts import _UNSEEN
 
 from . import samples
 from .stand_in import told

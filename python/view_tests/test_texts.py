@@ -4,7 +4,7 @@ from __future__ import annotations
 
 import unittest
 
-from dv_view.texts import clipped, escaped, shortened, visible
+from deferreds.view.texts import clipped, escaped, shortened, visible
 
 
 class Texts(unittest.TestCase):

@@ -1,0 +1,130 @@
+"""`python/measure [MODULE..]`: records each test of Twisted's own modules, and compares it with `deferreds`.
+
+It prints the table of docs/TWISTED.md. The status is 0 exactly where each test passes under the recorder that passes
+without it, and no difference lacks an entry in docs/PROFILE.md. `python/measure --slower` prints how much slower a
+program is that is recorded.
+"""
+
+from __future__ import annotations
+
+import argparse
+import os
+import sys
+from typing import List
+
+import twisted
+
+from ..programs import Broken, ours
+from ..recording.measuring import (
+    CANNOT,
+    DIFFERS,
+    NAMED,
+    NOTHING,
+    SAME,
+    SKIPPED,
+    WAITS,
+    Measured,
+    bare_failures,
+    counted,
+    measure_test,
+)
+from ..recording.programs import tests_of
+from ..recording.slowness import slownesses
+from ..running import with_room
+
+MODULES = (
+    "twisted.test.test_defer",
+    "twisted.test.test_defgen",
+    "twisted.internet.test.test_inlinecb",
+    "twisted.test.test_task",
+    "twisted.test.test_cooperator",
+)
+
+_HEADER = (
+    "| Module | Tests | Nothing to record | Recorded whole | The same line for line "
+    "| Differ at an entry | Differ otherwise | Can't be said |\n|---|---|---|---|---|---|---|---|"
+)
+
+
+def _row(name: str, measured: List[Measured]) -> str:
+    counts = counted(measured)
+    whole = counts[SAME] + counts[NAMED] + counts[DIFFERS]
+    nothing = counts[NOTHING] + counts[SKIPPED] + counts[WAITS]
+    cells = (len(measured), nothing, whole, counts[SAME], counts[NAMED], counts[DIFFERS], counts[CANNOT])
+    return f"| {name} | " + " | ".join(map(str, cells)) + " |"
+
+
+def _failing(module: str, measured: List[Measured]) -> List[str]:
+    """The tests that fail under the recorder, and not without it."""
+    failed = [one.test for one in measured if not one.passed]
+    without = bare_failures(module) if failed else []
+    return [test for test in failed if test not in without]
+
+
+def _module(name: str, program: object) -> List[Measured]:
+    measured: List[Measured] = []
+    tests = tests_of(name)
+    for cls, method in tests:
+        measured.append(measure_test(cls, method, program))  # type: ignore[arg-type]
+        if sys.stderr.isatty():
+            print(f"\r{name}: {len(measured)} of {len(tests)}", end="", file=sys.stderr)
+    return measured
+
+
+def _run(arguments: argparse.Namespace) -> int:
+    program = ours(arguments.ours.split() if arguments.ours else None)
+    everything: List[Measured] = []
+    failing: List[str] = []
+    print(f"Twisted {twisted.__version__}, Python {sys.version.split()[0]}\n\n{_HEADER}", flush=True)
+    for module in arguments.modules or MODULES:
+        measured = _module(module, program)
+        failing += _failing(module, measured)
+        everything += measured
+        print(_row(module, measured), flush=True)
+    print(_row("all", everything) + "\n")
+    _tell_each(everything)
+    for test in failing:
+        print(f"fails under the recorder alone: {test}")
+    unnamed = counted(everything)[DIFFERS]
+    sys.stdout.flush()
+    return 1 if failing or unnamed else 0
+
+
+def _tell_each(measured: List[Measured]) -> None:
+    down = [one for one in measured if one.state == SAME and not one.natively]
+    virtual = [one for one in measured if one.virtual]
+    print(f"{len(down)} of the same are told one level down, {len(virtual)} run with a virtual reactor")
+    for one in measured:
+        if one.state in (NAMED, DIFFERS, CANNOT):
+            print(f"{one.test} {one.state}{': ' + one.why if one.why else ''}")
+
+
+def _slower() -> int:
+    print("| Program | Times while it runs | Times with what is said of it |\n|---|---|---|")
+    for program, running, said in slownesses():
+        print(f"| {program} | {running:.1f} | {said:.1f} |", flush=True)
+    return 0
+
+
+def main(words: List[str]) -> int:
+    """The command."""
+    parser = argparse.ArgumentParser(prog="measure", description=__doc__.split("\n", 1)[0])
+    parser.add_argument("--ours", metavar="COMMAND", help="our program (deferreds, as it is built or installed)")
+    parser.add_argument("--slower", action="store_true", help="measure how much slower a recorded program is")
+    parser.add_argument("modules", nargs="*", metavar="MODULE")
+    arguments = parser.parse_args(words)
+
+    def run() -> int:
+        try:
+            return _slower() if arguments.slower else _run(arguments)
+        except Broken as broken:
+            print(f"measure: {broken}", file=sys.stderr)
+            return 70
+
+    status = with_room(run) if arguments.ours == "-" else run()
+    sys.stdout.flush()
+    os._exit(status)  # what tests have left in threads isn't waited for
+
+
+if __name__ == "__main__":
+    main(sys.argv[1:])

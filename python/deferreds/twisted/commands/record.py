@@ -1,0 +1,139 @@
+"""`./record [-o NAME] [--view] PROGRAM [ARGS..]`: runs a program that uses Twisted, and tells the run as a script and a journal.
+
+`-m MODULE` runs a module, `--test MODULE.CLASS.METHOD` one test. The program runs as it is. NAME.json is the script,
+NAME.journal the journal and the outcomes as real Twisted gave them. `--view` writes NAME.html, a page of the run, too. What a
+script can't say is refused with the reason and the place in the program, and nothing is written.
+
+Status 0: recorded; 1: refused; 64: words that aren't known; 66: nothing was recorded; 70: Twisted isn't there.
+"""
+
+from __future__ import annotations
+
+import argparse
+import sys
+from pathlib import Path
+from typing import List, Optional, Set
+
+from ...checkout import as_called, command_name
+from ...view.page import Page
+from ...view.run import run_of_journal
+from ...view.scripts import Script
+
+from ..recording.programs import LADDER, record_program, record_test, tests_of
+from ..recording.recorder import Recorder
+from ..recording.saying import Said
+from ..telling import KINDS
+
+
+def _arguments(words: List[str]) -> argparse.Namespace:
+    parser = argparse.ArgumentParser(
+        prog=command_name("record"),
+        description=as_called(__doc__),
+        formatter_class=argparse.RawDescriptionHelpFormatter,
+    )
+    add = parser.add_argument
+    add("-o", dest="output", metavar="NAME", help="write NAME.json and NAME.journal")
+    add("-m", dest="module", metavar="MODULE", help="run a module")
+    add("--test", metavar="MODULE.CLASS.METHOD", help="run one test")
+    add("--view", action="store_true", help="write NAME.html, a page of the run (docs/VIEW.md), too")
+    add("--virtual", action="store_true", help="with a reactor whose time is virtual")
+    add(
+        "--plain",
+        metavar="KIND,..",
+        default="",
+        help=f"tell these as the Python that they are made of: {', '.join(sorted(KINDS))}",
+    )
+    add("program", nargs=argparse.REMAINDER, metavar="PROGRAM [ARGS..]")
+    try:
+        parsed = parser.parse_args(words)
+    except SystemExit as exit_:
+        raise SystemExit(64 if exit_.code else 0) from None
+    plain: Set[str] = set(filter(None, parsed.plain.split(",")))
+    unknown = plain - KINDS
+    if unknown or not (parsed.program or parsed.module or parsed.test):
+        parser.print_usage(sys.stderr)
+        raise SystemExit(64)
+    return parsed
+
+
+def _say(text: str) -> None:
+    print(f"{command_name('record')}: {text}", file=sys.stderr)
+
+
+def _refused(said: Said) -> int:
+    """Tells what can't be said."""
+    for problem in dict.fromkeys(said.problems):
+        at = f", at {problem.place}" if problem.place else ""
+        plainly = f" (--plain {problem.kind} tells it as what it is made of)" if problem.kind else ""
+        _say(f"a script can't say this: {problem.reason}{at}{plainly}")
+    return 1
+
+
+def _written(said: Said, name: str, view: bool) -> int:
+    """Writes the script, the journal, and if it is wanted the page."""
+    Path(f"{name}.json").write_text(said.text + "\n", encoding="utf-8")
+    Path(f"{name}.journal").write_text(said.output, encoding="utf-8")
+    if view:
+        run = run_of_journal(said.output, Path(name).name, Script(said.script), False, said.begins)
+        Path(f"{name}.html").write_text(Page(run).html(), encoding="utf-8")
+        _say(f"{name}.html: {run.counts}")
+    for entry in sorted({entry.value for _, entry in said.quirks}):
+        _say(f"Twisted does here what docs/PROFILE.md says of {entry}")
+    _say(f"{name}.json and {name}.journal: {len(said.journal)} lines, {len(said.records)} Deferreds")
+    return 0
+
+
+def _finish(said: Said, name: str, view: bool) -> int:
+    if said.problems or said.script is None:
+        return _refused(said)
+    if not said.journal:
+        _say("nothing was recorded: the program has used no Deferreds")
+        return 66
+    return _written(said, name, view)
+
+
+def _program(arguments: argparse.Namespace) -> int:
+    kinds = KINDS - set(arguments.plain.split(","))
+    recorder = Recorder(kinds)
+    target = arguments.module or arguments.program[0]
+    words = arguments.program if arguments.module else arguments.program[1:]
+    if not arguments.module and not Path(target).is_file():
+        _say(f"{target} isn't a file")
+        return 66
+    if not arguments.module:
+        sys.path.insert(0, str(Path(target).resolve().parent))
+    status = record_program(recorder, target, words, bool(arguments.module), arguments.virtual)
+    if status:
+        _say(f"the program has ended with status {status}")
+    return _finish(Said(recorder), arguments.output or Path(target).stem, arguments.view)
+
+
+def _test(arguments: argparse.Namespace) -> int:
+    found = tests_of(arguments.test)
+    if len(found) != 1:
+        _say(f"{arguments.test} isn't one test")
+        return 66
+    said: Optional[Said] = None
+    ladder = [KINDS - set(arguments.plain.split(","))] if arguments.plain else LADDER
+    for kinds in ladder:
+        run = record_test(*found[0], kinds, arguments.virtual)
+        tried = Said(run.recorder)
+        said = said or tried
+        if run.waits and not arguments.virtual:
+            _say("the test waits for a reactor: --virtual runs it with one whose time is virtual")
+            return 1
+        if not tried.problems and tried.script is not None:
+            said = tried
+            break
+    assert said is not None
+    return _finish(said, arguments.output or found[0][1], arguments.view)
+
+
+def main(words: List[str]) -> int:
+    """The command."""
+    arguments = _arguments(words)
+    return _test(arguments) if arguments.test else _program(arguments)
+
+
+if __name__ == "__main__":
+    sys.exit(main(sys.argv[1:]))

@@ -1,0 +1,722 @@
+"""The instrument of Deferreds: made, fired, given pairs, paused, cancelled; what runs, and what it gives.
+
+Twisted keeps what a Deferred has in its attribute `result`, which it sets at six places. Which of these a change is
+can be told from what the Deferred is doing, so that nothing depends on the lines of Twisted's code:
+
+- a side of its own has just run: that is the side's result;
+- it waits for another: that one hands its value over;
+- what it has is a Deferred: it takes the value of that one;
+- otherwise None is left in it, since its value was taken or handed over.
+"""
+
+from __future__ import annotations
+
+import functools
+import sys
+from functools import partial
+from operator import attrgetter
+from types import CodeType
+from typing import Any, Callable, Dict, List, Optional, Tuple
+
+from twisted.internet import defer
+from twisted.internet.defer import Deferred
+from twisted.python.failure import Failure
+
+from ..classes import set_message
+from ..profile import Entry
+from ..telling import Action, Frame, Observer, Record, is_deferred, watched
+from ..texts import NULL, Outcome, error_of
+
+#: typed as a function by Twisted, since its overloads say what it gives
+DeferredList: Any = defer.DeferredList
+
+_init = Deferred.__init__
+_add_callbacks = Deferred.addCallbacks
+_chain_deferred = Deferred.chainDeferred
+_start = Deferred._startRunCallbacks
+_run_callbacks = Deferred._runCallbacks
+_continuation = Deferred._continuation
+_pause = Deferred.pause
+_unpause = Deferred.unpause
+_cancel = Deferred.cancel
+_list_cancel = DeferredList.cancel
+_run_code: CodeType = _run_callbacks.__code__
+_inline_code: CodeType = defer._inlineCallbacks.__code__
+
+_passthru: Callable[..., Any] = defer.passthru
+_failthru: Callable[..., Any] = defer._failthru
+
+_NO_RESULT = object()
+_NO_KEYWORDS: Dict[str, Any] = {}
+
+#: the arguments of the callback and of the errback of a pair, each with those that have keywords
+PairArguments = Tuple[Any, Any, Any, Any]
+
+#: the runs of callbacks that are under way, each with those that handed a value over in it, and where that is told
+_givers: List[List[Tuple[Deferred[Any], int]]] = []
+
+Canceller = Callable[[Deferred[Any]], Any]
+
+#: adds a pair of Twisted's own that is told otherwise than others, unless it isn't such a one after all
+AddSpecial = Callable[
+    [Observer, Deferred[Any], Record, Callable[..., Any], Callable[..., Any]], bool
+]
+
+#: by the names of their errbacks
+special_pairs: Dict[str, AddSpecial] = {}
+
+
+def qualified(function: object) -> str:
+    """The name of a function with those of what it stands in."""
+    return str(getattr(function, "__qualname__", ""))
+
+
+class _NoResult:
+    """What a Deferred has in place of the attribute `_dv_result` until it has a result."""
+
+    def __get__(self, deferred: object, owner: object) -> Any:
+        raise AttributeError(f"{type(deferred).__name__!r} object has no attribute 'result'")
+
+
+def result_of(deferred: Deferred[Any]) -> object:
+    """What a Deferred has, or `_NO_RESULT`."""
+    return getattr(deferred, "_dv_result", _NO_RESULT)
+
+
+def _set_result(deferred: Any, value: object) -> None:
+    """Sets the attribute `result` of a Deferred, and tells what has come about by that."""
+    watcher = watched.observer
+    if watcher is None:
+        pass
+    elif watcher.quiet:
+        _tell_result(watcher, deferred, value)
+    else:
+        watcher.problem("the result of a Deferred is set by hand")
+    deferred._dv_result = value
+
+
+def _delete_result(deferred: Any) -> None:
+    del deferred._dv_result
+
+
+def _tell_result(watcher: Observer, deferred: Deferred[Any], value: object) -> None:
+    """Tells what has come about, where Twisted sets this result."""
+    record = watcher.record(deferred)
+    if record.ran:
+        _tell_side_ended(watcher, record, value)
+    elif record.starts:
+        record.starts = False
+    else:
+        _tell_moved(watcher, deferred, record, result_of(deferred), value)
+
+
+def _tell_moved(
+    watcher: Observer, deferred: Deferred[Any], record: Record, held: object, value: object
+) -> None:
+    """Tells what has come about, where a value comes from another Deferred, or goes to one."""
+    if record.waits_for is not None and held is not deferred:
+        _tell_hand_over(watcher, deferred, record, record.waits_for, held)
+    elif value is held:
+        record.before = record.outcome
+    elif held is deferred:
+        if isinstance(value, Failure):
+            watcher.end_by_warning(record, error_of(value))
+        record.waits_for = None
+        _tell_set(watcher, record, value)
+    elif is_deferred(held):
+        _tell_taken(watcher, record, watcher.record(held))
+    elif value is None:
+        record.before, record.outcome = record.outcome, NULL
+
+
+def _tell_side_ended(watcher: Observer, record: Record, value: object) -> None:
+    record.ran = False
+    same, record.same = record.same, None
+    if same is not None:
+        watcher.tell("set ", record, " ", same)
+        record.outcome = same
+    elif not is_deferred(value):
+        _tell_set(watcher, record, value)
+
+
+def _tell_set(watcher: Observer, record: Record, value: object) -> None:
+    outcome = watcher.texts.outcome(value)
+    if isinstance(value, Failure) and isinstance(value.value, RecursionError):
+        watcher.quirk(Entry.PYTHON_STACK)
+    watcher.tell("set ", record, " ", outcome)
+    record.outcome = outcome
+
+
+def _tell_hand_over(
+    watcher: Observer, deferred: Deferred[Any], record: Record, giver: Record, held: object
+) -> None:
+    if giver.hidden_of is None:
+        watcher.tell("hand ", giver, " ", record, " ", giver.outcome)
+    record.outcome = giver.outcome
+    record.waits_for = None
+    if deferred.paused > 1:
+        watcher.quirk(Entry.PAUSED_RECEIVER)
+    if _givers and isinstance(held, Deferred):
+        _givers[-1].append((held, len(watcher.parts)))
+
+
+def _tell_taken(watcher: Observer, record: Record, giver: Record) -> None:
+    if giver.hidden_of is None:
+        with watcher.undoing(giver):
+            watcher.tell("take ", record, " ", giver, " ", giver.before)
+    record.outcome = giver.before
+
+
+# making
+
+
+def _instrumented_init(self: Deferred[Any], canceller: Optional[Canceller] = None) -> None:
+    watcher = watched.observer
+    if watcher is None:
+        _init(self, canceller)
+        return
+    record = Record()
+    record.made_in = watcher.frame
+    if canceller is not None and is_inline_canceller(canceller) and "inline" in watcher.kinds:
+        _init(self, canceller)
+        if sys._getframe(1).f_code.co_name == "handleCancel":
+            record.hidden_of = _cancelled_inline(watcher)
+            watcher.keep(self, record)
+        else:
+            watcher.keep(self, record)
+            watcher.made(self, record, "inline")
+        return
+    if watcher.quiet:
+        _init(self, canceller)
+        watcher.keep(self, record)
+        watcher.made(self, record)
+        return
+    _act_deferred(watcher, self, record, canceller)
+
+
+def _act_deferred(
+    watcher: Observer, deferred: Deferred[Any], record: Record, canceller: Optional[Canceller]
+) -> None:
+    """The program makes a Deferred."""
+    action = Action(["deferred", record])
+    if canceller is not None and callable(canceller):
+        body = watcher.new_body("canceller")
+        action.append(body)
+        canceller = _instrumented_canceller(watcher, body, canceller)
+    _init(deferred, canceller)
+    watcher.keep(deferred, record)
+    watcher.locate(record)
+    watcher.act(action, watcher.made, deferred, record)
+
+
+def is_inline_canceller(canceller: object) -> bool:
+    """Whether it is the canceller that Twisted gives the Deferred of an inline body."""
+    return qualified(canceller) == "_cancellableInlineCallbacks.<locals>.cancel"
+
+
+def _cancelled_inline(watcher: Observer) -> Optional[Record]:
+    """The Deferred, which the program knows, of the inline body that is being cancelled."""
+    record = watcher.cancelling[-1] if watcher.cancelling else None
+    while record is not None and record.hidden_of is not None:
+        record = record.hidden_of
+    return record
+
+
+def _instrumented_canceller(watcher: Observer, body: Any, canceller: Canceller) -> Canceller:
+    @functools.wraps(canceller, updated=())
+    def cancelled(deferred: Deferred[Any]) -> object:
+        if watched.observer is not watcher:
+            return canceller(deferred)
+        if is_inline_canceller(canceller):
+            watcher.problem("a cancel of an inline body that isn't told as one")
+        return watcher.perform(body, "canceller", None, canceller, (deferred,))
+
+    return cancelled
+
+
+# pairs
+
+
+def _instrumented_add(
+    self: Deferred[Any],
+    callback: Callable[..., Any],
+    errback: Optional[Callable[..., Any]] = None,
+    callbackArgs: Any = (),
+    callbackKeywords: Any = _NO_KEYWORDS,
+    errbackArgs: Any = (),
+    errbackKeywords: Any = _NO_KEYWORDS,
+) -> Deferred[Any]:
+    errback = _failthru if errback is None else errback
+    arguments = callbackArgs, callbackKeywords, errbackArgs, errbackKeywords
+    watcher = watched.observer
+    if watcher is None or not callable(callback) or not callable(errback):
+        return _add_callbacks(self, callback, errback, *arguments)
+    record = watcher.record(self)
+    if record.hidden_of is not None:
+        if not watcher.quiet:
+            watcher.problem("the hidden Deferred of a cancelled inline body is used", "inline")
+        return _add_callbacks(self, callback, errback, *arguments)
+    if errback is not _failthru:
+        special = special_pairs.get(qualified(errback))
+        if special is not None and special(watcher, self, record, callback, errback):
+            return self
+    if watcher.quiet:
+        first, second = _own_side(watcher, record, callback), _own_side(watcher, record, errback)
+        _tell_pair(watcher, self, record, first, second, arguments)
+    else:
+        _act_pair(watcher, self, record, callback, errback, arguments)
+    return self
+
+
+def _act_pair(
+    watcher: Observer,
+    deferred: Deferred[Any],
+    record: Record,
+    callback: Callable[..., Any],
+    errback: Callable[..., Any],
+    arguments: PairArguments,
+) -> None:
+    """A pair of the program's."""
+    body = watcher.new_body("callback")
+    action = Action(["addBoth", record, body])
+    first = _side(watcher, record, callback, body)
+    if errback is _failthru:
+        action[0], second = "addCallback", errback
+    elif callback is _passthru:
+        action[0], second = "addErrback", _side(watcher, record, errback, body)
+    elif callback != errback or not _are_same(arguments):
+        action[0], other = "addCallbacks", watcher.new_body("callback")
+        action.append(other)
+        second = _side(watcher, record, errback, other)
+    else:
+        second = first
+    watcher.act(action, _tell_pair, watcher, deferred, record, first, second, arguments)
+
+
+def _are_same(arguments: PairArguments) -> bool:
+    """Whether callback and errback have the same arguments. Some give None for none."""
+    on_value, by_name, on_failure, by_name_on_failure = arguments
+    return (on_value or ()) == (on_failure or ()) and (by_name or {}) == (by_name_on_failure or {})
+
+
+def _tell_pair(
+    watcher: Observer,
+    deferred: Deferred[Any],
+    record: Record,
+    callback: Callable[..., Any],
+    errback: Callable[..., Any],
+    arguments: PairArguments,
+) -> None:
+    """Tells that a pair is added, and adds it."""
+    watcher.tell("add ", record)
+    _add_callbacks(deferred, callback, errback, *arguments)
+
+
+def add_silently(
+    deferred: Deferred[Any], callback: Callable[..., Any], errback: Callable[..., Any]
+) -> None:
+    """Adds a pair, of which nothing is told."""
+    _add_callbacks(deferred, callback, errback)
+
+
+def _side(
+    watcher: Observer, record: Record, call: Callable[..., Any], body: Any
+) -> Callable[..., Any]:
+    """A side of the program's, which runs the body, unless it is what Twisted puts in place of one that isn't given."""
+    if call is _passthru:
+        return call
+    return partial(_run_side, call, watcher, record, body)
+
+
+def _own_side(watcher: Observer, record: Record, call: Callable[..., Any]) -> Callable[..., Any]:
+    """A side of Twisted's own, unless it is what Twisted puts in place of one that isn't given."""
+    if call is _passthru or call is _failthru:
+        return call
+    return partial(_run_own_side, call, watcher, record)
+
+
+def _stands_for(side: Callable[..., Any]) -> Callable[..., Any]:
+    """What was given as a side, where this is what Twisted was given in its place."""
+    is_ours = isinstance(side, partial) and side.func in (_run_side, _run_own_side)
+    return side.args[0] if is_ours else side  # type: ignore[attr-defined, no-any-return]
+
+
+def _run_side(
+    call: Callable[..., Any],
+    watcher: Observer,
+    record: Record,
+    body: Any,
+    /,
+    *args: Any,
+    **kwargs: Any,
+) -> object:
+    if watched.observer is not watcher:
+        return call(*args, **kwargs)
+    watcher.tell("run ", record)
+    record.side = body
+    try:
+        result = watcher.perform(body, "callback", (args[0], record.outcome), call, args, kwargs)
+        record.same = watcher.gave
+        return result
+    finally:
+        record.ran = True
+
+
+def _run_own_side(
+    call: Callable[..., Any], watcher: Observer, record: Record, /, *args: Any, **kwargs: Any
+) -> object:
+    if watched.observer is not watcher:
+        return call(*args, **kwargs)
+    value = args[0]
+    watcher.tell("run ", record)
+    given, frame = record.outcome, watcher.frame
+    before, frame.passing = frame.passing, (value, given)
+    if getattr(call, "__func__", None) is DeferredList._cbDeferred:
+        watcher.record(getattr(call, "__self__")).child_came(args[1], given)
+    try:
+        result = call(*args, **kwargs)
+        if result is value and type(result) is list:
+            record.same = given
+        elif getattr(call, "__wrapped__", call) is _parse_result:
+            record.same = _second_parts(given)
+        return result
+    finally:
+        frame.passing = before
+        record.ran = True
+
+
+def _second_parts(given: Outcome) -> Optional[Outcome]:
+    """What is gathered of a list shows the values of its children as they were when they came."""
+    shown = given.value
+    if not isinstance(shown, list):
+        return None
+    if not all(isinstance(item, list) and len(item) == 2 for item in shown):
+        return None
+    return Outcome([item[1] for item in shown])
+
+
+_parse_result = defer._parseDeferredListResult
+
+
+def named_as(call: Callable[..., Any], side: Callable[..., Any]) -> Callable[..., Any]:
+    """The side, which warnings and texts of Twisted show as what it stands for."""
+    side.__qualname__ = qualified(call) or "side"
+    side.__name__ = str(getattr(call, "__name__", "side"))
+    side.__module__ = str(getattr(call, "__module__", ""))
+    side.__dict__["__wrapped__"] = call
+    return side
+
+
+def _instrumented_add_callback(
+    self: Deferred[Any], callback: Callable[..., Any], *args: Any, **kwargs: Any
+) -> Deferred[Any]:
+    return self.addCallbacks(callback, callbackArgs=args, callbackKeywords=kwargs)
+
+
+def _instrumented_add_errback(
+    self: Deferred[Any], errback: Callable[..., Any], *args: Any, **kwargs: Any
+) -> Deferred[Any]:
+    return self.addCallbacks(_passthru, errback, errbackArgs=args, errbackKeywords=kwargs)
+
+
+def _instrumented_add_both(
+    self: Deferred[Any], callback: Callable[..., Any], *args: Any, **kwargs: Any
+) -> Deferred[Any]:
+    return self.addCallbacks(
+        callback,
+        callback,
+        callbackArgs=args,
+        errbackArgs=args,
+        callbackKeywords=kwargs,
+        errbackKeywords=kwargs,
+    )
+
+
+def _instrumented_chain(self: Deferred[Any], other: Deferred[Any]) -> Any:
+    watcher = watched.observer
+    if watcher is None or watcher.quiet or not isinstance(other, Deferred):
+        return _chain_deferred(self, other)
+    action = Action(["chain", watcher.record(self), watcher.record(other)])
+    return watcher.act(action, _chain_deferred, self, other)
+
+
+# firing
+
+
+def _instrumented_start(self: Deferred[Any], result: object) -> None:
+    watcher = watched.observer
+    if watcher is None:
+        _start(self, result)
+        return
+    record = watcher.record(self)
+    if "inline" in watcher.kinds and _is_internal(result):
+        record.fired = record.starts = True
+        _start(self, result)
+    elif watcher.quiet:
+        _fire(watcher, self, record, result, _handed_on(watcher, record, result))
+    elif watcher.frame.kind == "inline" and _ends_inline(watcher):
+        _fire_inline(watcher, self, record, result)
+    else:
+        if record.hidden_of is not None:
+            watcher.problem("the hidden Deferred of a cancelled inline body is used", "inline")
+        outcome = watcher.texts.outcome(result)
+        action = watcher.firing(record, result, outcome)
+        watcher.act(action, _fire, watcher, self, record, result, outcome)
+
+
+def _fire_inline(
+    watcher: Observer, deferred: Deferred[Any], record: Record, result: object
+) -> None:
+    """An inline body fires its own Deferred."""
+    frame = watcher.frame
+    watcher.quiet = True
+    try:
+        watcher.end_inline(frame, result)
+        _fire(watcher, deferred, record, result, watcher.texts.outcome(result))
+    finally:
+        watcher.quiet, watcher.frame = False, frame
+
+
+#: the error by which Twisted cancels an inline body, in the versions that have one
+_INTERNAL: Tuple[type, ...] = tuple(
+    filter(None, [getattr(defer, "_InternalInlineCallbacksCancelledError", None)])
+)
+
+
+def _is_internal(result: object) -> bool:
+    """Whether it is the error by which Twisted cancels an inline body."""
+    return isinstance(result, Failure) and isinstance(result.value, _INTERNAL)
+
+
+def _ends_inline(watcher: Observer) -> bool:
+    """Whether an inline body fires its own Deferred: its caller's caller is Twisted's loop over bodies."""
+    return "inline" in watcher.kinds and sys._getframe(3).f_code is _inline_code
+
+
+def _fire(
+    watcher: Observer, deferred: Deferred[Any], record: Record, result: object, outcome: Outcome
+) -> None:
+    """Tells a firing, by Twisted's own code or by the program, and fires."""
+    if record.hidden_of is not None:
+        _tell_hidden_firing(watcher, deferred, record, record.hidden_of, result)
+    elif not deferred.called:
+        watcher.tell("fire ", record, " ", outcome)
+        record.fired, record.outcome = True, outcome
+    elif deferred._suppressAlreadyCalled:
+        watcher.tell("swallow ", record)
+    else:
+        watcher.tell("refuse ", record)
+    record.starts = not deferred.called
+    try:
+        _start(deferred, result)
+    except defer.AlreadyCalledError as error:
+        set_message(error, "")
+        raise
+
+
+def _handed_on(watcher: Observer, record: Record, result: object) -> Outcome:
+    """What Twisted hands on shows what it had when it was told last, though the program has changed it since."""
+    passing = watcher.frame.passing
+    if passing is not None and passing[0] is result and type(result) is list:
+        return passing[1]
+    came = _came_to(record.came, result) if record.kind == "list" and record.came else None
+    return watcher.texts.outcome(result) if came is None else came
+
+
+def _came_to(came: Dict[int, Outcome], result: object) -> Optional[Outcome]:
+    """What a DeferredList is fired with, by what its children came with."""
+    if isinstance(result, tuple) and len(result) == 2 and result[1] in came:
+        return Outcome([came[result[1]].value, result[1]])
+    if isinstance(result, list) and len(result) == len(came):
+        return Outcome([[bool(pair[0]), came[place].value] for place, pair in enumerate(result)])
+    return None
+
+
+def _tell_hidden_firing(
+    watcher: Observer, deferred: Deferred[Any], record: Record, known: Record, result: object
+) -> None:
+    if deferred.called:
+        return
+    outcome = watcher.texts.outcome(result)
+    watcher.tell("fire ", known, " ", outcome)
+    record.outcome = known.outcome = outcome
+    record.fired = True
+
+
+# waits, pauses, cancels
+
+
+def _instrumented_continuation(self: Deferred[Any]) -> Any:
+    """Twisted asks for this where a Deferred comes to wait for what it has."""
+    watcher = watched.observer
+    if watcher is not None:
+        held: Any = self.result
+        record, other = watcher.record(self), watcher.record(held)
+        if other.hidden_of is None:
+            watcher.tell("wait ", record, " ", other)
+        record.waits_for = other
+    return _continuation(self)
+
+
+def _instrumented_run(self: Deferred[Any]) -> None:
+    watcher = watched.observer
+    if watcher is None or self._runningCallbacks:
+        _run_callbacks(self)
+        return
+    givers: List[Tuple[Deferred[Any], int]] = []
+    _givers.append(givers)
+    try:
+        _run_callbacks(self)
+    finally:
+        _givers.pop()
+    for giver, place in givers:
+        if _is_abandoned(giver):
+            watcher.quirk(Entry.ABANDONED_CHAIN, place)
+
+
+def _is_abandoned(giver: Deferred[Any]) -> bool:
+    """Whether a giver has pairs left that nothing will run, since the loop over its chain has ended."""
+    if not giver.callbacks or giver.paused or giver._runningCallbacks:
+        return False
+    return not any(giver is other for givers in _givers for other, _ in givers)
+
+
+def _instrumented_pause(self: Deferred[Any]) -> None:
+    watcher = watched.observer
+    if watcher is None or watcher.quiet or sys._getframe(1).f_code is _run_code:
+        _pause(self)
+        return
+    record = watcher.record(self)
+    watcher.act(Action(["pause", record]), _tell_paused, watcher, self, record)
+
+
+def _tell_paused(watcher: Observer, deferred: Deferred[Any], record: Record) -> None:
+    watcher.tell("pause ", record)
+    if deferred._runningCallbacks:
+        watcher.quirk(Entry.PAUSE_IN_OWN_SIDE)
+    record.pauses += 1
+    _pause(deferred)
+
+
+def _instrumented_unpause(self: Deferred[Any]) -> None:
+    watcher = watched.observer
+    if watcher is None or watcher.quiet:
+        _unpause(self)
+        return
+    record = watcher.record(self)
+    watcher.act(Action(["unpause", record]), _tell_unpaused, watcher, self, record)
+
+
+def _tell_unpaused(watcher: Observer, deferred: Deferred[Any], record: Record) -> None:
+    if record.pauses == 0:
+        watcher.quirk(Entry.UNPAUSE_AT_ZERO)
+    else:
+        watcher.tell("unpause ", record)
+        record.pauses -= 1
+    _unpause(deferred)
+
+
+def _instrumented_cancel(self: Deferred[Any]) -> None:
+    _cancelled(self, _cancel)
+
+
+def _instrumented_list_cancel(self: Any) -> None:
+    watcher = watched.observer
+    if watcher is not None and watcher.record(self).kind != "list" and not watcher.quiet:
+        _list_cancel(self)  # told as what it is made of
+        return
+    _cancelled(self, _list_cancel)
+
+
+def _cancelled(deferred: Deferred[Any], cancel: Callable[[Any], None]) -> None:
+    watcher = watched.observer
+    if watcher is None:
+        cancel(deferred)
+    elif watcher.quiet:
+        _tell_cancel(watcher, deferred, cancel)
+    else:
+        action = Action(["cancel", watcher.record(deferred)])
+        watcher.act(action, _tell_cancel, watcher, deferred, cancel)
+
+
+def _tell_cancel(
+    watcher: Observer, deferred: Deferred[Any], cancel: Callable[[Any], None]
+) -> None:
+    """Tells a cancel, unless it is one that is passed on along a wait, and cancels."""
+    record = watcher.record(deferred)
+    if watcher.forwarded is deferred:
+        watcher.forwarded = None
+    elif record.hidden_of is None:
+        watcher.tell("cancel ", record)
+        if _waits_in_a_circle(deferred):
+            watcher.quirk(Entry.CIRCLE_OF_WAITS)
+    held = result_of(deferred)
+    if deferred.called and isinstance(held, Deferred):
+        if isinstance(deferred, DeferredList):
+            watcher.quirk(Entry.CANCEL_OF_A_FIRED_LIST)
+        else:
+            watcher.forwarded = held
+    if deferred.called or "inline" not in watcher.kinds or not is_inline_canceller(deferred._canceller):
+        cancel(deferred)
+        return
+    _note_cancelled_inline(watcher, record)
+    watcher.cancelling.append(record)
+    try:
+        cancel(deferred)
+    finally:
+        watcher.cancelling.pop()
+
+
+def _note_cancelled_inline(watcher: Observer, record: Record) -> None:
+    known: Optional[Record] = record
+    while known is not None and known.hidden_of is not None:
+        known = known.hidden_of
+    frame: Optional[Frame] = known.body if known is not None else None
+    awaits = frame is not None and frame.awaits is not None
+    entry = Entry.CANCELLED_INLINE if awaits else Entry.CANCELLED_RUNNING_INLINE
+    watcher.quirk(entry)
+
+
+def _waits_in_a_circle(deferred: Deferred[Any]) -> bool:
+    seen = set()
+    while deferred.called and id(deferred) not in seen:
+        seen.add(id(deferred))
+        held = result_of(deferred)
+        if not isinstance(held, Deferred):
+            return False
+        deferred = held
+    return bool(deferred.called)
+
+
+
+def _warn_about(offender: Callable[..., Any], text: str) -> None:
+    """Warns of the function that a side stands for."""
+    _warn(_stands_for(offender), text)
+
+
+_warn: Callable[..., Any] = getattr(defer, "warnAboutFunction")
+
+
+def install() -> None:
+    """Puts the instrument into Deferred and DeferredList."""
+    setattr(defer, "warnAboutFunction", _warn_about)
+    setattr(Deferred, "result", property(attrgetter("_dv_result"), _set_result, _delete_result))
+    setattr(Deferred, "_dv_result", _NoResult())
+    setattr(Deferred, "_dv_record", None)
+    wrapped: Dict[str, Callable[..., Any]] = {
+        "__init__": _instrumented_init,
+        "addCallbacks": _instrumented_add,
+        "addCallback": _instrumented_add_callback,
+        "addErrback": _instrumented_add_errback,
+        "addBoth": _instrumented_add_both,
+        "chainDeferred": _instrumented_chain,
+        "_startRunCallbacks": _instrumented_start,
+        "_runCallbacks": _instrumented_run,
+        "_continuation": _instrumented_continuation,
+        "pause": _instrumented_pause,
+        "unpause": _instrumented_unpause,
+        "cancel": _instrumented_cancel,
+    }
+    for name, instrument in wrapped.items():
+        setattr(Deferred, name, functools.wraps(getattr(Deferred, name))(instrument))
+    DeferredList.cancel = functools.wraps(_list_cancel)(_instrumented_list_cancel)

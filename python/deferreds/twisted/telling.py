@@ -1,0 +1,472 @@
+"""Who watches Twisted, and tells what happens as lines of a journal.
+
+The instruments (`deferreds.twisted.instruments`) change Twisted's classes so that each thing that happens is told to the
+observer that is on, and is done by Twisted's own code. Where no observer is on they change nothing.
+
+A call from the program into Twisted is an *action*. What the program is called back for is a *body*. While Twisted's own
+code performs an action the observer is `quiet`: lines are told, and what Twisted calls is no action of the program's.
+"""
+
+from __future__ import annotations
+
+import contextlib
+from typing import (
+    Any,
+    Callable,
+    Dict,
+    Iterable,
+    Iterator,
+    List,
+    Mapping,
+    Optional,
+    Sequence,
+    Tuple,
+    Union,
+)
+
+from twisted.internet.defer import Deferred
+
+from .classes import Classes
+from .profile import Entry
+from .texts import NULL, Outcome, Text, Texts
+
+#: the kinds of objects that the language has, each of which can be told as such or as the Python that it is made of
+KINDS = frozenset(
+    {"maybe", "list", "lock", "queue", "clock", "timer", "loop", "cooperator", "inline"}
+)
+
+
+class _Twisted:
+    """Twisted, as it is watched."""
+
+    #: the observer that is on, if any
+    observer: Optional["Observer"] = None
+
+
+watched = _Twisted()
+
+
+def observer_of(kind: str) -> Optional["Observer"]:
+    """The observer that is on, if it tells objects of this kind as such."""
+    watcher = watched.observer
+    return watcher if watcher is not None and kind in watcher.kinds else None
+
+
+def is_deferred(value: object) -> bool:
+    """Whether it is a Deferred, which `isinstance` takes long to say, since Twisted's class is an abstract one."""
+    return Deferred in type(value).__mro__
+
+
+class Record:
+    """What is known of a Deferred. It doesn't keep that alive."""
+
+    number: Optional[int] = None
+    fired = False
+    #: whether it is being fired, and what with isn't in place yet
+    starts = False
+    outcome = NULL
+    #: what it had before that was taken
+    before = NULL
+    waits_for: Optional["Record"] = None
+    pauses = 0
+    #: whether a side of its own has run whose result isn't in place yet, and what that is, where it is known
+    ran = False
+    same: Optional[Outcome] = None
+    #: the body of the side that ran last
+    side: Any = None
+    kind = ""
+    #: of a list: what its children came with, by their places
+    came: Optional[Dict[int, Outcome]] = None
+    #: of a Deferred that Twisted makes for a cancelled inline body: the one that the program knows
+    hidden_of: Optional["Record"] = None
+    #: of an inline body: its frame
+    body: Optional["Frame"] = None
+    made_in: Optional["Frame"] = None
+    #: the function and the line of the program where it was made, by which it is named
+    made_at: Optional[Tuple[str, Optional[int]]] = None
+    alias: Optional["Record"] = None
+    helper = False
+
+    def __init__(self, name: Optional[str] = None) -> None:
+        self.name = name
+
+    def child_came(self, place: int, outcome: Outcome) -> None:
+        """The child of a list that has this place came with this."""
+        if self.came is None:
+            self.came = {}
+        self.came[place] = outcome
+
+    def state(self) -> str:
+        """How it is, as its line shows it."""
+        waits_for = self.waits_for
+        if not self.fired or (waits_for is not None and waits_for.hidden_of is not None):
+            state = "unfired"
+        elif waits_for is not None:
+            state = f"waiting #{waits_for.number}"
+        else:
+            state = self.outcome.text
+        return f"paused {state}" if self.pauses > 0 else state
+
+
+class Thing:
+    """A lock, queue, delayed call, loop or task, by the name that its lines show."""
+
+    def __init__(self, name: str) -> None:
+        self.own_name = name
+        self.alias: Optional[Thing] = None
+
+    @property
+    def name(self) -> str:
+        """The name, which is another's where that was found to be the same."""
+        return self.own_name if self.alias is None else self.alias.name
+
+    def __str__(self) -> str:
+        return self.name
+
+
+class Time:
+    """A part of a line: a time of the clock, in the program's seconds."""
+
+    __slots__ = ("seconds",)
+
+    def __init__(self, seconds: float) -> None:
+        self.seconds = seconds
+
+
+class Action(List[Any]):
+    """An action of the program: a word of the language, and what it was given.
+
+    Among the parts of lines it is a whole line: that its helper is made, which is told only of an action that has one.
+    """
+
+    #: the failure that it raised, as a line shows it, and whether its body went on after that
+    raised: Optional[str] = None
+    caught = False
+    #: the Deferred of the inline body in which such a one is told
+    helper: Optional[Record] = None
+
+
+class Failed:
+    """Among the parts of lines, a whole line: that the helper of an action is fired, if it has one."""
+
+    def __init__(self, action: Action) -> None:
+        self.action = action
+
+
+#: a number is the name of the Deferred that was made as the one of this number
+Part = Union[str, int, Record, Thing, Time, Text, Outcome, Action, Failed]
+Line = Tuple[Part, ...]
+
+
+def lines_of(parts: Iterable[Optional[Part]]) -> Iterator[Tuple[int, Line]]:
+    """Each line of these parts, and the place of its first one, where no line is that of a helper."""
+    line: List[Part] = []
+    for place, part in enumerate(parts):
+        if part is not None:
+            line.append(part)
+        else:
+            yield place - len(line), tuple(line)
+            line = []
+
+
+def weight(line: Line) -> int:
+    """What a line weighs."""
+    return 1 + sum(part.weight for part in line if isinstance(part, (Text, Outcome)))
+
+
+class Frame:
+    """A run of a body: `kind` is the kind of body, or `event` for the program itself."""
+
+    #: of an inline body
+    record: Optional[Record] = None
+    awaits: Optional[Deferred[Any]] = None
+    #: what it awaited last had
+    present: Optional[Outcome] = None
+    #: whether a Deferred that is made now has no name
+    anonymous = False
+    #: what the side that runs was given, where that is Twisted's own
+    passing: Optional[Tuple[object, Outcome]] = None
+    #: what is expected of the next Deferreds that are made, the next one last
+    expected: Tuple["Expected", ...] = ()
+
+    def __init__(self, kind: str) -> None:
+        self.kind = kind
+
+
+class Expected:
+    """What is to be done with the next Deferred that is made: it gets this name, and `made` is told of it."""
+
+    def __init__(
+        self,
+        name: Optional[str] = None,
+        made: Optional[Callable[[Deferred[Any], Record], None]] = None,
+    ) -> None:
+        self.name = name
+        self.made = made
+
+
+_NOTHING = Expected()
+_NO_KEYWORDS: Mapping[str, Any] = {}
+
+
+class Observer:
+    """Tells the lines of a run. A subclass may also note the actions and bodies of the program."""
+
+    def __init__(self, kinds: frozenset[str] = KINDS) -> None:
+        self.kinds = kinds
+        self.classes = Classes()
+        self.texts = Texts(self.classes)
+        #: the parts of all lines, each line followed by None. No line is an object of its own, since Python's collector
+        #: of garbage goes over all objects again and again
+        self.parts: List[Optional[Part]] = []
+        self.records: List[Record] = []
+        self.top = Frame("event")
+        self.frame = self.top
+        self.quiet = False
+        #: the Deferred to which a cancel is being passed on along a wait
+        self.forwarded: Optional[Deferred[Any]] = None
+        #: what the body that has ended last gave, where it was asked for
+        self.gave: Optional[Outcome] = None
+        #: the inline bodies that are being cancelled
+        self.cancelling: List[Record] = []
+        #: where Twisted did what an entry of docs/PROFILE.md names: how many parts were told before, and the entry
+        self.quirks: List[Tuple[int, Entry]] = []
+        self._told: Optional[int] = None
+        #: what the instruments of a kind keep of this run
+        self.clock: Optional[Any] = None
+        self.clock_base = 0.0
+        self.cooperator: Optional[Any] = None
+        #: whether what is due is run after an error of a delayed call too, as under a reactor
+        self.goes_on_after_errors = False
+        #: the function after which the next Deferred is named, where that isn't the one that makes it
+        self.maker: Optional[str] = None
+        #: the body of the turn that Twisted is about to perform
+        self.turn: Any = None
+
+    @contextlib.contextmanager
+    def watching(self) -> Iterator["Observer"]:
+        """Has Twisted be watched by this observer, and by no other."""
+        before, watched.observer = watched.observer, self
+        try:
+            yield self
+        finally:
+            watched.observer = before
+
+    # lines
+
+    def tell(self, *parts: Part) -> None:
+        """Tells a line."""
+        self.parts.extend(parts)
+        self.parts.append(None)
+
+    def quirk(self, entry: Entry, place: Optional[int] = None) -> None:
+        """Notes that Twisted does here, or where so many parts are told, what an entry of the profile names."""
+        self.quirks.append((len(self.parts) if place is None else place, entry))
+
+    def problem(self, reason: str, kind: Optional[str] = None) -> None:
+        """Notes what a script can't say: it may be told as the Python that objects of this kind are made of."""
+
+    @contextlib.contextmanager
+    def undoing(self, record: Record) -> Iterator[None]:
+        """Has a Deferred keep what it had, where what is told here isn't told any more."""
+        yield
+
+    def begin_event(self) -> None:
+        """Something happens of its own: what fails in it is told, though the like was told before."""
+        self._told = None
+
+    def tell_unhandled(self, error: BaseException) -> None:
+        """Tells of a failure that nobody catches, once."""
+        if id(error) != self._told:
+            self._told = id(error)
+            self.tell("unhandled ", self.texts.failure(error))
+
+    # Deferreds
+
+    def record(self, deferred: Any) -> Record:
+        """What is known of a Deferred."""
+        found: Optional[Tuple[Observer, Record]] = deferred._dv_record
+        if found is not None and found[0] is self:
+            return found[1]
+        return self.adopt(deferred)
+
+    def adopt(self, deferred: Deferred[Any]) -> Record:
+        """Begins to know a Deferred that was made before this observer was on."""
+        record = Record()
+        expected = self.take_expected()
+        self.keep(deferred, record)
+        self.made(deferred, record)
+        self.put_expected(expected)
+        if deferred.called:
+            outcome = self.texts.outcome(getattr(deferred, "result", None))
+            self.tell("fire ", record, " ", outcome)
+            record.fired, record.outcome = True, outcome
+        return record
+
+    def keep(self, deferred: Any, record: Record) -> None:
+        """Has a Deferred be known by this record."""
+        deferred._dv_record = (self, record)
+
+    def locate(self, record: Record) -> None:
+        """Notes where the program makes a Deferred, if it is named by that."""
+
+    def made(self, deferred: Deferred[Any], record: Record, kind: str = "") -> None:
+        """A Deferred was made: it gets its name, and is told."""
+        frame = self.frame
+        expected = self._next_expected() if frame.expected else _NOTHING
+        if frame.anonymous:
+            record.name = "-"
+        elif expected.name is not None:
+            record.name = expected.name
+        elif record.made_at is None:
+            self.locate(record)
+        self.maker = None
+        if kind:
+            record.kind = kind
+        record.number = number = len(self.records)
+        self.tell("new ", record, " ", number)
+        self.records.append(record)
+        if expected.made is not None:
+            expected.made(deferred, record)
+
+    def rename(self, deferred: Deferred[Any]) -> None:
+        """A body gave a Deferred, which has the name of the next one that is made from here on."""
+        expected = self._next_expected()
+        record = self.record(deferred)
+        own: Part = "-" if record.number is None else record.number
+        self.tell("name ", record, " ", expected.name or own)
+        if expected.made is not None:
+            expected.made(deferred, record)
+
+    def expect(self, made: Callable[[Deferred[Any], Record], None]) -> None:
+        """Has this be told of the next Deferred that is made, beside what is expected already."""
+        before = self._next_expected()
+
+        def both(deferred: Deferred[Any], record: Record) -> None:
+            if before.made is not None:
+                before.made(deferred, record)
+            made(deferred, record)
+
+        self.frame.expected += (Expected(before.name, both),)
+
+    def expect_name(
+        self, name: str, bind: Callable[[Deferred[Any], Record], None]
+    ) -> None:
+        """Has the next Deferred that is made be known by this name."""
+        self.frame.expected += (Expected(name, bind),)
+
+    def _next_expected(self) -> Expected:
+        """What is expected of the next Deferred, and not of those after it."""
+        *others, expected = self.frame.expected or (_NOTHING,)
+        self.frame.expected = tuple(others)
+        return expected
+
+    def take_expected(self) -> Tuple[Expected, ...]:
+        """What is expected of the next Deferreds, which isn't expected any more."""
+        expected, self.frame.expected = self.frame.expected, ()
+        return expected
+
+    def put_expected(self, expected: Tuple[Expected, ...]) -> None:
+        """Expects this again."""
+        self.frame.expected = expected
+
+    # actions and bodies
+
+    def act(self, action: Action, call: Callable[..., Any], *args: Any) -> Any:
+        """Performs a call of the program's into Twisted."""
+        quiet, self.quiet = self.quiet, True
+        try:
+            return call(*args)
+        finally:
+            self.quiet = quiet
+
+    def perform(
+        self,
+        body: Any,
+        kind: str,
+        given: Optional[Tuple[object, Outcome]],
+        call: Callable[..., Any],
+        args: Sequence[Any] = (),
+        kwargs: Mapping[str, Any] = _NO_KEYWORDS,
+    ) -> Any:
+        """Has the program do what it was called back for: a run of the body, on what it is given."""
+        frame = self.begin_body(body, kind, given)
+        before, quiet = self.frame, self.quiet
+        self.frame, self.quiet = frame, False
+        try:
+            result = call(*args, **kwargs)
+        except BaseException as error:
+            self.end_body(frame, error, None, given)
+            raise
+        else:
+            self.end_body(frame, None, result, given)
+            return result
+        finally:
+            self.frame, self.quiet = before, quiet
+
+    def new_body(self, kind: str) -> Any:
+        """A body that the program hands to Twisted."""
+        return kind
+
+    def begin_body(
+        self, body: Any, kind: str, given: Optional[Tuple[object, Outcome]]
+    ) -> Frame:
+        """A run of a body begins."""
+        return Frame(kind)
+
+    def end_body(
+        self,
+        frame: Frame,
+        error: Optional[BaseException],
+        result: object,
+        given: Optional[Tuple[object, Outcome]],
+    ) -> None:
+        """It has ended, by raising or with a result."""
+
+    def end_by_warning(self, record: Record, error: BaseException) -> None:
+        """A side gave its own Deferred, and Twisted's warning of that was raised as an error."""
+
+    def begin_step(self, steps: Any) -> Any:
+        """A step of a task begins: its body."""
+        return self.new_body("step")
+
+    def end_steps(self, steps: Any, body: Any) -> None:
+        """A task has ended, in a step that has no body."""
+
+    def begin_await(self, frame: Frame, record: Record) -> Any:
+        """An inline body awaits a Deferred."""
+        return None
+
+    def end_await(self, awaited: Any, value: object, outcome: Outcome) -> None:
+        """What it awaited has come."""
+
+    def end_inline(self, frame: Frame, result: object) -> None:
+        """An inline body has ended with this result."""
+
+    def thing(self, kind: str) -> Thing:
+        """A name for a lock, queue, delayed call, loop or task that is made."""
+        return Thing(kind)
+
+    def value(self, outcome: Outcome) -> Any:
+        """A value of the program's that is shown so, as an action of it has it."""
+        return None
+
+    def firing(self, record: Record, result: object, outcome: Outcome) -> Action:
+        """The action that fires a Deferred with this, which is shown so."""
+        return Action()
+
+    # the clock
+
+    def has_clock(self, clock: Any) -> bool:
+        """Whether this is the clock of the run. The first clock that is used is."""
+        if self.clock is None and not clock.calls:
+            self.clock, self.clock_base = clock, clock.seconds()
+        return self.clock is clock
+
+    def clock_calls(self) -> List[Any]:
+        """The delayed calls that wait."""
+        return [] if self.clock is None else list(self.clock.calls)
+
+    def now(self) -> float:
+        """The time since the run began."""
+        return 0.0 if self.clock is None else float(self.clock.seconds() - self.clock_base)
