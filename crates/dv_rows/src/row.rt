@@ -50,7 +50,7 @@ impl<'a> Row<'a> {
         unfolded(alloc, self.script)
     }
 
-    /// Tells where a script first differs from what the row says: its run, or the line that says why it is refused.
+    /// Where a script first differs from the row: its run, or the line that says why it is refused.
     pub fn difference<S: Threads + Wait + RandomSource + AllocGlobal + Sync>(
         &self,
         rt: &S,
@@ -63,7 +63,7 @@ impl<'a> Row<'a> {
         self.difference_of_run(rt, script, output.as_str())
     }
 
-    /// Runs a script, and tells where the run first differs from the row, with this output.
+    /// Runs a script: where the run first differs from the row, with this output.
     fn difference_of_run<S: Threads + Wait + RandomSource + AllocGlobal + Sync>(
         &self,
         rt: &S,
@@ -93,7 +93,7 @@ impl<'a> Row<'a> {
     }
 }
 
-/// Tells where the line that says why a script is refused differs from this one.
+/// Where the line that says why a script is refused differs from this one.
 fn difference_of_why(
     alloc: Global,
     script: &str,

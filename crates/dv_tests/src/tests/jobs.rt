@@ -92,7 +92,7 @@ fn no_job_of_a_pool_is_answered_by_a_worker_of_another(rt: HostRuntime) -> Resul
 const JOB: &str = r#"["thread","d",0,["value",0]],"#;
 
 #[test]
-fn each_job_of_a_run_comes_to_its_gate_once_and_one_more_raises(
+fn each_job_of_a_run_reaches_its_gate_once_and_one_more_raises(
     rt: HostRuntime,
 ) -> Result<(), Fail> {
     let text = repeated(rt.alloc(), 4_096, JOB, r#"["thread","d",0,["value",0]]"#)?;
@@ -112,7 +112,7 @@ fn each_job_of_a_run_comes_to_its_gate_once_and_one_more_raises(
 }
 
 #[test]
-fn a_job_that_is_given_back_is_want_of_memory_and_the_workers_leave(
+fn a_run_is_out_of_memory_where_a_job_is_given_back_and_the_workers_leave(
     rt: HostRuntime,
 ) -> Result<(), Fail> {
     // The run gives up where it waits for the first job. Then it drops the pool, in which others wait for the workers.
