@@ -2,7 +2,7 @@
 on random scripts.
 
 COMMAND reads a script on standard input, and tells its run as `./deferreds --json` does. Without it, it is the
-program that `./deferreds --build` has built. Each difference is told; the last line says how many scripts agree,
+program that `./deferreds` runs. Each difference is told; the last line says how many scripts agree,
 and how many differ. Status 0 exactly where none does; 64: words that aren't known; 70: a script was not run.
 """
 
