@@ -24,13 +24,16 @@ ABOUT = f"{PROJECT.stem}.dist-info"
 
 #: the executable of the release, as it lies in a checkout
 PROGRAM = Path("release", "x86_64-linux", "deferreds")
-IS_RELEASED = (TOP / PROGRAM).is_file()
+RELEASED = TOP / PROGRAM if (TOP / PROGRAM).is_file() else None
+
+#: an executable that may stand for it
+CAT = Path(shutil.which("cat") or "cat").resolve()
 
 #: a script, and the journal that the program prints of it
 SCRIPT = TOP / "examples" / "python" / "workers.json"
 JOURNAL = TOP / "examples" / "python" / "workers.journal"
 
-_SECONDS = 120
+_SECONDS = 600
 
 #: what packages are made of
 _COPIED = (
@@ -45,7 +48,7 @@ _COPIED = (
     "python/deferreds",
 )
 
-needs_release = unittest.skipUnless(IS_RELEASED, f"{PROGRAM}, the executable of the release, isn't here")
+needs_release = unittest.skipUnless(RELEASED, f"{PROGRAM}, the executable of the release, isn't here")
 needs_venv = unittest.skipUnless(
     importlib.util.find_spec("venv") and importlib.util.find_spec("ensurepip"),
     "this Python can't make virtual environments",
@@ -97,8 +100,8 @@ def run(
     return Ran(ran.returncode, ran.stdout, ran.stderr)
 
 
-def copy_checkout(to: Path) -> None:
-    """Copies what packages are made of. Where the release isn't here, another executable stands for it, which is `cat`."""
+def copy_checkout(to: Path, program: Optional[Path] = None) -> None:
+    """Copies what packages are made of, with this program; without one, the small executable `cat` stands for it."""
     for name in _COPIED:
         source, target = TOP / name, to / name
         target.parent.mkdir(parents=True, exist_ok=True)
@@ -107,7 +110,7 @@ def copy_checkout(to: Path) -> None:
         else:
             shutil.copy(source, target)
     (to / PROGRAM).parent.mkdir(parents=True)
-    shutil.copy(TOP / PROGRAM if IS_RELEASED else Path(shutil.which("cat") or "cat").resolve(), to / PROGRAM)
+    shutil.copy(program or CAT, to / PROGRAM)
 
 
 def build_wheel(checkout: Path) -> Path:
@@ -119,8 +122,8 @@ def build_wheel(checkout: Path) -> Path:
 
 
 def journal() -> str:
-    """What the program of the copy prints of the script: where `cat` stands for it, the script itself."""
-    return (JOURNAL if IS_RELEASED else SCRIPT).read_text(encoding="utf-8")
+    """What the release prints of the script; where it isn't here, what `cat` does, the script itself."""
+    return (JOURNAL if RELEASED else SCRIPT).read_text(encoding="utf-8")
 
 
 class PackagingTest(unittest.TestCase):

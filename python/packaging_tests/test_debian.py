@@ -8,7 +8,7 @@ import sys
 import tempfile
 import unittest
 from pathlib import Path
-from typing import List, Optional
+from typing import Optional
 
 from deferreds.checkout import TOP
 
@@ -16,6 +16,7 @@ from .support import (
     JOURNAL,
     PROGRAM,
     PROJECT,
+    RELEASED,
     SCRIPT,
     PackagingTest,
     Ran,
@@ -27,7 +28,6 @@ from .support import (
     run,
 )
 
-_ROOM: "List[tempfile.TemporaryDirectory[str]]" = []
 _AUTHOR = ("-c", "user.name=tests", "-c", "user.email=tests@localhost")
 
 
@@ -41,15 +41,12 @@ def _build(checkout: Path, out: Path) -> Ran:
     return run(sys.executable, checkout / "packaging" / "debian.py", out, cwd=checkout)
 
 
-def setUpModule() -> None:
-    """Builds the package of a copy of the checkout, and unpacks it."""
-    _ROOM.append(tempfile.TemporaryDirectory())
-    unittest.addModuleCleanup(lambda: _ROOM.pop().cleanup())
-
-
 @needs_dpkg
 class DebianTest(PackagingTest):
     """The package of a copy of the checkout, unpacked into an empty root."""
+
+    #: the program of the copy
+    program: Optional[Path] = None
 
     checkout: Path
     package: Path
@@ -57,12 +54,12 @@ class DebianTest(PackagingTest):
 
     @classmethod
     def setUpClass(cls) -> None:
-        room = Path(_ROOM[0].name).resolve()
+        opened = tempfile.TemporaryDirectory()
+        cls.addClassCleanup(opened.cleanup)
+        room = Path(opened.name).resolve()
         cls.checkout, cls.root = room / "checkout", room / "root"
         cls.package = room / f"deferreds_{PROJECT.version}_amd64.deb"
-        if cls.package.exists():
-            return
-        copy_checkout(cls.checkout)
+        copy_checkout(cls.checkout, cls.program)
         _git(cls.checkout, "init", "-q")
         _git(cls.checkout, "add", "-A")
         _git(cls.checkout, "commit", "-q", "-m", "all")
@@ -127,6 +124,8 @@ class Package(DebianTest):
 
 class Unpacked(DebianTest):
     """The commands, as they run in the root."""
+
+    program = RELEASED
 
     def installed(self, name: str, *words: object, root: Optional[Path] = None) -> Ran:
         """Runs a command of the root, or of another path to it, from an empty folder."""

@@ -13,6 +13,7 @@ from .support import (
     JOURNAL,
     PROGRAM,
     PROJECT,
+    RELEASED,
     SCRIPT,
     WHEEL,
     PackagingTest,
@@ -58,7 +59,7 @@ class FromTheWheel(InstalledTest):
     @classmethod
     def setUpClass(cls) -> None:
         checkout = Path(_ROOM[0].name, "checkout")
-        copy_checkout(checkout)
+        copy_checkout(checkout, RELEASED)
         wheel = build_wheel(checkout)
         pip = Path(_ROOM[0].name, "environment", "bin", "pip")
         installed = run(pip, "install", "--no-index", "--force-reinstall", wheel, cwd=wheel.parent)
@@ -120,7 +121,7 @@ class FromACheckout(InstalledTest):
         self.pip("uninstall", "-y", "deferreds", cwd=self.empty)
         self.assert_ran(self.pip("install", ".", cwd=checkout))
         self.assertEqual(contents(checkout), before)
-        self.assert_ran(run(self.bin / "deferreds", cwd=self.empty, stdin=SCRIPT), journal())
+        self.assert_ran(run(self.bin / "deferreds", cwd=self.empty, stdin=SCRIPT), SCRIPT.read_text(encoding="utf-8"))
         (checkout / PROGRAM).unlink()
         ran = self.pip("install", "--force-reinstall", ".", cwd=checkout)
         self.assertEqual(ran.status, 1)

@@ -14,9 +14,7 @@ from unittest import mock
 from deferreds import program
 from deferreds.checkout import LAUNCHER, TOP
 
-from .support import PackagingTest, Ran, run
-
-_CAT = Path(shutil.which("cat") or "cat").resolve()
+from .support import CAT, PackagingTest, Ran, run
 
 
 class FoundTest(PackagingTest):
@@ -50,7 +48,7 @@ class Found(FoundTest):
     """Which program is run, and how."""
 
     def test_the_package_s_own_with_all_words_and_its_status(self) -> None:
-        shutil.copy(_CAT, self.bin / "deferreds")
+        shutil.copy(CAT, self.bin / "deferreds")
         self.pack('#!/bin/sh\nprintf "%s|" "$@"\nread line\necho "$line" >&2\nexit 3\n')
         given = self.folder / "given"
         given.write_text("of standard input\n", encoding="utf-8")
@@ -64,7 +62,7 @@ class Found(FoundTest):
         self.assertEqual(int(output[1], 16) >> (signal.SIGXFSZ - 1) & 1, 0)
 
     def test_the_one_on_the_path_where_the_package_has_none(self) -> None:
-        shutil.copy(_CAT, self.bin / "deferreds")
+        shutil.copy(CAT, self.bin / "deferreds")
         given = self.folder / "given"
         given.write_text("a script", encoding="utf-8")
         self.assert_ran(self.deferreds(stdin=given), "a script")
@@ -111,7 +109,7 @@ class NotRun(FoundTest):
 
     def refused(self) -> str:
         """Why the package's program isn't run."""
-        with mock.patch.object(program, "PACKAGED", _CAT), self.assertRaises(program.NotRun) as raised:
+        with mock.patch.object(program, "PACKAGED", CAT), self.assertRaises(program.NotRun) as raised:
             program.found()
         return str(raised.exception)
 
@@ -141,8 +139,8 @@ class NotRun(FoundTest):
 
     def test_a_c_library_that_is_new_enough(self) -> None:
         for told in ("glibc 2.34", "glibc 2.41.9000", "glibc 3.0"):
-            with mock.patch("os.confstr", return_value=told), mock.patch.object(program, "PACKAGED", _CAT):
-                self.assertEqual(program.found(), _CAT)
+            with mock.patch("os.confstr", return_value=told), mock.patch.object(program, "PACKAGED", CAT):
+                self.assertEqual(program.found(), CAT)
 
 
 if __name__ == "__main__":
