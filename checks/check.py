@@ -64,7 +64,7 @@ def unittests(folder: str, *words: str) -> List[str]:
 
 
 STAGES = [
-    Stage("release", "the release is whole, and names its own sources", [["./release", "--check"]]),
+    Stage("release", "the release is whole, and names its own sources", [["./make_release", "--check"]]),
     Stage("launcher", "./deferreds runs the right program, or says why it runs none", [unittests("checks")]),
     Stage("rows", "each row ends and prints as it says", [[_PYTHON, "checks/rows.py"]]),
     Stage("outputs", "each output that a page shows is what is printed", [[_PYTHON, "checks/documented.py"]]),

@@ -1,4 +1,4 @@
-"""`release VERSION`, `release --check`, `release --stamp`: makes a release of the sources that stand here, and checks one.
+"""`make_release VERSION`, `make_release --check`, `make_release --stamp`: makes a release of the sources that stand here, and checks one.
 
 VERSION, as 0.1.0, has to have its section in CHANGELOG.md. The gate proves the sources and builds the program, which is put into
 `release/x86_64-linux` beside its SHA-256 and the checksum of its sources. A wheel and a Debian package are made in `dist`.
@@ -110,7 +110,7 @@ def faults() -> List[str]:
     stamped, here = Stamp.read(), sources()
     found: List[str] = []
     if stamped.sources != here:
-        found.append(f"{STAMP.relative_to(TOP)} names other sources than stand here: ./release --stamp writes it")
+        found.append(f"{STAMP.relative_to(TOP)} names other sources than stand here: ./make_release --stamp writes it")
     if not has_section(stamped.version):
         found.append(f"CHANGELOG.md has no section for {stamped.version}")
     if f'version = "{stamped.version}"' not in PYPROJECT.read_text(encoding="utf-8"):
@@ -127,14 +127,14 @@ def faults_of_program(here: str) -> List[str]:
     if sums.read_text(encoding="utf-8") != f"{sha256(program)}  deferreds\n":
         return ["release/x86_64-linux/deferreds has another SHA-256 than SHA256SUMS says"]
     if of_sources.read_text(encoding="utf-8").strip() != here:
-        print("release: it is of other sources than stand here, so no program is compared with it")
+        print("make_release: it is of other sources than stand here, so no program is compared with it")
         return []
     if not BUILT.is_file() or output_of([str(TOP / "deferreds"), "--program"]) != str(BUILT):
-        print("release: no program is built here, so none is compared with it")
+        print("make_release: no program is built here, so none is compared with it")
         return []
     if not filecmp.cmp(BUILT, program, shallow=False):
         return ["the program that is built here isn't the released one, though the release says that it is of these sources"]
-    print("release: the program that is built here is the released one, byte for byte")
+    print("make_release: the program that is built here is the released one, byte for byte")
     return []
 
 
@@ -142,7 +142,7 @@ def check() -> None:
     """Raises where something is wrong with the release."""
     found = faults()
     for line in found:
-        print(f"release: {line}", file=sys.stderr)
+        print(f"make_release: {line}", file=sys.stderr)
     if found:
         raise Failed(f"{len(found)} wrong")
 
@@ -179,7 +179,7 @@ def take_program() -> None:
 
 
 def main() -> int:
-    parser = argparse.ArgumentParser(prog="release", description=__doc__, formatter_class=argparse.RawDescriptionHelpFormatter)
+    parser = argparse.ArgumentParser(prog="make_release", description=__doc__, formatter_class=argparse.RawDescriptionHelpFormatter)
     what = parser.add_mutually_exclusive_group(required=True)
     what.add_argument("version", nargs="?", metavar="VERSION", help="make a release of this version")
     what.add_argument("--check", action="store_true", help="check the release that stands here")
@@ -197,7 +197,7 @@ def main() -> int:
         else:
             make(asked.version, not asked.without_gate)
     except Failed as failed:
-        print(f"release: {failed}", file=sys.stderr)
+        print(f"make_release: {failed}", file=sys.stderr)
         return failed.status
     return 0
 
