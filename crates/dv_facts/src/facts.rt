@@ -94,7 +94,7 @@ pub struct Facts<'e> {
 
 impl<'e> Facts<'e> {
     /// A word alone.
-    fn word(word: &'static str) -> Facts<'e> {
+    fn word(word: &'static str, nesting: Nesting) -> Facts<'e> {
         Facts {
             word,
             first: None,
@@ -103,23 +103,90 @@ impl<'e> Facts<'e> {
             shown: Shown::Nothing,
             due: None,
             news: News::Nothing,
-            nesting: Nesting::Plain,
+            nesting,
+        }
+    }
+
+    /// A word, and what the line shows.
+    fn showing(word: &'static str, shown: Shown<'e>) -> Facts<'e> {
+        Facts {
+            shown,
+            ..Facts::word(word, Nesting::Plain)
         }
     }
 
     /// A word and a Deferred.
-    fn of(word: &'static str, id: DeferredId) -> Facts<'e> {
+    fn of(word: &'static str, id: DeferredId, nesting: Nesting) -> Facts<'e> {
         Facts {
             first: Some(id),
-            ..Facts::word(word)
+            ..Facts::word(word, nesting)
+        }
+    }
+
+    /// A word, a Deferred and a value.
+    fn valued(word: &'static str, id: DeferredId, value: &'e Value, nesting: Nesting) -> Facts<'e> {
+        Facts {
+            shown: Shown::Value(value),
+            ..Facts::of(word, id, nesting)
+        }
+    }
+
+    /// A word and two Deferreds.
+    fn pair(word: &'static str, id: DeferredId, other: DeferredId, nesting: Nesting) -> Facts<'e> {
+        Facts {
+            second: Some(other),
+            ..Facts::of(word, id, nesting)
+        }
+    }
+
+    /// A word, two Deferreds and a value.
+    fn handed(
+        word: &'static str,
+        id: DeferredId,
+        other: DeferredId,
+        value: &'e Value,
+        nesting: Nesting,
+    ) -> Facts<'e> {
+        Facts {
+            second: Some(other),
+            ..Facts::valued(word, id, value, nesting)
         }
     }
 
     /// A word and an object.
-    fn named(word: &'static str, named: Named<'e>) -> Facts<'e> {
+    fn named(word: &'static str, named: Named<'e>, nesting: Nesting) -> Facts<'e> {
         Facts {
             named,
-            ..Facts::word(word)
+            ..Facts::word(word, nesting)
+        }
+    }
+
+    /// A word, an object and a Deferred.
+    fn named_of(
+        word: &'static str,
+        named: Named<'e>,
+        id: DeferredId,
+        nesting: Nesting,
+    ) -> Facts<'e> {
+        Facts {
+            named,
+            ..Facts::of(word, id, nesting)
+        }
+    }
+
+    /// A word, an object and a value.
+    fn named_value(word: &'static str, named: Named<'e>, value: &'e Value) -> Facts<'e> {
+        Facts {
+            named,
+            ..Facts::showing(word, Shown::Value(value))
+        }
+    }
+
+    /// A word, an object, and the time that something of it is due at.
+    fn later(word: &'static str, named: Named<'e>, due: u64) -> Facts<'e> {
+        Facts {
+            due: Some(due),
+            ..Facts::named(word, named, Nesting::Plain)
         }
     }
 }
@@ -137,165 +204,167 @@ pub fn facts_of(entry: &Entry) -> Facts<'_> {
     match entry {
         Entry::New(id, name) => Facts {
             news: News::New(text_of(name)),
-            ..Facts::of("new", *id)
+            ..Facts::of("new", *id, Nesting::Plain)
         },
-        Entry::Name(id, _) => Facts::of("name", *id),
-        Entry::Add(id) => Facts::of("add", *id),
+        Entry::Name(id, _) => Facts::of("name", *id, Nesting::Plain),
+        Entry::Add(id) => Facts::of("add", *id, Nesting::Plain),
         Entry::Fire(id, value) => Facts {
-            shown: Shown::Value(value),
             news: News::Fired(*id),
-            ..Facts::of("fire", *id)
+            ..Facts::valued("fire", *id, value, Nesting::Plain)
         },
-        Entry::Swallow(id) => Facts::of("swallow", *id),
-        Entry::Refuse(id) => Facts::of("refuse", *id),
-        Entry::Run(id) => Facts {
-            nesting: Nesting::Begins,
-            ..Facts::of("run", *id)
-        },
-        Entry::Set(id, value) => Facts {
-            shown: Shown::Value(value),
-            nesting: Nesting::Ends,
-            ..Facts::of("set", *id)
-        },
-        Entry::Take(id, from, value) => Facts {
-            second: Some(*from),
-            shown: Shown::Value(value.get()),
-            nesting: Nesting::Ends,
-            ..Facts::of("take", *id)
-        },
-        Entry::Wait(id, on) => Facts {
-            second: Some(*on),
-            nesting: Nesting::Ends,
-            ..Facts::of("wait", *id)
-        },
-        Entry::Hand(from, id, value) => Facts {
-            second: Some(*id),
-            shown: Shown::Value(value.get()),
-            ..Facts::of("hand", *from)
-        },
-        Entry::Pause(id) => Facts::of("pause", *id),
-        Entry::Unpause(id) => Facts::of("unpause", *id),
-        Entry::Cancel(id) => Facts::of("cancel", *id),
-        Entry::Note(text) => Facts {
-            shown: Shown::Text(text),
-            ..Facts::word("note")
-        },
-        Entry::Unhandled(failure) => Facts {
-            shown: Shown::Failure(failure.get()),
-            ..Facts::word("unhandled")
-        },
-        Entry::Lock(name) => Facts::named("lock", Named::Made(Kind::Lock, name.as_str())),
+        Entry::Swallow(id) => Facts::of("swallow", *id, Nesting::Plain),
+        Entry::Refuse(id) => Facts::of("refuse", *id, Nesting::Plain),
+        Entry::Run(id) => Facts::of("run", *id, Nesting::Begins),
+        Entry::Set(id, value) => Facts::valued("set", *id, value, Nesting::Ends),
+        Entry::Take(id, from, value) => Facts::handed(
+            "take",
+            *id,
+            *from,
+            value.get(),
+            Nesting::Ends,
+        ),
+        Entry::Wait(id, on) => Facts::pair("wait", *id, *on, Nesting::Ends),
+        Entry::Hand(from, id, value) => Facts::handed(
+            "hand",
+            *from,
+            *id,
+            value.get(),
+            Nesting::Plain,
+        ),
+        Entry::Pause(id) => Facts::of("pause", *id, Nesting::Plain),
+        Entry::Unpause(id) => Facts::of("unpause", *id, Nesting::Plain),
+        Entry::Cancel(id) => Facts::of("cancel", *id, Nesting::Plain),
+        Entry::Note(text) => Facts::showing("note", Shown::Text(text)),
+        Entry::Unhandled(failure) => Facts::showing("unhandled", Shown::Failure(failure.get())),
+        Entry::Lock(name) => Facts::named(
+            "lock",
+            Named::Made(Kind::Lock, name.as_str()),
+            Nesting::Plain,
+        ),
         Entry::Semaphore(name, _) => Facts::named(
             "semaphore",
             Named::Made(Kind::Lock, name.as_str()),
+            Nesting::Plain,
         ),
-        Entry::Acquire(name, id) => Facts {
-            first: Some(*id),
-            ..Facts::named("acquire", Named::Last(Kind::Lock, name.as_str()))
-        },
-        Entry::Release(name) => Facts::named("release", Named::Any(Kind::Lock, name.as_str())),
+        Entry::Acquire(name, id) => Facts::named_of(
+            "acquire",
+            Named::Last(Kind::Lock, name.as_str()),
+            *id,
+            Nesting::Plain,
+        ),
+        Entry::Release(name) => Facts::named(
+            "release",
+            Named::Any(Kind::Lock, name.as_str()),
+            Nesting::Plain,
+        ),
         Entry::Queue(name, _, _) => Facts::named(
             "queue",
             Named::Made(Kind::Queue, name.get().as_str()),
+            Nesting::Plain,
         ),
-        Entry::Put(name, value) => Facts {
-            shown: Shown::Value(value.get()),
-            ..Facts::named("put", Named::Last(Kind::Queue, name.as_str()))
-        },
-        Entry::Get(name, id) => Facts {
-            first: Some(*id),
-            ..Facts::named("get", Named::Last(Kind::Queue, name.as_str()))
-        },
-        Entry::LaterCall(name, due) => Facts {
-            due: Some(*due),
-            ..Facts::named("later call", Named::Made(Kind::Call, name.as_str()))
-        },
-        Entry::LaterLoop(name, due) => Facts {
-            due: Some(*due),
-            ..Facts::named("later loop", Named::Any(Kind::Loop, name.as_str()))
-        },
+        Entry::Put(name, value) => Facts::named_value(
+            "put",
+            Named::Last(Kind::Queue, name.as_str()),
+            value.get(),
+        ),
+        Entry::Get(name, id) => Facts::named_of(
+            "get",
+            Named::Last(Kind::Queue, name.as_str()),
+            *id,
+            Nesting::Plain,
+        ),
+        Entry::LaterCall(name, due) => Facts::later(
+            "later call",
+            Named::Made(Kind::Call, name.as_str()),
+            *due,
+        ),
+        Entry::LaterLoop(name, due) => Facts::later(
+            "later loop",
+            Named::Any(Kind::Loop, name.as_str()),
+            *due,
+        ),
         Entry::LaterTick(due) => Facts {
             due: Some(*due),
-            nesting: Nesting::NextTick,
-            ..Facts::word("later tick")
+            ..Facts::word("later tick", Nesting::NextTick)
         },
-        Entry::LaterJob(job, due) => Facts {
-            due: Some(*due),
-            ..Facts::named("later job", Named::Job(*job))
-        },
+        Entry::LaterJob(job, due) => Facts::later("later job", Named::Job(*job), *due),
         Entry::LaterTimeout(id, due) => Facts {
             due: Some(*due),
-            ..Facts::of("later timeout", *id)
+            ..Facts::of("later timeout", *id, Nesting::Plain)
         },
-        Entry::Uncall(name) => Facts::named("uncall", Named::Last(Kind::Call, name.as_str())),
-        Entry::Call(name) => Facts {
-            nesting: Nesting::Due,
-            ..Facts::named("call", Named::Any(Kind::Call, name.as_str()))
-        },
-        Entry::Tick => Facts {
-            nesting: Nesting::Tick,
-            ..Facts::word("tick")
-        },
-        Entry::Deliver(job) => Facts {
-            nesting: Nesting::Due,
-            ..Facts::named("deliver", Named::Job(*job))
-        },
-        Entry::Timeout(id) => Facts {
-            nesting: Nesting::Due,
-            ..Facts::of("timeout", *id)
-        },
-        Entry::Loop(name, id) => Facts {
-            first: Some(*id),
-            nesting: Nesting::Loop,
-            ..Facts::named("loop", Named::Made(Kind::Loop, name.as_str()))
-        },
-        Entry::Turn(name) => Facts {
-            nesting: Nesting::Turn,
-            ..Facts::named("turn", Named::Any(Kind::Loop, name.as_str()))
-        },
-        Entry::Stop(name) => Facts::named("stop", Named::Last(Kind::Loop, name.as_str())),
-        Entry::Task(name) => Facts::named("task", Named::Made(Kind::Task, name.as_str())),
-        Entry::Step(name) => Facts {
-            nesting: Nesting::Step,
-            ..Facts::named("step", Named::Any(Kind::Task, name.as_str()))
-        },
-        Entry::Hold(name, id) => Facts {
-            first: Some(*id),
-            ..Facts::named("hold", Named::Any(Kind::Task, name.as_str()))
-        },
-        Entry::End(name, value) => Facts {
-            shown: Shown::Value(value.get()),
-            ..Facts::named("end", Named::Any(Kind::Task, name.as_str()))
-        },
-        Entry::PauseTask(name) => Facts::named("pausetask", Named::Last(Kind::Task, name.as_str())),
+        Entry::Uncall(name) => Facts::named(
+            "uncall",
+            Named::Last(Kind::Call, name.as_str()),
+            Nesting::Plain,
+        ),
+        Entry::Call(name) => Facts::named(
+            "call",
+            Named::Any(Kind::Call, name.as_str()),
+            Nesting::Due,
+        ),
+        Entry::Tick => Facts::word("tick", Nesting::Tick),
+        Entry::Deliver(job) => Facts::named("deliver", Named::Job(*job), Nesting::Due),
+        Entry::Timeout(id) => Facts::of("timeout", *id, Nesting::Due),
+        Entry::Loop(name, id) => Facts::named_of(
+            "loop",
+            Named::Made(Kind::Loop, name.as_str()),
+            *id,
+            Nesting::Loop,
+        ),
+        Entry::Turn(name) => Facts::named(
+            "turn",
+            Named::Any(Kind::Loop, name.as_str()),
+            Nesting::Turn,
+        ),
+        Entry::Stop(name) => Facts::named(
+            "stop",
+            Named::Last(Kind::Loop, name.as_str()),
+            Nesting::Plain,
+        ),
+        Entry::Task(name) => Facts::named(
+            "task",
+            Named::Made(Kind::Task, name.as_str()),
+            Nesting::Plain,
+        ),
+        Entry::Step(name) => Facts::named(
+            "step",
+            Named::Any(Kind::Task, name.as_str()),
+            Nesting::Step,
+        ),
+        Entry::Hold(name, id) => Facts::named_of(
+            "hold",
+            Named::Any(Kind::Task, name.as_str()),
+            *id,
+            Nesting::Plain,
+        ),
+        Entry::End(name, value) => Facts::named_value(
+            "end",
+            Named::Any(Kind::Task, name.as_str()),
+            value.get(),
+        ),
+        Entry::PauseTask(name) => Facts::named(
+            "pausetask",
+            Named::Last(Kind::Task, name.as_str()),
+            Nesting::Plain,
+        ),
         Entry::ResumeTask(name) => Facts::named(
             "resumetask",
             Named::Any(Kind::Task, name.as_str()),
+            Nesting::Plain,
         ),
-        Entry::WhenDone(name, id) => Facts {
-            first: Some(*id),
-            ..Facts::named("whendone", Named::Last(Kind::Task, name.as_str()))
-        },
-        Entry::Await(id, on) => Facts {
-            second: Some(*on),
-            ..Facts::of("await", *id)
-        },
-        Entry::Job(job, id) => Facts {
-            first: Some(*id),
-            ..Facts::named("job", Named::Job(*job))
-        },
+        Entry::WhenDone(name, id) => Facts::named_of(
+            "whendone",
+            Named::Last(Kind::Task, name.as_str()),
+            *id,
+            Nesting::Plain,
+        ),
+        Entry::Await(id, on) => Facts::pair("await", *id, *on, Nesting::Plain),
+        Entry::Job(job, id) => Facts::named_of("job", Named::Job(*job), *id, Nesting::Plain),
         Entry::Advance(time) => Facts {
             news: News::Time(*time),
-            nesting: Nesting::Outer,
-            ..Facts::word("advance")
+            ..Facts::word("advance", Nesting::Outer)
         },
-        Entry::Drain => Facts {
-            nesting: Nesting::Outer,
-            ..Facts::word("drain")
-        },
-        Entry::Post(_, _) => Facts {
-            nesting: Nesting::Due,
-            ..Facts::word("post")
-        },
+        Entry::Drain => Facts::word("drain", Nesting::Outer),
+        Entry::Post(_, _) => Facts::word("post", Nesting::Due),
     }
 }
