@@ -12,6 +12,7 @@ from typing import Callable, Iterable, List, NamedTuple, Optional, TypeVar
 TOP = Path(__file__).resolve().parent.parent
 
 _SECONDS = 60
+_NO_END = -1
 _Case = TypeVar("_Case")
 
 
@@ -32,8 +33,12 @@ def program_here() -> Path:
 
 
 def run(program: Path, words: List[str], script: str) -> Ran:
-    """Runs the program on a script."""
-    ran = subprocess.run([str(program), *words], input=script.encode(), capture_output=True, timeout=_SECONDS, check=False)
+    """Runs the program on a script. A run that has no end in a minute has no status of a program."""
+    command = [str(program), *words]
+    try:
+        ran = subprocess.run(command, input=script.encode(), capture_output=True, timeout=_SECONDS, check=False)
+    except subprocess.TimeoutExpired:
+        return Ran(_NO_END, "", f"no end after {_SECONDS} s")
     return Ran(ran.returncode, ran.stdout.decode("utf-8", "replace"), ran.stderr.decode("utf-8", "replace"))
 
 
