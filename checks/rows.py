@@ -6,7 +6,7 @@ import sys
 from pathlib import Path
 from typing import Iterator, NamedTuple, Optional
 
-from deferreds.twisted.rows import ROWS, Expected, filled, read_rows, row_files
+from deferreds.twisted.rows import ROWS, Expected, filled, read_rows, row_files, unfolded
 from programs import Ran, first_difference, program_here, run, run_all
 
 _WHY = "\n-- why\n"
@@ -33,7 +33,7 @@ def why_rows(path: Path) -> Iterator[Expected]:
     for part in path.read_text(encoding="utf-8").split("== ")[1:]:
         head, _, line = part.rstrip("\n").partition(_WHY)
         name, _, script = head.partition("\n")
-        yield Expected(path.name, name, script, 0, "", f"{line}\n")
+        yield Expected(path.name, name, "\n".join(unfolded(script.split("\n"))), 0, "", f"{line}\n")
 
 
 def difference(row: Expected, ran: Ran) -> Optional[str]:
