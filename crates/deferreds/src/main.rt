@@ -19,7 +19,7 @@ use dv_run::{Asked, Input, IoSource, RunFault, asked_of, exit_of};
 use std::alloc::AllocGlobal;
 use std::io::IsTerminal;
 use std::process::ExitCode;
-use std::rt::{Env, Files};
+use std::rt::Env;
 use std::{env, fs, io};
 
 fn main(rt: HostRuntime) -> ExitCode {
@@ -38,18 +38,21 @@ fn main(rt: HostRuntime) -> ExitCode {
                     &mut IoSink::new(rt.stdout()),
                 )
             }
-            Some(Asked::Script(task, Input::File)) => match open_last(&rt, words.as_slice()) {
-                Ok(file) => perform(
-                    &rt,
-                    task,
-                    &mut IoSource::new(file),
-                    &mut IoSink::new(rt.stdout()),
-                ),
-                Err(error) => {
-                    let _ = eprintln!(rt; "deferreds: the file can't be opened: {error}");
-                    Exit::plain((4, ""))
+            Some(Asked::Script(task, Input::File)) => {
+                let path = last(words.as_slice());
+                match fs::open(&rt, path) {
+                    Ok(file) => perform(
+                        &rt,
+                        task,
+                        &mut IoSource::new(file),
+                        &mut IoSink::new(rt.stdout()),
+                    ),
+                    Err(error) => {
+                        let _ = eprintln!(rt; "deferreds: {path} can't be opened: {error}");
+                        Exit::plain((4, ""))
+                    }
                 }
-            },
+            }
             Some(Asked::Version) => print(&mut IoSink::new(rt.stdout()), VERSION),
             Some(Asked::Help) => print(&mut IoSink::new(rt.stdout()), HELP),
             None => Exit::wrong_words(words.as_slice()),
@@ -77,11 +80,11 @@ fn words(rt: &(impl Env + AllocGlobal)) -> io::Result<Vec<String>> {
     Ok(words)
 }
 
-/// Opens the file that the last word names.
-fn open_last<R: Files>(rt: &R, words: &[String]) -> io::Result<R::File> {
+/// The last word, or nothing where there is none.
+fn last(words: &[String]) -> &str {
     match words.last() {
-        Some(path) => fs::open(rt, path.as_str()),
-        None => Err(io::Error::from(io::ErrorKind::NotFound)),
+        Some(word) => word.as_str(),
+        None => "",
     }
 }
 
