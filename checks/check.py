@@ -68,7 +68,7 @@ STAGES = [
     Stage("launcher", "./deferreds runs the right program, or says why it runs none", [unittests("checks")]),
     Stage("rows", "each row ends and prints as it says", [[_PYTHON, "checks/rows.py"]]),
     Stage("outputs", "each output that a page shows is what is printed", [[_PYTHON, "checks/documented.py"]]),
-    Stage("json", "runs as JSON agree with their journals", [["python/check_json", "--random", "500"]]),
+    Stage("json", "runs as JSON agree with their journals", [["python/check_json", "--each", "4", "--random", "500"]]),
     Stage("faults", "refused memory and failed reads and writes, on a sample", [unittests("faults"), ["faults/sweep.py", "--sample"]], no_compiler),
     Stage("bench", "the measuring of speed", [unittests("bench")]),
     Stage("view", "the view, but for what needs a browser", [unittests("python/view_tests", "-t", "python")]),

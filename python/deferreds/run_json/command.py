@@ -1,6 +1,6 @@
-"""`check_json [--random N] [--seed S] [--ours PROGRAM]`: holds what `./deferreds --json` tells against its journal.
+"""`check_json [--random N] [--seed S] [--each K] [--ours PROGRAM]`: holds what `./deferreds --json` tells against its journal.
 
-Over all rows of the repository, the lines joined are what `./deferreds` prints, and what is left is what a fold of the journal
+Over each K-th row of the repository, or all, the lines joined are what `./deferreds` prints, and what is left is what a fold of the journal
 gives; over the rows of `left.rows`, what is left is as it stands there, worked out by hand; and over N random scripts in which
 no name is made twice, what is left is what the fold gives. The last line is `N passed, M failed`, and the status is 0 exactly
 where M is 0. Without PROGRAM it is the one that `./deferreds` runs. Status 70: the program can't be run.
@@ -11,6 +11,7 @@ from __future__ import annotations
 import argparse
 import os
 import sys
+from itertools import islice
 from pathlib import Path
 from typing import Iterator, List
 
@@ -101,10 +102,13 @@ def main(words: List[str]) -> int:
     parser = argparse.ArgumentParser(prog="check_json", description=__doc__)
     parser.add_argument("--random", type=int, default=2000, metavar="N")
     parser.add_argument("--seed", type=int, default=1, metavar="S")
+    parser.add_argument("--each", type=int, default=1, metavar="K", help="take each K-th row alone")
     parser.add_argument("--ours", type=Path, metavar="PROGRAM")
     asked = parser.parse_args(words)
+    if asked.each < 1:
+        parser.error("K is 1 or more")
     try:
-        return _check(asked.ours or built(), asked.seed, asked.random)
+        return _check(asked.ours or built(), asked.seed, asked.random, asked.each)
     except NotRun as why:
         print(f"check_json: {why}; --ours names a program", file=sys.stderr)
     except OSError as error:
@@ -112,10 +116,10 @@ def main(words: List[str]) -> int:
     return NOT_RUN
 
 
-def _check(program: Path, seed: int, randoms: int) -> int:
-    """Checks the program by all rows, and by so many random scripts; the status."""
+def _check(program: Path, seed: int, randoms: int, each: int) -> int:
+    """Checks the program by each so many-th row, and by so many random scripts; the status."""
     checks = Checks(program)
-    for row in all_rows():
+    for row in islice(all_rows(), 0, None, each):
         checks.check_row(row)
     for row in read_rows(LEFT_ROWS):
         checks.check_left_row(row)
