@@ -1,7 +1,7 @@
 """`check [STAGE ..]`: runs the checks that need no proof, on the program that is built or released for the sources that stand here.
 
 Without words all stages run, two side by side. What a stage needs and isn't here leaves it out, and the last lines name it. Status 0:
-all that ran passed; 1: a stage failed; 64: words that aren't known; 70: there is no program for these sources.
+all that ran passed; 1: a stage failed; 64: the words are wrong; 70: there is no program for these sources.
 """
 
 from __future__ import annotations
@@ -14,6 +14,8 @@ import sys
 import time
 from concurrent.futures import ThreadPoolExecutor
 from typing import Callable, List, NamedTuple, Optional
+
+from deferreds.ending import ended
 
 from programs import TOP, program_here
 
@@ -155,4 +157,4 @@ def main() -> int:
 
 
 if __name__ == "__main__":
-    sys.exit(main())
+    sys.exit(ended(main))

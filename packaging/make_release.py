@@ -6,7 +6,7 @@ VERSION, as 0.1.0, has to have its section in CHANGELOG.md. The gate proves the 
 `--check` says whether the release is whole, and names one version and its own sources. Where a program is built here of the sources
 of the release, it has to be the released one, byte for byte. `--stamp` has the program say, by `--version`, of which sources it is.
 
-Status 0: made, or nothing is wrong; 1: something is wrong; 64: words that aren't known; 70: a tool is missing or failed.
+Status 0: made, or nothing is wrong; 1: something is wrong; 64: the words are wrong; 70: a tool is missing or failed.
 """
 
 from __future__ import annotations
@@ -14,6 +14,7 @@ from __future__ import annotations
 import argparse
 import filecmp
 import hashlib
+import os
 import re
 import shutil
 import subprocess
@@ -71,6 +72,14 @@ def sha256(path: Path) -> str:
     return hashlib.sha256(path.read_bytes()).hexdigest()
 
 
+def text_of(path: Path) -> str:
+    """The text that a file of the repository holds."""
+    try:
+        return path.read_text(encoding="utf-8")
+    except UnicodeDecodeError:
+        raise Failed(f"{path.relative_to(TOP)} isn't UTF-8") from None
+
+
 class Stamp:
     """What the program says by `--version`."""
 
@@ -82,14 +91,14 @@ class Stamp:
     @staticmethod
     def read() -> "Stamp":
         """As it stands in the sources."""
-        found = _STAMPED.search(STAMP.read_text(encoding="utf-8"))
+        found = _STAMPED.search(text_of(STAMP))
         if found is None:
             raise Failed(f"{STAMP.relative_to(TOP)} doesn't have the form that --stamp writes")
         return Stamp(*found.groups())
 
     def write(self) -> None:
         """Has it stand in the sources, of which its file is no part."""
-        text = STAMP.read_text(encoding="utf-8")
+        text = text_of(STAMP)
         mine = f'"deferreds {self.version}\\nsources {self.sources}\\nkit {self.kit}\\n"'
         STAMP.write_text(_STAMPED.sub(lambda _: mine, text), encoding="utf-8")
 
@@ -102,7 +111,7 @@ def stamp(version: Optional[str] = None) -> None:
 def has_section(version: str) -> bool:
     """Whether the CHANGELOG has a section for a version."""
     heading = re.compile(rf"## \[?{re.escape(version)}\b")
-    return any(heading.match(line) for line in CHANGELOG.read_text(encoding="utf-8").splitlines())
+    return any(heading.match(line) for line in text_of(CHANGELOG).splitlines())
 
 
 def faults() -> List[str]:
@@ -113,7 +122,7 @@ def faults() -> List[str]:
         found.append(f"{STAMP.relative_to(TOP)} names other sources than stand here: ./make_release --stamp writes it")
     if not has_section(stamped.version):
         found.append(f"CHANGELOG.md has no section for {stamped.version}")
-    if f'version = "{stamped.version}"' not in PYPROJECT.read_text(encoding="utf-8"):
+    if f'version = "{stamped.version}"' not in text_of(PYPROJECT):
         found.append(f"pyproject.toml has another version than {stamped.version}")
     return found + faults_of_program(here)
 
@@ -124,9 +133,9 @@ def faults_of_program(here: str) -> List[str]:
     for path in (program, of_sources, sums):
         if not path.is_file():
             return [f"{path.relative_to(TOP)} isn't there"]
-    if sums.read_text(encoding="utf-8") != f"{sha256(program)}  deferreds\n":
+    if text_of(sums) != f"{sha256(program)}  deferreds\n":
         return ["release/x86_64-linux/deferreds has another SHA-256 than SHA256SUMS says"]
-    if of_sources.read_text(encoding="utf-8").strip() != here:
+    if text_of(of_sources).strip() != here:
         print("make_release: it is of other sources than stand here, so no program is compared with it")
         return []
     if not BUILT.is_file() or output_of([str(TOP / "deferreds"), "--program"]) != str(BUILT):
@@ -196,9 +205,20 @@ def main() -> int:
             stamp()
         else:
             make(asked.version, not asked.without_gate)
+        sys.stdout.flush()
     except Failed as failed:
         print(f"make_release: {failed}", file=sys.stderr)
         return failed.status
+    except BrokenPipeError:
+        # what is still to be written would fail again when Python ends
+        os.dup2(os.open(os.devnull, os.O_WRONLY), sys.stdout.fileno())
+        return 1
+    except OSError as error:
+        print(f"make_release: {error.filename} can't be read or written: {error.strerror}", file=sys.stderr)
+        return 1
+    except KeyboardInterrupt:
+        print("make_release: interrupted", file=sys.stderr)
+        return 130
     return 0
 
 

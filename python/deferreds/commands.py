@@ -6,13 +6,14 @@ import importlib
 import sys
 
 from .checkout import command_name
+from .ending import ended
 from .program import NOT_RUN
 from .view import command
 
 
 def view() -> int:
     """`deferreds-view`."""
-    return command.main(sys.argv[1:])
+    return ended(lambda: command.main(sys.argv[1:]))
 
 
 def record() -> int:
@@ -28,7 +29,8 @@ def conform() -> int:
 def _run(name: str) -> int:
     """Runs a command that needs Twisted, or says that it isn't there."""
     try:
-        return int(importlib.import_module(f".twisted.commands.{name}", __package__).main(sys.argv[1:]))
+        module = importlib.import_module(f".twisted.commands.{name}", __package__)
+        return ended(lambda: int(module.main(sys.argv[1:])))
     except ModuleNotFoundError as error:
         missing = error.name or ""
         if missing.split(".")[0] == __package__:

@@ -2,7 +2,9 @@
 
 import contextlib
 import io
+import os
 import subprocess
+import sys
 import unittest
 from unittest import mock
 
@@ -32,6 +34,36 @@ class OursTest(unittest.TestCase):
             status, _ = conforming("--random", "2", "--ours", "true", "--", "true")
         self.assertEqual(status, 0)
         self.assertEqual(output.getvalue(), "2 passed, 0 failed\n")
+
+    def test_numbers_below_0_are_refused(self) -> None:
+        with self.assertRaises(SystemExit) as ended:
+            conforming("--random", "-1", "--", "true")
+        self.assertEqual(ended.exception.code, 64)
+
+
+class OnTwistedTest(unittest.TestCase):
+    """The command on_twisted, where it is given something else than batches and lengths."""
+
+    def test_wrong_batches_and_lengths_end_with_status_64(self) -> None:
+        cases = (
+            (["--batches", "5"], ""),
+            (["--batches", "[[0]]"], ""),
+            (["--batches", "{"], ""),
+            (["--many"], "x\n"),
+            (["--many"], "2 {}\n{}"),
+        )
+        for words, script in cases:
+            with self.subTest(words=words, script=script):
+                ran = subprocess.run(
+                    [sys.executable, "-m", "deferreds.twisted.commands.on_twisted", *words],
+                    input=script,
+                    env={**os.environ, "PYTHONPATH": os.pathsep.join(filter(None, sys.path))},
+                    capture_output=True,
+                    text=True,
+                    check=False,
+                )
+                self.assertEqual(ran.returncode, 64, ran.stderr)
+                self.assertNotIn("Traceback", ran.stderr)
 
 
 if __name__ == "__main__":

@@ -225,6 +225,52 @@ class Shown(unittest.TestCase):
         self.assertIn("event 0  <b><bdi>inline worker_56 ", page)
 
 
+class Command(unittest.TestCase):
+    """What is wrong gets one line and a status, and no traceback."""
+
+    def run_record(self, *words: str, cwd: str) -> "tuple[int, str]":
+        """Status and errors, where the command is installed: its own folder is the first of the path."""
+        code = "import sys; sys.path.pop(0); from deferreds.commands import record; sys.exit(record())"
+        ran = subprocess.run(
+            [sys.executable, "-c", code, *words],
+            cwd=cwd,
+            env={**os.environ, "PYTHONPATH": os.pathsep.join(filter(None, sys.path))},
+            capture_output=True,
+            text=True,
+            check=False,
+        )
+        return ran.returncode, ran.stderr
+
+    def test_wrong_words_and_places(self) -> None:
+        with tempfile.TemporaryDirectory() as folder:
+            Path(folder, "program.py").write_text(
+                "from twisted.internet.defer import Deferred\nDeferred().callback(1)\n", encoding="utf-8"
+            )
+            cases = (
+                ((), 64),
+                (("--plain", "nothing", "program.py"), 64),
+                (("nosuch.py",), 66),
+                (("-m", "nosuch"), 66),
+                (("-m", "nosuch.below"), 66),
+                (("--test", "nosuch.Case.test"), 66),
+                (("-o", "nosuch/name", "program.py"), 73),
+            )
+            for words, expected in cases:
+                with self.subTest(words=words):
+                    status, errors = self.run_record(*words, cwd=folder)
+                    self.assertEqual((status, errors.count("\n")), (expected, 1), errors)
+            self.assertEqual(os.listdir(folder), ["program.py"])
+
+    def test_a_module_is_found_in_the_folder_where_the_command_is_given(self) -> None:
+        with tempfile.TemporaryDirectory() as folder:
+            Path(folder, "program.py").write_text(
+                "from twisted.internet.defer import Deferred\nDeferred().callback(1)\n", encoding="utf-8"
+            )
+            status, errors = self.run_record("-m", "program", cwd=folder)
+            self.assertEqual(status, 0, errors)
+            self.assertIn("2 lines, 1 Deferred\n", errors)
+
+
 class Refused(unittest.TestCase):
     """What no script can say."""
 

@@ -139,6 +139,18 @@ class Command(unittest.TestCase):
         self.assertIn("Read from a journal alone", output)
         self.assertIn("the run stopped at the limit", output)
 
+    def test_a_text_that_is_no_journal_gives_no_page(self) -> None:
+        text = self.folder / "page.md"
+        text.write_text("# A title\n\nA sentence.\n")
+        status, _, errors = self.run_view("--journal", text, "-o", self.folder / "x.html")
+        self.assertEqual(status, 66)
+        self.assertIn("isn't a journal", errors)
+        self.assertFalse((self.folder / "x.html").exists())
+
+    def test_a_chart_that_ends_before_it_begins_is_refused(self) -> None:
+        status, _, errors = self.run_view("--journal", _JOURNAL, "--from", 5, "--to", 2)
+        self.assertEqual((status, errors.count("\n")), (64, 1))
+
     def test_it_runs_from_the_top_and_ends_where_its_reader_does(self) -> None:
         view = subprocess.run(
             f"{TOP / 'view'} --text --journal {_JOURNAL} | head -n 1",

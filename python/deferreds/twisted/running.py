@@ -681,14 +681,24 @@ def _tell_unraisable(unraisable: Any) -> None:
 def with_room(call: Callable[[], int]) -> int:
     """Calls on a stack on which long rows of nested firings have room."""
     result: List[int] = []
+    raised: List[BaseException] = []
+
+    def perform() -> None:
+        try:
+            result.append(call())
+        except (BrokenPipeError, SystemExit) as error:
+            raised.append(error)
+
     before = sys.getrecursionlimit()
     sys.setrecursionlimit(RECURSION)
     threading.stack_size(STACK)
     try:
-        thread = threading.Thread(target=lambda: result.append(call()))
+        thread = threading.Thread(target=perform)
         thread.start()
         thread.join()
     finally:
         threading.stack_size(0)
         sys.setrecursionlimit(before)
+    if raised:
+        raise raised[0]
     return result[0] if result else 70

@@ -6,9 +6,9 @@ With several scripts FILE is a folder. `--text` prints the view instead. Without
 input. `--journal FILE` shows a journal with its outcomes, as `./deferreds`, `./on_twisted` or `./record` has given
 it, and runs nothing; `--json FILE` shows what `./deferreds --json` has told. FILE may be `-`, for standard input.
 
-Status 0: shown; 2: the script is refused, as standard error tells; 3, 4, 70: as of `./deferreds`; 64: words that
-aren't known; 66: what is to be shown can't be read; 73: the page can't be written. Of several scripts it is the
-first that isn't 0.
+Status 0: shown; 2: the script is refused, with the reason on standard error; 3, 4, 70: as for `./deferreds`; 64: the
+words are wrong; 66: what is to be shown can't be read; 73: the page can't be written. With several scripts it is the
+first status that isn't 0.
 """
 
 from __future__ import annotations
@@ -23,6 +23,7 @@ from pathlib import Path
 from typing import List, Optional, Tuple
 
 from ..checkout import as_called, command_name
+from ..ending import ended
 from ..program import NOT_RUN, NotRun, found
 from .facts import NotFacts, read_facts
 from .page import Page
@@ -74,8 +75,11 @@ def _arguments(words: List[str]) -> argparse.Namespace:
     except SystemExit as exit_:
         raise SystemExit(_USAGE if exit_.code else 0) from None
     numbers = [number for number in (parsed.first, parsed.last) if number is not None]
-    if min(numbers, default=1) < 1 or ((parsed.journal or parsed.json) and len(parsed.scripts) > 1):
-        parser.print_usage(sys.stderr)
+    if min(numbers, default=1) < 1 or (len(numbers) == 2 and parsed.last < parsed.first):
+        _say("--from and --to are numbers of lines, from 1 on, and --to isn't below --from")
+        raise SystemExit(_USAGE)
+    if (parsed.journal or parsed.json) and len(parsed.scripts) > 1:
+        _say("a journal, or a run as JSON, has one SCRIPT at most")
         raise SystemExit(_USAGE)
     return parsed
 
@@ -155,8 +159,11 @@ def _given(arguments: argparse.Namespace, script: Optional[str]) -> Run:
         else Script()
     )
     if arguments.journal:
-        data = _read(arguments.journal)
-        return run_of_journal(_text(data, arguments.journal), _title(arguments.journal), said)
+        text = _text(_read(arguments.journal), arguments.journal)
+        run = run_of_journal(text, _title(arguments.journal), said)
+        if text and not run.fold.records and not any(row.entry.word for row in run.fold.rows):
+            raise Failed(_NO_INPUT, f"{arguments.journal} isn't a journal: no line of it is known")
+        return run
     if arguments.json:
         return _facts(_read(arguments.json), arguments.json, said)
     return run_script(script or "-")
@@ -216,11 +223,8 @@ def main(words: List[str]) -> int:
             if str(failed):
                 _say(str(failed))
             status = status or failed.status
-        except BrokenPipeError:
-            os.dup2(os.open(os.devnull, os.O_WRONLY), sys.stdout.fileno())
-            return status
     return status
 
 
 if __name__ == "__main__":
-    sys.exit(main(sys.argv[1:]))
+    sys.exit(ended(lambda: main(sys.argv[1:])))

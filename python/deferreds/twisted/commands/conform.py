@@ -3,7 +3,7 @@
 COMMAND reads a script on standard input, and prints journal and outcomes, as `./on_twisted` does. Each difference is
 told by its first line; where Twisted does as COMMAND does, and `docs/PROFILE.md` has an entry for that, the entry is
 named, and the run counts as passed. The last line is `N passed, M failed`, and the status is 0 exactly where M is 0.
-Status 64: words that aren't known; 70: a program can't be run.
+Status 64: the words are wrong; 70: a program can't be run.
 """
 
 from __future__ import annotations
@@ -13,6 +13,7 @@ import sys
 from typing import List
 
 from ...checkout import as_called, command_name
+from ...ending import ended
 from .. import grammar
 from ..programs import Broken
 
@@ -40,8 +41,10 @@ def _arguments(words: List[str]) -> argparse.Namespace:
         parsed = parser.parse_args(words)
     except SystemExit as exit_:
         raise SystemExit(64 if exit_.code else 0) from None
+    if parsed.random < 0 or parsed.trials < 0:
+        print(f"{command_name('conform')}: a number is below 0", file=sys.stderr)
+        raise SystemExit(64)
     if not parsed.rows and not parsed.random:
-        parser.print_usage(sys.stderr)
         print(f"{command_name('conform')}: one of --rows and --random N is needed", file=sys.stderr)
         raise SystemExit(64)
     return parsed
@@ -67,4 +70,4 @@ def main(words: List[str]) -> int:
 
 
 if __name__ == "__main__":
-    sys.exit(main(sys.argv[1:]))
+    sys.exit(ended(lambda: main(sys.argv[1:])))

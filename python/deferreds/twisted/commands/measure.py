@@ -64,6 +64,8 @@ def _failing(module: str, measured: List[Measured]) -> List[str]:
 def _module(name: str, program: object) -> List[Measured]:
     measured: List[Measured] = []
     tests = tests_of(name)
+    if any(cls.__module__ == "unittest.loader" for cls, _ in tests):
+        raise Broken(f"{name} can't be imported")
     for cls, method in tests:
         measured.append(measure_test(cls, method, program))  # type: ignore[arg-type]
         if sys.stderr.isatty():

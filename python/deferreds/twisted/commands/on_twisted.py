@@ -1,7 +1,7 @@
 """`on_twisted < SCRIPT`: runs the script on real Twisted, and prints journal and outcomes as `deferreds` does.
 
 Status 0: all events were performed; 1: the run stopped at the limit of its journal; 2: the script is refused, which
-standard error tells; 4: standard input or output failed; 64: words that aren't known; 70: Twisted isn't there.
+standard error tells; 4: standard input or output failed; 64: the words are wrong; 70: Twisted isn't there.
 """
 
 from __future__ import annotations
@@ -12,6 +12,7 @@ import sys
 from typing import BinaryIO, List, Optional, Tuple
 
 from .. import grammar
+from ...ending import ended
 from ..running import Batches, be_quiet, run, with_room
 from ..script import Refused
 
@@ -31,18 +32,50 @@ def serve(reader: BinaryIO, writer: BinaryIO) -> int:
     """Answers script after script: `LENGTH [BATCHES]` and the script; `STATUS LENGTH LENGTH`, output and errors."""
     for line in iter(reader.readline, b""):
         length, _, batches = line.strip().partition(b" ")
-        data = reader.read(int(length))
-        status, output, errors = answer(data, json.loads(batches) if batches else None)
+        try:
+            size, taken = int(length), batches_of(batches.decode()) if batches else None
+        except ValueError:
+            print("on_twisted: a line of --many is LENGTH [BATCHES], as docs/PORTING.md says", file=sys.stderr)
+            return 64
+        status, output, errors = answer(reader.read(max(size, 0)), taken)
         writer.write(b"%d %d %d\n" % (status, len(output), len(errors)) + output + errors)
         writer.flush()
     return 0
+
+
+def batches_of(text: str) -> Batches:
+    """The batches of posts that a JSON text holds. Raises ValueError where it holds something else."""
+    try:
+        held = json.loads(text)
+    except RecursionError:
+        raise ValueError("nested too deep") from None
+    if not (_is_list(held) and all(map(_is_list, held)) and all(_is_post(post) for batch in held for post in batch)):
+        raise ValueError("not an array of arrays of [CALLER,POST]")
+    return [[(caller, post) for caller, post in batch] for batch in held]
+
+
+def _batches(word: str) -> Batches:
+    """The batches that a word of the command holds."""
+    try:
+        return batches_of(word)
+    except ValueError:
+        raise argparse.ArgumentTypeError("it isn't a JSON array of arrays of [CALLER,POST]") from None
+
+
+def _is_list(value: object) -> bool:
+    return isinstance(value, list)
+
+
+def _is_post(value: object) -> bool:
+    return isinstance(value, list) and len(value) == 2 and all(type(number) is int and number >= 0 for number in value)
 
 
 def _arguments(words: List[str]) -> argparse.Namespace:
     parser = argparse.ArgumentParser(prog="on_twisted", description=__doc__.split("\n", 1)[0])
     parser.add_argument(
         "--batches",
-        type=json.loads,
+        type=_batches,
+        metavar="BATCHES",
         help="the posts that each drain takes, and those at the end: a JSON array of arrays of [CALLER,POST]",
     )
     parser.add_argument(
@@ -76,4 +109,4 @@ def main(words: List[str]) -> int:
 
 
 if __name__ == "__main__":
-    sys.exit(main(sys.argv[1:]))
+    sys.exit(ended(lambda: main(sys.argv[1:])))

@@ -4,18 +4,24 @@
 NAME.journal the journal and the outcomes as real Twisted gave them. `--view` writes NAME.html, a page of the run, too. What a
 script can't say is refused with the reason and the place in the program, and nothing is written.
 
-Status 0: recorded; 1: refused; 64: words that aren't known; 66: nothing was recorded; 70: Twisted isn't there.
+Ctrl-C ends the program, and what it did until then is recorded.
+
+Status 0: recorded; 1: refused; 64: the words are wrong; 66: nothing was recorded, or there is no such program; 70: Twisted
+isn't there; 73: a file can't be written.
 """
 
 from __future__ import annotations
 
 import argparse
+import importlib.util
 import sys
 from pathlib import Path
 from typing import List, Optional, Set
 
 from ...checkout import as_called, command_name
+from ...ending import ended
 from ...view.page import Page
+from ...view.phrases import several
 from ...view.run import run_of_journal
 from ...view.scripts import Script
 
@@ -50,8 +56,11 @@ def _arguments(words: List[str]) -> argparse.Namespace:
         raise SystemExit(64 if exit_.code else 0) from None
     plain: Set[str] = set(filter(None, parsed.plain.split(",")))
     unknown = plain - KINDS
-    if unknown or not (parsed.program or parsed.module or parsed.test):
-        parser.print_usage(sys.stderr)
+    if unknown:
+        _say(f"--plain has no {', '.join(sorted(unknown))}: {', '.join(sorted(KINDS))}")
+        raise SystemExit(64)
+    if not (parsed.program or parsed.module or parsed.test):
+        _say("a PROGRAM, -m MODULE or --test MODULE.CLASS.METHOD is needed; --help says more")
         raise SystemExit(64)
     return parsed
 
@@ -71,15 +80,24 @@ def _refused(said: Said) -> int:
 
 def _written(said: Said, name: str, view: bool) -> int:
     """Writes the script, the journal, and if it is wanted the page."""
-    Path(f"{name}.json").write_text(said.text + "\n", encoding="utf-8")
-    Path(f"{name}.journal").write_text(said.output, encoding="utf-8")
+    files = {f"{name}.json": said.text + "\n", f"{name}.journal": said.output}
+    shown = f"{name}.html"
     if view:
         run = run_of_journal(said.output, Path(name).name, Script(said.script), False, said.begins)
-        Path(f"{name}.html").write_text(Page(run).html(), encoding="utf-8")
-        _say(f"{name}.html: {run.counts}")
+        files[shown] = Page(run).html()
+        shown += f": {run.counts}"
+    for path, text in files.items():
+        try:
+            Path(path).write_text(text, encoding="utf-8")
+        except OSError as error:
+            _say(f"{path} can't be written: {error.strerror}")
+            return 73
+    if view:
+        _say(shown)
     for entry in sorted({entry.value for _, entry in said.quirks}):
         _say(f"Twisted does here what docs/PROFILE.md says of {entry}")
-    _say(f"{name}.json and {name}.journal: {len(said.journal)} lines, {len(said.records)} Deferreds")
+    lines, deferreds = several(len(said.journal), "line", "lines"), several(len(said.records), "Deferred", "Deferreds")
+    _say(f"{name}.json and {name}.journal: {lines}, {deferreds}")
     return 0
 
 
@@ -92,13 +110,21 @@ def _finish(said: Said, name: str, view: bool) -> int:
     return _written(said, name, view)
 
 
+def _is_module(name: str) -> bool:
+    """Whether a module of this name is found."""
+    try:
+        return importlib.util.find_spec(name) is not None
+    except (ImportError, ValueError):
+        return False
+
+
 def _program(arguments: argparse.Namespace) -> int:
     kinds = KINDS - set(arguments.plain.split(","))
     recorder = Recorder(kinds)
     target = arguments.module or arguments.program[0]
     words = arguments.program if arguments.module else arguments.program[1:]
-    if not arguments.module and not Path(target).is_file():
-        _say(f"{target} isn't a file")
+    if not (_is_module(target) if arguments.module else Path(target).is_file()):
+        _say(f"{target} isn't a {'module' if arguments.module else 'file'}")
         return 66
     if not arguments.module:
         sys.path.insert(0, str(Path(target).resolve().parent))
@@ -110,7 +136,7 @@ def _program(arguments: argparse.Namespace) -> int:
 
 def _test(arguments: argparse.Namespace) -> int:
     found = tests_of(arguments.test)
-    if len(found) != 1:
+    if len(found) != 1 or found[0][0].__module__ == "unittest.loader":
         _say(f"{arguments.test} isn't one test")
         return 66
     said: Optional[Said] = None
@@ -132,8 +158,11 @@ def _test(arguments: argparse.Namespace) -> int:
 def main(words: List[str]) -> int:
     """The command."""
     arguments = _arguments(words)
+    if arguments.module or arguments.test:
+        # as `python3 -m` does it, also where the command is installed
+        sys.path.insert(0, str(Path.cwd()))
     return _test(arguments) if arguments.test else _program(arguments)
 
 
 if __name__ == "__main__":
-    sys.exit(main(sys.argv[1:]))
+    sys.exit(ended(lambda: main(sys.argv[1:])))
