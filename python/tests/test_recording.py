@@ -260,7 +260,7 @@ class Shown(unittest.TestCase):
 
     def test_it_is_written_beside_the_script_and_the_journal(self) -> None:
         example = Path(__file__).resolve().parents[2] / "examples" / "python" / "workers.py"
-        command = [sys.executable, "-m", "deferreds.twisted.commands.record", "--virtual", "--view"]
+        command = [sys.executable, "-m", "deferreds.twisted", "record", "--virtual", "--view"]
         with tempfile.TemporaryDirectory() as folder:
             name = Path(folder, "workers")
             subprocess.run(

@@ -52,9 +52,11 @@ def main(words: List[str]) -> int:
     arguments = _arguments(words)
     # these need Twisted, and what is asked for above doesn't
     from ..conforming import Conforming
+    from ..instruments import install
     from ..running import be_quiet, with_room
 
     be_quiet()
+    install()
 
     def compare() -> int:
         try:
@@ -64,7 +66,3 @@ def main(words: List[str]) -> int:
             return 70
 
     return with_room(compare)
-
-
-if __name__ == "__main__":
-    sys.exit(main(sys.argv[1:]))

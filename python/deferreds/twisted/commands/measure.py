@@ -14,6 +14,7 @@ from typing import List
 
 import twisted
 
+from ..instruments import install
 from ..programs import Broken, ours
 from ..recording.measuring import (
     CANNOT,
@@ -113,6 +114,7 @@ def main(words: List[str]) -> int:
     parser.add_argument("--slower", action="store_true", help="measure how much slower a recorded program is")
     parser.add_argument("modules", nargs="*", metavar="MODULE")
     arguments = parser.parse_args(words)
+    install()
 
     def run() -> int:
         try:
@@ -124,7 +126,3 @@ def main(words: List[str]) -> int:
     status = with_room(run) if arguments.ours == "-" else run()
     sys.stdout.flush()
     os._exit(status)  # what tests have left in threads isn't waited for
-
-
-if __name__ == "__main__":
-    main(sys.argv[1:])

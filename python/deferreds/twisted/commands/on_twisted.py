@@ -12,6 +12,7 @@ import sys
 from typing import BinaryIO, List, Optional, Tuple
 
 from .. import grammar
+from ..instruments import install
 from ..running import Batches, be_quiet, run, with_room
 from ..script import Refused
 
@@ -58,6 +59,7 @@ def main(words: List[str]) -> int:
     """The command."""
     arguments = _arguments(words)
     be_quiet()
+    install()
     if arguments.many:
         return with_room(lambda: serve(sys.stdin.buffer, sys.stdout.buffer))
 
@@ -73,7 +75,3 @@ def main(words: List[str]) -> int:
         return status
 
     return with_room(once)
-
-
-if __name__ == "__main__":
-    sys.exit(main(sys.argv[1:]))

@@ -19,6 +19,7 @@ from ...view.page import Page
 from ...view.run import run_of_journal
 from ...view.scripts import Script
 
+from ..instruments import install
 from ..recording.programs import LADDER, record_program, record_test, tests_of
 from ..recording.recorder import Recorder
 from ..recording.saying import Said
@@ -132,8 +133,5 @@ def _test(arguments: argparse.Namespace) -> int:
 def main(words: List[str]) -> int:
     """The command."""
     arguments = _arguments(words)
+    install()
     return _test(arguments) if arguments.test else _program(arguments)
-
-
-if __name__ == "__main__":
-    sys.exit(main(sys.argv[1:]))

@@ -13,6 +13,12 @@ from .deferreds import PairArguments, add_silently, named_as, special_pairs
 _cancellable = defer._cancellableInlineCallbacks
 _inline_callbacks = defer._inlineCallbacks
 
+#: the names, in one version or another, of the errback by which a body awaits
+AWAITS = ("_inlineCallbacks.<locals>.gotResult", "_gotResultInlineCallbacks")
+
+#: and of the errback by which the Deferred of a cancelled body waits for a hidden one
+HIDDEN = ("_cancellableInlineCallbacks.<locals>.handleCancel", "_handleCancelInlineCallbacks")
+
 #: the frames of bodies that are made, until Twisted begins to run them
 _begun: List[Frame] = []
 
@@ -124,10 +130,5 @@ def install() -> None:
     """Puts the instrument into twisted.internet.defer."""
     setattr(defer, "_cancellableInlineCallbacks", _instrumented_cancellable)
     setattr(defer, "_inlineCallbacks", _instrumented_inline)
-    for name in ("_inlineCallbacks.<locals>.gotResult", "_gotResultInlineCallbacks"):
-        special_pairs[name] = _add_await
-    for name in (
-        "_cancellableInlineCallbacks.<locals>.handleCancel",
-        "_handleCancelInlineCallbacks",
-    ):
-        special_pairs[name] = _add_hidden
+    special_pairs.update(dict.fromkeys(AWAITS, _add_await))
+    special_pairs.update(dict.fromkeys(HIDDEN, _add_hidden))
