@@ -77,7 +77,7 @@ def _act(watcher: Observer, f: Callable[..., Any], args: Any, kwargs: Any) -> An
                 watcher.expect(made)
                 raise
 
-        deferred = _maybe(failing)
+        deferred: Deferred[Any] = _maybe(failing)
         if given:
             action[1] = watcher.record(deferred)
             watcher.rename(deferred)
