@@ -16,6 +16,7 @@ from twisted.python.failure import Failure
 
 from deferreds.twisted.instruments import install
 from deferreds.twisted.instruments.maybe import making
+from deferreds.twisted.recording.programs import NotLoaded, tests_of
 from deferreds.twisted.recording.recorder import Recorder
 from deferreds.twisted.recording.saying import Said
 from deferreds.twisted.running import be_quiet, run
@@ -272,6 +273,18 @@ class Shown(unittest.TestCase):
             page = Path(f"{name}.html").read_text(encoding="utf-8")
         self.assertIn("122 lines, 14 Deferreds, 15 events, time 0 to 6", page)
         self.assertIn("event 0  <b><bdi>inline worker_56 ", page)
+
+
+class Loaded(unittest.TestCase):
+    """Tests that are recorded."""
+
+    def test_what_cant_be_loaded_is_named_with_the_reason(self) -> None:
+        for name, reason in (
+            ("twisted.nothing", "No module named 'twisted.nothing'"),
+            ("tests.test_recording.Loaded.nothing", "type object 'Loaded' has no attribute 'nothing'"),
+        ):
+            with self.assertRaisesRegex(NotLoaded, f"^{name} can't be loaded: .*{reason}$"):
+                tests_of(name)
 
 
 class Refused(unittest.TestCase):

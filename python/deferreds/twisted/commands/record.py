@@ -20,7 +20,7 @@ from ...view.run import run_of_journal
 from ...view.scripts import Script
 
 from ..instruments import install
-from ..recording.programs import LADDER, record_program, record_test, tests_of
+from ..recording.programs import LADDER, NotLoaded, record_program, record_test, tests_of
 from ..recording.recorder import Recorder
 from ..recording.saying import Said
 from ..telling import KINDS
@@ -110,7 +110,11 @@ def _program(arguments: argparse.Namespace) -> int:
 
 
 def _test(arguments: argparse.Namespace) -> int:
-    found = tests_of(arguments.test)
+    try:
+        found = tests_of(arguments.test)
+    except NotLoaded as why:
+        _say(str(why))
+        return 66
     if len(found) != 1:
         _say(f"{arguments.test} isn't one test")
         return 66
