@@ -3,12 +3,13 @@
 from __future__ import annotations
 
 import importlib
+import importlib.util
 import sys
 from typing import List
 
 from .checkout import command_name
 from .program import NOT_RUN
-from .twisted.known import UnknownTwisted
+from .twisted.known import UnknownTwisted, refuse_unusable
 from .view import command
 
 
@@ -30,6 +31,8 @@ def conform() -> int:
 def run_on_twisted(name: str, words: List[str]) -> int:
     """Runs a command that needs Twisted, or says that it isn't there or isn't known."""
     try:
+        if importlib.util.find_spec("twisted") is not None:
+            refuse_unusable()
         return int(importlib.import_module(f".twisted.commands.{name}", __package__).main(words))
     except UnknownTwisted as unknown:
         why = str(unknown)

@@ -15,7 +15,7 @@ import twisted
 from deferreds.twisted import self_test
 from deferreds.twisted.__main__ import COMMANDS, main
 from deferreds.twisted.instruments import deferreds, inline, install
-from deferreds.twisted.known import UnknownTwisted, refuse_older
+from deferreds.twisted.known import UnknownTwisted, refuse_unusable
 from deferreds.twisted.running import be_quiet
 
 #: what each command is given here, of which nothing may be run
@@ -107,10 +107,10 @@ class Refused(unittest.TestCase):
     def test_an_older_one(self) -> None:
         for version in ("21.7.0", "22.2.0rc1", "9.0.0"):
             with mock.patch("twisted.__version__", version):
-                self.assertRaisesRegex(UnknownTwisted, f"^Twisted {version} .*older than 22.4", refuse_older)
+                self.assertRaisesRegex(UnknownTwisted, f"^Twisted {version} .*older than 22.4", refuse_unusable)
         for version in ("22.4.0", "22.4.0rc1", "24.11.0.post0", "100.1"):
             with mock.patch("twisted.__version__", version):
-                refuse_older()
+                refuse_unusable()
 
     def test_a_command_names_the_older_version(self) -> None:
         command = ran("twisted.__version__ = '21.7.0'", "on_twisted")
@@ -123,6 +123,21 @@ class Refused(unittest.TestCase):
         self.assertEqual((command.returncode, command.stdout), (70, ""))
         self.assertIn(f"record: Twisted {twisted.__version__} isn't known: ", command.stderr)
         self.assertEqual(len(command.stderr.splitlines()), 1, command.stderr)
+
+    def test_a_command_names_the_version_that_this_python_cant_import(self) -> None:
+        change = (
+            "import importlib.abc\n"
+            "class Fails(importlib.abc.MetaPathFinder):\n"
+            "    def find_spec(self, name, path, target=None):\n"
+            "        if name == 'twisted.internet.task':\n"
+            "            raise TypeError('no such argument')\n"
+            "sys.meta_path.insert(0, Fails())"
+        )
+        for name in COMMANDS:
+            command = ran(change, name)
+            self.assertEqual((command.returncode, command.stdout), (70, ""))
+            self.assertIn("can't import it: no such argument; ", command.stderr)
+            self.assertEqual(len(command.stderr.splitlines()), 1, command.stderr)
 
     def test_a_command_that_isnt_there(self) -> None:
         for words in ([], ["nothing"]):

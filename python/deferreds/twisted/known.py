@@ -2,6 +2,7 @@
 
 from __future__ import annotations
 
+import platform
 from typing import Tuple
 
 #: the oldest version that the instruments know
@@ -26,8 +27,15 @@ def _numbers(text: str) -> Tuple[int, ...]:
     return tuple(int(part) for part in text.split(".")[:2] if part.isdigit())
 
 
-def refuse_older() -> None:
-    """Raises UnknownTwisted where Twisted is older than the oldest version that is known."""
+def refuse_unusable() -> None:
+    """Raises UnknownTwisted where Twisted is older than the oldest version that is known, or isn't for this Python."""
     found = version()
     if _numbers(found) < OLDEST:
         raise UnknownTwisted(f"Twisted {found} isn't known, and is older than 22.4")
+    try:
+        from twisted.internet import defer, task, threads  # noqa: F401
+    except ModuleNotFoundError:
+        raise
+    except Exception as error:
+        python = platform.python_version()
+        raise UnknownTwisted(f"Twisted {found} isn't known, and Python {python} can't import it: {error}") from error

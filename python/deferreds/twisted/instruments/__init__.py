@@ -6,9 +6,9 @@ refuses a Twisted that lacks a name, and `install` refuses one under which the s
 
 from __future__ import annotations
 
-from ..known import UnknownTwisted, refuse_older, version
+from ..known import UnknownTwisted, refuse_unusable, version
 
-refuse_older()
+refuse_unusable()
 try:
     from . import clock, deferreds, inline, lists, locks, loops, maybe, queues, tasks, timers
 except ModuleNotFoundError:
