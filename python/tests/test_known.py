@@ -28,7 +28,13 @@ WORDS = {
 }
 
 #: has a command be run where something is otherwise in Twisted
-WITH = "import sys, twisted\nfrom twisted.internet import defer\n{}\nfrom deferreds.twisted.__main__ import main\nsys.exit(main(sys.argv[1:]))"
+WITH = """
+import sys, twisted
+from twisted.internet import defer
+{}
+from deferreds.twisted.__main__ import main
+sys.exit(main(sys.argv[1:]))
+"""
 
 
 def ran(change: str, name: str) -> "subprocess.CompletedProcess[str]":

@@ -3,7 +3,7 @@
 COMMAND reads a script on standard input, and prints journal and outcomes, as `./on_twisted` does. Each difference is
 told by its first line; where Twisted does as COMMAND does, and `docs/PROFILE.md` has an entry for that, the entry is
 named, and the run counts as passed. The last line is `N passed, M failed`, and the status is 0 exactly where M is 0.
-Status 64: words that aren't known; 70: a program can't be run.
+Status 64: words that aren't known; 70: a program can't be run, or Twisted isn't known.
 """
 
 from __future__ import annotations

@@ -2,8 +2,8 @@
 
 It prints the table of docs/TWISTED.md. The status is 0 exactly where each test passes under the recorder that passes
 without it, but for those that compare attributes that the recorder sets, and no difference lacks an entry in
-docs/PROFILE.md; 70: a module can't be loaded, or the program can't be run. `python/measure --slower` prints how much
-slower a program is that is recorded.
+docs/PROFILE.md; 70: a module can't be loaded, the program can't be run, or Twisted isn't known. `python/measure --slower`
+prints how much slower a program is that is recorded.
 """
 
 from __future__ import annotations

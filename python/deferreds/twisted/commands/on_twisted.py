@@ -1,7 +1,7 @@
 """`on_twisted < SCRIPT`: runs the script on real Twisted, and prints journal and outcomes as `deferreds` does.
 
 Status 0: all events were performed; 1: the run stopped at the limit of its journal; 2: the script is refused, which
-standard error tells; 4: standard input or output failed; 64: words that aren't known; 70: Twisted isn't there.
+standard error tells; 4: standard input or output failed; 64: words that aren't known; 70: Twisted isn't there or isn't known.
 """
 
 from __future__ import annotations

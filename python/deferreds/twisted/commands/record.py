@@ -4,7 +4,7 @@
 NAME.journal the journal and the outcomes as real Twisted gave them. `--view` writes NAME.html, a page of the run, too. What a
 script can't say is refused with the reason and the place in the program, and nothing is written.
 
-Status 0: recorded; 1: refused; 64: words that aren't known; 66: nothing was recorded; 70: Twisted isn't there.
+Status 0: recorded; 1: refused; 64: words that aren't known; 66: nothing was recorded; 70: Twisted isn't there or isn't known.
 """
 
 from __future__ import annotations
