@@ -17,7 +17,7 @@ _COMMAND = re.compile(r"\./(conform|deferreds|on_twisted|record|view)\b")
 _INSTALLED = {
     "conform": "deferreds-conform",
     "deferreds": "deferreds",
-    "on_twisted": "python3 -m deferreds.twisted.commands.on_twisted",
+    "on_twisted": "python3 -m deferreds.twisted on_twisted",
     "record": "deferreds-record",
     "view": "deferreds-view",
 }
@@ -30,7 +30,7 @@ def is_checkout() -> bool:
 
 def command_name(name: str) -> str:
     """What a command is called: its name in a checkout, or that of an installed package."""
-    return name if is_checkout() else _INSTALLED[name]
+    return name if is_checkout() else _INSTALLED.get(name, name)
 
 
 def as_called(text: str) -> str:

@@ -3,11 +3,14 @@
 from __future__ import annotations
 
 import importlib
+import importlib.util
 import sys
+from typing import List
 
 from .checkout import command_name
 from .ending import ended
 from .program import NOT_RUN
+from .twisted.known import UnknownTwisted, refuse_unusable
 from .view import command
 
 
@@ -18,26 +21,28 @@ def view() -> int:
 
 def record() -> int:
     """`deferreds-record`."""
-    return _run("record")
+    return run_on_twisted("record", sys.argv[1:])
 
 
 def conform() -> int:
     """`deferreds-conform`."""
-    return _run("conform")
+    return run_on_twisted("conform", sys.argv[1:])
 
 
-def _run(name: str) -> int:
-    """Runs a command that needs Twisted, or says that it isn't there."""
+def run_on_twisted(name: str, words: List[str]) -> int:
+    """Runs a command that needs Twisted, or says that it isn't there or isn't known."""
     try:
+        if importlib.util.find_spec("twisted") is not None:
+            refuse_unusable()
         module = importlib.import_module(f".twisted.commands.{name}", __package__)
-        return ended(lambda: int(module.main(sys.argv[1:])))
+        return ended(lambda: int(module.main(words)))
+    except UnknownTwisted as unknown:
+        why = str(unknown)
     except ModuleNotFoundError as error:
         missing = error.name or ""
         if missing.split(".")[0] == __package__:
             raise
         needs = "needs Twisted, from 22.4 on" if missing == "twisted" else f"needs Twisted, which needs {missing}"
-        print(
-            f"{command_name(name)}: {needs}: pip install 'deferreds[record]', or apt-get install python3-twisted",
-            file=sys.stderr,
-        )
-        return NOT_RUN
+        why = f"{needs}: pip install 'deferreds[record]', or apt-get install python3-twisted"
+    print(f"{command_name(name)}: {why}", file=sys.stderr)
+    return NOT_RUN

@@ -55,7 +55,7 @@ class OnTwistedTest(unittest.TestCase):
         for words, script in cases:
             with self.subTest(words=words, script=script):
                 ran = subprocess.run(
-                    [sys.executable, "-m", "deferreds.twisted.commands.on_twisted", *words],
+                    [sys.executable, "-m", "deferreds.twisted", "on_twisted", *words],
                     input=script,
                     env={**os.environ, "PYTHONPATH": os.pathsep.join(filter(None, sys.path))},
                     capture_output=True,

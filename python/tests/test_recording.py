@@ -15,10 +15,12 @@ from twisted.internet import defer, task
 from twisted.python.failure import Failure
 
 from deferreds.twisted.instruments import install
+from deferreds.twisted.instruments.maybe import making
+from deferreds.twisted.recording.programs import NotLoaded, tests_of
 from deferreds.twisted.recording.recorder import Recorder
 from deferreds.twisted.recording.saying import Said
 from deferreds.twisted.running import be_quiet, run
-from deferreds.twisted.telling import KINDS
+from deferreds.twisted.telling import KINDS, is_deferred
 
 
 def recorded(program: Callable[[], object], kinds: frozenset[str] = KINDS) -> Said:
@@ -29,6 +31,17 @@ def recorded(program: Callable[[], object], kinds: frozenset[str] = KINDS) -> Sa
     with recorder.watching():
         program()
     return Said(recorder)
+
+
+class Unaware:
+    """Doesn't tell the class above it of those below."""
+
+    def __init_subclass__(cls, **kwargs: Any) -> None:
+        pass
+
+
+class Unregistered(Unaware, defer.Deferred[int]):
+    """A Deferred that later Twisteds take for a value."""
 
 
 class Recorded(unittest.TestCase):
@@ -167,6 +180,43 @@ class Recorded(unittest.TestCase):
         self.assertEqual([event[1:][-2:][0] for event in events[:2]], [2, 1])
         self.assertEqual(events[2], ["advance", 4])
 
+    def test_what_succeed_makes_is_a_deferred_that_is_fired(self) -> None:
+        events = self.assert_said(lambda: defer.succeed(3))
+        name = events[0][1]
+        self.assertEqual(events, [["deferred", name], ["callback", name, 3]])
+
+    def test_a_coroutine_is_an_inline_body_where_twisted_makes_a_deferred_of_it(self) -> None:
+        waited: List[defer.Deferred[int]] = []
+
+        async def coroutine() -> int:
+            return await waited[0] + 1
+
+        if making(coroutine) is coroutine:
+            self.skipTest("this Twisted makes no Deferred of it")
+
+        def program() -> None:
+            waited.append(defer.Deferred())
+            defer.maybeDeferred(coroutine)
+            waited[0].callback(3)
+
+        _, maybe, _ = self.assert_said(program)
+        word, name, statements = maybe[2]["do"][0]
+        self.assertEqual((word, maybe[2]["end"]), ("inline", ["wait", name]))
+        self.assertEqual(statements[-1], ["end", ["return", 4]])
+
+    def test_a_subclass_is_waited_for_where_twisted_knows_it(self) -> None:
+        def program() -> None:
+            waited: defer.Deferred[int] = Unregistered()
+            defer.succeed(1).addCallback(lambda _: waited)
+            defer.maybeDeferred(lambda: waited)
+            clock = task.Clock()
+            cooperator = task.Cooperator(scheduler=lambda tick: clock.callLater(1, tick))
+            cooperator.cooperate(iter([waited]))
+            clock.advance(1)
+            waited.callback(2)
+
+        self.assert_said(program)
+
     def test_turns_that_do_the_same_are_one_body(self) -> None:
         def program() -> None:
             clock = task.Clock()
@@ -211,7 +261,7 @@ class Shown(unittest.TestCase):
 
     def test_it_is_written_beside_the_script_and_the_journal(self) -> None:
         example = Path(__file__).resolve().parents[2] / "examples" / "python" / "workers.py"
-        command = [sys.executable, "-m", "deferreds.twisted.commands.record", "--virtual", "--view"]
+        command = [sys.executable, "-m", "deferreds.twisted", "record", "--virtual", "--view"]
         with tempfile.TemporaryDirectory() as folder:
             name = Path(folder, "workers")
             subprocess.run(
@@ -271,6 +321,18 @@ class Command(unittest.TestCase):
             self.assertIn("2 lines, 1 Deferred\n", errors)
 
 
+class Loaded(unittest.TestCase):
+    """Tests that are recorded."""
+
+    def test_what_cant_be_loaded_is_named_with_the_reason(self) -> None:
+        for name, reason in (
+            ("twisted.nothing", "No module named 'twisted.nothing'"),
+            ("tests.test_recording.Loaded.nothing", "type object 'Loaded' has no attribute 'nothing'"),
+        ):
+            with self.assertRaisesRegex(NotLoaded, f"^{name} can't be loaded: .*{reason}$"):
+                tests_of(name)
+
+
 class Refused(unittest.TestCase):
     """What no script can say."""
 
@@ -300,6 +362,33 @@ class Refused(unittest.TestCase):
         said = recorded(program)
         self.assertIsNone(said.script)
         self.assertEqual(said.problems[0].kind, "loop")
+
+    def test_what_earlier_twisteds_refuse(self) -> None:
+        def fired() -> None:
+            try:
+                defer.Deferred().callback(defer.Deferred())
+            except AssertionError:
+                self.skipTest("this Twisted refuses it")
+
+        def added() -> None:
+            not_callable: Any = 3
+            defer.Deferred().addCallback(not_callable)
+
+        for program, reason in (
+            (fired, "a Deferred is fired with a Deferred"),
+            (added, "a callback that can't be called"),
+        ):
+            self.assertIn(reason, str(recorded(program).problems))
+
+    def test_a_cancel_that_goes_on_to_a_value(self) -> None:
+        if is_deferred(Unregistered()):
+            self.skipTest("this Twisted waits for it")
+
+        def program() -> None:
+            first = defer.succeed(1).addCallback(lambda _: Unregistered())
+            first.cancel()
+
+        self.assert_refused(program, "a cancel is passed on to a Deferred that Twisted takes for a value")
 
     def test_time_that_goes_on_inside_a_body(self) -> None:
         def program() -> None:

@@ -24,6 +24,7 @@ from typing import (
     Union,
 )
 
+from twisted.internet import defer
 from twisted.internet.defer import Deferred
 
 from .classes import Classes
@@ -52,9 +53,15 @@ def observer_of(kind: str) -> Optional["Observer"]:
     return watcher if watcher is not None and kind in watcher.kinds else None
 
 
+#: the classes whose objects Twisted waits for, where it keeps a list of them
+_waited_for: Optional[List[type]] = getattr(defer, "_DEFERRED_SUBCLASSES", None)
+
+
 def is_deferred(value: object) -> bool:
-    """Whether it is a Deferred, which `isinstance` takes long to say, since Twisted's class is an abstract one."""
-    return Deferred in type(value).__mro__
+    """Whether Twisted takes it for a Deferred. (`isinstance` takes long, since Twisted's class is an abstract one.)"""
+    if _waited_for is None:
+        return Deferred in type(value).__mro__
+    return type(value) in _waited_for
 
 
 class Record:

@@ -1,1 +1,1 @@
-"""The commands at the top of the repository."""
+"""The commands at the top of the repository, a module for each. `deferreds.commands` runs them."""

@@ -3,7 +3,7 @@
 COMMAND reads a script on standard input, and prints journal and outcomes, as `./on_twisted` does. Each difference is
 told by its first line; where Twisted does as COMMAND does, and `docs/PROFILE.md` has an entry for that, the entry is
 named, and the run counts as passed. The last line is `N passed, M failed`, and the status is 0 exactly where M is 0.
-Status 64: the words are wrong; 70: a program can't be run.
+Status 64: the words are wrong; 70: a program can't be run, or Twisted isn't known.
 """
 
 from __future__ import annotations
@@ -13,7 +13,6 @@ import sys
 from typing import List
 
 from ...checkout import as_called, command_name
-from ...ending import ended
 from .. import grammar
 from ..programs import Broken
 
@@ -55,9 +54,11 @@ def main(words: List[str]) -> int:
     arguments = _arguments(words)
     # these need Twisted, and what is asked for above doesn't
     from ..conforming import Conforming
+    from ..instruments import install
     from ..running import be_quiet, with_room
 
     be_quiet()
+    install()
 
     def compare() -> int:
         try:
@@ -67,7 +68,3 @@ def main(words: List[str]) -> int:
             return 70
 
     return with_room(compare)
-
-
-if __name__ == "__main__":
-    sys.exit(ended(lambda: main(sys.argv[1:])))

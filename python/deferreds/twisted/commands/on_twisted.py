@@ -1,7 +1,7 @@
 """`on_twisted < SCRIPT`: runs the script on real Twisted, and prints journal and outcomes as `deferreds` does.
 
 Status 0: all events were performed; 1: the run stopped at the limit of its journal; 2: the script is refused, which
-standard error tells; 4: standard input or output failed; 64: the words are wrong; 70: Twisted isn't there.
+standard error tells; 4: standard input or output failed; 64: the words are wrong; 70: Twisted isn't there or isn't known.
 """
 
 from __future__ import annotations
@@ -12,7 +12,7 @@ import sys
 from typing import BinaryIO, List, Optional, Tuple
 
 from .. import grammar
-from ...ending import ended
+from ..instruments import install
 from ..running import Batches, be_quiet, run, with_room
 from ..script import Refused
 
@@ -91,6 +91,7 @@ def main(words: List[str]) -> int:
     """The command."""
     arguments = _arguments(words)
     be_quiet()
+    install()
     if arguments.many:
         return with_room(lambda: serve(sys.stdin.buffer, sys.stdout.buffer))
 
@@ -106,7 +107,3 @@ def main(words: List[str]) -> int:
         return status
 
     return with_room(once)
-
-
-if __name__ == "__main__":
-    sys.exit(ended(lambda: main(sys.argv[1:])))

@@ -7,7 +7,7 @@ script can't say is refused with the reason and the place in the program, and no
 Ctrl-C ends the program, and what it did until then is recorded.
 
 Status 0: recorded; 1: refused; 64: the words are wrong; 66: nothing was recorded, or there is no such program; 70: Twisted
-isn't there; 73: a file can't be written.
+isn't there or isn't known; 73: a file can't be written.
 """
 
 from __future__ import annotations
@@ -19,13 +19,13 @@ from pathlib import Path
 from typing import List, Optional, Set
 
 from ...checkout import as_called, command_name
-from ...ending import ended
 from ...view.page import Page
 from ...view.phrases import several
 from ...view.run import run_of_journal
 from ...view.scripts import Script
 
-from ..recording.programs import LADDER, record_program, record_test, tests_of
+from ..instruments import install
+from ..recording.programs import LADDER, NotLoaded, record_program, record_test, tests_of
 from ..recording.recorder import Recorder
 from ..recording.saying import Said
 from ..telling import KINDS
@@ -135,8 +135,12 @@ def _program(arguments: argparse.Namespace) -> int:
 
 
 def _test(arguments: argparse.Namespace) -> int:
-    found = tests_of(arguments.test)
-    if len(found) != 1 or found[0][0].__module__ == "unittest.loader":
+    try:
+        found = tests_of(arguments.test)
+    except NotLoaded as why:
+        _say(str(why))
+        return 66
+    if len(found) != 1:
         _say(f"{arguments.test} isn't one test")
         return 66
     said: Optional[Said] = None
@@ -158,11 +162,8 @@ def _test(arguments: argparse.Namespace) -> int:
 def main(words: List[str]) -> int:
     """The command."""
     arguments = _arguments(words)
+    install()
     if arguments.module or arguments.test:
         # as `python3 -m` does it, also where the command is installed
         sys.path.insert(0, str(Path.cwd()))
     return _test(arguments) if arguments.test else _program(arguments)
-
-
-if __name__ == "__main__":
-    sys.exit(ended(lambda: main(sys.argv[1:])))

@@ -10,6 +10,7 @@ from typing import List
 
 import twisted
 
+from ..instruments import install
 from ..recorded_rows import ROWS, Quirky, file_of_rows
 from ..running import be_quiet
 
@@ -20,6 +21,7 @@ def main(words: List[str]) -> int:
         print("usage: recorded_rows [--check]", file=sys.stderr)
         return 64
     be_quiet()
+    install()
     try:
         text = file_of_rows()
     except Quirky as quirky:
@@ -32,7 +34,3 @@ def main(words: List[str]) -> int:
     given = f"what Twisted {twisted.__version__} gives"
     print(f"{ROWS.name} {'is' if same else 'is not'} {given}")
     return 0 if same else 1
-
-
-if __name__ == "__main__":
-    sys.exit(main(sys.argv[1:]))

@@ -1,17 +1,34 @@
-"""The instruments: each has Twisted's own code tell what it does to the observer that is on."""
+"""The instruments: each has Twisted's own code tell what it does to the observer that is on.
+
+They know functions and pairs of Twisted by names, which another version may have changed. So the import of this package
+refuses a Twisted that lacks a name, and `install` refuses one under which the self-test logs other lines than expected.
+"""
 
 from __future__ import annotations
+
+from ..known import UnknownTwisted, refuse_unusable, version
+
+refuse_unusable()
+try:
+    from . import clock, deferreds, inline, lists, locks, loops, maybe, queues, tasks, timers
+except ModuleNotFoundError:
+    raise
+except (AttributeError, ImportError) as missing:
+    raise UnknownTwisted(f"Twisted {version()} isn't known: {missing}") from missing
 
 _installed = False
 
 
 def install() -> None:
-    """Puts all instruments into Twisted, once. Where no observer is on, Twisted is as it was."""
-    global _installed
-    if _installed:
-        return
-    _installed = True
-    from . import clock, deferreds, inline, lists, locks, loops, maybe, queues, tasks, timers
+    """Puts all instruments into Twisted, once, and tries them. Where no observer is on, Twisted is as it was.
 
-    for instrument in (deferreds, lists, maybe, locks, queues, clock, timers, loops, inline, tasks):
-        instrument.install()
+    Raises UnknownTwisted where the self-test logs other lines than expected.
+    """
+    global _installed
+    if not _installed:
+        _installed = True
+        for instrument in (deferreds, lists, maybe, locks, queues, clock, timers, loops, inline, tasks):
+            instrument.install()
+    from ..self_test import check
+
+    check()

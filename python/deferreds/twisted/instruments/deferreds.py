@@ -41,6 +41,7 @@ _unpause = Deferred.unpause
 _cancel = Deferred.cancel
 _list_cancel = DeferredList.cancel
 _run_code: CodeType = _run_callbacks.__code__
+_succeed_code: CodeType = defer.succeed.__code__
 _inline_code: CodeType = defer._inlineCallbacks.__code__
 
 _passthru: Callable[..., Any] = defer.passthru
@@ -59,8 +60,14 @@ Canceller = Callable[[Deferred[Any]], Any]
 
 #: adds a pair of Twisted's own that is told otherwise than others, unless it isn't such a one after all
 AddSpecial = Callable[
-    [Observer, Deferred[Any], Record, Callable[..., Any], Callable[..., Any]], bool
+    [Observer, Deferred[Any], Record, Callable[..., Any], Callable[..., Any], PairArguments], bool
 ]
+
+#: the functions that make the Deferred of an inline body, and the hidden one of a cancelled one where that isn't in it
+_MAKERS_OF_INLINE = ("_cancellableInlineCallbacks", "_handleCancelInlineCallbacks")
+
+#: the errback by which the Deferred of a cancelled inline body comes to wait for a hidden one
+_HANDLERS_OF_CANCELS = ("handleCancel", "_handleCancelInlineCallbacks")
 
 #: by the names of their errbacks
 special_pairs: Dict[str, AddSpecial] = {}
@@ -88,6 +95,8 @@ def _set_result(deferred: Any, value: object) -> None:
     watcher = watched.observer
     if watcher is None:
         pass
+    elif not deferred.called and sys._getframe(1).f_code is _succeed_code:
+        _tell_made_fired(watcher, deferred, value)
     elif watcher.quiet:
         _tell_result(watcher, deferred, value)
     else:
@@ -97,6 +106,24 @@ def _set_result(deferred: Any, value: object) -> None:
 
 def _delete_result(deferred: Any) -> None:
     del deferred._dv_result
+
+
+def _tell_made_fired(watcher: Observer, deferred: Deferred[Any], value: object) -> None:
+    """Later Twisteds have `succeed` set the result of the Deferred that it makes, and fire nothing."""
+    record = watcher.record(deferred)
+    if watcher.quiet:
+        _tell_fired(watcher, record, value, _handed_on(watcher, record, value))
+    else:
+        outcome = watcher.texts.outcome(value)
+        action = watcher.firing(record, value, outcome)
+        watcher.act(action, _tell_fired, watcher, record, value, outcome)
+
+
+def _tell_fired(watcher: Observer, record: Record, result: object, outcome: Outcome) -> None:
+    if is_deferred(result):
+        watcher.problem("a Deferred is fired with a Deferred")  # earlier Twisteds refuse it
+    watcher.tell("fire ", record, " ", outcome)
+    record.fired, record.outcome = True, outcome
 
 
 def _tell_result(watcher: Observer, deferred: Deferred[Any], value: object) -> None:
@@ -179,7 +206,7 @@ def _instrumented_init(self: Deferred[Any], canceller: Optional[Canceller] = Non
     record.made_in = watcher.frame
     if canceller is not None and is_inline_canceller(canceller) and "inline" in watcher.kinds:
         _init(self, canceller)
-        if sys._getframe(1).f_code.co_name == "handleCancel":
+        if sys._getframe(1).f_code.co_name in _HANDLERS_OF_CANCELS:
             record.hidden_of = _cancelled_inline(watcher)
             watcher.keep(self, record)
         else:
@@ -211,7 +238,8 @@ def _act_deferred(
 
 def is_inline_canceller(canceller: object) -> bool:
     """Whether it is the canceller that Twisted gives the Deferred of an inline body."""
-    return qualified(canceller) == "_cancellableInlineCallbacks.<locals>.cancel"
+    maker, _, _ = qualified(canceller).partition(".<locals>.")
+    return maker in _MAKERS_OF_INLINE
 
 
 def _cancelled_inline(watcher: Observer) -> Optional[Record]:
@@ -250,7 +278,10 @@ def _instrumented_add(
     arguments = callbackArgs, callbackKeywords, errbackArgs, errbackKeywords
     watcher = watched.observer
     if watcher is None or not callable(callback) or not callable(errback):
-        return _add_callbacks(self, callback, errback, *arguments)
+        _add_callbacks(self, callback, errback, *arguments)
+        if watcher is not None:
+            watcher.problem("a callback that can't be called")  # earlier Twisteds refuse it
+        return self
     record = watcher.record(self)
     if record.hidden_of is not None:
         if not watcher.quiet:
@@ -258,7 +289,7 @@ def _instrumented_add(
         return _add_callbacks(self, callback, errback, *arguments)
     if errback is not _failthru:
         special = special_pairs.get(qualified(errback))
-        if special is not None and special(watcher, self, record, callback, errback):
+        if special is not None and special(watcher, self, record, callback, errback, arguments):
             return self
     if watcher.quiet:
         first, second = _own_side(watcher, record, callback), _own_side(watcher, record, errback)
@@ -313,10 +344,13 @@ def _tell_pair(
 
 
 def add_silently(
-    deferred: Deferred[Any], callback: Callable[..., Any], errback: Callable[..., Any]
+    deferred: Deferred[Any],
+    callback: Callable[..., Any],
+    errback: Callable[..., Any],
+    arguments: PairArguments,
 ) -> None:
     """Adds a pair, of which nothing is told."""
-    _add_callbacks(deferred, callback, errback)
+    _add_callbacks(deferred, callback, errback, *arguments)
 
 
 def _side(
@@ -500,8 +534,7 @@ def _fire(
     if record.hidden_of is not None:
         _tell_hidden_firing(watcher, deferred, record, record.hidden_of, result)
     elif not deferred.called:
-        watcher.tell("fire ", record, " ", outcome)
-        record.fired, record.outcome = True, outcome
+        _tell_fired(watcher, record, result, outcome)
     elif deferred._suppressAlreadyCalled:
         watcher.tell("swallow ", record)
     else:
@@ -652,6 +685,8 @@ def _tell_cancel(
             watcher.quirk(Entry.CIRCLE_OF_WAITS)
     held = result_of(deferred)
     if deferred.called and isinstance(held, Deferred):
+        if not is_deferred(held):
+            watcher.problem("a cancel is passed on to a Deferred that Twisted takes for a value")
         if isinstance(deferred, DeferredList):
             watcher.quirk(Entry.CANCEL_OF_A_FIRED_LIST)
         else:

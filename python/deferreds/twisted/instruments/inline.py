@@ -8,10 +8,16 @@ from twisted.internet import defer
 from twisted.internet.defer import Deferred
 
 from ..telling import Action, Frame, Observer, Record, observer_of, watched
-from .deferreds import add_silently, named_as, special_pairs
+from .deferreds import PairArguments, add_silently, named_as, special_pairs
 
 _cancellable = defer._cancellableInlineCallbacks
 _inline_callbacks = defer._inlineCallbacks
+
+#: the names, in one version or another, of the errback by which a body awaits
+AWAITS = ("_inlineCallbacks.<locals>.gotResult", "_gotResultInlineCallbacks")
+
+#: and of the errback by which the Deferred of a cancelled body waits for a hidden one
+HIDDEN = ("_cancellableInlineCallbacks.<locals>.handleCancel", "_handleCancelInlineCallbacks")
 
 #: the frames of bodies that are made, until Twisted begins to run them
 _begun: List[Frame] = []
@@ -46,21 +52,21 @@ def _act(watcher: Observer, gen: Any) -> Any:
     return watcher.act(action, make)
 
 
-def _instrumented_inline(result: object, gen: Any, status: Any) -> None:
+def _instrumented_inline(result: object, gen: Any, status: Any, *context: Any) -> None:
     watcher = observer_of("inline")
     if watcher is None:
-        _inline_callbacks(result, gen, status)
+        _inline_callbacks(result, gen, status, *context)
         return
     kept = status.__dict__.get("_dv_frame")
     if kept is None and _begun:
         kept = status.__dict__["_dv_frame"] = (watcher, _begun.pop())
     if kept is None or kept[0] is not watcher:
-        _inline_callbacks(result, gen, status)
+        _inline_callbacks(result, gen, status, *context)
         return
     before = watcher.quiet, watcher.frame
     watcher.quiet, watcher.frame = False, kept[1]
     try:
-        _inline_callbacks(result, gen, status)
+        _inline_callbacks(result, gen, status, *context)
     finally:
         watcher.quiet, watcher.frame = before
 
@@ -71,6 +77,7 @@ def _add_await(
     record: Record,
     callback: Callable[..., Any],
     errback: Callable[..., Any],
+    arguments: PairArguments,
 ) -> bool:
     """The pair by which an inline body awaits."""
     frame = watcher.frame
@@ -82,21 +89,21 @@ def _add_await(
     watcher.tell("add ", record)
     came = []
 
-    def got(value: object) -> object:
+    def got(value: object, *args: Any, **kwargs: Any) -> object:
         if watched.observer is not watcher:
-            return callback(value)
+            return callback(value, *args, **kwargs)
         came.append(True)
         watcher.tell("run ", record)
         frame.awaits, frame.present = None, record.outcome
         watcher.end_await(awaited, value, record.outcome)
         try:
-            return callback(value)
+            return callback(value, *args, **kwargs)
         finally:
             record.ran = True
 
     watcher.quiet = True
     try:
-        add_silently(deferred, named_as(callback, got), got)
+        add_silently(deferred, named_as(callback, got), got, arguments)
     finally:
         watcher.quiet, watcher.frame = False, frame
     if not came:
@@ -110,11 +117,12 @@ def _add_hidden(
     record: Record,
     callback: Callable[..., Any],
     errback: Callable[..., Any],
+    arguments: PairArguments,
 ) -> bool:
     """The pair by which Twisted has the Deferred of a cancelled inline body wait for a hidden one."""
     if "inline" not in watcher.kinds:
         return False
-    add_silently(deferred, callback, errback)
+    add_silently(deferred, callback, errback, arguments)
     return True
 
 
@@ -122,5 +130,5 @@ def install() -> None:
     """Puts the instrument into twisted.internet.defer."""
     setattr(defer, "_cancellableInlineCallbacks", _instrumented_cancellable)
     setattr(defer, "_inlineCallbacks", _instrumented_inline)
-    special_pairs["_inlineCallbacks.<locals>.gotResult"] = _add_await
-    special_pairs["_cancellableInlineCallbacks.<locals>.handleCancel"] = _add_hidden
+    special_pairs.update(dict.fromkeys(AWAITS, _add_await))
+    special_pairs.update(dict.fromkeys(HIDDEN, _add_hidden))

@@ -9,6 +9,7 @@ from twisted.internet.defer import Deferred, DeferredLock, DeferredSemaphore
 
 from ..classes import set_message
 from ..telling import Action, Observer, Record, Thing, observer_of
+from .maybe import making
 
 Primitive = Union[DeferredLock, DeferredSemaphore]
 
@@ -99,7 +100,7 @@ def _performing(
     def perform(*args: Any, **kwargs: Any) -> Any:
         if observer_of("lock") is not watcher:
             return f(*args, **kwargs)
-        return watcher.perform(body, "run", None, f, args, kwargs)
+        return watcher.perform(body, "run", None, making(f), args, kwargs)
 
     return perform
 

@@ -11,7 +11,7 @@ from ..classes import set_message
 from ..profile import Entry
 from ..telling import Action, Observer, Record, Thing, Time, observer_of
 from .clock import due_time, own_calls
-from .deferreds import add_silently, special_pairs
+from .deferreds import PairArguments, add_silently, special_pairs
 
 _start = task.LoopingCall.start
 _stop = task.LoopingCall.stop
@@ -126,6 +126,7 @@ def _add_second(
     record: Record,
     callback: Callable[..., Any],
     errback: Callable[..., Any],
+    arguments: PairArguments,
 ) -> bool:
     """The second pair of a turn, which the language tells as one with the first."""
     if not watcher.quiet or errback.__closure__ is None:
@@ -143,7 +144,7 @@ def _add_second(
         finally:
             record.ran = True
 
-    add_silently(deferred, callback, failed)
+    add_silently(deferred, callback, failed, arguments)
     return True
 
 

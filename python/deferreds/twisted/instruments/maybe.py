@@ -2,14 +2,40 @@
 
 from __future__ import annotations
 
+from types import CoroutineType
 from typing import Any, Callable, List
 
 from twisted.internet import defer, task
 from twisted.internet.defer import Deferred
 
-from ..telling import Action, Observer, Record, watched
+from ..telling import Action, Observer, Record, is_deferred, watched
 
 _maybe = defer.maybeDeferred
+
+
+async def _nothing() -> None:
+    """A coroutine function."""
+
+
+def _makes_of_coroutines() -> bool:
+    """Whether `maybeDeferred` makes a Deferred of a coroutine that it is given, as later Twisteds do."""
+    coroutine: Any = _nothing()
+    made: Any = _maybe(lambda: coroutine)
+    coroutine.close()
+    return made.result is not coroutine
+
+
+_makes = _makes_of_coroutines()
+
+
+def making(f: Callable[..., Any]) -> Callable[..., Any]:
+    """The function, which makes the Deferred of a coroutine itself where `maybeDeferred` would."""
+
+    def call(*args: Any, **kwargs: Any) -> Any:
+        result = f(*args, **kwargs)
+        return Deferred.fromCoroutine(result) if type(result) is CoroutineType else result
+
+    return call if _makes else f
 
 
 def _instrumented_maybe(f: Callable[..., Any], *args: Any, **kwargs: Any) -> Any:
@@ -35,9 +61,9 @@ def _act(watcher: Observer, f: Callable[..., Any], args: Any, kwargs: Any) -> An
         given: List[Deferred[Any]] = []
 
         def perform() -> Any:
-            result = watcher.perform(body, "maybe", None, f, args, kwargs)
+            result = watcher.perform(body, "maybe", None, making(f), args, kwargs)
             watcher.put_expected(expected)
-            if isinstance(result, Deferred):
+            if is_deferred(result):
                 given.append(result)
             else:
                 watcher.expect(made)
@@ -51,7 +77,7 @@ def _act(watcher: Observer, f: Callable[..., Any], args: Any, kwargs: Any) -> An
                 watcher.expect(made)
                 raise
 
-        deferred = _maybe(failing)
+        deferred: Deferred[Any] = _maybe(failing)
         if given:
             action[1] = watcher.record(deferred)
             watcher.rename(deferred)
@@ -69,7 +95,7 @@ def _of_twisteds_own(
     def perform() -> Any:
         if turn is None:
             return f(*args, **kwargs)
-        return watcher.perform(turn, "turn", None, f, args, kwargs)
+        return watcher.perform(turn, "turn", None, making(f), args, kwargs)
 
     frame = watcher.frame
     before, frame.anonymous = frame.anonymous, True

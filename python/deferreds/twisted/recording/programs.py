@@ -156,14 +156,20 @@ def _driven(reactor: VirtualReactor, call: Callable[[], Any], module: ModuleType
         return result
 
 
+class NotLoaded(Exception):
+    """Tests can't be loaded: why, in one line."""
+
+
 def tests_of(name: str) -> List[Tuple[type[unittest.TestCase], str]]:
-    """The tests of a module, or of what has this name in one, each by its class and its method."""
+    """The tests of a module, or of what has this name in one, each by its class and its method. Raises NotLoaded."""
     found: List[Tuple[type[unittest.TestCase], str]] = []
     suites: List[Any] = [unittest.TestLoader().loadTestsFromName(name)]
     while suites:
         suite = suites.pop(0)
         if isinstance(suite, unittest.TestSuite):
             suites[:0] = list(suite)
+        elif type(suite).__module__ == "unittest.loader":  # a test in place of those that can't be loaded, which raises why
+            raise NotLoaded(f"{name} can't be loaded: {str(suite._exception).strip().splitlines()[-1]}")
         else:
             found.append((type(suite), suite._testMethodName))
     return found

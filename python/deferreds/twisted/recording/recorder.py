@@ -157,7 +157,7 @@ class Recorder(Observer):
         if error is not None:
             passed = given is not None and given[1].text == f"fail {raised}"
             frame.end = None if passed else self.raising(error)
-        elif is_deferred(result):
+        elif _is_waited_for(frame, result):
             if frame.kind == "step" or frame.kind not in _DROPPED:
                 frame.end = ["wait", self.record(result)]
         elif frame.kind not in _DROPPED:
@@ -254,6 +254,11 @@ class Recorder(Observer):
             outcome = f"fail {self.texts.failure(error).text}"
             return Unsayable("a FirstError is made or passed on by the program", place(), outcome)
         return ["raise", self.classes.name_of(type(error)), message_of(error)]
+
+
+def _is_waited_for(frame: Run, result: object) -> bool:
+    """Whether Twisted waits for what a body gave. Its Cooperator asks by `isinstance`, whatever the rest of it does."""
+    return isinstance(result, Deferred) if frame.kind == "step" else is_deferred(result)
 
 
 def _holds_failures(shown: Any) -> bool:
