@@ -13,7 +13,7 @@ import subprocess
 import sys
 import time
 from concurrent.futures import ThreadPoolExecutor
-from typing import Callable, List, NamedTuple, Optional
+from typing import Callable, Dict, List, NamedTuple, Optional
 
 from deferreds.ending import ended
 
@@ -58,6 +58,8 @@ class Stage(NamedTuple):
     shows: str
     commands: List[List[str]]
     lacks: Callable[[], Optional[str]] = nothing
+    #: variables that its commands get
+    variables: Dict[str, str] = {}
 
 
 def unittests(folder: str, *words: str) -> List[str]:
@@ -73,7 +75,8 @@ STAGES = [
     Stage("json", "runs as JSON agree with their journals", [["python/check_json", "--each", "4", "--random", "500"]]),
     Stage("faults", "refused memory and failed reads and writes, on a sample", [unittests("faults"), ["faults/sweep.py", "--sample"]], no_compiler),
     Stage("bench", "the measuring of speed", [unittests("bench")]),
-    Stage("view", "the view, but for what needs a browser", [unittests("python/view_tests", "-t", "python")]),
+    Stage("view", "the view, but for what needs a browser", [unittests("python/view_tests", "-t", "python")],
+          variables={"CHROMIUM": ""}),
     Stage("packages", "the wheel and the Debian package install and run", [unittests("python/packaging_tests", "-t", "python")]),
     Stage("types", "the types of the Python package", [["python/check_types"]], no_mypy),
     Stage("recorder", "the recorder, and scripts on real Twisted", [unittests("python/tests", "-t", "python")], no_twisted),
@@ -101,7 +104,9 @@ def run_stage(stage: Stage) -> Result:
     if lacks is not None:
         return Result(stage, 0, lacks=lacks)
     last = ""
-    environment = {**os.environ, "PYTHON": twisted_python() or _PYTHON} if stage.lacks is no_twisted else dict(os.environ)
+    environment = {**os.environ, **stage.variables}
+    if stage.lacks is no_twisted:
+        environment["PYTHON"] = twisted_python() or _PYTHON
     for command in stage.commands:
         words = [environment["PYTHON"], *command[1:]] if stage.lacks is no_twisted and command[0] == _PYTHON else command
         ran = subprocess.run(words, cwd=TOP, env=environment, stdout=subprocess.PIPE, stderr=subprocess.STDOUT, check=False)

@@ -35,7 +35,9 @@ class Broken(Exception):
 
 
 def found() -> Optional[str]:
-    """Where a Chromium is: the one that CHROMIUM names, or one on the PATH."""
+    """Where a Chromium is: the one that CHROMIUM names, or one on the PATH; none where CHROMIUM is empty."""
+    if os.environ.get("CHROMIUM") == "":
+        return None
     for name in (os.environ.get("CHROMIUM"), *_NAMES):
         path = shutil.which(name) if name else None
         if path is not None:
