@@ -9,6 +9,8 @@ from concurrent.futures import ThreadPoolExecutor
 from pathlib import Path
 from typing import Callable, Iterable, List, NamedTuple, Optional, TypeVar
 
+from deferreds.program import NOT_RUN, NotRun, built
+
 TOP = Path(__file__).resolve().parent.parent
 
 _SECONDS = 60
@@ -26,10 +28,11 @@ class Ran(NamedTuple):
 
 def program_here() -> Path:
     """The program that the launcher runs: built from the sources that stand here, or released for them."""
-    asked = subprocess.run([str(TOP / "deferreds"), "--program"], stdout=subprocess.PIPE, text=True, check=False)
-    if asked.returncode != 0:
-        sys.exit(asked.returncode)
-    return Path(asked.stdout.strip())
+    try:
+        return built()
+    except NotRun as why:
+        print(f"check: {why}", file=sys.stderr)
+        sys.exit(NOT_RUN)
 
 
 def run(program: Path, words: List[str], script: str) -> Ran:
