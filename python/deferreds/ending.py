@@ -21,11 +21,15 @@ def ended(main: Callable[[], int]) -> int:
         sys.stdout.flush()
         return status
     except BrokenPipeError:
-        # what is still to be written would fail again when Python ends
-        os.dup2(os.open(os.devnull, os.O_WRONLY), sys.stdout.fileno())
+        discard_output()
         return WRITE_FAILED
     except KeyboardInterrupt:
         # a shell sees by the signal that it was Ctrl-C; threads that still run aren't waited for
         signal.signal(signal.SIGINT, signal.SIG_DFL)
         os.kill(os.getpid(), signal.SIGINT)
         return 128 + signal.SIGINT
+
+
+def discard_output() -> None:
+    """Drops what is still to be written to standard output, which would fail again when Python ends."""
+    os.dup2(os.open(os.devnull, os.O_WRONLY), sys.stdout.fileno())

@@ -12,7 +12,7 @@ from deferreds.twisted.comparing import Comparison, compared, difference, is_of_
 from deferreds.twisted.cutting import cut_down
 from deferreds.twisted.posts import batches_of
 from deferreds.twisted.profile import Entry
-from deferreds.twisted.programs import Answer, Batches
+from deferreds.twisted.programs import Answer, Batches, Lack
 from deferreds.twisted.randoms import Scripts
 from deferreds.twisted.running import be_quiet, run
 from deferreds.twisted.script import read
@@ -32,6 +32,9 @@ class Twisted:
     def close(self) -> None:
         """Nothing is left to do."""
 
+    def interrupt(self) -> None:
+        """Nothing runs."""
+
 
 def script(*events: object, **keys: object) -> str:
     """A script of these events."""
@@ -49,7 +52,15 @@ class Comparing(unittest.TestCase):
         self.assertIsNone(compared(ours, ours))
         self.assertEqual(compared(ours, Answer(0, "a\nx\nc\n", "")), (2, "b", "x"))
         self.assertEqual(compared(ours, Answer(0, "a\nb\n", "")), (3, "c", "(the end)"))
-        self.assertEqual(compared(ours, Answer(1, "a\nb\nc\n", "")), (4, "status 0", "status 1"))
+        stopped = (4, "(the end)", "(stopped at the limit of the journal, status 1)")
+        self.assertEqual(compared(ours, Answer(1, "a\nb\nc\n", "")), stopped)
+
+    def test_an_answer_that_is_not_whole_differs_also_where_its_lines_are_the_same(self) -> None:
+        ours = Answer(0, "a\n", "")
+        late = Answer(-1, "a\n", "", Lack("no answer within 5 seconds", True))
+        self.assertEqual(compared(ours, late), (2, "(the end)", "(no answer within 5 seconds)"))
+        found = difference(script(), ours, late)
+        self.assertEqual(found and (found.entry, found.lacks, found.is_late), (None, True, True))
 
     def test_lines_that_a_row_leaves_out_may_be_any_and_the_others_have_to_be_there(self) -> None:
         row = Answer(0, "a\n...\nz\n", "")
@@ -86,8 +97,29 @@ class Comparing(unittest.TestCase):
         found = comparison.of_script(text)
         assert found is not None
         self.assertIsNone(found.entry)
-        smaller = json.loads(comparison.cut_down(text, found))
+        tried: List[int] = []
+        smaller = json.loads(comparison.cut_down(text, found, tried.append))
         self.assertEqual(smaller["events"], [["note", "b"]])
+        self.assertEqual(tried, list(range(1, len(tried) + 1)))
+
+    def test_no_more_is_tried_after_a_smaller_script_that_is_not_answered_in_time(self) -> None:
+        text = script(["note", "a"], ["note", "b"])
+        asked: List[str] = []
+
+        class Hangs(Twisted):
+            """It loses the text b, and answers nothing where there is no text a."""
+
+            def answer(self, script: str, batches: Optional[Batches] = None) -> Answer:
+                asked.append(script)
+                if '"a"' not in script:
+                    return Answer(-1, "", "", Lack("no answer", True))
+                return super().answer(script, batches)
+
+        comparison = Comparison(Twisted(), Hangs(lambda output: output.replace('"b"', '"c"')), 500)
+        found = comparison.of_script(text)
+        assert found is not None
+        self.assertEqual(comparison.cut_down(text, found, lambda tried: None), text)
+        self.assertEqual(len([one for one in asked if '"a"' not in one]), 1)
 
     def test_levels_leave_out_what_is_above(self) -> None:
         self.assertTrue(is_of_level(script(["note", "cancel"]), "core"))

@@ -1,22 +1,108 @@
-"""Tests of the command conform: which program it takes for ours."""
+"""Tests of the command conform: which program it takes for ours, what it tells of differences, and how long it waits."""
 
 import contextlib
 import io
 import os
+import signal
 import subprocess
 import sys
+import tempfile
+import time
 import unittest
+from pathlib import Path
+from typing import List, NamedTuple, Optional
 from unittest import mock
 
 from deferreds.twisted.commands import conform
+from deferreds.twisted.conforming import MOST_LATE, MOST_UNANSWERED, Progress, Tally
+from deferreds.twisted.comparing import Difference
+from deferreds.twisted.programs import Lack
+
+#: more than any of these tests takes
+_LONG = 120
+
+_ROWS = """\
+== a note
+{"version":1,"events":[["note","a"]]}
+-- 0
+note "a"
+
+== two notes
+{"version":1,"events":[["note","a"],["note","b"]]}
+-- 0
+note "a"
+note "b"
+
+== an unknown name
+{"version":1,"events":[["note","x"],["pauseTask",7]]}
+-- 2 script refused: 6 BadName
+
+== a run that stops
+{"version":1,"limit":0,"events":[["note","a"]]}
+-- 1
+"""
+
+_MANY = """\
+#!{python}
+import sys
+for line in sys.stdin.buffer:
+    script = sys.stdin.buffer.read(int(line.split()[0]))
+    {answer}
+    sys.stdout.flush()
+"""
 
 
-def conforming(*words: str) -> "tuple[int, str]":
-    """The status of the command for these words, and what it writes to standard error."""
-    errors = io.StringIO()
-    with contextlib.redirect_stderr(errors):
+class Ran(NamedTuple):
+    """How the command has ended, and what it has written."""
+
+    status: int
+    output: str
+    errors: str
+
+
+def conforming(*words: str) -> Ran:
+    """Runs the command with these words."""
+    output, errors = io.StringIO(), io.StringIO()
+    with contextlib.redirect_stderr(errors), contextlib.redirect_stdout(output):
         status = conform.main(list(words))
-    return status, errors.getvalue()
+    return Ran(status, output.getvalue(), errors.getvalue())
+
+
+def is_running(process: int) -> bool:
+    """Whether a process of this number runs, and isn't just waiting to be waited for."""
+    try:
+        return Path(f"/proc/{process}/stat").read_text(encoding="utf-8").rpartition(")")[2].split()[0] != "Z"
+    except OSError:
+        return False
+
+
+class ConformTest(unittest.TestCase):
+    """Tests that compare small commands on a few rows."""
+
+    def setUp(self) -> None:
+        room = tempfile.TemporaryDirectory()
+        self.addCleanup(room.cleanup)
+        self.folder = Path(room.name)
+        rows = self.folder / "small.rows"
+        rows.write_text(_ROWS, encoding="utf-8")
+        patched = mock.patch("deferreds.twisted.conforming.row_files", return_value=[rows])
+        patched.start()
+        self.addCleanup(patched.stop)
+
+    def command(self, text: str) -> str:
+        """A command of this text."""
+        path = self.folder / "command"
+        path.write_text(text, encoding="utf-8")
+        path.chmod(0o700)
+        return str(path)
+
+    def shell(self, text: str) -> str:
+        """A command that a shell runs."""
+        return self.command(f"#!/bin/sh\n{text}\n")
+
+    def many(self, answer: str) -> str:
+        """A command that takes `--many`, and answers in this way."""
+        return self.command(_MANY.format(python=sys.executable, answer=answer))
 
 
 class OursTest(unittest.TestCase):
@@ -25,20 +111,284 @@ class OursTest(unittest.TestCase):
     def test_without_a_program_of_ours_random_scripts_end_with_status_70(self) -> None:
         absent = subprocess.CompletedProcess(["deferreds"], 70, stdout="", stderr="")
         with mock.patch("deferreds.program.subprocess.run", return_value=absent):
-            status, errors = conforming("--random", "1", "--", "true")
-        self.assertEqual(status, 70)
-        self.assertIn("./deferreds --build", errors)
+            ran = conforming("--random", "1", "--", "true")
+        self.assertEqual(ran.status, 70)
+        self.assertIn("./deferreds --build", ran.errors)
 
     def test_a_program_that_is_named_is_taken(self) -> None:
-        with contextlib.redirect_stdout(io.StringIO()) as output:
-            status, _ = conforming("--random", "2", "--ours", "true", "--", "true")
-        self.assertEqual(status, 0)
-        self.assertEqual(output.getvalue(), "2 passed, 0 failed\n")
+        ran = conforming("--random", "2", "--ours", "true", "--", "true")
+        self.assertEqual((ran.status, ran.output), (0, "2 passed, 0 failed\n"))
 
-    def test_numbers_below_0_are_refused(self) -> None:
-        with self.assertRaises(SystemExit) as ended:
-            conforming("--random", "-1", "--", "true")
-        self.assertEqual(ended.exception.code, 64)
+    def test_a_command_that_is_missing_ends_with_status_70(self) -> None:
+        for words in (["/nowhere/command"], ["--many", "--", "/nowhere/command"]):
+            ran = conforming("--rows", *words)
+            self.assertEqual((ran.status, ran.output), (70, ""))
+            self.assertEqual(ran.errors, "conform: /nowhere/command can't be run: No such file or directory\n")
+
+    def test_wrong_words_are_refused(self) -> None:
+        for words in (
+            ["--random", "-1"],
+            ["--rows", "--timeout", "0"],
+            ["--rows", "--timeout", "nan"],
+            ["--rows", "--timeout", "soon"],
+            ["--rows", "--progress", "-1"],
+            ["--rows", "--show", "-1"],
+            ["--rows", "--show", "some"],
+            [],
+        ):
+            with self.subTest(words=words), self.assertRaises(SystemExit) as ended:
+                conforming(*words, "--", "true")
+            self.assertEqual(ended.exception.code, 64)
+
+
+class ShownTest(ConformTest):
+    """What is told of differences."""
+
+    def differing(self, output: str) -> List[str]:
+        """The names of the rows of which a difference is told."""
+        return [line.split(": ")[1] for line in output.splitlines() if line.startswith("small.rows: ")]
+
+    def test_it_says_how_many_differences_it_does_not_show(self) -> None:
+        command = self.shell("cat >/dev/null; echo other")
+        ran = conforming("--rows", "--show", "1", "--", command)
+        self.assertEqual((ran.status, self.differing(ran.output)), (1, ["a note"]))
+        last = ["3 more differences aren't shown; --show all shows each", "0 passed, 4 failed"]
+        self.assertEqual(ran.output.splitlines()[-2:], last)
+        ran = conforming("--rows", "--show", "3", "--", command)
+        self.assertIn("1 more difference isn't shown; --show all shows each\n", ran.output)
+
+    def test_all_are_shown_where_all_are_asked_for_or_fit(self) -> None:
+        command = self.shell("cat >/dev/null; echo other")
+        for words in (["--show", "all"], ["--show", "4"], []):
+            ran = conforming("--rows", *words, "--", command)
+            self.assertEqual(len(self.differing(ran.output)), 4)
+            self.assertNotIn("shown", ran.output)
+
+    def test_refusals_can_be_left_out(self) -> None:
+        ran = conforming("--rows", "--no-refusals", "--", self.shell("cat >/dev/null"))
+        self.assertEqual(self.differing(ran.output), ["a note", "two notes", "a run that stops"])
+        self.assertTrue(ran.output.endswith("\n0 passed, 3 failed\n"))
+
+    def test_what_is_expected_is_named(self) -> None:
+        cases = (
+            ("", "(the end)"),
+            ("exit 2", "(ended by status 2)"),
+            ("echo 'script refused: 4 BadShape' >&2; exit 2", "(refused, 4 BadShape)"),
+            ("echo more >&2; echo 'KeyError: x' >&2; exit 1",
+             "(stopped at the limit of the journal, status 1; standard error ends with: KeyError: x)"),
+            ("exit 70", "(ended by status 70)"),
+            ("kill -SEGV $$", "(ended by signal 11, SIGSEGV)"),
+        )
+        for text, said in cases:
+            ran = conforming("--rows", "--", self.shell(f"cat >/dev/null\n{text}"))
+            self.assertIn(
+                "small.rows: an unknown name: line 1 differs\n"
+                f"  deferreds: (refused, 6 BadName)\n  command:   {said}\n"
+                '  {"version":1,"events":[["note","x"],["pauseTask",7]]}\n',
+                ran.output,
+            )
+
+    def test_a_command_that_ends_early_is_told_with_what_it_had_printed(self) -> None:
+        ran = conforming("--rows", "--", self.shell("cat >/dev/null; echo 'note \"a\"'; echo oops >&2; exit 3"))
+        self.assertIn(
+            'small.rows: two notes: line 2 differs\n  deferreds: note "b"\n'
+            '  command:   (ended by status 3; standard error ends with: oops)\n'
+            '  {"version":1,"events":[["note","a"],["note","b"]]}\n',
+            ran.output,
+        )
+
+    def test_a_difference_that_is_gone_at_the_next_run_is_shown_all_the_same(self) -> None:
+        seen = self.folder / "seen"
+        command = self.shell(f"cat >/dev/null; [ -e {seen} ] || {{ : >{seen}; echo once; }}")
+        ran = conforming("--random", "1", "--ours", "true", "--", command)
+        self.assertIn("random script 0 of seed 1", ran.output)
+        self.assertIn("\n  command:   once\n", ran.output)
+        self.assertEqual((ran.status, ran.output.splitlines()[-1]), (1, "0 passed, 1 failed"))
+
+    def test_output_that_can_not_be_written_ends_with_status_4(self) -> None:
+        if not os.path.exists("/dev/full"):
+            self.skipTest("there is no /dev/full")
+        with open("/dev/full", "wb") as full:
+            ran = self.as_process(["--random", "1", "--ours", "true", "--", "true"], full)
+        self.assertEqual(ran.returncode, 4)
+        said = b"conform: standard output can't be written: No space left on device\n"
+        self.assertEqual(ran.stderr, said)
+
+    def as_process(self, words: List[str], output: "Optional[io.BufferedWriter]" = None) -> "subprocess.CompletedProcess[bytes]":
+        """Runs the command as a process of its own."""
+        return subprocess.run(
+            [sys.executable, "-m", "deferreds.twisted", "conform", *words],
+            env={**os.environ, "PYTHONPATH": os.pathsep.join(filter(None, sys.path))},
+            stdout=output,
+            stderr=subprocess.PIPE,
+            timeout=_LONG,
+            check=False,
+        )
+
+
+class WaitingTest(ConformTest):
+    """How long a command is waited for."""
+
+    def test_a_command_that_never_answers_is_told_with_the_script(self) -> None:
+        number = self.folder / "number"
+        command = self.shell(f"cat >/dev/null; echo 'note \"a\"'; sleep {_LONG} & echo $! >{number}; wait")
+        start = time.monotonic()
+        ran = conforming("--rows", "--timeout", "1", "--", command)
+        self.assertLess(time.monotonic() - start, _LONG / 2)
+        self.assertEqual(ran.status, 1)
+        self.assertIn(
+            'small.rows: two notes: line 2 differs\n  deferreds: note "b"\n'
+            '  command:   (no answer within 1 seconds)\n  {"version":1,"events":[["note","a"],["note","b"]]}\n',
+            ran.output,
+        )
+        self.assertFalse(is_running(int(number.read_text(encoding="utf-8"))))
+
+    def test_after_some_in_a_row_no_more_are_asked(self) -> None:
+        ran = conforming("--rows", "--timeout", "0.2", "--", self.shell(f"exec sleep {_LONG}"))
+        self.assertEqual(
+            ran.output.splitlines()[-2:],
+            [f"1 of 4 runs are left out, since {MOST_LATE} scripts in a row weren't answered in time",
+             f"0 passed, {MOST_LATE} failed"],
+        )
+
+    def test_a_random_script_that_is_not_answered_is_shown_as_it_is(self) -> None:
+        start = time.monotonic()
+        ran = conforming(
+            "--random", "1", "--timeout", "0.2", "--ours", "true", "--", self.shell(f"exec sleep {_LONG}")
+        )
+        self.assertLess(time.monotonic() - start, _LONG / 2)
+        self.assertIn("\n  command:   (no answer within 0.2 seconds)\n", ran.output)
+
+    def test_output_without_an_end_is_told(self) -> None:
+        ran = conforming("--random", "1", "--trials", "0", "--ours", "true", "--", self.shell("exec yes"))
+        self.assertIn("line 1 differs\n  deferreds: (the end)\n  command:   y\n", ran.output)
+
+    def test_a_command_that_does_not_read_is_no_failure_of_its_own(self) -> None:
+        ran = conforming("--random", "2", "--ours", "true", "--", self.shell("exec <&-"))
+        self.assertEqual((ran.status, ran.output), (0, "2 passed, 0 failed\n"))
+
+    def test_ctrl_c_ends_the_command_too(self) -> None:
+        number = self.folder / "number"
+        command = self.shell(f"echo $$ >{number}.new; mv {number}.new {number}; exec sleep {_LONG}")
+        words = ["--random", "1", "--timeout", str(_LONG), "--ours", "true", "--", command]
+        process = subprocess.Popen(
+            [sys.executable, "-m", "deferreds.twisted", "conform", *words],
+            env={**os.environ, "PYTHONPATH": os.pathsep.join(filter(None, sys.path))},
+            stdout=subprocess.DEVNULL,
+            stderr=subprocess.PIPE,
+        )
+        with process:
+            self.addCleanup(process.kill)
+            deadline = time.monotonic() + _LONG / 2
+            while not number.exists() and time.monotonic() < deadline:
+                time.sleep(0.01)
+            process.send_signal(signal.SIGINT)
+            assert process.stderr is not None
+            errors = process.stderr.read()
+            self.assertEqual(process.wait(_LONG / 2), -signal.SIGINT)
+        self.assertNotIn(b"Traceback", errors)
+        child = int(number.read_text(encoding="utf-8"))
+        while is_running(child) and time.monotonic() < deadline:
+            time.sleep(0.01)
+        self.assertFalse(is_running(child))
+
+
+class ManyTest(ConformTest):
+    """A command that is asked script after script."""
+
+    def test_each_answer_is_taken(self) -> None:
+        answer = """text = b'note "a"\\n'; sys.stdout.buffer.write(b'0 %d 0\\n' % len(text) + text)"""
+        ran = conforming("--rows", "--many", "--", self.many(answer))
+        self.assertEqual(ran.output.splitlines()[-1], "1 passed, 3 failed")
+        self.assertIn('small.rows: two notes: line 2 differs\n  deferreds: note "b"\n  command:   (the end)\n', ran.output)
+
+    def test_one_that_ends_early_is_told_with_the_script_and_started_again(self) -> None:
+        answer = """sys.exit(3) if b'"b"' in script else print('0 9 0\\nnote "a"')"""
+        ran = conforming("--rows", "--many", "--", self.many(answer))
+        self.assertIn(
+            'small.rows: two notes: line 1 differs\n  deferreds: note "a"\n'
+            "  command:   (it has ended, by status 3, before it had answered)\n"
+            '  {"version":1,"events":[["note","a"],["note","b"]]}\n',
+            ran.output,
+        )
+        self.assertIn("small.rows: an unknown name: line 1 differs", ran.output)
+        self.assertEqual(ran.output.splitlines()[-1], "1 passed, 3 failed")
+
+    def test_one_that_never_answers_is_told_with_the_script(self) -> None:
+        answer = f"""__import__('time').sleep({_LONG}) if b'"b"' in script else print('0 9 0\\nnote "a"')"""
+        start = time.monotonic()
+        ran = conforming("--rows", "--many", "--timeout", "5", "--", self.many(answer))
+        self.assertLess(time.monotonic() - start, _LONG / 2)
+        self.assertIn(
+            "  command:   (no answer within 5 seconds)\n"
+            '  {"version":1,"events":[["note","a"],["note","b"]]}\n',
+            ran.output,
+        )
+        self.assertEqual(ran.output.splitlines()[-1], "1 passed, 3 failed")
+
+    def test_a_wrong_line_is_told(self) -> None:
+        for line, said in (("hello", "hello"), ("0 1", "0 1"), ("0 -1 0", "0 -1 0"), ("", "an empty one"),
+                           ("1" * 200, "1" * 100)):
+            ran = conforming("--rows", "--many", "--", self.many(f"print({line!r})"))
+            self.assertIn(f"  command:   (a line that isn't three numbers: {said})\n", ran.output)
+
+    def test_an_answer_without_an_end_is_told(self) -> None:
+        answer = "sys.stdout.write('0 999999999 0\\n'); [sys.stdout.write('x' * 1_000_000) for _ in range(100)]"
+        ran = conforming("--random", "1", "--trials", "0", "--many", "--ours", "true", "--", self.many(answer))
+        self.assertRegex(ran.output, r"\n  command:   \(more than \d+ bytes of output\)\n")
+
+    def test_none_are_asked_after_some_where_none_was_answered(self) -> None:
+        ran = conforming("--random", "50", "--trials", "0", "--many", "--ours", "true", "--", self.shell("exit 64"))
+        self.assertEqual(
+            ran.output.splitlines()[-2:],
+            [f"{50 - MOST_UNANSWERED} of 50 runs are left out, since none of the first {MOST_UNANSWERED} scripts was answered",
+             f"0 passed, {MOST_UNANSWERED} failed"],
+        )
+
+
+class ProgressTest(ConformTest):
+    """What is said while it runs."""
+
+    def test_a_pipe_gets_a_line_now_and_then(self) -> None:
+        ran = conforming("--rows", "--progress", "1e-9", "--", self.shell("cat >/dev/null"))
+        lines = [f"conform: {runs} of 4 runs, {runs} failed" for runs in (1, 2, 3, 4)]
+        self.assertEqual(ran.errors.splitlines(), lines)
+
+    def test_with_0_seconds_none(self) -> None:
+        ran = conforming("--rows", "--progress", "0", "--", self.shell("cat >/dev/null"))
+        self.assertEqual(ran.errors, "")
+
+    def test_cutting_down_is_told_too(self) -> None:
+        ran = conforming("--random", "1", "--trials", "3", "--progress", "1e-9", "--ours", "true", "--", self.shell("echo x"))
+        self.assertIn("conform: 1 of 1 runs, 1 failed; cuts a script down, 3 tried\n", ran.errors)
+
+    def test_a_line_comes_each_so_many_seconds(self) -> None:
+        now = [0.0]
+        stream = io.StringIO()
+        progress = Progress(stream, 9, 10.0, lambda: now[0])
+        for runs, at in ((1, 4.0), (2, 10.0), (3, 15.0), (4, 21.0)):
+            now[0] = at
+            progress.say(runs, 0)
+        progress.clear()
+        self.assertEqual(stream.getvalue(), "conform: 2 of 9 runs, 0 failed\nconform: 4 of 9 runs, 0 failed\n")
+
+    def test_a_terminal_has_one_line_that_is_cleared(self) -> None:
+        now = [0.0]
+        stream = io.StringIO()
+        with mock.patch.object(stream, "isatty", return_value=True):
+            progress = Progress(stream, 9, 10.0, lambda: now[0])
+        now[0] = 1.0
+        progress.say(1, 0)
+        progress.clear()
+        self.assertEqual(stream.getvalue(), "\r\x1b[Kconform: 1 of 9 runs, 0 failed\r\x1b[K")
+
+    def test_late_runs_that_are_not_in_a_row_do_not_end_it(self) -> None:
+        late = Difference(1, "", Lack("late", True).why, None, True, True)
+        tally = Tally()
+        for found in [late, late, None] * MOST_LATE:
+            self.assertIsNone(tally.given_up())
+            tally.count(found)
+        self.assertEqual((tally.passed, tally.failed), (MOST_LATE, 2 * MOST_LATE))
 
 
 class OnTwistedTest(unittest.TestCase):

@@ -3,9 +3,11 @@
 from __future__ import annotations
 
 import json
-from typing import Iterator, List, NamedTuple, Optional, Sequence, Set, Tuple
+import re
+from typing import Callable, Iterator, List, NamedTuple, Optional, Sequence, Set, Tuple
 
 from . import grammar
+from .children import last_line, named_status
 from .classes import BUILT_IN
 from .cutting import cut_down
 from .posts import Batch, batches_of, has_posts
@@ -16,6 +18,9 @@ from .running import Run, run
 from .script import Refused, read
 
 
+_REFUSED = re.compile(r"script refused: (\d+ \w+)")
+
+
 class Difference(NamedTuple):
     """The first line in which two answers differ."""
 
@@ -23,10 +28,13 @@ class Difference(NamedTuple):
     ours: str
     theirs: str
     entry: Optional[Entry]
+    #: whether theirs isn't whole, and whether it was waited for in vain
+    lacks: bool = False
+    is_late: bool = False
 
 
 def compared(ours: Answer, theirs: Answer) -> Optional[Tuple[int, str, str]]:
-    """The first line in which they differ, from 1, and that line of each."""
+    """The first line in which they differ, from 1, and that line of each; where one of them has ended there, how."""
     other = theirs.output.splitlines()
     mine = filled(ours.output.splitlines(), other)
     for place, (line, another) in enumerate(zip(mine, other)):
@@ -34,18 +42,36 @@ def compared(ours: Answer, theirs: Answer) -> Optional[Tuple[int, str, str]]:
             return place + 1, line, another
     if len(mine) != len(other):
         place = min(len(mine), len(other))
-        return place + 1, _line(mine, place), _line(other, place)
-    if ours.status != theirs.status or (ours.status == 2 and ours.errors != theirs.errors):
-        return len(mine) + 1, _ending(ours), _ending(theirs)
+        return place + 1, _line(mine, place, ours), _line(other, place, theirs)
+    if _end(ours) != _end(theirs):
+        return len(mine) + 1, ending(ours), ending(theirs)
     return None
 
 
-def _line(lines: List[str], place: int) -> str:
-    return lines[place] if place < len(lines) else "(the end)"
+def _line(lines: List[str], place: int, answer: Answer) -> str:
+    return lines[place] if place < len(lines) else ending(answer)
 
 
-def _ending(answer: Answer) -> str:
-    return f"status {answer.status} {answer.errors.strip()}".strip()
+def _end(answer: Answer) -> Tuple[object, ...]:
+    """By what the ends of two runs are compared: standard error counts where a script is refused."""
+    return answer.status, answer.lack, answer.errors if answer.status == 2 else ""
+
+
+def ending(answer: Answer) -> str:
+    """How a run has ended, in a few words: `(refused, 6 BadName)`."""
+    if answer.lack is not None:
+        return f"({_with_errors(answer.lack.why, answer.errors)})"
+    refused = _REFUSED.fullmatch(answer.errors.strip())
+    if answer.status == 2 and refused is not None:
+        return f"(refused, {refused[1]})"
+    known = {0: "the end", 1: "stopped at the limit of the journal, status 1"}
+    how = known.get(answer.status) or f"ended by {named_status(answer.status)}"
+    return f"({_with_errors(how, answer.errors)})"
+
+
+def _with_errors(how: str, errors: str) -> str:
+    line = last_line(errors)
+    return f"{how}; standard error ends with: {line}" if line else how
 
 
 def difference(
@@ -56,6 +82,8 @@ def difference(
     if first is None:
         return None
     line, mine, other = first
+    if theirs.lack is not None:
+        return Difference(line, mine, other, None, True, theirs.lack.is_late)
     return Difference(line, mine, other, _entry(script, line, theirs, batches))
 
 
@@ -99,24 +127,35 @@ class Comparison:
         for batches in _batches(script, expected):
             answer = self._theirs.answer(script, batches)
             other = difference(script, expected, answer, batches)
-            if other is None:
-                return None
+            if other is None or other.lacks:
+                return other
             if found is None or (found.entry is None and other.entry is not None):
                 found = other
         return found
 
-    def cut_down(self, script: str, found: Difference) -> str:
-        """The smallest script on which the programs differ by the same entry, or by none, as on this one."""
+    def cut_down(self, script: str, found: Difference, tried: Callable[[int], None]) -> str:
+        """The smallest script on which the programs differ by the same entry, or by none, as on this one.
+
+        `tried` is told how many scripts were tried. No more are where one wasn't answered in time.
+        """
+        count = 0
+        late = found.is_late
 
         def shows(smaller: str) -> bool:
+            nonlocal count, late
+            if late:
+                return False
+            count += 1
+            tried(count)
             try:
                 read(smaller.encode(), list(BUILT_IN))
             except Refused:
                 return False
             other = self.of_script(smaller)
-            return other is not None and other.entry is found.entry
+            late = other is not None and other.is_late
+            return other is not None and not late and (other.entry, other.lacks) == (found.entry, found.lacks)
 
-        return cut_down(script, shows, self._trials)
+        return script if late else cut_down(script, shows, self._trials)
 
 
 def _batches(script: str, answer: Answer) -> Sequence[Optional[List[Batch]]]:

@@ -6,25 +6,63 @@ import argparse
 import collections
 import sys
 import time
-from typing import Counter, Optional
+from typing import Callable, Counter, Iterator, List, Optional, TextIO
 
+from ..checkout import command_name
 from .comparing import Comparison, Difference, is_of_level
 from .programs import Answer, Many, Once, Program, ours
 from .randoms import Scripts
-from .rows import read_rows, row_files
+from .rows import Expected, read_rows, row_files
 
-_MOST_SHOWN = 20
+#: after so many scripts in a row that weren't answered in time no more are asked
+MOST_LATE = 3
+
+#: after so many scripts no more are asked, where none of them was answered
+MOST_UNANSWERED = 10
+
+_SECONDS_ON_A_TERMINAL = 0.2
+_MOST_SCRIPT = 2_000
+
+
+class Progress:
+    """Says how far a long run is: on a terminal in one line that is written anew, elsewhere by a line each `seconds` seconds,
+    or by none where these are 0."""
+
+    def __init__(
+        self, stream: TextIO, total: int, seconds: float, now: Callable[[], float] = time.monotonic
+    ) -> None:
+        self._stream = stream
+        self._total = total
+        self._on_terminal = stream.isatty()
+        self._seconds = _SECONDS_ON_A_TERMINAL if self._on_terminal else seconds
+        self._now = now
+        self._said_at = now()
+
+    def say(self, runs: int, failed: int, more: str = "") -> None:
+        """Says it, if that is due."""
+        if not self._seconds or self._now() - self._said_at < self._seconds:
+            return
+        self._said_at = self._now()
+        text = f"{command_name('conform')}: {runs} of {self._total} runs, {failed} failed{more}"
+        before, after = ("\r\x1b[K", "") if self._on_terminal else ("", "\n")
+        print(f"{before}{text}", end=after, file=self._stream, flush=True)
+
+    def clear(self) -> None:
+        """Makes room on a terminal for what is told next."""
+        if self._on_terminal:
+            print("\r\x1b[K", end="", file=self._stream, flush=True)
 
 
 class Tally:
-    """Counts runs, shows those that differ, and how far a long run is."""
+    """Counts runs."""
 
-    def __init__(self, total: Optional[int]) -> None:
+    def __init__(self) -> None:
         self.passed = 0
         self.failed = 0
         self.named: Counter[str] = collections.Counter()
-        self._total = total
-        self._shown = 0.0
+        #: how many of the last runs weren't answered in time, and whether any run was answered
+        self._late = 0
+        self._answered = False
 
     def count(self, found: Optional[Difference]) -> None:
         """Counts a run."""
@@ -35,22 +73,21 @@ class Tally:
             self.named[found.entry.value] += 1
         else:
             self.failed += 1
-        self._progress()
+        self._late = self._late + 1 if found is not None and found.is_late else 0
+        self._answered = self._answered or found is None or not found.lacks
 
-    def _progress(self) -> None:
-        if not sys.stderr.isatty() or time.monotonic() - self._shown < 0.2:
-            return
-        self._shown = time.monotonic()
-        of = f" of {self._total}" if self._total else ""
-        print(f"\r{self.passed + self.failed}{of} runs", end="", file=sys.stderr, flush=True)
+    @property
+    def runs(self) -> int:
+        """How many runs were counted."""
+        return self.passed + self.failed
 
-    def tell(self) -> None:
-        """The last lines."""
-        if sys.stderr.isatty():
-            print("\r", end="", file=sys.stderr)
-        for name, count in sorted(self.named.items()):
-            print(f"{count} differ as docs/PROFILE.md says: {name}")
-        print(f"{self.passed} passed, {self.failed} failed")
+    def given_up(self) -> Optional[str]:
+        """Why no more scripts are asked; None where they are."""
+        if self._late >= MOST_LATE:
+            return f"{self._late} scripts in a row weren't answered in time"
+        if not self._answered and self.runs >= MOST_UNANSWERED:
+            return f"none of the first {self.runs} scripts was answered"
+        return None
 
 
 class Conforming:
@@ -59,66 +96,112 @@ class Conforming:
     def __init__(self, arguments: argparse.Namespace) -> None:
         self._arguments = arguments
         self._level: str = arguments.level
-        theirs: Program = Once(arguments.command)
+        theirs: Program = Once(arguments.command, seconds=arguments.timeout)
         if arguments.many:
-            theirs = Many(arguments.command)
+            theirs = Many(arguments.command, arguments.timeout)
         named = arguments.ours.split() if arguments.ours else None
-        mine = ours(named) if named or arguments.random else theirs
-        self._theirs = theirs
+        mine = ours(named, arguments.timeout) if named or arguments.random else theirs
+        self._programs = (mine, theirs)
         self._comparison = Comparison(mine, theirs, arguments.trials)
-        self._tally = Tally(arguments.random)
-        self._left = _MOST_SHOWN
+        self._rows = list(self._chosen()) if arguments.rows else []
+        self._total: int = len(self._rows) + arguments.random
+        self._tally = Tally()
+        self._progress = Progress(sys.stderr, self._total, arguments.progress)
+        #: how many differences may still be shown, if not all, and how many weren't
+        self._left: Optional[int] = arguments.show
+        self._hidden = 0
 
-    def run(self) -> int:
-        """Compares all that is asked for."""
-        try:
-            if self._arguments.rows:
-                self._rows()
-            if self._arguments.random:
-                self._random()
-        finally:
-            self._theirs.close()
-        self._tally.tell()
-        return 1 if self._tally.failed else 0
-
-    def _rows(self) -> None:
+    def _chosen(self) -> Iterator[Expected]:
         for path in row_files():
             for row in read_rows(path):
-                if not is_of_level(row.script, self._level):
-                    continue
-                expected = Answer(row.status, row.output, row.errors)
-                found = self._comparison.of_row(row.script, expected)
-                self._tally.count(found)
-                self._show(f"{row.file}: {row.name}", row.script, found, found)
+                is_left_out = row.status == 2 and self._arguments.no_refusals
+                if not is_left_out and is_of_level(row.script, self._level):
+                    yield row
 
-    def _random(self) -> None:
+    def run(self) -> int:
+        """Compares all that is asked for, and gives the status of the command. Raises Broken where a program can't be run."""
+        try:
+            why = self._compare_rows() or self._compare_random()
+        finally:
+            self._progress.clear()
+            for program in self._programs:
+                program.close()
+        self._tell(why)
+        return 1 if self._tally.failed else 0
+
+    def interrupt(self) -> None:
+        """Ends the programs that run, from another thread than the one that runs this."""
+        for program in self._programs:
+            program.interrupt()
+
+    def _compare_rows(self) -> Optional[str]:
+        """Compares the rows; why it has given up, where it has."""
+        for row in self._rows:
+            found = self._comparison.of_row(row.script, Answer(row.status, row.output, row.errors))
+            self._count(found)
+            if found is not None and self._may_show(found):
+                self._show(f"{row.file}: {row.name}", row.script, found)
+            if self._tally.given_up():
+                break
+        return self._tally.given_up()
+
+    def _compare_random(self) -> Optional[str]:
+        """Compares random scripts, and cuts those down that are shown; why it has given up, where it has."""
         seed = self._arguments.seed
         scripts = Scripts(seed, self._level)
         for number in range(self._arguments.random):
             script = scripts.script(number)
             found = self._comparison.of_script(script)
-            self._tally.count(found)
-            name = f"random script {number} of seed {seed}, level {self._level}"
-            if found is None or not self._is_shown(found):
-                continue
-            smaller = self._comparison.cut_down(script, found)
-            self._show(name, smaller, found, self._comparison.of_script(smaller))
+            self._count(found)
+            if found is not None and self._may_show(found):
+                name = f"random script {number} of seed {seed}, level {self._level}"
+                smaller = self._comparison.cut_down(script, found, self._cutting)
+                again = self._comparison.of_script(smaller) if smaller != script else found
+                # a program that doesn't differ each time is shown by what was seen
+                self._show(name, smaller if again else script, again or found)
+            if self._tally.given_up():
+                break
+        return self._tally.given_up()
 
-    def _is_shown(self, found: Difference) -> bool:
-        """Whether this is told: what no entry names, and all where all are asked for."""
-        return self._left > 0 and (found.entry is None or bool(self._arguments.all))
+    def _count(self, found: Optional[Difference]) -> None:
+        self._tally.count(found)
+        self._progress.say(self._tally.runs, self._tally.failed)
 
-    def _show(
-        self, name: str, script: str, found: Optional[Difference], shown: Optional[Difference]
-    ) -> None:
-        if found is None or shown is None or not self._is_shown(found):
-            return
-        self._left -= 1
-        entry = f" ({shown.entry.value} in docs/PROFILE.md)" if shown.entry else ""
-        print(f"{name}: line {shown.line} differs{entry}")
-        print(f"  deferreds: {shown.ours}\n  command:   {shown.theirs}\n  {_one_line(script)}")
+    def _cutting(self, tried: int) -> None:
+        self._progress.say(self._tally.runs, self._tally.failed, f"; cuts a script down, {tried} tried")
+
+    def _may_show(self, found: Difference) -> bool:
+        """Whether this is shown: what no entry names, and all where all are asked for, as long as there is room."""
+        if found.entry is not None and not self._arguments.all:
+            return False
+        if self._left == 0:
+            self._hidden += 1
+            return False
+        if self._left is not None:
+            self._left -= 1
+        return True
+
+    def _show(self, name: str, script: str, found: Difference) -> None:
+        self._progress.clear()
+        entry = f" ({found.entry.value} in docs/PROFILE.md)" if found.entry else ""
+        print(f"{name}: line {found.line} differs{entry}")
+        print(f"  deferreds: {found.ours}\n  command:   {found.theirs}\n  {_one_line(script)}", flush=True)
+
+    def _tell(self, why: Optional[str]) -> None:
+        """The last lines."""
+        lines: List[str] = []
+        if self._hidden:
+            more = "more difference isn't" if self._hidden == 1 else "more differences aren't"
+            lines.append(f"{self._hidden} {more} shown; --show all shows each")
+        lines += [
+            f"{count} differ as docs/PROFILE.md says: {name}" for name, count in sorted(self._tally.named.items())
+        ]
+        left = self._total - self._tally.runs
+        if why is not None and left:
+            lines.append(f"{left} of {self._total} runs are left out, since {why}")
+        print("\n".join([*lines, f"{self._tally.passed} passed, {self._tally.failed} failed"]), flush=True)
 
 
 def _one_line(script: str) -> str:
     text = " ".join(part.strip() for part in script.splitlines())
-    return text if len(text) <= 2_000 else text[:2_000] + " .."
+    return text if len(text) <= _MOST_SCRIPT else text[:_MOST_SCRIPT] + " .."

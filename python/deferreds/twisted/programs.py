@@ -4,26 +4,38 @@ from __future__ import annotations
 
 import json
 import os
-import subprocess
-from typing import IO, NamedTuple, Optional, Protocol, Sequence, Tuple
+import time
+from typing import List, NamedTuple, Optional, Protocol, Sequence, Tuple
 
 from ..program import NotRun, built
+from .children import MOST_BYTES, Came, Child, last_line, named_status
 
 Batches = Sequence[Sequence[Tuple[int, int]]]
 
-_SECONDS = 120
+#: how many seconds a program has for a script, where nothing else is said
+SECONDS = 30.0
+
+_MOST_HEAD = 100
+
+
+class Lack(NamedTuple):
+    """Why there is no whole answer: in a few words, and whether it was waited for in vain."""
+
+    why: str
+    is_late: bool = False
 
 
 class Answer(NamedTuple):
-    """How a run ended, and what it wrote."""
+    """How a run ended, and what it wrote; `lack` says why that isn't all of it, and then the status means nothing."""
 
     status: int
     output: str
     errors: str
+    lack: Optional[Lack] = None
 
 
 class Broken(Exception):
-    """A program that can't be run, or gave no answer."""
+    """A program that can't be run."""
 
 
 class Program(Protocol):
@@ -35,88 +47,162 @@ class Program(Protocol):
     def close(self) -> None:
         """It isn't asked any more."""
 
+    def interrupt(self) -> None:
+        """Ends what runs, from another thread than the one that waits for its answer."""
 
-class Once:
-    """A command that is run once a script."""
 
-    def __init__(self, command: Sequence[str], takes_batches: bool = True) -> None:
+class _Command:
+    """A command whose process is ended where it doesn't answer in time."""
+
+    def __init__(self, command: Sequence[str], seconds: float, is_once: bool) -> None:
         self._command = list(command)
-        self._takes_batches = takes_batches
+        self._seconds = seconds
+        #: whether a process answers one script, and all that it writes is the answer
+        self._is_once = is_once
+        self._child: Optional[Child] = None
+        self._interrupted = False
 
-    def answer(self, script: str, batches: Optional[Batches] = None) -> Answer:
-        """Runs the command on the script."""
-        words = ["--batches", json.dumps(batches)] if batches and self._takes_batches else []
+    def _start(self, words: Sequence[str] = ()) -> Child:
+        if self._interrupted:
+            raise SystemExit(1)
         try:
-            ran = subprocess.run(
-                self._command + words,
-                input=script.encode(),
-                capture_output=True,
-                timeout=_SECONDS,
-                check=False,
-            )
-        except OSError as error:
-            raise Broken(f"{self._command[0]} can't be run: {error.strerror}") from None
-        except subprocess.TimeoutExpired:
-            return Answer(-1, "", f"no answer within {_SECONDS} seconds\n")
-        return Answer(ran.returncode, _text(ran.stdout), _text(ran.stderr))
+            self._child = child = Child([*self._command, *words], self._is_once)
+        except (OSError, ValueError) as error:
+            why = getattr(error, "strerror", None) or error
+            raise Broken(f"{self._command[0]} can't be run: {why}") from None
+        return child
 
-    def close(self) -> None:
-        """Nothing is left to do."""
+    def _lacks(self, came: Came, child: Child) -> Answer:
+        """The answer of a process that has given no whole one. It is killed."""
+        late = came is Came.LATE
+        why = f"no answer within {self._seconds:g} seconds" if late else f"more than {MOST_BYTES} bytes of output"
+        self._drop()
+        output = _text(child.output) if self._is_once else ""
+        return Answer(-1, output, _text(child.errors), Lack(why, late))
 
-
-class Many:
-    """A command that answers script after script, with the word `--many` (docs/PORTING.md)."""
-
-    def __init__(self, command: Sequence[str]) -> None:
-        self._command = [*command, "--many"]
-        self._process: Optional["subprocess.Popen[bytes]"] = None
-
-    def _started(self) -> "subprocess.Popen[bytes]":
-        if self._process is None:
-            try:
-                self._process = subprocess.Popen(
-                    self._command, stdin=subprocess.PIPE, stdout=subprocess.PIPE
-                )
-            except OSError as error:
-                raise Broken(f"{self._command[0]} can't be run: {error.strerror}") from None
-        return self._process
-
-    def answer(self, script: str, batches: Optional[Batches] = None) -> Answer:
-        """Asks for the answer to the script."""
-        process = self._started()
-        assert process.stdin is not None and process.stdout is not None
-        data = script.encode()
-        words = f" {json.dumps(batches)}" if batches else ""
-        try:
-            process.stdin.write(f"{len(data)}{words}\n".encode() + data)
-            process.stdin.flush()
-            return self._read(process.stdout)
-        except (OSError, ValueError):
-            self.close()
-            return Answer(-1, "", f"{self._command[0]} --many gave no answer\n")
-
-    def _read(self, stream: IO[bytes]) -> Answer:
-        status, output, errors = map(int, stream.readline().split())
-        return Answer(status, _text(stream.read(output)), _text(stream.read(errors)))
+    def _drop(self) -> None:
+        child, self._child = self._child, None
+        if child is not None:
+            child.kill()
+        if self._interrupted:
+            raise SystemExit(1)
 
     def close(self) -> None:
         """Has the command end."""
-        process, self._process = self._process, None
-        if process is not None and process.stdin is not None and process.stdout is not None:
-            process.stdin.close()
-            process.stdout.close()
-            process.wait()
+        child, self._child = self._child, None
+        if child is not None:
+            child.end()
+
+    def interrupt(self) -> None:
+        """Kills what runs, from another thread than the one that waits for its answer, which raises SystemExit."""
+        self._interrupted = True
+        child = self._child
+        if child is not None:
+            child.interrupt()
+
+
+class Once(_Command):
+    """A command that is run once a script, and has so many seconds for it."""
+
+    def __init__(self, command: Sequence[str], takes_batches: bool = True, seconds: float = SECONDS) -> None:
+        super().__init__(command, seconds, True)
+        self._takes_batches = takes_batches
+
+    def answer(self, script: str, batches: Optional[Batches] = None) -> Answer:
+        """Runs the command on the script. Raises Broken where it can't be run."""
+        start = time.monotonic()
+        child = self._start(["--batches", json.dumps(batches)] if batches and self._takes_batches else [])
+        came = child.exchange(script.encode(), self._seconds)
+        if came is not Came.ENDED:
+            return self._lacks(came, child)
+        status = child.wait(start + self._seconds - time.monotonic())
+        if status is None:
+            return self._lacks(Came.LATE, child)
+        self._drop()
+        return Answer(status, _text(child.output), _text(child.errors))
+
+
+class Many(_Command):
+    """A command that answers script after script, with the word `--many` (docs/PORTING.md), and has so many seconds for each."""
+
+    def __init__(self, command: Sequence[str], seconds: float = SECONDS) -> None:
+        super().__init__([*command, "--many"], seconds, False)
+
+    def answer(self, script: str, batches: Optional[Batches] = None) -> Answer:
+        """Asks for the answer to the script; the command is started where it doesn't run. Raises Broken where it can't be run."""
+        child = self._child or self._start()
+        data = script.encode()
+        words = f" {json.dumps(batches)}" if batches else ""
+        reply = _Reply(child.output)
+        came = child.exchange(f"{len(data)}{words}\n".encode() + data, self._seconds, reply.is_whole)
+        if came is Came.ENDED:
+            return self._ended(child)
+        if came is not Came.WHOLE:
+            return self._lacks(came, child)
+        if reply.wrong is not None:
+            self._drop()
+            return Answer(-1, "", "", Lack(f"a line that isn't three numbers: {reply.wrong}"))
+        return reply.take()
+
+    def _ended(self, child: Child) -> Answer:
+        """The answer of a process that has closed its output."""
+        status = child.wait(1.0)
+        how = "it has closed its output" if status is None else f"it has ended, by {named_status(status)}"
+        self._drop()
+        return Answer(-1, "", "", Lack(f"{how}, before it had answered"))
+
+
+class _Reply:
+    """An answer of a command with `--many`, as far as it has come: a line of three numbers, and so many bytes."""
+
+    def __init__(self, data: bytearray) -> None:
+        self._data = data
+        self._numbers: Optional[List[int]] = None
+        self._start = 0
+        #: the line with which it begins, where that isn't one of three numbers
+        self.wrong: Optional[str] = None
+
+    def is_whole(self) -> bool:
+        """Whether all of it has come, or its line is wrong."""
+        if self._numbers is None and self.wrong is None:
+            self._read_line()
+        if self._numbers is None:
+            return self.wrong is not None
+        return len(self._data) >= self._start + sum(self._numbers[1:])
+
+    def _read_line(self) -> None:
+        end = self._data.find(b"\n")
+        if end < 0 and len(self._data) <= _MOST_HEAD:
+            return
+        line = bytes(self._data[: end if end >= 0 else _MOST_HEAD])
+        try:
+            numbers = [int(part) for part in line.split()]
+        except ValueError:
+            numbers = []
+        if len(numbers) == 3 and min(numbers[1:]) >= 0:
+            self._numbers, self._start = numbers, end + 1
+        else:
+            self.wrong = last_line(_text(line)) or "an empty one"
+
+    def take(self) -> Answer:
+        """The answer, whose bytes are taken away."""
+        assert self._numbers is not None
+        status, output, errors = self._numbers
+        end = self._start + output
+        answer = Answer(status, _text(self._data[self._start : end]), _text(self._data[end : end + errors]))
+        del self._data[: end + errors]
+        return answer
 
 
 def _text(data: bytes) -> str:
     return data.decode("utf-8", "replace")
 
 
-def ours(command: Optional[Sequence[str]] = None) -> Program:
-    """Our own program: the one that is named, or else the one that is found, or in a checkout built."""
+def ours(command: Optional[Sequence[str]] = None, seconds: float = SECONDS) -> Program:
+    """Our own program: the one that is named, or else the one that is found, or in a checkout built. Raises Broken."""
     if command:
-        return Once(command, takes_batches=False)
+        return Once(command, takes_batches=False, seconds=seconds)
     try:
-        return Once([os.fspath(built())], takes_batches=False)
+        return Once([os.fspath(built())], takes_batches=False, seconds=seconds)
     except NotRun as why:
         raise Broken(f"{why}; --ours names another program") from None

@@ -3,23 +3,64 @@
 COMMAND reads a script on standard input, and prints journal and outcomes, as `./on_twisted` does. Each difference is
 told by its first line; where Twisted does as COMMAND does, and `docs/PROFILE.md` has an entry for that, the entry is
 named, and the run counts as passed. The last line is `N passed, M failed`, and the status is 0 exactly where M is 0.
-Status 64: the words are wrong; 70: a program can't be run, or Twisted isn't known.
+
+A COMMAND that ends early, or gives no answer within the time, fails that run, and is told with the script. After
+{late} scripts in a row without an answer in time no more are asked, nor after the first {unanswered} where none was
+answered.
+
+Status 1: a run failed; 4: standard output can't be written; 64: the words are wrong; 70: a program can't be run, or
+Twisted isn't known.
 """
 
 from __future__ import annotations
 
 import argparse
+import math
 import sys
-from typing import List
+from typing import List, Optional
 
 from ...checkout import as_called, command_name
+from ...ending import WRITE_FAILED, discard_output
 from .. import grammar
-from ..programs import Broken
+from ..programs import SECONDS, Broken
+
+_SHOWN = 20
+_PROGRESS = 10.0
+
+
+def _seconds(word: str) -> float:
+    """A number of seconds, which may be 0."""
+    seconds = float(word)
+    if not 0 <= seconds < math.inf:
+        raise argparse.ArgumentTypeError("it isn't a number of seconds from 0 on")
+    return seconds
+
+
+def _time(word: str) -> float:
+    """A number of seconds above 0."""
+    seconds = _seconds(word)
+    if not seconds:
+        raise argparse.ArgumentTypeError("it is 0 seconds")
+    return seconds
+
+
+def _shown(word: str) -> Optional[int]:
+    """How many differences are shown; None where all are."""
+    if word == "all":
+        return None
+    if not word.isdecimal():
+        raise argparse.ArgumentTypeError("it is neither a number from 0 on nor `all`")
+    return int(word)
 
 
 def _arguments(words: List[str]) -> argparse.Namespace:
+    from ..conforming import MOST_LATE, MOST_UNANSWERED
+
+    about = __doc__.format(late=MOST_LATE, unanswered=MOST_UNANSWERED)
     parser = argparse.ArgumentParser(
-        prog=command_name("conform"), description=as_called(__doc__.split("\n", 1)[0])
+        prog=command_name("conform"),
+        description=as_called(about),
+        formatter_class=argparse.RawDescriptionHelpFormatter,
     )
     add = parser.add_argument
     add("--rows", action="store_true", help="compare on the rows of the repository")
@@ -31,8 +72,24 @@ def _arguments(words: List[str]) -> argparse.Namespace:
         default=list(grammar.LEVELS)[-1],
         help="only what this level and those before it have (all)",
     )
+    add("--no-refusals", action="store_true", help="leave out the rows whose scripts are refused")
     add("--all", action="store_true", help="tell of the differences that have an entry, too")
+    add("--show", type=_shown, metavar="N", default=_SHOWN, help=f"show N differences at most, or `all` ({_SHOWN})")
     add("--many", action="store_true", help="COMMAND takes --many, as docs/PORTING.md says")
+    add(
+        "--timeout",
+        type=_time,
+        metavar="SECONDS",
+        default=SECONDS,
+        help=f"how long COMMAND may take for a script ({SECONDS:g})",
+    )
+    add(
+        "--progress",
+        type=_seconds,
+        metavar="SECONDS",
+        default=_PROGRESS,
+        help=f"where standard error is no terminal, say there each so many seconds how far it is; 0: never ({_PROGRESS:g})",
+    )
     add("--ours", metavar="COMMAND", help="our program (deferreds, as it is built or installed)")
     add("--trials", type=int, default=1_000, help="runs at most to cut a script down (1000)")
     add("command", nargs="+", metavar="COMMAND", help="after --: the implementation, and its words")
@@ -59,12 +116,25 @@ def main(words: List[str]) -> int:
 
     be_quiet()
     install()
+    running: List[Conforming] = []
 
     def compare() -> int:
         try:
-            return Conforming(arguments).run()
+            running.append(Conforming(arguments))
+            return running[0].run()
         except Broken as broken:
             print(f"{command_name('conform')}: {broken}", file=sys.stderr)
             return 70
+        except BrokenPipeError:
+            raise
+        except OSError as error:
+            print(f"{command_name('conform')}: standard output can't be written: {error.strerror}", file=sys.stderr)
+            discard_output()
+            return WRITE_FAILED
 
-    return with_room(compare)
+    try:
+        return with_room(compare)
+    except KeyboardInterrupt:
+        for conforming in running:
+            conforming.interrupt()
+        raise
