@@ -13,12 +13,12 @@ import unittest
 from pathlib import Path
 from typing import Any, Callable, Dict, List, NamedTuple
 
-from deferreds.twisted.running import run
+from deferreds.twisted.running import be_quiet, run
 
 PROGRAMS = Path(__file__).resolve().parents[1] / "data" / "programs"
 
 _COMMAND = [sys.executable, "-m", "deferreds.twisted", "record"]
-_SECONDS = 120.0
+_SECONDS = 60.0
 
 
 class Ended(NamedTuple):
@@ -35,6 +35,7 @@ class RecordingCase(unittest.TestCase):
     def setUp(self) -> None:
         room = tempfile.TemporaryDirectory()
         self.addCleanup(room.cleanup)
+        be_quiet()
         self.folder = Path(room.name)
 
     def environment(self) -> Dict[str, str]:
@@ -47,12 +48,14 @@ class RecordingCase(unittest.TestCase):
             [*_COMMAND, *(str(PROGRAMS / word) if (PROGRAMS / word).is_file() else word for word in words)],
             cwd=self.folder,
             env=self.environment(),
+            stdin=subprocess.PIPE,
             stdout=subprocess.PIPE,
             stderr=subprocess.PIPE,
             text=True,
         )
-        self.addCleanup(process.stdout.close)  # type: ignore[union-attr]
-        self.addCleanup(process.stderr.close)  # type: ignore[union-attr]
+        for stream in (process.stdin, process.stdout, process.stderr):
+            assert stream is not None
+            self.addCleanup(stream.close)
         self.addCleanup(process.wait)
         self.addCleanup(process.kill)
         return process

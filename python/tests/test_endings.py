@@ -2,12 +2,23 @@
 
 from __future__ import annotations
 
+import contextlib
 import os
 import signal
 import unittest
 from pathlib import Path
+from typing import List, Optional
 
+from twisted.internet import defer
+
+from deferreds.twisted.instruments import install
+from deferreds.twisted.programs import Answer, Batches, Broken, Program
+from deferreds.twisted.recording.files import Place
+from deferreds.twisted.recording.keeping import Keeping, Status
+from deferreds.twisted.recording.messages import Messages
 from deferreds.twisted.recording.outcomes import outcomes_of
+from deferreds.twisted.recording.recorder import Recorder
+from deferreds.twisted.recording.saying import Said
 from deferreds.twisted.rows import ANY_LINES, read_rows, row_files
 
 from .recording_of import RecordingCase
@@ -114,7 +125,7 @@ class Files(RecordingCase):
         self.assert_goes_together(f"temporary/run.{process.pid}")
 
 
-class Messages(RecordingCase):
+class Told(RecordingCase):
     """What is said goes to the standard error of the start."""
 
     def test_whatever_the_program_does_with_standard_error(self) -> None:
@@ -205,6 +216,185 @@ class Ends(RecordingCase):
         self.assertIn('ok "child"', self.text(f"{child}.journal"))
         self.assertNotIn('ok "child"', self.text("forks.journal"))
         self.assertIn('ok "parent"', self.text("forks.journal"))
+
+
+class Services(RecordingCase):
+    """Services, which are stopped by a signal."""
+
+    def setUp(self) -> None:
+        super().setUp()
+        self.runs = self.folder / "runs"
+        self.addCleanup(os.environ.pop, "RUNS", None)
+        os.environ["RUNS"] = str(self.runs)
+        self.copied("service.tac", "service.tac")
+
+    def test_twistd(self) -> None:
+        for number in (signal.SIGTERM, signal.SIGINT):
+            with self.subTest(number=number):
+                process = self.start("-o", number.name, "twistd.py", "-n", "-y", "service.tac")
+                self.wait_for(self.runs.exists, "the service")
+                process.send_signal(number)
+                ended = self.end(process)
+                self.assertEqual(ended.status, -number, ended.said)
+                self.assert_goes_together(number.name)
+                self.assertIn("CancelledError", self.text(f"{number.name}.journal"))
+                self.assertEqual(self.facts(number.name)["ended"], number.name)
+                self.runs.unlink()
+
+    def test_twist(self) -> None:
+        process = self.start("twist.py", "web", "--listen", "tcp:0:interface=127.0.0.1")
+        assert process.stdout is not None
+        while "Starting reactor" not in process.stdout.readline():
+            self.assertIsNone(process.poll())
+        process.send_signal(signal.SIGTERM)
+        ended = self.end(process)
+        self.assertEqual(ended.status, -signal.SIGTERM, ended.said)
+        self.assert_goes_together("twist")
+
+    def test_a_daemon_is_a_forked_child(self) -> None:
+        ended = self.record("twistd.py", "-y", "service.tac")
+        self.assertEqual(ended.status, 0, ended.said)
+        self.wait_for(self.runs.exists, "the daemon")
+        name = f"twistd.{self.text('runs')}"
+        self.assertIn("twistd.PID.json", ended.said)
+        self.addCleanup(self.kill, int(self.text("runs")))
+        os.kill(int(self.text("runs")), signal.SIGTERM)
+        self.wait_for((self.folder / f"{name}.recording").exists, "the end of the daemon")
+        self.assert_goes_together(name)
+        self.assertFalse((self.folder / "twistd.json").exists())
+
+    def kill(self, number: int) -> None:
+        """Ends a process, if it is still there."""
+        with contextlib.suppress(ProcessLookupError):
+            os.kill(number, signal.SIGKILL)
+
+
+class Asked(RecordingCase):
+    """SIGUSR1 has the run so far written."""
+
+    def ask(self, *words: str) -> None:
+        """Asks while the program waits, and once more; it goes on, and ends by itself."""
+        process = self.start("asked.py", *words)
+        assert process.stdin is not None and process.stdout is not None
+        if words:
+            self.assertEqual(process.stdout.readline(), "True\n")
+        for count in (1, 2, 3):
+            process.stdin.write(f"line {count}\n")
+            process.stdin.flush()
+            self.assertEqual(process.stdout.readline(), "made\n")
+            if count == 3:
+                break
+            process.send_signal(signal.SIGUSR1)
+            if words:
+                self.assertEqual(process.stdout.readline(), "asked\n")
+            self.wait_for(lambda: self.has_deferreds(count), "the run so far")
+            self.assert_goes_together("asked")
+            self.assertEqual(self.facts("asked")["ended"], "asked by SIGUSR1")
+        process.stdin.close()
+        self.assertEqual(process.wait(), 0)
+        self.assertTrue(self.has_deferreds(3))
+        self.assert_goes_together("asked")
+
+    def has_deferreds(self, count: int) -> bool:
+        """Whether the recording has so many Deferreds, and is whole."""
+        try:
+            listed = self.facts("asked")["events"]
+        except OSError:
+            return False
+        return self.text("asked.journal").count("\nfire") == count and listed >= 2 * count
+
+    def test_it_goes_on(self) -> None:
+        self.ask()
+
+    def test_what_the_program_does_at_the_signal_follows(self) -> None:
+        self.ask("itself")
+
+
+class Limits(RecordingCase):
+    """Runs that are larger than a script may be."""
+
+    def test_the_script_is_of_the_longest_beginning(self) -> None:
+        for words, reason, events in (
+            (("12000", "0", "65"), "the script has more nodes than one may have", 18_723),
+            (("12", "50000", "65"), "the journal weighs more than a script's may", 7),
+            (("6", "30000", "1"), "the script is longer than one may be", 11),
+        ):
+            with self.subTest(reason=reason):
+                ended = self.record("-o", "run", "--view", "large.py", *words)
+                self.assertEqual(ended.status, 0, ended.said)
+                told = f"the script is of the first {events} of {2 * int(words[0])} events, since {reason}"
+                self.assertIn(f"{told}; ./deferreds prints the same", ended.said)
+                self.assertIn(told.replace("'", "&#x27;"), self.text("run.html"))
+                self.assert_goes_together("run")
+                whole = self.text("run.whole.journal").splitlines()
+                self.assertEqual(len(whole), 3 * int(words[0]))
+                self.assertEqual(len(self.events("run")), events)
+
+
+class Heard(Messages):
+    """Keeps what is said."""
+
+    def __init__(self) -> None:
+        super().__init__("record")
+        self.lines: List[str] = []
+
+    def say(self, text: str) -> None:
+        """Keeps a line."""
+        self.lines.append(text)
+
+
+class Fixed:
+    """A program that gives one answer, or none."""
+
+    def __init__(self, given: Optional[Answer]) -> None:
+        self._given = given
+
+    def answer(self, script: str, batches: Optional[Batches] = None) -> Answer:
+        """The answer."""
+        if self._given is None:
+            raise Broken("it can't be run")
+        return self._given
+
+    def close(self) -> None:
+        """Nothing is left to do."""
+
+
+class Compared(RecordingCase):
+    """The script is compared with what the program prints for it."""
+
+    def keep(self, asked: Optional[Program]) -> "tuple[Status, str]":
+        """Keeps the run of a small program; the status, and the last line that is said."""
+        install()
+        recorder = Recorder()
+        with recorder.watching():
+            defer.succeed(1)
+        heard = Heard()
+        keeping = Keeping(Place(str(self.folder / "run")), heard, True, asked)
+        status = keeping.keep(Said(recorder), "status 0")
+        return status, heard.lines[-1]
+
+    def test_a_script_that_would_be_wrong_isnt_left(self) -> None:
+        wrong = Answer(0, "new #0 other\nfire #0 ok 1\n#0 other ok 1\n", "")
+        self.assertEqual(self.keep(None)[0], Status.RECORDED)
+        self.assertIn("run.json", self.files())
+        status, line = self.keep(Fixed(wrong))
+        self.assertEqual(status, Status.REFUSED)
+        self.assertRegex(line, "No script is left: it would be wrong, since ./deferreds prints line 1 otherwise: new #0 other and not")
+        self.assertEqual(self.files(), ["run.html", "run.journal", "run.recording"])
+        self.assertIn("fire #0 ok 1", self.text("run.journal"))
+
+    def test_a_program_that_gives_no_answer_is_no_difference(self) -> None:
+        for asked, why in ((None, "isn't here"), (Fixed(None), "it can't be run"), (Fixed(Answer(-1, "", "late")), "late")):
+            with self.subTest(why=why):
+                status, line = self.keep(asked)
+                self.assertEqual(status, Status.RECORDED)
+                self.assertRegex(line, f"not compared.*{why}")
+
+    def test_a_difference_of_the_profile_is_named(self) -> None:
+        ended = self.record("unpaused.py")
+        self.assertEqual(ended.status, 0, ended.said)
+        self.assertIn("./deferreds prints the same up to line 2, by unpause-at-zero of docs/PROFILE.md", ended.said)
+        self.assertIn("unpaused.json", self.files())
 
 
 class Outcomes(unittest.TestCase):

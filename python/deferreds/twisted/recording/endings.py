@@ -32,11 +32,17 @@ _REPLACING = ("execv", "execve")
 class Watcher(Protocol):
     """What is told of the endings of a process."""
 
-    def ends(self, how: str, frame: Optional[FrameType]) -> None:
-        """The process ends after this call: how, and the frame of the program that runs. Raises nothing."""
+    def ends(self, how: str, frame: Optional[FrameType]) -> bool:
+        """The process ends after this call: how, and the frame of the program that runs. Raises nothing.
+
+        Gives whether it may end: it may not while the run is being kept, after which it ends in any case.
+        """
 
     def is_asked(self, frame: Optional[FrameType]) -> None:
         """Somebody asks for the run so far. Raises nothing."""
+
+    def has_forked(self) -> None:
+        """A child of this process was forked."""
 
     def is_child(self) -> None:
         """From here on this is a forked child."""
@@ -55,6 +61,11 @@ def _after_fork() -> None:
         _current.watcher.is_child()
 
 
+def _after_fork_of_child() -> None:
+    if _current.watcher is not None:
+        _current.watcher.has_forked()
+
+
 class Endings:
     """Tells a watcher how this process ends."""
 
@@ -71,7 +82,7 @@ class Endings:
         """Watches, and puts everything back."""
         if not _current.hooked:
             _current.hooked = True
-            os.register_at_fork(after_in_child=_after_fork)
+            os.register_at_fork(after_in_child=_after_fork, after_in_parent=_after_fork_of_child)
         before, _current.watcher = _current.watcher, self._watcher
         replaced = self._replaced()
         was = [(module, name, getattr(module, name)) for module, name, _ in replaced]
@@ -141,9 +152,9 @@ class Endings:
 
     def _on_end(self, number: int, frame: Optional[FrameType]) -> None:
         """A signal that nobody handles: the process ends by it."""
-        self._watcher.ends(signal.Signals(number).name, frame)
-        self._signal(number, signal.SIG_DFL)
-        os.kill(os.getpid(), number)
+        if self._watcher.ends(signal.Signals(number).name, frame):
+            self._signal(number, signal.SIG_DFL)
+            os.kill(os.getpid(), number)
 
     def _on_asking(self, number: int, frame: Optional[FrameType]) -> None:
         """The signal that asks for the run so far. What the program has set for it follows."""

@@ -2,10 +2,12 @@
 
 from __future__ import annotations
 
+import contextlib
 import inspect
 import os
+import warnings
 from types import FrameType
-from typing import Optional
+from typing import NoReturn, Optional
 
 from ..telling import Observer
 from .keeping import Keeping, Status
@@ -21,6 +23,13 @@ _NOTING = {
 }
 
 _exit = os._exit
+
+
+def _forked() -> int:
+    """`os.fork`, also where Python warns of that, since other threads run."""
+    with warnings.catch_warnings():
+        warnings.simplefilter("ignore", DeprecationWarning)
+        return os.fork()
 
 
 class Keeper:
@@ -49,14 +58,15 @@ class Keeper:
         finally:
             self._is_busy = is_busy
 
-    def ends(self, how: str, frame: Optional[FrameType]) -> None:
-        """The process ends after this call."""
+    def ends(self, how: str, frame: Optional[FrameType]) -> bool:
+        """The process ends after this call; whether it may, since the run isn't being kept at this moment."""
         if self._is_busy:
-            return
+            return False
         try:
             self.keep(how, frame)
-        except Exception as error:
+        except BaseException as error:  # (Ctrl-C, too: the process ends in any case)
             self._keeping.messages.say(f"the run can't be kept: {type(error).__name__}: {error}")
+        return True
 
     def is_asked(self, frame: Optional[FrameType]) -> None:
         """Somebody asks for the run so far: a copy of this process writes it, and this one goes on."""
@@ -64,25 +74,33 @@ class Keeper:
             return
         self._is_snapshot = True
         try:
-            child = os.fork()
+            child = _forked()
+            if child == 0:
+                self._write_snapshot(frame)
+            with contextlib.suppress(ChildProcessError):  # (the program may ignore the ends of children)
+                os.waitpid(child, 0)
         except OSError as error:
             self._keeping.messages.say(f"the run so far can't be kept: {error.strerror}")
-            return
         finally:
             self._is_snapshot = False
-        if child:
-            os.waitpid(child, 0)
-        elif os.fork():
+
+    def _write_snapshot(self, frame: Optional[FrameType]) -> NoReturn:
+        """In the copy, has a copy of its own write, for which the program doesn't wait."""
+        try:
+            if _forked() == 0:
+                self.ends("asked by SIGUSR1", frame)
+        finally:
             _exit(0)
-        else:
-            self.ends("asked by SIGUSR1", frame)
-            _exit(0)
+
+    def has_forked(self) -> None:
+        """A child of this process was forked."""
+        self._keeping.children += not self._is_snapshot
 
     def is_child(self) -> None:
         """From here on this is a forked child, whose files have its number in their names."""
         if not self._is_snapshot:
             self._forked_at = len(self._recorder.parts)
-            self._keeping.place.be_of_this_process()
+            self._keeping.be_of_child()
 
     def _ended(self, frame: Optional[FrameType]) -> Optional[int]:
         """How many events have ended, where one is under way; None, where all have."""

@@ -36,8 +36,16 @@ class Keeping:
         """`view`: a page is written, too. `asked`: the program that scripts are compared with, if there is one."""
         self.place = place
         self.messages = messages
+        #: how many children this process has forked
+        self.children = 0
         self._view = view
         self._asked = asked
+
+    def be_of_child(self) -> None:
+        """From here on the files are those of a forked child, which are named by its number."""
+        self.children = 0
+        self.place.be_of_this_process()
+        self.messages.be_of_child()
 
     def keep(self, said: Said, how: str) -> Status:
         """Keeps a run that ended so. What can't be kept is told, with the reason."""
@@ -46,9 +54,18 @@ class Keeping:
             self._refuse(refusals)
             return Status.REFUSED
         if not said.journal:
-            self.messages.say("nothing was recorded: the program has used no Deferreds")
+            self._tell_nothing()
             return Status.NOTHING
         return self._write(said, how)
+
+    def _tell_nothing(self) -> None:
+        if self.children:
+            self.messages.say(
+                "nothing was recorded in this process: it has used no Deferreds. "
+                f"What a forked child does is written when that ends: {self.place.shown('.PID.json')}"
+            )
+        else:
+            self.messages.say("nothing was recorded: the program has used no Deferreds")
 
     def _refuse(self, refusals: "list[Problem]") -> None:
         for problem in dict.fromkeys(refusals):
@@ -81,6 +98,8 @@ class Keeping:
     def _add_page(self, files: Dict[str, str], said: Said) -> str:
         """Adds the page of the whole run, and gives how large that is."""
         run = run_of_journal(said.whole_output, self.place.name.name, Script(said.script), False, said.begins)
+        if not said.is_whole:
+            run.problems.append((_beginning(said),))
         files[".html"] = Page(run).html()
         return run.counts
 
@@ -105,9 +124,11 @@ class Keeping:
         if said.is_whole:
             self.messages.say(f"{name}.json and {name}.journal: {lines}, {deferreds}; {agreed.text}")
             return
-        why = "; ".join(problem.reason for problem in said.too_large) or "an event was under way at the end"
         self.messages.say(f"{name}.whole.journal: {lines}, {deferreds}")
-        self.messages.say(
-            f"{name}.json and {name}.journal are of its first {several(said.events, 'event', 'events')}"
-            f" of {len(said.begins)}, since {why}; {agreed.text}"
-        )
+        self.messages.say(f"{name}.json and {name}.journal: {_beginning(said)}; {agreed.text}")
+
+
+def _beginning(said: Said) -> str:
+    """Of what the script is, where it isn't of the whole run, and why."""
+    why = "; ".join(problem.reason for problem in said.too_large) or "an event was under way at the end"
+    return f"the script is of the first {said.events} of {several(len(said.begins), 'event', 'events')}, since {why}"

@@ -21,7 +21,8 @@ class Messages:
     """Writes lines to the standard error of the start.
 
     The program may put another object in the place of `sys.stderr`, or another file in that of descriptor 2. Where it has closed
-    all descriptors, nothing is written any more.
+    all descriptors, nothing is written any more. A forked child, which may be a daemon, holds no standard error open: it writes to
+    descriptor 2, as long as that is of the file of the start.
     """
 
     def __init__(self, who: str) -> None:
@@ -29,6 +30,12 @@ class Messages:
         self._who = who
         self._descriptor = _duplicate()
         self._file = _file_of(self._descriptor)
+
+    def be_of_child(self) -> None:
+        """From here on this is a forked child."""
+        before, self._descriptor = self._descriptor, _STANDARD_ERROR
+        if before is not None and before != _STANDARD_ERROR and _file_of(before) == self._file:
+            os.close(before)
 
     def say(self, text: str) -> None:
         """Writes a line. A standard error that can't be written is no error."""
