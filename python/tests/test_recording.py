@@ -318,7 +318,7 @@ class Command(unittest.TestCase):
             )
             status, errors = self.run_record("-m", "program", cwd=folder)
             self.assertEqual(status, 0, errors)
-            self.assertIn("2 lines, 1 Deferred\n", errors)
+            self.assertIn(": 2 lines, 1 Deferred;", errors)
 
 
 class Loaded(unittest.TestCase):

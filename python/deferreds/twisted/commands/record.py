@@ -1,45 +1,75 @@
-"""`./record [-o NAME] [--view] PROGRAM [ARGS..]`: runs a program that uses Twisted, and tells the run as a script and a journal.
+"""`./record [OPTION..] PROGRAM [ARGS..]`: runs a program that uses Twisted, and tells the run as a script and a journal.
 
-`-m MODULE` runs a module, `--test MODULE.CLASS.METHOD` one test. The program runs as it is. NAME.json is the script,
-NAME.journal the journal and the outcomes as real Twisted gave them. `--view` writes NAME.html, a page of the run, too. What a
-script can't say is refused with the reason and the place in the program, and nothing is written.
+`-m MODULE` runs a module, and `--test MODULE.CLASS.METHOD` one test. All words after PROGRAM or MODULE are the program's. PROGRAM
+is a file, or the name of a Python script on the PATH. The program runs as it is.
 
-Ctrl-C ends the program, and what it did until then is recorded.
+NAME.json is the script. NAME.journal is the journal and the outcomes as real Twisted gave them. `--view` writes NAME.html,
+a page of the run, too. NAME.recording lists these files. Without -o, NAME is what PROGRAM or MODULE is called, in the folder
+where the command is given. A file of another origin is only overwritten with -f. What a script can't say is refused
+with the reason and the place in the program, and nothing is written.
 
-Status 0: recorded; 1: refused; 64: the words are wrong; 66: nothing was recorded, or there is no such program; 70: Twisted
-isn't there or isn't known; 73: a file can't be written.
+The run is kept where the program ends by Ctrl-C, by a signal that it doesn't handle, or by os._exit, too. SIGUSR1 has the run so far
+written, and the program goes on. A forked child writes files of its own, NAME.PID.json and so on. Where a run is too long for a
+script, or ends in the midst of an event, NAME.json is of its beginning, and NAME.whole.journal is its whole journal.
+
+Where `./deferreds` is there, it runs the script, and its lines are compared with those of the run. Where they differ, and
+docs/PROFILE.md has no entry for that, no script is left.
+
+The status is the program's own, and a program that is ended by a signal ends this command by it. Where the program has ended with
+0: 0: recorded; 65: refused; 66: nothing was recorded; 73: a file couldn't be written. With --test the status is 1 where
+the test has failed. Where nothing is run: 64: the words are wrong; 66: there is no such program; 70: Twisted isn't there or
+isn't known; 73: a file can't be written.
 """
 
 from __future__ import annotations
 
 import argparse
 import importlib.util
+import os
+import shutil
+import signal
 import sys
 from pathlib import Path
-from typing import List, Optional, Set
+from typing import List, Optional, Set, Tuple
 
 from ...checkout import as_called, command_name
-from ...view.page import Page
-from ...view.phrases import several
-from ...view.run import run_of_journal
-from ...view.scripts import Script
 
 from ..instruments import install
-from ..recording.programs import LADDER, NotLoaded, record_program, record_test, tests_of
+from ..recording.agreeing import program
+from ..recording.endings import Endings
+from ..recording.files import NoPlace, Place
+from ..recording.keeper import Keeper
+from ..recording.keeping import Keeping, Status
+from ..recording.messages import Messages
+from ..recording.programs import LADDER, NotLoaded, TestRun, record_program, record_test, tests_of
 from ..recording.recorder import Recorder
 from ..recording.saying import Said
 from ..telling import KINDS
 
+_USAGE = 64
+_NO_PROGRAM = 66
+
+
+class Refused(Exception):
+    """Nothing is run: why, and with which status the command ends."""
+
+    def __init__(self, status: int, why: str) -> None:
+        super().__init__(why)
+        self.status = status
+
 
 def _arguments(words: List[str]) -> argparse.Namespace:
+    """The words, understood. Raises SystemExit where they are wrong, with status 64, or ask for help."""
     parser = argparse.ArgumentParser(
         prog=command_name("record"),
         description=as_called(__doc__),
         formatter_class=argparse.RawDescriptionHelpFormatter,
+        allow_abbrev=False,
     )
     add = parser.add_argument
     add("-o", dest="output", metavar="NAME", help="write NAME.json and NAME.journal")
-    add("-m", dest="module", metavar="MODULE", help="run a module")
+    add("-f", dest="overwrites", action="store_true", help="overwrite files that aren't those of a recording, too")
+    add("-m", dest="module", nargs=argparse.REMAINDER, metavar="MODULE [ARGS..]", help="run a module")
     add("--test", metavar="MODULE.CLASS.METHOD", help="run one test")
     add("--view", action="store_true", help="write NAME.html, a page of the run (docs/VIEW.md), too")
     add("--virtual", action="store_true", help="with a reactor whose time is virtual")
@@ -51,63 +81,41 @@ def _arguments(words: List[str]) -> argparse.Namespace:
     )
     add("program", nargs=argparse.REMAINDER, metavar="PROGRAM [ARGS..]")
     try:
-        parsed = parser.parse_args(words)
+        parsed = parser.parse_args(_detached(words))
     except SystemExit as exit_:
-        raise SystemExit(64 if exit_.code else 0) from None
-    plain: Set[str] = set(filter(None, parsed.plain.split(",")))
-    unknown = plain - KINDS
-    if unknown:
-        _say(f"--plain has no {', '.join(sorted(unknown))}: {', '.join(sorted(KINDS))}")
-        raise SystemExit(64)
-    if not (parsed.program or parsed.module or parsed.test):
-        _say("a PROGRAM, -m MODULE or --test MODULE.CLASS.METHOD is needed; --help says more")
-        raise SystemExit(64)
+        raise SystemExit(_USAGE if exit_.code else 0) from None
+    if parsed.program and parsed.program[0] == "--":
+        del parsed.program[0]
     return parsed
 
 
-def _say(text: str) -> None:
-    print(f"{command_name('record')}: {text}", file=sys.stderr)
+def _detached(words: List[str]) -> List[str]:
+    """The words, where `-mMODULE`, as Python takes it, is two of them."""
+    takes_word = ("-o", "--test", "--plain")
+    before = ""
+    for place, word in enumerate(words):
+        if before not in takes_word:
+            if not word.startswith("-") or word in ("-", "--", "-m"):
+                break
+            if word.startswith("-m"):
+                return [*words[:place], "-m", word[2:], *words[place + 1 :]]
+        before = word
+    return words
 
 
-def _refused(said: Said) -> int:
-    """Tells what can't be said."""
-    for problem in dict.fromkeys(said.problems):
-        at = f", at {problem.place}" if problem.place else ""
-        plainly = f" (--plain {problem.kind} tells it as what it is made of)" if problem.kind else ""
-        _say(f"a script can't say this: {problem.reason}{at}{plainly}")
-    return 1
-
-
-def _written(said: Said, name: str, view: bool) -> int:
-    """Writes the script, the journal, and if it is wanted the page."""
-    files = {f"{name}.json": said.text + "\n", f"{name}.journal": said.output}
-    shown = f"{name}.html"
-    if view:
-        run = run_of_journal(said.output, Path(name).name, Script(said.script), False, said.begins)
-        files[shown] = Page(run).html()
-        shown += f": {run.counts}"
-    for path, text in files.items():
-        try:
-            Path(path).write_text(text, encoding="utf-8")
-        except OSError as error:
-            _say(f"{path} can't be written: {error.strerror}")
-            return 73
-    if view:
-        _say(shown)
-    for entry in sorted({entry.value for _, entry in said.quirks}):
-        _say(f"Twisted does here what docs/PROFILE.md says of {entry}")
-    lines, deferreds = several(len(said.journal), "line", "lines"), several(len(said.records), "Deferred", "Deferreds")
-    _say(f"{name}.json and {name}.journal: {lines}, {deferreds}")
-    return 0
-
-
-def _finish(said: Said, name: str, view: bool) -> int:
-    if said.problems or said.script is None:
-        return _refused(said)
-    if not said.journal:
-        _say("nothing was recorded: the program has used no Deferreds")
-        return 66
-    return _written(said, name, view)
+def _check(arguments: argparse.Namespace) -> None:
+    """Raises Refused where the words don't go together."""
+    plain: Set[str] = set(filter(None, arguments.plain.split(",")))
+    unknown = plain - KINDS
+    if unknown:
+        raise Refused(_USAGE, f"--plain has no {', '.join(sorted(unknown))}: {', '.join(sorted(KINDS))}")
+    if arguments.module == []:
+        raise Refused(_USAGE, "-m needs a MODULE")
+    wanted = [bool(arguments.program), bool(arguments.module), bool(arguments.test)]
+    if not any(wanted):
+        raise Refused(_USAGE, "a PROGRAM, -m MODULE or --test MODULE.CLASS.METHOD is needed; --help says more")
+    if wanted.count(True) > 1:
+        raise Refused(_USAGE, "one of PROGRAM, -m MODULE and --test MODULE.CLASS.METHOD is taken, and not two")
 
 
 def _is_module(name: str) -> bool:
@@ -118,52 +126,95 @@ def _is_module(name: str) -> bool:
         return False
 
 
-def _program(arguments: argparse.Namespace) -> int:
-    kinds = KINDS - set(arguments.plain.split(","))
-    recorder = Recorder(kinds)
-    target = arguments.module or arguments.program[0]
-    words = arguments.program if arguments.module else arguments.program[1:]
-    if not (_is_module(target) if arguments.module else Path(target).is_file()):
-        _say(f"{target} isn't a {'module' if arguments.module else 'file'}")
-        return 66
-    if not arguments.module:
-        sys.path.insert(0, str(Path(target).resolve().parent))
-    status = record_program(recorder, target, words, bool(arguments.module), arguments.virtual)
-    if status:
-        _say(f"the program has ended with status {status}")
-    return _finish(Said(recorder), arguments.output or Path(target).stem, arguments.view)
+def _target(arguments: argparse.Namespace) -> Tuple[str, List[str]]:
+    """The module or the file that is run, and the words for it. Raises Refused where there is none."""
+    target, *words = arguments.module or arguments.program
+    if arguments.module:
+        if not _is_module(target):
+            raise Refused(_NO_PROGRAM, f"{target} isn't a module")
+        return target, words
+    if not Path(target).is_file():
+        found = shutil.which(target) if os.sep not in target else None
+        if found is None or not _is_python(found):
+            raise Refused(_NO_PROGRAM, f"{target} isn't a file" + (", nor a Python script on the PATH" if os.sep not in target else ""))
+        target = found
+    sys.path.insert(0, str(Path(target).resolve().parent))
+    return target, words
 
 
-def _test(arguments: argparse.Namespace) -> int:
+def _is_python(path: str) -> bool:
+    """Whether the first line of a file says that it is a Python script."""
+    try:
+        with open(path, "rb") as file:
+            line = file.readline(256)
+    except OSError:
+        return False
+    return line.startswith(b"#!") and b"python" in line
+
+
+def _keeping(arguments: argparse.Namespace, name: str, messages: Messages) -> Keeping:
+    """Where the recording is kept. Raises Refused where it can't be."""
+    place = Place(arguments.output or name, arguments.overwrites)
+    try:
+        place.check([".json", ".journal", *([".html"] if arguments.view else [])])
+    except NoPlace as why:
+        raise Refused(Status.NOT_WRITTEN, str(why)) from None
+    return Keeping(place, messages, arguments.view, program())
+
+
+def _program(arguments: argparse.Namespace, messages: Messages) -> int:
+    target, words = _target(arguments)
+    name = target.split(".")[-1] if arguments.module else Path(target).stem
+    keeping = _keeping(arguments, name, messages)
+    recorder = Recorder(KINDS - set(arguments.plain.split(",")))
+    keeper = Keeper(recorder, keeping)
+    with Endings(keeper).watched():
+        status = record_program(recorder, target, words, bool(arguments.module), arguments.virtual)
+        kept = keeper.keep(f"status {status}")
+    if status == -signal.SIGINT:
+        raise KeyboardInterrupt
+    return status or kept
+
+
+def _test(arguments: argparse.Namespace, messages: Messages) -> int:
     try:
         found = tests_of(arguments.test)
     except NotLoaded as why:
-        _say(str(why))
-        return 66
+        raise Refused(_NO_PROGRAM, str(why)) from None
     if len(found) != 1:
-        _say(f"{arguments.test} isn't one test")
-        return 66
-    said: Optional[Said] = None
+        raise Refused(_NO_PROGRAM, f"{arguments.test} isn't one test")
+    keeping = _keeping(arguments, found[0][1], messages)
+    best: Optional[Tuple[TestRun, Said]] = None
     ladder = [KINDS - set(arguments.plain.split(","))] if arguments.plain else LADDER
     for kinds in ladder:
         run = record_test(*found[0], kinds, arguments.virtual)
-        tried = Said(run.recorder)
-        said = said or tried
+        said = Said(run.recorder)
+        best = best or (run, said)
         if run.waits and not arguments.virtual:
-            _say("the test waits for a reactor: --virtual runs it with one whose time is virtual")
-            return 1
-        if not tried.problems and tried.script is not None:
-            said = tried
+            messages.say("the test waits for a reactor: --virtual runs it with one whose time is virtual")
+            return Status.REFUSED
+        if said.script is not None and len(said.problems) == len(said.too_large):
+            best = run, said
             break
-    assert said is not None
-    return _finish(said, arguments.output or found[0][1], arguments.view)
+    assert best is not None
+    run, said = best
+    if not run.passed:
+        messages.say(f"{arguments.test} has failed: {run.why}")
+    kept = keeping.keep(said, "passed" if run.passed else "failed")
+    return kept if run.passed else 1
 
 
 def main(words: List[str]) -> int:
     """The command."""
-    arguments = _arguments(words)
-    install()
-    if arguments.module or arguments.test:
-        # as `python3 -m` does it, also where the command is installed
-        sys.path.insert(0, str(Path.cwd()))
-    return _test(arguments) if arguments.test else _program(arguments)
+    messages = Messages(command_name("record"))
+    try:
+        arguments = _arguments(words)
+        _check(arguments)
+        install()
+        if arguments.module or arguments.test:
+            # as `python3 -m` does it, also where the command is installed
+            sys.path.insert(0, str(Path.cwd()))
+        return _test(arguments, messages) if arguments.test else _program(arguments, messages)
+    except Refused as why:
+        messages.say(str(why))
+        return why.status

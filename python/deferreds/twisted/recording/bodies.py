@@ -38,6 +38,8 @@ class Run(Frame):
 
     #: how it ended, or None, where its input was passed on
     end: Any = None
+    #: how many events of the program had begun when it did
+    began = 0
     _actions: Optional[List[Action]] = None
 
     def __init__(self, kind: str, given: Optional[Outcome] = None) -> None:

@@ -6,8 +6,8 @@ import builtins
 import contextlib
 import io
 import runpy
+import signal
 import sys
-import traceback
 import unittest
 from types import ModuleType
 from typing import Any, Callable, Iterator, List, Optional, Tuple
@@ -40,6 +40,9 @@ LADDER: Tuple[frozenset[str], ...] = tuple(
     )
 )
 
+#: the files whose code runs a program
+_RUNNERS = {__file__, runpy.run_path.__code__.co_filename, "<frozen runpy>"}
+
 
 @contextlib.contextmanager
 def printing_notes(recorder: Recorder) -> Iterator[None]:
@@ -63,7 +66,7 @@ def printing_notes(recorder: Recorder) -> Iterator[None]:
 def record_program(
     recorder: Recorder, target: str, words: List[str], is_module: bool, virtual: bool
 ) -> int:
-    """Runs a file or a module as `__main__`, and gives its exit status."""
+    """Runs a file or a module as `__main__`, and gives its exit status: -SIGINT, where Ctrl-C has ended it."""
     install()
     reactor = VirtualReactor() if virtual else None
     before, sys.argv = sys.argv, [target, *words]
@@ -77,19 +80,39 @@ def record_program(
 
 
 def _run(recorder: Recorder, target: str, is_module: bool) -> int:
-    run: Callable[..., Any] = runpy.run_path
-    if is_module:
-        run = runpy.run_module
     try:
         with recorder.watching():
-            run(target, run_name="__main__")
+            if is_module:
+                runpy.run_module(target, run_name="__main__", alter_sys=True)
+            else:
+                runpy.run_path(target, run_name="__main__")
     except SystemExit as exit_:
-        code = exit_.code
-        return code if isinstance(code, int) else 0 if code is None else 1
-    except BaseException:
-        traceback.print_exc()
+        return _status_of(exit_.code)
+    except KeyboardInterrupt as interrupt:
+        _show(interrupt)
+        return -signal.SIGINT
+    except BaseException as error:
+        _show(error)
         return 1
     return 0
+
+
+def _status_of(code: object) -> int:
+    """The status with which Python ends where this is given to `sys.exit`; a text is shown."""
+    if code is None:
+        return 0
+    if isinstance(code, int):
+        return code & 0xFF
+    print(code, file=sys.stderr)
+    return 1
+
+
+def _show(error: BaseException) -> None:
+    """Shows an error that has left the program, as Python would: without the frames that have run it."""
+    trace = error.__traceback__
+    while trace is not None and trace.tb_frame.f_code.co_filename in _RUNNERS:
+        trace = trace.tb_next
+    sys.excepthook(type(error), error.with_traceback(trace), trace)
 
 
 class TestRun:

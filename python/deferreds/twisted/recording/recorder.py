@@ -138,6 +138,7 @@ class Recorder(Observer):
     ) -> Run:
         """A run of a body begins."""
         run = Run(kind, None if given is None else given[1])
+        run.began = len(self.events)
         body.runs.append(run)
         return run
 

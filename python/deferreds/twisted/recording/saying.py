@@ -1,11 +1,14 @@
-"""Says a recorded run: its script, and the journal and outcomes that real Twisted gave."""
+"""Says a recorded run: its script, and the journal and outcomes that real Twisted gave.
+
+A run may be longer than a script can be, or end in the midst of an event. Then the script is of its beginning, up to an event.
+"""
 
 from __future__ import annotations
 
 import math
 from fractions import Fraction
 from itertools import accumulate
-from typing import Any, Dict, Iterator, List, Optional, Set, Tuple
+from typing import Any, Dict, Iterator, List, Optional, Sequence, Set, Tuple
 
 from .. import grammar
 from ..instruments.tasks import Cooperating
@@ -14,6 +17,7 @@ from ..script import depth, nodes
 from ..telling import Action, Failed, Part, Record, Thing, Time
 from ..texts import Outcome, Text, compact
 from .bodies import Body, Run, Steps, Unsayable
+from .outcomes import outcomes_of
 from .places import FreeNames, name_of_spot
 from .recorder import Problem, Recorder
 
@@ -29,10 +33,15 @@ class CannotSay(Exception):
 class Said:
     """A recorded run, said."""
 
-    def __init__(self, recorder: Recorder) -> None:
+    def __init__(self, recorder: Recorder, ended: Optional[int] = None) -> None:
+        """`ended`: how many events of the program have ended; those after them aren't part of the script. None: all have."""
         self._recorder = recorder
         self._scale = 1
+        #: how many events the script has
+        self.events = self._ended = len(recorder.events) if ended is None else min(ended, len(recorder.events))
         self.problems: List[Problem] = list(recorder.problems)
+        #: those of the problems that are of the size of the whole run alone: the script is of its beginning
+        self.too_large: List[Problem] = []
         self.records: List[Record] = []
         self.rebinds = False
         self._name()
@@ -53,8 +62,26 @@ class Said:
             self._refuse_size(self.script)
 
     @property
+    def lines(self) -> int:
+        """How many lines the journal of the script has."""
+        return self.begins[self.events] if self.events < len(self.begins) else len(self.journal)
+
+    @property
+    def is_whole(self) -> bool:
+        """Whether the script is of the whole run."""
+        return self.events == len(self._recorder.events) and not self.too_large
+
+    @property
     def output(self) -> str:
-        """The journal and the outcomes."""
+        """The journal of the script, and the outcomes."""
+        if self.is_whole:
+            return self.whole_output
+        journal = self.journal[: self.lines]
+        return "".join(line + "\n" for line in journal + outcomes_of(journal))
+
+    @property
+    def whole_output(self) -> str:
+        """The journal of the whole run, and the outcomes."""
         return "".join(line + "\n" for line in self.journal + self.outcomes)
 
     def _problem(self, reason: str, kind: Optional[str] = None, place: str = "") -> None:
@@ -141,7 +168,7 @@ class Said:
     def _script(self) -> Optional[Dict[str, Any]]:
         script: Dict[str, Any] = {"version": 1, "limit": _MOST_LIMIT}
         try:
-            events = [self._action(action) for action in self._recorder.events]
+            events = [self._action(action) for action in self._recorder.events[: self.events]]
             if isinstance(self._recorder.cooperator, Cooperating):
                 script["cooperator"] = self._cooperator(self._recorder.cooperator)
         except CannotSay:
@@ -198,7 +225,7 @@ class Said:
         """A pair that only fires another Deferred with what it was given, which may be no value of the language."""
         if said[0] not in ("addCallback", "addErrback", "addBoth", "addCallbacks"):
             return None
-        ran = [run for body in said[2:] for run in body.runs]
+        ran = [run for body in said[2:] for run in self._runs(body)]
         if len(ran) != 1 or len(ran[0].actions) != 1 or ran[0].end not in (None, ["return", None]):
             return None
         fired = ran[0].actions[0]
@@ -212,10 +239,11 @@ class Said:
     def _body(self, body: Body) -> Any:
         if body.kind == "inline":
             return self._statements(body)
-        if not body.runs:
+        runs = self._runs(body)
+        if not runs:
             return {}
-        first = body.runs[0]
-        for other in body.runs[1:]:
+        first = runs[0]
+        for other in runs[1:]:
             if not self._same_run(first, other):
                 kind = "loop" if body.kind == "turn" else None
                 raise self._cannot(f"a {body.kind} ran more than once, and did something else", kind)
@@ -235,17 +263,24 @@ class Said:
         return ["inline", action.helper.name, [["try", [["do", said]], ["Exception"], []]]]
 
     def _statements(self, body: Body) -> List[Any]:
-        if not body.runs:
+        runs = self._runs(body)
+        if not runs:
             return []
         statements: List[Any] = []
-        for action in body.runs[0].actions:
+        for action in runs[0].actions:
             said = self._action(action)
             statement = said if said[0] == "await" else ["do", said]
             caught = action.raised is not None and action.caught
             statements.append(["try", [statement], ["Exception"], []] if caught else statement)
-        if body.runs[0].end is not None:
-            statements.append(["end", self._say(body.runs[0].end)])
+        if runs[0].end is not None:
+            statements.append(["end", self._say(runs[0].end)])
         return statements
+
+    def _runs(self, body: Body) -> Sequence[Run]:
+        """The runs of a body, but for those of an event that isn't part of the script."""
+        if self._ended == len(self._recorder.events):
+            return body.runs
+        return [run for run in body.runs if run.began <= self._ended]
 
     def _cooperator(self, cooperating: Cooperating) -> Dict[str, int]:
         full = {steps for steps, left in cooperating.ticks if left}
@@ -308,36 +343,80 @@ class Said:
         return True
 
     def _same_body(self, one: Body, two: Body) -> bool:
-        if not two.runs:
+        first, other = self._runs(one), self._runs(two)
+        if not other:
             return True
-        if not one.runs:
+        if not first:
             one.runs = two.runs
             return True
-        return self._same_run(one.runs[0], two.runs[0])
+        return self._same_run(first[0], other[0])
 
     # limits of scripts
 
     def _set_limit(self, script: Dict[str, Any]) -> None:
-        weight = len(self.journal) + len("".join(self.journal).encode())
+        """Sets the limit of the journal, which is at least what the lines weigh."""
+        lines = self.journal[: self.lines]
+        weight = len(lines) + len("".join(lines).encode())
         script["limit"] = min(_MOST_LIMIT, max(grammar.DEFAULT_LIMIT, weight))
-        if weight > _MOST_LIMIT and not self._fits():
-            self._problem("the journal weighs more than a script's may")
-
-    def _fits(self) -> bool:
-        """Whether a journal of many bytes is one of few lines and short values after all."""
-        weights = [part.weight for part in self._recorder.parts if isinstance(part, (Text, Outcome))]
-        helpers = sum(record.helper for record in self.records)
-        return len(self.journal) + sum(weights) + helpers <= _MOST_LIMIT
 
     def _refuse_size(self, script: Dict[str, Any]) -> None:
+        """Notes what is larger than a script may be. Where that is the whole run, the script is cut to its beginning."""
         if depth(self.text) > grammar.DEEPEST:
             self._problem("bodies are nested too deep", "clock")
-        if len(self.text.encode()) > grammar.MOST_BYTES:
-            self._problem("the script is longer than one may be")
-        elif nodes(script) > grammar.MOST_NODES:
-            self._problem("the script has more nodes than one may have")
         if len(script.get("classes", [])) > grammar.MOST_CLASSES:
             self._problem("the script has more classes than one may have")
+        reasons = self._too_large(script)
+        if reasons:
+            self.too_large = [Problem(reason, "", None) for reason in reasons]
+            self.problems += self.too_large
+            self._cut(script)
+
+    def _too_large(self, script: Dict[str, Any]) -> List[str]:
+        """In what the script is larger than one may be."""
+        reasons: List[str] = []
+        if script["limit"] == _MOST_LIMIT and self._weights()[self.events] > _MOST_LIMIT:
+            reasons.append("the journal weighs more than a script's may")
+        if len(self.text.encode()) > grammar.MOST_BYTES:
+            reasons.append("the script is longer than one may be")
+        elif nodes(script) > grammar.MOST_NODES:
+            reasons.append("the script has more nodes than one may have")
+        return reasons
+
+    def _cut(self, script: Dict[str, Any]) -> None:
+        """Leaves out the last events of the script, as few as can be, so that it and its journal aren't too large."""
+        events = script["events"]
+        bare = {**script, "limit": _MOST_LIMIT, "events": []}
+        size = list(accumulate((len(compact(event).encode()) + 1 for event in events), initial=len(compact(bare).encode())))
+        count = list(accumulate(map(nodes, events), initial=nodes(bare)))
+        weights = self._weights()
+        self.events = max(
+            place
+            for place in range(len(events) + 1)
+            if place == 0
+            or (size[place] <= grammar.MOST_BYTES and count[place] <= grammar.MOST_NODES and weights[place] <= _MOST_LIMIT)
+        )
+        script["events"] = events[: self.events]
+        self._set_limit(script)
+        self.text = compact(script)
+
+    def _weights(self) -> List[int]:
+        """What the lines before each event weigh, and before the end of the script."""
+        before = list(accumulate(map(_weight, self._recorder.parts), initial=0))
+        begins = self._recorder.begins[: self._ended + 1]
+        return [before[place] for place in begins] + ([before[-1]] if len(begins) <= self._ended else [])
+
+
+def _weight(part: Optional[Part]) -> int:
+    """What a part of a line adds to the weight of the journal, or the end of a line."""
+    if part is None:
+        return 1
+    if isinstance(part, (Text, Outcome)):
+        return part.weight
+    if isinstance(part, Action):
+        return 0 if part.helper is None else 1
+    if isinstance(part, Failed):
+        return 0 if part.action.helper is None else 2
+    return 0
 
 
 def _exact(seconds: float) -> Fraction:

@@ -1,0 +1,5 @@
+"""What the command `twistd` runs."""
+
+from twisted.scripts.twistd import run
+
+run()

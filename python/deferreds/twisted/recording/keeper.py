@@ -1,0 +1,119 @@
+"""Keeps the run of a program however its process ends: the one place where endings, forks and the recorder meet."""
+
+from __future__ import annotations
+
+import contextlib
+import inspect
+import os
+import warnings
+from types import FrameType
+from typing import NoReturn, Optional
+
+from ..telling import Observer
+from .keeping import Keeping, Status
+from .recorder import Recorder
+from .saying import Said
+
+#: the code by which the recorder notes what happens: where it runs, an event is under way
+_NOTING = {
+    function.__code__
+    for cls in (Observer, Recorder)
+    for name, function in vars(cls).items()
+    if inspect.isfunction(function) and name != "watching"
+}
+
+_exit = os._exit
+
+
+def _forked() -> int:
+    """`os.fork`, also where Python warns of that, since other threads run."""
+    with warnings.catch_warnings():
+        warnings.simplefilter("ignore", DeprecationWarning)
+        return os.fork()
+
+
+class Keeper:
+    """Keeps what a recorder has of this process; a forked child keeps only what it has itself done, too."""
+
+    def __init__(self, recorder: Recorder, keeping: Keeping) -> None:
+        self._recorder = recorder
+        self._keeping = keeping
+        self._is_busy = False
+        self._is_snapshot = False
+        #: how many parts of lines were told when this process was forked
+        self._forked_at: Optional[int] = None
+
+    @property
+    def is_idle_child(self) -> bool:
+        """Whether this is a forked child in which nothing was recorded."""
+        return self._forked_at is not None and self._forked_at == len(self._recorder.parts)
+
+    def keep(self, how: str, frame: Optional[FrameType] = None) -> Status:
+        """Keeps the run so far, which ended so; the frame is that of the program, where that runs."""
+        if self.is_idle_child:
+            return Status.RECORDED
+        is_busy, self._is_busy = self._is_busy, True
+        try:
+            return self._keeping.keep(Said(self._recorder, self._ended(frame)), how)
+        finally:
+            self._is_busy = is_busy
+
+    def ends(self, how: str, frame: Optional[FrameType]) -> bool:
+        """The process ends after this call; whether it may, since the run isn't being kept at this moment."""
+        if self._is_busy:
+            return False
+        try:
+            self.keep(how, frame)
+        except BaseException as error:  # (Ctrl-C, too: the process ends in any case)
+            self._keeping.messages.say(f"the run can't be kept: {type(error).__name__}: {error}")
+        return True
+
+    def is_asked(self, frame: Optional[FrameType]) -> None:
+        """Somebody asks for the run so far: a copy of this process writes it, and this one goes on."""
+        if self._is_busy:
+            return
+        self._is_snapshot = True
+        try:
+            child = _forked()
+            if child == 0:
+                self._write_snapshot(frame)
+            with contextlib.suppress(ChildProcessError):  # (the program may ignore the ends of children)
+                os.waitpid(child, 0)
+        except OSError as error:
+            self._keeping.messages.say(f"the run so far can't be kept: {error.strerror}")
+        finally:
+            self._is_snapshot = False
+
+    def _write_snapshot(self, frame: Optional[FrameType]) -> NoReturn:
+        """In the copy, has a copy of its own write, for which the program doesn't wait."""
+        try:
+            if _forked() == 0:
+                self.ends("asked by SIGUSR1", frame)
+        finally:
+            _exit(0)
+
+    def has_forked(self) -> None:
+        """A child of this process was forked."""
+        self._keeping.children += not self._is_snapshot
+
+    def is_child(self) -> None:
+        """From here on this is a forked child, whose files have its number in their names."""
+        if not self._is_snapshot:
+            self._forked_at = len(self._recorder.parts)
+            self._keeping.be_of_child()
+
+    def _ended(self, frame: Optional[FrameType]) -> Optional[int]:
+        """How many events have ended, where one is under way; None, where all have."""
+        recorder = self._recorder
+        if len(recorder.events) == len(recorder.begins) and not self._is_under_way(frame):
+            return None
+        return max(0, len(recorder.events) - 1)
+
+    def _is_under_way(self, frame: Optional[FrameType]) -> bool:
+        if frame is None:
+            return False
+        while frame is not None:
+            if frame.f_code in _NOTING:
+                return True
+            frame = frame.f_back
+        return self._recorder.frame is not self._recorder.top or self._recorder.quiet

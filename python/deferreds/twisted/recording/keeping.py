@@ -1,0 +1,134 @@
+"""Keeps a recording: says the run, compares it, writes its files, and tells what they are."""
+
+from __future__ import annotations
+
+import enum
+import platform
+from typing import Any, Dict, Optional
+
+import twisted
+
+from ...view.page import Page
+from ...view.phrases import several
+from ...view.run import run_of_journal
+from ...view.scripts import Script
+from ..programs import Program
+from .agreeing import Agreement, agreement
+from .files import Place
+from .messages import Messages
+from .recorder import Problem
+from .saying import Said
+
+
+class Status(enum.IntEnum):
+    """What a recording came to, as the status of the command."""
+
+    RECORDED = 0
+    REFUSED = 65
+    NOTHING = 66
+    NOT_WRITTEN = 73
+
+
+class Keeping:
+    """Where recordings are kept, and how."""
+
+    def __init__(self, place: Place, messages: Messages, view: bool, asked: Optional[Program]) -> None:
+        """`view`: a page is written, too. `asked`: the program that scripts are compared with, if there is one."""
+        self.place = place
+        self.messages = messages
+        #: how many children this process has forked
+        self.children = 0
+        self._view = view
+        self._asked = asked
+
+    def be_of_child(self) -> None:
+        """From here on the files are those of a forked child, which are named by its number."""
+        self.children = 0
+        self.place.be_of_this_process()
+        self.messages.be_of_child()
+
+    def keep(self, said: Said, how: str) -> Status:
+        """Keeps a run that ended so. What can't be kept is told, with the reason."""
+        refusals = [problem for problem in said.problems if problem not in said.too_large]
+        if refusals or said.script is None:
+            self._refuse(refusals)
+            return Status.REFUSED
+        if not said.journal:
+            self._tell_nothing()
+            return Status.NOTHING
+        return self._write(said, how)
+
+    def _tell_nothing(self) -> None:
+        if self.children:
+            self.messages.say(
+                "nothing was recorded in this process: it has used no Deferreds. "
+                f"What a forked child does is written when that ends: {self.place.shown('.PID.json')}"
+            )
+        else:
+            self.messages.say("nothing was recorded: the program has used no Deferreds")
+
+    def _refuse(self, refusals: "list[Problem]") -> None:
+        for problem in dict.fromkeys(refusals):
+            at = f", at {problem.place}" if problem.place else ""
+            plainly = f" (--plain {problem.kind} tells it as what it is made of)" if problem.kind else ""
+            self.messages.say(f"a script can't say this: {problem.reason}{at}{plainly}")
+
+    def _write(self, said: Said, how: str) -> Status:
+        agreed = agreement(said, self._asked)
+        files: Dict[str, str] = {}
+        if agreed.is_wrong:
+            files[".journal"] = said.whole_output
+        else:
+            files.update({".json": said.text + "\n", ".journal": said.output})
+            if not said.is_whole:
+                files[".whole.journal"] = said.whole_output
+        counts = self._add_page(files, said) if self._view else ""
+        written = self.place.write(files, self._facts(said, how, agreed))
+        for failure in written.failures:
+            self.messages.say(failure)
+        if not written.is_any:
+            return Status.NOT_WRITTEN
+        if counts:
+            self.messages.say(f"{written.name}.html: {counts}")
+        self._tell(said, written.name, agreed)
+        if agreed.is_wrong:
+            return Status.REFUSED
+        return Status.NOT_WRITTEN if written.failures else Status.RECORDED
+
+    def _add_page(self, files: Dict[str, str], said: Said) -> str:
+        """Adds the page of the whole run, and gives how large that is."""
+        run = run_of_journal(said.whole_output, self.place.name.name, Script(said.script), False, said.begins)
+        if not said.is_whole:
+            run.problems.append((_beginning(said),))
+        files[".html"] = Page(run).html()
+        return run.counts
+
+    def _facts(self, said: Said, how: str, agreed: Agreement) -> Dict[str, Any]:
+        """What the list of the files says of the recording."""
+        return {
+            "twisted": str(twisted.__version__),
+            "python": platform.python_version(),
+            "ended": how,
+            "events": len(said.begins),
+            "events of the script": said.events,
+            "compared": agreed.text,
+        }
+
+    def _tell(self, said: Said, name: str, agreed: Agreement) -> None:
+        for entry in sorted({entry.value for _, entry in said.quirks}):
+            self.messages.say(f"Twisted does here what docs/PROFILE.md says of {entry}")
+        lines, deferreds = several(len(said.journal), "line", "lines"), several(len(said.records), "Deferred", "Deferreds")
+        if agreed.is_wrong:
+            self.messages.say(f"{name}.journal: {lines}, {deferreds}. No script is left: it would be wrong, since {agreed.text}")
+            return
+        if said.is_whole:
+            self.messages.say(f"{name}.json and {name}.journal: {lines}, {deferreds}; {agreed.text}")
+            return
+        self.messages.say(f"{name}.whole.journal: {lines}, {deferreds}")
+        self.messages.say(f"{name}.json and {name}.journal: {_beginning(said)}; {agreed.text}")
+
+
+def _beginning(said: Said) -> str:
+    """Of what the script is, where it isn't of the whole run, and why."""
+    why = "; ".join(problem.reason for problem in said.too_large) or "an event was under way at the end"
+    return f"the script is of the first {said.events} of {several(len(said.begins), 'event', 'events')}, since {why}"

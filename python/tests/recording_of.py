@@ -1,0 +1,104 @@
+"""Runs `./record` on the programs of python/data/programs, in a folder of the test's own."""
+
+from __future__ import annotations
+
+import json
+import os
+import shutil
+import subprocess
+import sys
+import tempfile
+import time
+import unittest
+from pathlib import Path
+from typing import Any, Callable, Dict, List, NamedTuple
+
+from deferreds.twisted.running import be_quiet, run
+
+PROGRAMS = Path(__file__).resolve().parents[1] / "data" / "programs"
+
+_COMMAND = [sys.executable, "-m", "deferreds.twisted", "record"]
+_SECONDS = 60.0
+
+
+class Ended(NamedTuple):
+    """How a command ended, and what it has said."""
+
+    status: int
+    said: str
+    printed: str
+
+
+class RecordingCase(unittest.TestCase):
+    """A folder, and what is recorded in it."""
+
+    def setUp(self) -> None:
+        room = tempfile.TemporaryDirectory()
+        self.addCleanup(room.cleanup)
+        be_quiet()
+        self.folder = Path(room.name)
+
+    def environment(self) -> Dict[str, str]:
+        """The environment in which the package is found."""
+        return {**os.environ, "PYTHONPATH": os.pathsep.join(filter(None, sys.path)), "PYTHONDONTWRITEBYTECODE": "1"}
+
+    def start(self, *words: str) -> "subprocess.Popen[str]":
+        """Starts the command with these words. A program is named by its file."""
+        process = subprocess.Popen(
+            [*_COMMAND, *(str(PROGRAMS / word) if (PROGRAMS / word).is_file() else word for word in words)],
+            cwd=self.folder,
+            env=self.environment(),
+            stdin=subprocess.PIPE,
+            stdout=subprocess.PIPE,
+            stderr=subprocess.PIPE,
+            text=True,
+        )
+        for stream in (process.stdin, process.stdout, process.stderr):
+            assert stream is not None
+            self.addCleanup(stream.close)
+        self.addCleanup(process.wait)
+        self.addCleanup(process.kill)
+        return process
+
+    def end(self, process: "subprocess.Popen[str]") -> Ended:
+        """Waits for the end of the command."""
+        printed, said = process.communicate(timeout=_SECONDS)
+        return Ended(process.returncode, said, printed)
+
+    def record(self, *words: str) -> Ended:
+        """Runs the command to its end."""
+        return self.end(self.start(*words))
+
+    def wait_for(self, is_so: Callable[[], object], what: str) -> None:
+        """Waits until something is so."""
+        until = time.monotonic() + _SECONDS
+        while not is_so():
+            if time.monotonic() > until:
+                self.fail(f"waited in vain for {what}")
+            time.sleep(0.02)
+
+    def files(self) -> List[str]:
+        """What stands in the folder."""
+        return sorted(os.listdir(self.folder))
+
+    def text(self, name: str) -> str:
+        """What a file of the folder holds."""
+        return (self.folder / name).read_text(encoding="utf-8")
+
+    def facts(self, name: str) -> Dict[str, Any]:
+        """What the list of a recording's files says."""
+        facts: Dict[str, Any] = json.loads(self.text(f"{name}.recording"))
+        return facts
+
+    def events(self, name: str) -> List[Any]:
+        """The events of a script."""
+        events: List[Any] = json.loads(self.text(f"{name}.json"))["events"]
+        return events
+
+    def assert_goes_together(self, name: str) -> None:
+        """The script prints the journal that stands beside it."""
+        self.assertEqual(run((self.folder / f"{name}.json").read_bytes()).output, self.text(f"{name}.journal"))
+
+    def copied(self, name: str, to: str) -> Path:
+        """A program as a file of the folder."""
+        return Path(shutil.copy(PROGRAMS / name, self.folder / to))

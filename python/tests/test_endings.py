@@ -1,0 +1,417 @@
+"""However a program ends, its run is kept; and its files, messages and status are as they are said to be."""
+
+from __future__ import annotations
+
+import contextlib
+import os
+import signal
+import unittest
+from pathlib import Path
+from typing import List, Optional
+
+from twisted.internet import defer
+
+from deferreds.twisted.instruments import install
+from deferreds.twisted.programs import Answer, Batches, Broken, Program
+from deferreds.twisted.recording.files import Place
+from deferreds.twisted.recording.keeping import Keeping, Status
+from deferreds.twisted.recording.messages import Messages
+from deferreds.twisted.recording.outcomes import outcomes_of
+from deferreds.twisted.recording.recorder import Recorder
+from deferreds.twisted.recording.saying import Said
+from deferreds.twisted.rows import ANY_LINES, read_rows, row_files
+
+from .recording_of import RecordingCase
+
+
+class Words(RecordingCase):
+    """Which words are the command's, and which the program's."""
+
+    def test_all_words_after_the_module_are_its_own(self) -> None:
+        self.copied("configured.py", "settings.py")
+        for words in (("-m", "settings"), ("-msettings",)):
+            with self.subTest(words=words):
+                ended = self.record("-o", "run", *words, "--reporter=text", "-o", "x", "--view")
+                self.assertEqual((ended.status, ended.printed), (0, "['--reporter=text', '-o', 'x', '--view']\n"), ended.said)
+                self.assertEqual(self.files(), ["run.journal", "run.json", "run.recording", "settings.py"])
+
+    def test_all_words_after_the_program_are_its_own(self) -> None:
+        ended = self.record("-o", "run", "configured.py", "-m", "x", "--view", "--", "-f")
+        self.assertEqual(ended.printed, "['-m', 'x', '--view', '--', '-f']\n", ended.said)
+
+    def test_without_a_name_it_is_that_of_the_program_or_of_the_module(self) -> None:
+        (self.folder / "package").mkdir()
+        self.copied("configured.py", "package/inner.py")
+        self.record("configured.py")
+        self.record("-m", "package.inner")
+        self.assertEqual([name for name in self.files() if name.endswith(".json")], ["configured.json", "inner.json"])
+
+    def test_two_of_program_module_and_test_are_one_too_many(self) -> None:
+        ended = self.record("--test", "a.b.c", "configured.py")
+        self.assertEqual((ended.status, ended.said.count("\n")), (64, 1), ended.said)
+
+    def test_a_script_on_the_path_is_found(self) -> None:
+        (self.folder / "bin").mkdir()
+        tool = self.folder / "bin" / "tool"
+        tool.write_text("#!/usr/bin/env python3\nfrom twisted.internet import defer\ndefer.succeed(1)\n", encoding="utf-8")
+        tool.chmod(0o755)
+        before = os.environ["PATH"]
+        self.addCleanup(os.environ.__setitem__, "PATH", before)
+        os.environ["PATH"] = f"{tool.parent}{os.pathsep}{before}"
+        self.assertEqual(self.record("tool").status, 0)
+        self.assert_goes_together("tool")
+        self.assertEqual(self.record("sh", "-c", "true").status, 66)
+
+
+class Files(RecordingCase):
+    """Where files are written, and which of those that are there."""
+
+    def test_a_name_is_taken_in_the_folder_of_the_start(self) -> None:
+        ended = self.record("-o", "run", "chdir.py")
+        self.assertEqual((ended.status, self.files()), (0, ["run.journal", "run.json", "run.recording"]), ended.said)
+
+    def test_a_file_of_somebody_else_is_not_overwritten(self) -> None:
+        self.copied("configured.py", "service.py")
+        (self.folder / "service.json").write_text('{"port":80}', encoding="utf-8")
+        ended = self.record("service.py")
+        self.assertEqual((ended.status, ended.printed, ended.said.count("\n")), (73, "", 1), ended.said)
+        self.assertIn("service.json is there, and isn't a recording", ended.said)
+        self.assertEqual(self.text("service.json"), '{"port":80}')
+        self.assertEqual(self.record("-f", "service.py").status, 0)
+        self.assert_goes_together("service")
+
+    def test_a_recording_is_overwritten_as_long_as_it_is_as_it_was_written(self) -> None:
+        self.assertEqual(self.record("-o", "run", "--view", "configured.py").status, 0)
+        self.assertEqual(self.record("-o", "run", "os_exit.py", "0").status, 0)
+        self.assertEqual(self.files(), ["run.journal", "run.json", "run.recording"], "the page of the other run is gone")
+        with (self.folder / "run.journal").open("a", encoding="utf-8") as file:
+            file.write("what somebody has noted\n")
+        ended = self.record("-o", "run", "configured.py")
+        self.assertEqual((ended.status, ended.printed), (73, ""), ended.said)
+
+    def test_a_file_that_the_program_makes_meanwhile_stays(self) -> None:
+        program = self.folder / "makes.py"
+        program.write_text(
+            "from twisted.internet import defer\ndefer.succeed(1)\nopen('makes.json', 'w').write('mine')\n", encoding="utf-8"
+        )
+        process = self.start("makes.py")
+        ended = self.end(process)
+        self.assertEqual((ended.status, self.text("makes.json")), (0, "mine"), ended.said)
+        self.assert_goes_together(f"makes.{process.pid}")
+
+    def test_a_folder_that_isnt_there_is_told_before_the_program_runs(self) -> None:
+        ended = self.record("-o", "nowhere/run", "configured.py")
+        self.assertEqual((ended.status, ended.printed, ended.said.count("\n")), (73, "", 1), ended.said)
+
+    def test_what_cant_be_written_is_told_and_the_rest_is_whole(self) -> None:
+        ended = self.record("-o", "run", "--view", "limits_files.py", "4096")
+        self.assertEqual(ended.status, 73, ended.said)
+        self.assertIn("run.html can't be written: File too large\n", ended.said)
+        self.assertEqual(self.files(), ["run.journal", "run.json", "run.recording"])
+        self.assert_goes_together("run")
+
+    def test_a_folder_that_has_gone_is_replaced_by_that_for_temporary_files(self) -> None:
+        (self.folder / "room").mkdir()
+        (self.folder / "temporary").mkdir()
+        (self.folder / "leaves.py").write_text(
+            "import os\nfrom twisted.internet import defer\ndefer.succeed(1)\nos.rmdir('room')\n", encoding="utf-8"
+        )
+        self.addCleanup(os.environ.pop, "TMPDIR", None)
+        os.environ["TMPDIR"] = str(self.folder / "temporary")
+        process = self.start("-o", "room/run", "leaves.py")
+        ended = self.end(process)
+        self.assertEqual(ended.status, 73, ended.said)
+        self.assertIn(f"temporary/run.{process.pid}.json", ended.said)
+        self.assert_goes_together(f"temporary/run.{process.pid}")
+
+
+class Told(RecordingCase):
+    """What is said goes to the standard error of the start."""
+
+    def test_whatever_the_program_does_with_standard_error(self) -> None:
+        ended = self.record("stderr_taken.py")
+        self.assertEqual((ended.status, ended.said.count("\n")), (0, 1), ended.said)
+        self.assertIn("stderr_taken.json and stderr_taken.journal: 2 lines, 1 Deferred", ended.said)
+
+
+class Statuses(RecordingCase):
+    """The status is the program's own."""
+
+    def test_of_a_program_that_has_failed(self) -> None:
+        ended = self.record("raises.py")
+        self.assertEqual(ended.status, 1, ended.said)
+        self.assertIn("told of KeyError <module>\n", ended.said)
+        self.assert_goes_together("raises")
+
+    def test_of_a_program_that_gives_one(self) -> None:
+        ended = self.record("os_exit.py", "7")
+        self.assertEqual(ended.status, 7, ended.said)
+        self.assert_goes_together("os_exit")
+        self.assertEqual(self.facts("os_exit")["ended"], "os._exit")
+
+    def test_what_a_script_cant_say(self) -> None:
+        (self.folder / "by_hand.py").write_text(
+            "from twisted.internet import defer\ndefer.succeed(1).result = 2\n", encoding="utf-8"
+        )
+        ended = self.record("by_hand.py")
+        self.assertEqual((ended.status, self.files()), (65, ["by_hand.py"]), ended.said)
+
+    def test_of_a_test_that_has_failed(self) -> None:
+        self.copied("failing_test.py", "failing.py")
+        for name, status, message in (
+            ("test_passes", 0, "^record: test_passes.json"),
+            ("test_fails", 1, "failing.FailingTests.test_fails has failed: .*one isn't two"),
+            ("test_raises", 1, "failing.FailingTests.test_raises has failed: .*nobody expects this"),
+        ):
+            with self.subTest(name=name):
+                ended = self.record("--test", f"failing.FailingTests.{name}")
+                self.assertEqual(ended.status, status, ended.said)
+                self.assertRegex(ended.said, message)
+                self.assert_goes_together(name)
+
+
+class Ends(RecordingCase):
+    """Ends that Python doesn't know of."""
+
+    def test_a_signal_that_nobody_handles(self) -> None:
+        ended = self.record("killed.py")
+        self.assertEqual(ended.status, -signal.SIGTERM, ended.said)
+        self.assert_goes_together("killed")
+        self.assertEqual(self.facts("killed")["ended"], "SIGTERM")
+
+    def test_a_signal_in_the_midst_of_an_event(self) -> None:
+        for number in (signal.SIGTERM, signal.SIGHUP):
+            with self.subTest(number=number):
+                name, begun = number.name, self.folder / f"{number.name}.begun"
+                process = self.start("-o", name, "--view", "waits.py", str(begun))
+                self.wait_for(begun.exists, "the callback")
+                process.send_signal(number)
+                ended = self.end(process)
+                self.assertEqual(ended.status, -number, ended.said)
+                self.assert_goes_together(name)
+                self.assertEqual([event[0] for event in self.events(name)], ["deferred", "callback", "deferred", "addCallback"])
+                whole = self.text(f"{name}.whole.journal").splitlines()
+                self.assertIn('fire #2 ok "inside"', whole)
+                self.assertIn("&quot;inside&quot;", self.text(f"{name}.html"))
+
+    def test_ctrl_c(self) -> None:
+        begun = self.folder / "begun"
+        process = self.start("waits.py", str(begun), "outside")
+        self.wait_for(begun.exists, "the wait")
+        process.send_signal(signal.SIGINT)
+        ended = self.end(process)
+        self.assertEqual(ended.status, -signal.SIGINT, ended.said)
+        self.assert_goes_together("waits")
+        self.assertIn("KeyboardInterrupt", ended.said)
+        self.assertNotIn(str(Path("recording", "programs.py")), ended.said)
+
+    def test_a_forked_child_writes_files_of_its_own(self) -> None:
+        ended = self.record("forks.py")
+        self.assertEqual(ended.status, 0, ended.said)
+        scripts = [name.removesuffix(".json") for name in self.files() if name.endswith(".json")]
+        self.assertEqual(len(scripts), 2, scripts)
+        for name in scripts:
+            self.assert_goes_together(name)
+        child = next(name for name in scripts if name != "forks")
+        self.assertIn('ok "child"', self.text(f"{child}.journal"))
+        self.assertNotIn('ok "child"', self.text("forks.journal"))
+        self.assertIn('ok "parent"', self.text("forks.journal"))
+
+
+class Services(RecordingCase):
+    """Services, which are stopped by a signal."""
+
+    def setUp(self) -> None:
+        super().setUp()
+        self.runs = self.folder / "runs"
+        self.addCleanup(os.environ.pop, "RUNS", None)
+        os.environ["RUNS"] = str(self.runs)
+        self.copied("service.tac", "service.tac")
+
+    def test_twistd(self) -> None:
+        for number in (signal.SIGTERM, signal.SIGINT):
+            with self.subTest(number=number):
+                process = self.start("-o", number.name, "twistd.py", "-n", "-y", "service.tac")
+                self.wait_for(self.runs.exists, "the service")
+                process.send_signal(number)
+                ended = self.end(process)
+                self.assertEqual(ended.status, -number, ended.said)
+                self.assert_goes_together(number.name)
+                self.assertIn("CancelledError", self.text(f"{number.name}.journal"))
+                self.assertEqual(self.facts(number.name)["ended"], number.name)
+                self.runs.unlink()
+
+    def test_twist(self) -> None:
+        process = self.start("twist.py", "web", "--listen", "tcp:0:interface=127.0.0.1")
+        assert process.stdout is not None
+        while "Starting reactor" not in process.stdout.readline():
+            self.assertIsNone(process.poll())
+        process.send_signal(signal.SIGTERM)
+        ended = self.end(process)
+        self.assertEqual(ended.status, -signal.SIGTERM, ended.said)
+        self.assert_goes_together("twist")
+
+    def test_a_daemon_is_a_forked_child(self) -> None:
+        ended = self.record("twistd.py", "-y", "service.tac")
+        self.assertEqual(ended.status, 0, ended.said)
+        self.wait_for(self.runs.exists, "the daemon")
+        name = f"twistd.{self.text('runs')}"
+        self.assertIn("twistd.PID.json", ended.said)
+        self.addCleanup(self.kill, int(self.text("runs")))
+        os.kill(int(self.text("runs")), signal.SIGTERM)
+        self.wait_for((self.folder / f"{name}.recording").exists, "the end of the daemon")
+        self.assert_goes_together(name)
+        self.assertFalse((self.folder / "twistd.json").exists())
+
+    def kill(self, number: int) -> None:
+        """Ends a process, if it is still there."""
+        with contextlib.suppress(ProcessLookupError):
+            os.kill(number, signal.SIGKILL)
+
+
+class Asked(RecordingCase):
+    """SIGUSR1 has the run so far written."""
+
+    def ask(self, *words: str) -> None:
+        """Asks while the program waits, and once more; it goes on, and ends by itself."""
+        process = self.start("asked.py", *words)
+        assert process.stdin is not None and process.stdout is not None
+        if words:
+            self.assertEqual(process.stdout.readline(), "True\n")
+        for count in (1, 2, 3):
+            process.stdin.write(f"line {count}\n")
+            process.stdin.flush()
+            self.assertEqual(process.stdout.readline(), "made\n")
+            if count == 3:
+                break
+            process.send_signal(signal.SIGUSR1)
+            if words:
+                self.assertEqual(process.stdout.readline(), "asked\n")
+            self.wait_for(lambda: self.has_deferreds(count), "the run so far")
+            self.assert_goes_together("asked")
+            self.assertEqual(self.facts("asked")["ended"], "asked by SIGUSR1")
+        process.stdin.close()
+        self.assertEqual(process.wait(), 0)
+        self.assertTrue(self.has_deferreds(3))
+        self.assert_goes_together("asked")
+
+    def has_deferreds(self, count: int) -> bool:
+        """Whether the recording has so many Deferreds, and is whole."""
+        try:
+            listed = self.facts("asked")["events"]
+        except OSError:
+            return False
+        return self.text("asked.journal").count("\nfire") == count and listed >= 2 * count
+
+    def test_it_goes_on(self) -> None:
+        self.ask()
+
+    def test_what_the_program_does_at_the_signal_follows(self) -> None:
+        self.ask("itself")
+
+
+class Limits(RecordingCase):
+    """Runs that are larger than a script may be."""
+
+    def test_the_script_is_of_the_longest_beginning(self) -> None:
+        for words, reason, events in (
+            (("12000", "0", "65"), "the script has more nodes than one may have", 18_723),
+            (("12", "50000", "65"), "the journal weighs more than a script's may", 7),
+            (("6", "30000", "1"), "the script is longer than one may be", 11),
+        ):
+            with self.subTest(reason=reason):
+                ended = self.record("-o", "run", "--view", "large.py", *words)
+                self.assertEqual(ended.status, 0, ended.said)
+                told = f"the script is of the first {events} of {2 * int(words[0])} events, since {reason}"
+                self.assertIn(f"{told}; ./deferreds prints the same", ended.said)
+                self.assertIn(told.replace("'", "&#x27;"), self.text("run.html"))
+                self.assert_goes_together("run")
+                whole = self.text("run.whole.journal").splitlines()
+                self.assertEqual(len(whole), 3 * int(words[0]))
+                self.assertEqual(len(self.events("run")), events)
+
+
+class Heard(Messages):
+    """Keeps what is said."""
+
+    def __init__(self) -> None:
+        super().__init__("record")
+        self.lines: List[str] = []
+
+    def say(self, text: str) -> None:
+        """Keeps a line."""
+        self.lines.append(text)
+
+
+class Fixed:
+    """A program that gives one answer, or none."""
+
+    def __init__(self, given: Optional[Answer]) -> None:
+        self._given = given
+
+    def answer(self, script: str, batches: Optional[Batches] = None) -> Answer:
+        """The answer."""
+        if self._given is None:
+            raise Broken("it can't be run")
+        return self._given
+
+    def close(self) -> None:
+        """Nothing is left to do."""
+
+
+class Compared(RecordingCase):
+    """The script is compared with what the program prints for it."""
+
+    def keep(self, asked: Optional[Program]) -> "tuple[Status, str]":
+        """Keeps the run of a small program; the status, and the last line that is said."""
+        install()
+        recorder = Recorder()
+        with recorder.watching():
+            defer.succeed(1)
+        heard = Heard()
+        keeping = Keeping(Place(str(self.folder / "run")), heard, True, asked)
+        status = keeping.keep(Said(recorder), "status 0")
+        return status, heard.lines[-1]
+
+    def test_a_script_that_would_be_wrong_isnt_left(self) -> None:
+        wrong = Answer(0, "new #0 other\nfire #0 ok 1\n#0 other ok 1\n", "")
+        self.assertEqual(self.keep(None)[0], Status.RECORDED)
+        self.assertIn("run.json", self.files())
+        status, line = self.keep(Fixed(wrong))
+        self.assertEqual(status, Status.REFUSED)
+        self.assertRegex(line, "No script is left: it would be wrong, since ./deferreds prints line 1 otherwise: new #0 other and not")
+        self.assertEqual(self.files(), ["run.html", "run.journal", "run.recording"])
+        self.assertIn("fire #0 ok 1", self.text("run.journal"))
+
+    def test_a_program_that_gives_no_answer_is_no_difference(self) -> None:
+        for asked, why in ((None, "isn't here"), (Fixed(None), "it can't be run"), (Fixed(Answer(-1, "", "late")), "late")):
+            with self.subTest(why=why):
+                status, line = self.keep(asked)
+                self.assertEqual(status, Status.RECORDED)
+                self.assertRegex(line, f"not compared.*{why}")
+
+    def test_a_difference_of_the_profile_is_named(self) -> None:
+        ended = self.record("unpaused.py")
+        self.assertEqual(ended.status, 0, ended.said)
+        self.assertIn("./deferreds prints the same up to line 2, by unpause-at-zero of docs/PROFILE.md", ended.said)
+        self.assertIn("unpaused.json", self.files())
+
+
+class Outcomes(unittest.TestCase):
+    """Outcomes by the lines of a journal alone."""
+
+    def test_they_are_those_that_are_printed(self) -> None:
+        count = 0
+        for file in row_files():
+            for row in read_rows(file):
+                lines = row.output.splitlines()
+                if row.status != 0 or ANY_LINES in lines:
+                    continue
+                journal = [line for line in lines if not line.startswith("#")]
+                self.assertEqual(outcomes_of(journal), lines[len(journal) :], f"{row.file}: {row.name}")
+                count += 1
+        self.assertGreater(count, 2_000)
+
+
+if __name__ == "__main__":
+    unittest.main()
