@@ -1,11 +1,14 @@
 #!/usr/bin/env python3
 """Prints what a reader has to believe: the definitions that the headline rests on, as the table of docs/DEFINITIONS.md.
 
-The headline is `Prints` of dv_run. A definition rests on those that its text names, in its own module or by an import. What is read off
-the Rust types (`specs.declared`) and the words of the standard library are not counted; nor are imports, comments and blank lines.
+The headline is `Prints` of dv_run. A definition rests on those that its text names, in its own module or by an import. Those of the
+crates of the kit count too, so the kit has to be here. What is read off the Rust types (`specs.declared`) and the words of the
+standard library are not counted; nor are imports, comments and blank lines.
 """
 
 import re
+import shutil
+import subprocess
 import sys
 from dataclasses import dataclass, field
 from functools import cache
@@ -14,13 +17,18 @@ from pathlib import Path
 TOP = Path(__file__).resolve().parent.parent
 HEADLINE = ("dv_run", "Headline", "Prints")
 
+#: the crates of the kit whose words aren't counted: the standard library
+STANDARD = {"core", "std"}
+
 Module = tuple[str, str]
 Name = tuple[str, str, str]
 
 SIGNATURE = re.compile(r"^(?:(?:abbrev|unfoldable|pub) (?:pub )?(?:record |data )?|(?:record|data) )(\S+) ?[:({]")
 NESTED = re.compile(r"^ +(?:(?:abbrev|unfoldable) (?:pub )?|(?:pub )?(?:record|data) )(\S+) ?[:({]")
+MUTUAL = re.compile(r"^(?:(?:abbrev|unfoldable) )?mutual$")
+IN_MUTUAL = re.compile(r"^  (?:pub )?(\S+) : ")
 CONSTRUCTOR = re.compile(r"^ +(\S+) : ")
-IMPORT = re.compile(r"^use Rattle\.(\w+)\.specs\.(\w+)(?: as (\w+)|\.\{(.*)\})$")
+IMPORT = re.compile(r"^(?:pub )?use Rattle\.(\w+)\.specs\.(\w+)(?: as (\w+)|\.\{(.*)\})$")
 WORD = re.compile(r"[^\s(){};,.λ]+(?:\.\w+)?")
 
 
@@ -31,7 +39,24 @@ class Source:
     imported: dict[str, Name] = field(default_factory=dict)
     aliases: dict[str, Module] = field(default_factory=dict)
     homes: dict[str, str] = field(default_factory=dict)
+    #: whether the line that is read stands in a block of definitions that name each other
+    is_mutual: bool = False
     texts: dict[str, list[str]] = field(default_factory=dict)
+
+
+@cache
+def kit() -> Path:
+    """The folder of the kit's crates."""
+    if shutil.which("rt") is None:
+        sys.exit("believed.py: there is no rt here, so the crates of the kit can't be read")
+    page = subprocess.run(["rt", "doc"], capture_output=True, text=True, check=True).stdout
+    return Path(page.strip()).parent / "rattle"
+
+
+def home(crate: str) -> Path | None:
+    """The folder of a crate, of this repository or of the kit, if its words count."""
+    places = (TOP / "crates" / crate, *([] if crate in STANDARD else [kit() / crate]))
+    return next((place for place in places if place.is_dir()), None)
 
 
 def plain(name: str) -> str:
@@ -40,9 +65,9 @@ def plain(name: str) -> str:
 
 
 def add_import(source: Source, line: str) -> None:
-    """Notes what an import of this repository brings."""
+    """Notes what an import brings, unless its words don't count."""
     match = IMPORT.match(line)
-    if match is None or match[2] == "declared" or not (TOP / "crates" / match[1]).is_dir():
+    if match is None or match[2] == "declared" or home(match[1]) is None:
         return
     module = (match[1], match[2])
     if match[3]:
@@ -55,7 +80,9 @@ def add_import(source: Source, line: str) -> None:
 
 def add_line(source: Source, current: str, line: str) -> str:
     """Adds a line to the definition that it is of, and answers which that is."""
-    begins = SIGNATURE.match(line) or NESTED.match(line)
+    if not line.startswith(" "):
+        source.is_mutual = MUTUAL.match(line) is not None
+    begins = SIGNATURE.match(line) or NESTED.match(line) or (source.is_mutual and IN_MUTUAL.match(line))
     constructor = CONSTRUCTOR.match(line)
     if begins:
         current = plain(begins[1])
@@ -70,9 +97,11 @@ def add_line(source: Source, current: str, line: str) -> str:
 def read(module: Module) -> Source:
     """A module, read from its file."""
     source, current = Source(), ""
-    path = TOP / "crates" / module[0] / "specs" / f"{module[1]}.antt"
+    folder = home(module[0])
+    assert folder is not None, "only modules whose words count are read"
+    path = folder / "specs" / f"{module[1]}.antt"
     for line in path.read_text(encoding="utf-8").splitlines():
-        if line.startswith("use "):
+        if line.startswith(("use ", "pub use ")):
             add_import(source, line)
         elif line.strip() and not line.lstrip().startswith(("--", "infix")):
             current = add_line(source, current, line)
@@ -87,7 +116,7 @@ def resolve(module: Module, word: str) -> Name | None:
         return (*source.aliases[first], read(source.aliases[first]).homes[rest])
     if first in source.imported:
         crate, other, name = source.imported[first]
-        return (crate, other, read((crate, other)).homes.get(name, name))
+        return resolve((crate, other), name)
     return (*module, source.homes[first]) if first in source.homes else None
 
 
@@ -109,12 +138,13 @@ def all_below(first: Name) -> set[Name]:
 
 
 def main() -> int:
-    order = [line.split(":")[0] for line in (TOP / "crates.txt").read_text(encoding="utf-8").splitlines()]
+    ours = [line.split(":")[0] for line in (TOP / "crates.txt").read_text(encoding="utf-8").splitlines()]
     sizes: dict[Module, int] = {}
     for name in all_below(HEADLINE):
         sizes[name[:2]] = sizes.get(name[:2], 0) + len(read(name[:2]).texts[name[2]])
     print("| Crate | Modules, and the lines of each that the headline rests on | Lines |\n|---|---|---|")
-    for crate in sorted({module[0] for module in sizes}, key=order.index):
+    used = {module[0] for module in sizes}
+    for crate in [*sorted(used.difference(ours)), *[name for name in ours if name in used]]:
         own = sorted((module[1], size) for module, size in sizes.items() if module[0] == crate)
         print(f"| `{crate}` | {', '.join(f'`{module}` {size}' for module, size in own)} | {sum(size for _, size in own)} |")
     print(f"\n{len(sizes)} modules, {sum(sizes.values())} lines.")

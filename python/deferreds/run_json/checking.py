@@ -7,6 +7,8 @@ import subprocess
 from dataclasses import dataclass
 from typing import Any, Dict, Iterator, List, Optional, Sequence
 
+from ..program import NotRun
+
 from .fold import Fold, Rebound, Told
 
 #: the keys of each kind of line, by docs/JSON.md
@@ -61,6 +63,8 @@ LEFT_KEYS: Dict[str, Sequence[str]] = {
 
 _ORDER = ("start", "entry", "deferred", "left", "end")
 _SECONDS = 60
+#: how much of a script is shown on which the program doesn't end
+_SHOWN = 200
 
 
 class Wrong(Exception):
@@ -77,10 +81,13 @@ class Ran:
 
 
 def run(command: Sequence[str], script: str) -> Ran:
-    """Runs a command on a script."""
-    ran = subprocess.run(
-        list(command), input=script.encode(), capture_output=True, timeout=_SECONDS, check=False
-    )
+    """Runs a command on a script. Raises NotRun where it doesn't end in a minute."""
+    try:
+        ran = subprocess.run(
+            list(command), input=script.encode(), capture_output=True, timeout=_SECONDS, check=False
+        )
+    except subprocess.TimeoutExpired:
+        raise NotRun(f"{' '.join(command)} hasn't ended after {_SECONDS} s on {script[:_SHOWN]}") from None
     return Ran(ran.returncode, ran.stdout.decode(), ran.stderr.decode())
 
 

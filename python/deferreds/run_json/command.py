@@ -3,7 +3,7 @@
 Over each K-th row of the repository, or all, the lines joined are what `./deferreds` prints, and what is left is what a fold of the journal
 gives; over the rows of `left.rows`, what is left is as it stands there, worked out by hand; and over N random scripts in which
 no name is made twice, what is left is what the fold gives. The last line is `N passed, M failed`, and the status is 0 exactly
-where M is 0. Without PROGRAM it is the one that `./deferreds` runs. Status 70: the program can't be run.
+where M is 0. Without PROGRAM it is the one that `./deferreds` runs. Status 70: the program can't be run, or doesn't end in a minute.
 """
 
 from __future__ import annotations
