@@ -1,5 +1,7 @@
 //! How the program ends.
 
+ghost use Rattle.std.specs.Prelude.{◌≡◌};
+
 /// The status with which the program ends, and what it says on standard error.
 #[derive(Clone, Copy)]
 pub struct Exit {
@@ -12,7 +14,11 @@ pub struct Exit {
 
 impl Exit {
     /// With no hint.
-    pub fn plain((status, text): (u8, &'static str)) -> Exit {
+    pub fn plain(ended: (u8, &'static str)) -> Exit
+        ensures status { result.status ≡ ended.entry.0 }
+        ensures text { result.text.now ≡ ended.entry.1.now }
+    {
+        let (status, text) = ended;
         Exit {
             status,
             text,

@@ -103,6 +103,7 @@ impl<'k, 'e> Known<'k, 'e> {
             Hang::Lock(number) => self.write_at_object(out, self.at(Kind::Lock, number)),
             Hang::Queue(number) => self.write_at_object(out, self.at(Kind::Queue, number)),
             Hang::Job(number) => self.write_at_object(out, job(number)),
+            Hang::Timeout(due) => write_at_timeout(out, due),
             Hang::Loop(number) => self.write_at_object(out, self.at(Kind::Loop, number)),
             Hang::Task(number) => self.write_at_object(out, self.at(Kind::Task, number)),
         }
@@ -284,6 +285,11 @@ impl<'k, 'e> Known<'k, 'e> {
             Some(_) | None => write_text(out, "null"),
         }
     }
+}
+
+fn write_at_timeout(out: &mut String, due: u64) -> Result<(), AllocError> {
+    write_number(out, r#"{"at":"timeout","due":"#, due)?;
+    write_text(out, "}")
 }
 
 fn write_tick(out: &mut String, due: u64) -> Result<(), AllocError> {

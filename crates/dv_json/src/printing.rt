@@ -1,5 +1,9 @@
 //! The lines of a run.
 
+ghost use Rattle.std.specs.Prelude.{◌≡◌, IsErrOf, OnOk};
+ghost use Rattle.dv_journal.specs.Sink.{HasFailed};
+ghost use Rattle.dv_json.specs.Lines.{AppendsSome};
+
 use crate::marked::Marked;
 use crate::outcomes::write_outcome;
 use dv_facts::entries::Story;
@@ -33,12 +37,18 @@ struct Run<'r> {
 
 /// Writes a run, a line of JSON an object. WriteFault where the sink fails or takes no byte, OutOfMemory where memory is refused;
 /// what was written then is a prefix.
+#[tactic(auto, using(crate::proofs::Writing::pieces))]
 pub fn print_run<W: Sink>(
     alloc: Global,
     classes: &Classes,
     marked: Marked,
     sink: &mut W,
-) -> Result<(), PrintFault> {
+) -> Result<(), PrintFault>
+    ensures written { AppendsSome (W.taken sink.old) (W.taken sink.new) }
+    ensures kept { OnOk result (W.failures sink.new ≡ W.failures sink.old) }
+    ensures cause { IsErrOf result PrintFault.WriteFault → HasFailed (W.failures sink.old) (W.failures sink.new) }
+    ensures memory { IsErrOf result PrintFault.OutOfMemory → W.failures sink.new ≡ W.failures sink.old }
+{
     let Marked {
         remains,
         batches,
@@ -64,19 +74,26 @@ pub fn print_run<W: Sink>(
 }
 
 /// Writes a run and what is left of it.
+#[tactic(auto, using(crate::proofs::Writing::pieces))]
 fn print_borrowed<W: Sink>(
     alloc: Global,
     classes: &Classes,
     run: Run<'_>,
     left: &mut [Left],
     sink: &mut W,
-) -> Result<(), PrintFault> {
+) -> Result<(), PrintFault>
+    ensures written { AppendsSome (W.taken sink.old) (W.taken sink.new) }
+    ensures kept { OnOk result (W.failures sink.new ≡ W.failures sink.old) }
+    ensures cause { IsErrOf result PrintFault.WriteFault → HasFailed (W.failures sink.old) (W.failures sink.new) }
+    ensures memory { IsErrOf result PrintFault.OutOfMemory → W.failures sink.new ≡ W.failures sink.old }
+{
     let mut story = Story::new(alloc, run.marks);
     let mut gathered = String::new(alloc);
     print_lines(alloc, classes, run, left, &mut story, &mut gathered, sink)
 }
 
 /// Writes all lines, some kilobytes at a time.
+#[tactic(auto, using(crate::proofs::Writing::pieces))]
 fn print_lines<'r, W: Sink>(
     alloc: Global,
     classes: &Classes,
@@ -85,7 +102,12 @@ fn print_lines<'r, W: Sink>(
     story: &mut Story<'r>,
     gathered: &mut String,
     sink: &mut W,
-) -> Result<(), PrintFault> {
+) -> Result<(), PrintFault>
+    ensures written { AppendsSome (W.taken sink.old) (W.taken sink.new) }
+    ensures kept { OnOk result (W.failures sink.new ≡ W.failures sink.old) }
+    ensures cause { IsErrOf result PrintFault.WriteFault → HasFailed (W.failures sink.old) (W.failures sink.new) }
+    ensures memory { IsErrOf result PrintFault.OutOfMemory → W.failures sink.new ≡ W.failures sink.old }
+{
     write_text(gathered, r#"{"type":"start","version":1}"#)?;
     end_line(gathered, sink)?;
     let entries = run.journal.entries();
@@ -106,13 +128,20 @@ fn print_lines<'r, W: Sink>(
 }
 
 /// Ends a line, and writes what is gathered where it has come to a piece of some kilobytes.
-fn end_line<W: Sink>(gathered: &mut String, sink: &mut W) -> Result<(), PrintFault> {
+#[tactic(auto, using(crate::proofs::Writing::pieces))]
+fn end_line<W: Sink>(gathered: &mut String, sink: &mut W) -> Result<(), PrintFault>
+    ensures written { AppendsSome (W.taken sink.old) (W.taken sink.new) }
+    ensures kept { OnOk result (W.failures sink.new ≡ W.failures sink.old) }
+    ensures cause { IsErrOf result PrintFault.WriteFault → HasFailed (W.failures sink.old) (W.failures sink.new) }
+    ensures memory { IsErrOf result PrintFault.OutOfMemory → W.failures sink.new ≡ W.failures sink.old }
+{
     gathered.push('\n')?;
     write_when_full(sink, gathered)?;
     Ok(())
 }
 
 /// Writes a line for each entry.
+#[tactic(auto, using(crate::proofs::Writing::pieces))]
 fn print_entries<'e, W: Sink>(
     alloc: Global,
     classes: &Classes,
@@ -120,7 +149,12 @@ fn print_entries<'e, W: Sink>(
     entries: &'e [Entry],
     gathered: &mut String,
     sink: &mut W,
-) -> Result<(), PrintFault> {
+) -> Result<(), PrintFault>
+    ensures written { AppendsSome (W.taken sink.old) (W.taken sink.new) }
+    ensures kept { OnOk result (W.failures sink.new ≡ W.failures sink.old) }
+    ensures cause { IsErrOf result PrintFault.WriteFault → HasFailed (W.failures sink.old) (W.failures sink.new) }
+    ensures memory { IsErrOf result PrintFault.OutOfMemory → W.failures sink.new ≡ W.failures sink.old }
+{
     for entry in entries {
         story.write_next(alloc, classes, gathered, entry)?;
         end_line(gathered, sink)?;
@@ -129,6 +163,7 @@ fn print_entries<'e, W: Sink>(
 }
 
 /// Writes a line for each Deferred.
+#[tactic(auto, using(crate::proofs::Writing::pieces))]
 fn print_outcomes<W: Sink>(
     alloc: Global,
     classes: &Classes,
@@ -136,7 +171,12 @@ fn print_outcomes<W: Sink>(
     outcomes: &[Outcome],
     gathered: &mut String,
     sink: &mut W,
-) -> Result<(), PrintFault> {
+) -> Result<(), PrintFault>
+    ensures written { AppendsSome (W.taken sink.old) (W.taken sink.new) }
+    ensures kept { OnOk result (W.failures sink.new ≡ W.failures sink.old) }
+    ensures cause { IsErrOf result PrintFault.WriteFault → HasFailed (W.failures sink.old) (W.failures sink.new) }
+    ensures memory { IsErrOf result PrintFault.OutOfMemory → W.failures sink.new ≡ W.failures sink.old }
+{
     for (number, outcome) in outcomes.iter().enumerate() {
         write_outcome(alloc, classes, story, gathered, number, outcome)?;
         end_line(gathered, sink)?;
@@ -145,12 +185,18 @@ fn print_outcomes<W: Sink>(
 }
 
 /// Writes a line for each thing that is left.
+#[tactic(auto, using(crate::proofs::Writing::pieces))]
 fn print_left<W: Sink>(
     known: Known<'_, '_>,
     left: &mut [Left],
     gathered: &mut String,
     sink: &mut W,
-) -> Result<(), PrintFault> {
+) -> Result<(), PrintFault>
+    ensures written { AppendsSome (W.taken sink.old) (W.taken sink.new) }
+    ensures kept { OnOk result (W.failures sink.new ≡ W.failures sink.old) }
+    ensures cause { IsErrOf result PrintFault.WriteFault → HasFailed (W.failures sink.old) (W.failures sink.new) }
+    ensures memory { IsErrOf result PrintFault.OutOfMemory → W.failures sink.new ≡ W.failures sink.old }
+{
     for left in left {
         known.write(gathered, left)?;
         end_line(gathered, sink)?;

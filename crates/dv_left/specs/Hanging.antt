@@ -91,26 +91,26 @@ abbrev pub hung_in_lines : (ℕ → Hang) → ℕ → List (List ℕ) → Links 
 hung_in_lines at number [] = []
 hung_in_lines at number (ds ∷ lines) = all_hung (at number) ds ++ hung_in_lines at (suc number) lines
 
--- who gets the result of a job that isn't delivered
-abbrev pub hung_at_call : CallState → Links Hang
-hung_at_call (Waiting (what.Call name key)) = []
-hung_at_call (Waiting (what.Turn name key)) = []
-hung_at_call (Waiting what.Tick) = []
-hung_at_call (Waiting (what.Delivery job d)) = (d, hang.Job job) ∷ []
-hung_at_call (Waiting (what.Timeout d)) = []
-hung_at_call Called = []
-hung_at_call Cancelled = []
-hung_at_call Dropped = []
+-- who gets the result of a job that isn't delivered, and who is cancelled at this time, since a timer waits for it
+abbrev pub hung_at_call : ℕ → CallState → Links Hang
+hung_at_call due (Waiting (what.Call name key)) = []
+hung_at_call due (Waiting (what.Turn name key)) = []
+hung_at_call due (Waiting what.Tick) = []
+hung_at_call due (Waiting (what.Delivery job d)) = (d, hang.Job job) ∷ []
+hung_at_call due (Waiting (what.Timeout d)) = (d, hang.Timeout due) ∷ []
+hung_at_call due Called = []
+hung_at_call due Cancelled = []
+hung_at_call due Dropped = []
 
 abbrev pub hung_at_calls : List Call → Links Hang
-hung_at_calls calls = flat_map (λ call. hung_at_call call.state) calls
+hung_at_calls calls = flat_map (λ call. hung_at_call call.due call.state) calls
 
 -- whose Deferred is fired when a loop ends
 abbrev pub hung_at_loops : ℕ → List LoopingCall → Links Hang
 hung_at_loops l [] = []
 hung_at_loops l (x ∷ xs) = (x.of, hang.Loop l) ∷ hung_at_loops (suc l) xs
 
--- who hangs at what: at Deferreds by their numbers, each in the order in which its pairs were added, then at locks, queues, jobs, loops and tasks
+-- who hangs at what: at Deferreds by their numbers, each in the order in which its pairs were added, then at locks, queues, jobs and timers, loops and tasks
 abbrev pub hung : World → Links Hang
 hung w =
     by_records hung_by 0 w.records

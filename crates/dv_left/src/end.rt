@@ -103,7 +103,7 @@ fn link_rest<'s>(
 {
     links.add_locks(locks)?;
     links.add_queues(queues)?;
-    links.add_jobs(calls)?;
+    links.add_calls(calls)?;
     links.add_loops(loops)?;
     links.add_tasks(tasks)
 }

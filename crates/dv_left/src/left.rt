@@ -20,6 +20,8 @@ pub enum Hang {
     Queue(usize),
     /// It is to be fired with the result of this job.
     Job(u32),
+    /// It is cancelled at this time, in ticks (Twisted: `Deferred.addTimeout`).
+    Timeout(u64),
     /// It is fired when this loop ends.
     Loop(usize),
     /// It is fired when this task ends.

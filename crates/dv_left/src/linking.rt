@@ -130,24 +130,25 @@ impl Links {
         Ok(())
     }
 
-    /// Who is to be fired with the result of a job.
-    pub fn add_jobs(&mut self, calls: &[Call]) -> Result<(), AllocError>
+    /// Who is to be fired with the result of a job, and who is cancelled by a timer.
+    pub fn add_calls(&mut self, calls: &[Call]) -> Result<(), AllocError>
         ensures { OnOk result (self.new ≡ with_hung (hung_at_calls calls.now) self.old) }
     {
         for call in calls {
-            self.add_job(&call.state)?;
+            self.add_call(call)?;
         }
         Ok(())
     }
 
-    fn add_job(&mut self, state: &CallState) -> Result<(), AllocError>
-        ensures { OnOk result (self.new ≡ with_hung (hung_at_call state.now) self.old) }
+    fn add_call(&mut self, call: &Call) -> Result<(), AllocError>
+        ensures { OnOk result (self.new ≡ with_hung (hung_at_call call.now.due call.now.state) self.old) }
     {
-        match state {
+        match &call.state {
             CallState::Waiting(Due::Delivery(job, id)) => {
                 self.hang(DeferredId::new(*id), Hang::Job(*job))
             }
-            CallState::Waiting(Due::Call(_, _) | Due::Turn(_, _) | Due::Tick | Due::Timeout(_))
+            CallState::Waiting(Due::Timeout(id)) => self.hang(*id, Hang::Timeout(call.due)),
+            CallState::Waiting(Due::Call(_, _) | Due::Turn(_, _) | Due::Tick)
             | CallState::Called
             | CallState::Cancelled
             | CallState::Dropped => Ok(()),

@@ -1,9 +1,9 @@
 -- How a run ends, by how its parts do.
-use Rattle.std.proofs.Common.{arith, ◌≡◌, ◌≢◌, ◌≤◌, ℕ, zero, suc, nat_le, Bool, true, false, ◌&&◌, List, [], ◌∷◌, length, Ok, Err, inl, inr, refl, subst}
+use Rattle.std.proofs.Common.{arith, ◌≡◌, ◌≢◌, ◌≤◌, ℕ, zero, suc, nat_le, Bool, true, false, ◌&&◌, List, [], ◌∷◌, length, inl, inr, refl, subst}
 use Rattle.std.proofs.lemmas.Bool.Decides.{nat_tests}
 use Rattle.std.specs.List.{list_all}
 use Rattle.std.proofs.KnownBytes.{Keeps-refl}
-use Rattle.std.specs.Io.KnownBytes.{Appends}
+use Rattle.std.specs.Io.KnownBytes.{Appends, Consumes}
 use Rattle.dv_posts.specs.Batches.{Callers, bodies_of}
 use Rattle.dv_engine.specs.declared.report.Report.{Report}
 use Rattle.dv_journal.specs.Sink.{AppendsPrefix, HasFailed}
@@ -18,8 +18,8 @@ use Rattle.dv_posts.specs.Callers.{AreFew}
 use Rattle.dv_output.specs.Faults.{of_read, of_script, of_print}
 use Rattle.dv_run.specs.Headline.{IsRun, Prints, SaysReport, Told, most_read}
 use Rattle.dv_output.specs.Output.{report_text}
-use Rattle.dv_run.specs.Run.{SaysScript, RefusesInput, GivesUp, ReaderFailed, WriterFailed, GivesNoScript}
-use Rattle.dv_source.specs.Source.{IsFrontOf}
+use Rattle.dv_run.specs.Run.{SaysScript, RefusesInput, GivesUp, HasRead, LeavesAfter, ReaderFailedBy, WriterFailedBy, GivesNoScript}
+use Rattle.dv_source.specs.Source.{ConsumesSome, IsFrontOf}
 use Rattle.dv_output.specs.declared.error.RunFault.TheVariants.{OutOfMemory}
 use Rattle.dv_source.specs.declared.source.ReadError.{ReadError}
 use Rattle.dv_source.specs.declared.source.ReadError.TheVariants as reading
@@ -68,20 +68,20 @@ after_all input old new read report says runs written =
     record { script = read; says = says_report input read report says runs; written = written }
 
 -- what the reader's count says after a read that gave up
-reader_after_read : (error : ReadError) (old new : ℕ) → ((error ≡ reading.ReadFault) → HasFailed old new) → ((error ≡ reading.OutOfMemory) → new ≡ old) → ReaderFailed (Err (of_read error)) old new
-unfolding ReaderFailed
+reader_after_read : (error : ReadError) (old new : ℕ) → ((error ≡ reading.ReadFault) → HasFailed old new) → ((error ≡ reading.OutOfMemory) → new ≡ old) → ReaderFailedBy (of_read error) old new
+unfolding ReaderFailedBy
 reader_after_read reading.ReadFault old new failed kept = failed refl
 reader_after_read reading.OutOfMemory old new failed kept = kept refl
 
 -- and the writer's: it hasn't failed
-writer_after_read : (error : ReadError) (old : ℕ) → WriterFailed (Err (of_read error)) old old
-unfolding WriterFailed
+writer_after_read : (error : ReadError) (old : ℕ) → WriterFailedBy (of_read error) old old
+unfolding WriterFailedBy
 writer_after_read reading.ReadFault old = refl
 writer_after_read reading.OutOfMemory old = refl
 
 -- where a script is refused, the reader hasn't failed
-reader_after_script : (fault : ScriptFault) (old new : ℕ) → new ≡ old → ReaderFailed (Err (of_script fault)) old new
-unfolding ReaderFailed
+reader_after_script : (fault : ScriptFault) (old new : ℕ) → new ≡ old → ReaderFailedBy (of_script fault) old new
+unfolding ReaderFailedBy
 reader_after_script script.TooLong old new kept = kept
 reader_after_script script.NotJson old new kept = kept
 reader_after_script script.BadVersion old new kept = kept
@@ -93,8 +93,8 @@ reader_after_script script.OutOfMemory old new kept = kept
 reader_after_script script.BadPool old new kept = kept
 
 -- nor has the writer
-writer_after_script : (fault : ScriptFault) (old : ℕ) → WriterFailed (Err (of_script fault)) old old
-unfolding WriterFailed
+writer_after_script : (fault : ScriptFault) (old : ℕ) → WriterFailedBy (of_script fault) old old
+unfolding WriterFailedBy
 writer_after_script script.TooLong old = refl
 writer_after_script script.NotJson old = refl
 writer_after_script script.BadVersion old = refl
@@ -106,26 +106,68 @@ writer_after_script script.OutOfMemory old = refl
 writer_after_script script.BadPool old = refl
 
 -- where a print gave up, the reader hasn't failed
-pub reader_after_print : (fault : PrintFault) (old new : ℕ) → new ≡ old → ReaderFailed (Err (of_print fault)) old new
-unfolding ReaderFailed
+pub reader_after_print : (fault : PrintFault) (old new : ℕ) → new ≡ old → ReaderFailedBy (of_print fault) old new
+unfolding ReaderFailedBy
 reader_after_print printing.WriteFault old new kept = kept
 reader_after_print printing.OutOfMemory old new kept = kept
 
 -- and the writer's count says what the print said of it
-pub writer_after_print : (fault : PrintFault) (old new : ℕ) → ((fault ≡ printing.WriteFault) → HasFailed old new) → ((fault ≡ printing.OutOfMemory) → new ≡ old) → WriterFailed (Err (of_print fault)) old new
-unfolding WriterFailed
+pub writer_after_print : (fault : PrintFault) (old new : ℕ) → ((fault ≡ printing.WriteFault) → HasFailed old new) → ((fault ≡ printing.OutOfMemory) → new ≡ old) → WriterFailedBy (of_print fault) old new
+unfolding WriterFailedBy
 writer_after_print printing.WriteFault old new failed kept = failed refl
 writer_after_print printing.OutOfMemory old new failed kept = kept refl
 
+-- a read that gave up leaves the rest
+left_after_read : (error : ReadError) (input rest : Told) → ConsumesSome input rest → LeavesAfter (of_read error) input rest
+unfolding LeavesAfter
+left_after_read reading.ReadFault input rest some = some
+left_after_read reading.OutOfMemory input rest some = some
+
+-- what was read was taken
+some_read : (input rest : Told) → HasRead input rest → ConsumesSome input rest
+some_read input rest read = (read.bytes, read.taken)
+
+-- where a script is refused, as much was read as a script may have
+left_after_script : (fault : ScriptFault) (input rest : Told) → HasRead input rest → LeavesAfter (of_script fault) input rest
+unfolding LeavesAfter
+left_after_script script.TooLong input rest read = read
+left_after_script script.NotJson input rest read = read
+left_after_script script.BadVersion input rest read = read
+left_after_script script.BadShape input rest read = read
+left_after_script script.TooMany input rest read = read
+left_after_script script.BadName input rest read = read
+left_after_script script.BadClass input rest read = read
+left_after_script script.OutOfMemory input rest read = some_read input rest read
+left_after_script script.BadPool input rest read = read
+
+-- and where it isn't performed, or isn't printed
+pub left_after_perform : (input rest : Told) → HasRead input rest → LeavesAfter OutOfMemory input rest
+unfolding LeavesAfter
+left_after_perform input rest read = some_read input rest read
+
+pub left_after_print : (fault : PrintFault) (input rest : Told) → HasRead input rest → LeavesAfter (of_print fault) input rest
+unfolding LeavesAfter
+left_after_print printing.WriteFault input rest read = read
+left_after_print printing.OutOfMemory input rest read = some_read input rest read
+
 -- a read that gave up leads to no script
-pub read_gives_none : (input : Told) (error : ReadError) (old new : ℕ) → ((error ≡ reading.ReadFault) → HasFailed old new) → ((error ≡ reading.OutOfMemory) → new ≡ old) → GivesNoScript (of_read error) input old new
-read_gives_none input error old new failed kept =
-    record { untouched = λ told. after_read input told error; reader = reader_after_read error old new failed kept; writer = λ count. writer_after_read error count }
+pub read_gives_none : (input rest : Told) (error : ReadError) (old new : ℕ) → ((error ≡ reading.ReadFault) → HasFailed old new) → ((error ≡ reading.OutOfMemory) → new ≡ old) → ConsumesSome input rest → GivesNoScript (of_read error) input rest old new
+read_gives_none input rest error old new failed kept some =
+    record { untouched = λ told. after_read input told error; reader = reader_after_read error old new failed kept; writer = λ count. writer_after_read error count; left = left_after_read error input rest some }
+
+-- the bytes of the front were read
+pub front_read : (input rest : Told) (bytes : List ℕ) → IsFrontOf input most_read bytes → Consumes input rest bytes → HasRead input rest
+front_read input rest bytes front taken = record { bytes = bytes; front = front; taken = taken }
 
 -- nor do bytes that say none
-pub bytes_give_none : (input : Told) (bytes : List ℕ) (fault : ScriptFault) (old new : ℕ) → IsFrontOf input most_read bytes → Refuses fault bytes → new ≡ old → GivesNoScript (of_script fault) input old new
-bytes_give_none input bytes fault old new front refused kept =
-    record { untouched = λ told. after_script input told bytes fault front refused; reader = reader_after_script fault old new kept; writer = λ count. writer_after_script fault count }
+pub bytes_give_none : (input rest : Told) (bytes : List ℕ) (fault : ScriptFault) (old new : ℕ) → IsFrontOf input most_read bytes → Consumes input rest bytes → Refuses fault bytes → new ≡ old → GivesNoScript (of_script fault) input rest old new
+bytes_give_none input rest bytes fault old new front taken refused kept =
+    record {
+      untouched = λ told. after_script input told bytes fault front refused;
+      reader = reader_after_script fault old new kept;
+      writer = λ count. writer_after_script fault count;
+      left = left_after_script fault input rest (front_read input rest bytes front taken);
+    }
 
 -- any others say a script
 pub bytes_say : (input : Told) (bytes : List ℕ) (read : Script) → IsFrontOf input most_read bytes → Says bytes read → SaysScript input read
@@ -155,23 +197,14 @@ says_few bytes read says = subst (λ (s : Script). AreFew s.callers) says.same (
 })
 
 -- nor has either where a script isn't performed for want of memory
-pub reader_after_perform : (old new : ℕ) → new ≡ old → ReaderFailed (Err OutOfMemory) old new
-unfolding ReaderFailed
+pub reader_after_perform : (old new : ℕ) → new ≡ old → ReaderFailedBy OutOfMemory old new
+unfolding ReaderFailedBy
 reader_after_perform old new kept = kept
 
-pub writer_after_perform : (old : ℕ) → WriterFailed (Err OutOfMemory) old old
-unfolding WriterFailed
+pub writer_after_perform : (old : ℕ) → WriterFailedBy OutOfMemory old old
+unfolding WriterFailedBy
 writer_after_perform old = refl
 
--- nor where all was written
-pub reader_after_all : (report : Report) (old new : ℕ) → new ≡ old → ReaderFailed (Ok report) old new
-unfolding ReaderFailed
-reader_after_all report old new kept = kept
+pub ruleset script_rules = (read_gives_none, front_read, bytes_give_none, bytes_say, says_few)
 
-pub writer_after_all : (report : Report) (old new : ℕ) → new ≡ old → WriterFailed (Ok report) old new
-unfolding WriterFailed
-writer_after_all report old new kept = kept
-
-pub ruleset script_rules = (read_gives_none, bytes_give_none, bytes_say, says_few)
-
-pub ruleset run_rules = (after_perform, after_print, after_all, reader_after_perform, writer_after_perform, reader_after_print, writer_after_print, reader_after_all, writer_after_all)
+pub ruleset run_rules = (after_perform, after_print, after_all, reader_after_perform, writer_after_perform, reader_after_print, writer_after_print, left_after_perform, left_after_print)

@@ -1,8 +1,8 @@
 -- A run: what an engine and an inbox have of each other.
 use Rattle.std.specs.Prelude.{◌≡◌}
-use Rattle.dv_posts.specs.Batches.{AreNext, Batch, Callers, joined}
+use Rattle.dv_posts.specs.Batches.{AreComplete, AreNext, Batch, Callers, joined}
 use Rattle.dv_engine.specs.Engine.{Engine}
-use Rattle.dv_engine.specs.declared.engine.Phase.TheVariants.{Going, Ended}
+use Rattle.dv_engine.specs.declared.engine.Phase.TheVariants.{Going, Ended, Over}
 use Rattle.dv_posts.specs.Posts.{Inbox}
 use Rattle.dv_posts.specs.Callers.{TookBatches}
 
@@ -28,3 +28,9 @@ pub record HasPerformed (before after : Engine) (box : Inbox) : Type 0 where
   pub script : after.script ≡ before.script
   pub ended : after.phase ≡ Ended
   pub agree : Agree after box
+
+-- the last batch was taken, and with it all posts
+pub record HasTakenAll (before after : Engine) : Type 0 where
+  pub script : after.script ≡ before.script
+  pub over : after.phase ≡ Over
+  pub complete : AreComplete after.script after.batches

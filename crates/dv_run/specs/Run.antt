@@ -1,6 +1,6 @@
 -- What a run reads and writes.
 use Rattle.std.specs.Prelude.{◌≡◌, ◌≢◌, ◌⊎◌, ℕ, List, Result, Ok, Err}
-use Rattle.std.specs.Io.KnownBytes.{Keeps}
+use Rattle.std.specs.Io.KnownBytes.{Consumes, Keeps}
 use Rattle.dv_engine.specs.declared.report.Report.{Report}
 use Rattle.dv_journal.specs.Sink.{AppendsPrefix, HasFailed}
 use Rattle.dv_reader.specs.Refusal.{Says, Refuses}
@@ -8,9 +8,8 @@ use Rattle.dv_reader.specs.declared.error.ScriptFault.{ScriptFault}
 use Rattle.dv_reader.specs.declared.error.ScriptFault.TheVariants as script
 use Rattle.dv_script.specs.declared.script.Script.{Script}
 use Rattle.dv_run.specs.Headline.{SaysReport, Told, most_read}
-use Rattle.dv_run.specs.declared.running.Kept.{Kept}
 use Rattle.dv_output.specs.Output.{report_text}
-use Rattle.dv_source.specs.Source.{IsFrontOf}
+use Rattle.dv_source.specs.Source.{ConsumesSome, IsFrontOf}
 use Rattle.dv_output.specs.declared.error.RunFault.{RunFault}
 use Rattle.dv_output.specs.declared.error.RunFault.TheVariants.{ScriptRefused, OutOfMemory, ReadFault, WriteFault}
 
@@ -42,29 +41,51 @@ GivesUp OutOfMemory input old new = Keeps old new ⊎ PrintsPrefix input old new
 GivesUp ReadFault input old new = Keeps old new
 GivesUp WriteFault input old new = PrintsPrefix input old new
 
--- what a run answers that keeps its script, with the report alone
-abbrev pub reported : Result Kept RunFault → Result Report RunFault
-reported (Ok kept) = Ok kept.report
-reported (Err fault) = Err fault
+-- after a read fault the reader has failed meanwhile, and after any other it hasn't
+unfoldable pub ReaderFailedBy : RunFault → ℕ → ℕ → Type 0
+ReaderFailedBy (ScriptRefused fault) old new = new ≡ old
+ReaderFailedBy OutOfMemory old new = new ≡ old
+ReaderFailedBy ReadFault old new = HasFailed old new
+ReaderFailedBy WriteFault old new = new ≡ old
 
--- by what a run answers: after a read fault the reader has failed meanwhile, and in any other case it hasn't
-unfoldable pub ReaderFailed : Result Report RunFault → ℕ → ℕ → Type 0
-ReaderFailed (Ok report) old new = new ≡ old
-ReaderFailed (Err (ScriptRefused fault)) old new = new ≡ old
-ReaderFailed (Err OutOfMemory) old new = new ≡ old
-ReaderFailed (Err ReadFault) old new = HasFailed old new
-ReaderFailed (Err WriteFault) old new = new ≡ old
+-- by what a run answers: nor has it where the run gave no fault
+abbrev pub ReaderFailed : {A : Type 0} → Result A RunFault → ℕ → ℕ → Type 0
+ReaderFailed (Ok answer) old new = new ≡ old
+ReaderFailed (Err fault) old new = ReaderFailedBy fault old new
 
--- after a write fault the writer has failed meanwhile, and in any other case it hasn't
-unfoldable pub WriterFailed : Result Report RunFault → ℕ → ℕ → Type 0
-WriterFailed (Ok report) old new = new ≡ old
-WriterFailed (Err (ScriptRefused fault)) old new = new ≡ old
-WriterFailed (Err OutOfMemory) old new = new ≡ old
-WriterFailed (Err ReadFault) old new = new ≡ old
-WriterFailed (Err WriteFault) old new = HasFailed old new
+-- after a write fault the writer has failed meanwhile, and after any other it hasn't
+unfoldable pub WriterFailedBy : RunFault → ℕ → ℕ → Type 0
+WriterFailedBy (ScriptRefused fault) old new = new ≡ old
+WriterFailedBy OutOfMemory old new = new ≡ old
+WriterFailedBy ReadFault old new = new ≡ old
+WriterFailedBy WriteFault old new = HasFailed old new
 
--- no script was come to: why, while nothing is written, and the writer is left as it is
-pub record GivesNoScript (fault : RunFault) (input : Told) (old new : ℕ) : Type 0 where
+-- by what a run answers: nor has it where the run gave no fault
+abbrev pub WriterFailed : {A : Type 0} → Result A RunFault → ℕ → ℕ → Type 0
+WriterFailed (Ok answer) old new = new ≡ old
+WriterFailed (Err fault) old new = WriterFailedBy fault old new
+
+-- the reader was read to its end, or to one byte more than a script may have, and has what comes after that
+pub record HasRead (input rest : Told) : Type 0 where
+  pub bytes : List ℕ
+  pub front : IsFrontOf input most_read bytes
+  pub taken : Consumes input rest bytes
+
+-- what a reader has left after a fault: where it failed, or memory was refused, only some of that may have been read
+unfoldable pub LeavesAfter : RunFault → Told → Told → Type 0
+LeavesAfter (ScriptRefused fault) input rest = HasRead input rest
+LeavesAfter OutOfMemory input rest = ConsumesSome input rest
+LeavesAfter ReadFault input rest = ConsumesSome input rest
+LeavesAfter WriteFault input rest = HasRead input rest
+
+-- what a reader has left, by what a run answers
+abbrev pub Leaves : {A : Type 0} → Result A RunFault → Told → Told → Type 0
+Leaves (Ok answer) input rest = HasRead input rest
+Leaves (Err fault) input rest = LeavesAfter fault input rest
+
+-- there is no script: why, while nothing is written, and the writer is left as it is
+pub record GivesNoScript (fault : RunFault) (input rest : Told) (old new : ℕ) : Type 0 where
   pub untouched : (told : Told) → GivesUp fault input told told
-  pub reader : ReaderFailed (Err fault) old new
-  pub writer : (count : ℕ) → WriterFailed (Err fault) count count
+  pub reader : ReaderFailedBy fault old new
+  pub writer : (count : ℕ) → WriterFailedBy fault count count
+  pub left : LeavesAfter fault input rest

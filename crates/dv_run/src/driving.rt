@@ -1,9 +1,9 @@
 ghost use Rattle.std.specs.Prelude.{ℕ, ◌≡◌, ◌++◌, [], IfOk, IsFalse, IsTrue, OnOk};
-ghost use Rattle.dv_posts.specs.Batches.{joined, posts_of};
-ghost use Rattle.dv_engine.specs.Engine.{Takes, first_engine};
-ghost use Rattle.dv_engine.specs.declared.engine.Phase.TheVariants.{Draining, Ended, Going};
+ghost use Rattle.dv_posts.specs.Batches.{AreComplete, joined, posts_of};
+ghost use Rattle.dv_engine.specs.Engine.{first_engine};
+ghost use Rattle.dv_engine.specs.declared.engine.Phase.TheVariants.{Draining, Ended, Going, Over};
 ghost use Rattle.dv_posts.specs.Callers.{AllServe, TookBatches};
-ghost use Rattle.dv_run.specs.Driving.{Agree, HasDrained, HasPerformed, HasStranger};
+ghost use Rattle.dv_run.specs.Driving.{Agree, HasDrained, HasPerformed, HasStranger, HasTakenAll};
 ghost use Rattle.dv_run.specs.Headline.{IsRun};
 ghost use Rattle.dv_posts.specs.Posts.{SameInbox, of};
 
@@ -21,9 +21,11 @@ use std::random::RandomSource;
 use std::sync::Wait;
 use std::thread::Threads;
 
-/// Has an engine perform its script, while the callers post: at each drain it takes what is there, up to as many as that takes,
-/// and after the last event, when the callers have ended, what is left.
+/// What is kept of a run: what is noted of an engine while it performs its script, and what is made of it at its end.
 pub trait Driver {
+    /// What is noted meanwhile.
+    type Notes: Drop;
+
     /// What is kept of the run.
     type End: Drop;
 
@@ -32,23 +34,25 @@ pub trait Driver {
     /// What is known of that, by the script.
     ghost ends: { Script → Self.End → Type 0 };
 
-    /// Has the engine perform its script, of whose callers these are the bodies. AllocError where memory is refused.
-    fn drive<'s, R, J>(
+    /// Nothing is noted.
+    fn start(&self, alloc: Global) -> Self::Notes;
+
+    /// Notes how many entries there are before the next event, or before the last batch. AllocError where memory is refused.
+    fn note(&self, notes: &mut Self::Notes, told: usize) -> Result<(), AllocError>;
+
+    /// Keeps what an engine has that has taken all posts. AllocError where memory is refused.
+    fn keep<'s, R, J>(
         &self,
         rt: &R,
         alloc: Global,
         engine: Engine<'s, J>,
-        bodies: &[Items<Body>],
-        inbox: Inbox,
-        callers: Vec<Caller>,
+        notes: Self::Notes,
     ) -> Result<Self::End, AllocError>
     where
-        R: Threads + Wait + RandomSource + AllocGlobal,
+        R: Threads + Wait,
         J: JobSource,
-        requires first { engine ≡ first_engine engine.script }
-        requires bodies { bodies.now ≡ engine.script.callers }
-        requires serve { AllServe bodies.now inbox callers.items }
-        requires untaken { TookBatches inbox [] }
+        requires over { engine.phase ≡ Over }
+        requires complete { AreComplete engine.script engine.batches }
         ensures { IfOk result (ends engine.entry.script) };
 }
 
@@ -56,49 +60,63 @@ pub trait Driver {
 pub struct Reporting;
 
 impl Driver for Reporting {
+    type Notes = ();
+
     type End = Report;
 
     ghost ends = { IsRun };
 
-    fn drive<'s, R, J>(
+    fn start(&self, _alloc: Global) {}
+
+    fn note(&self, _notes: &mut (), _told: usize) -> Result<(), AllocError> {
+        Ok(())
+    }
+
+    fn keep<'s, R, J>(
         &self,
         rt: &R,
-        alloc: Global,
+        _alloc: Global,
         engine: Engine<'s, J>,
-        bodies: &[Items<Body>],
-        inbox: Inbox,
-        callers: Vec<Caller>,
+        _notes: (),
     ) -> Result<Report, AllocError>
     where
-        R: Threads + Wait + RandomSource + AllocGlobal,
+        R: Threads + Wait,
         J: JobSource,
     {
-        drive(rt, alloc, engine, bodies, inbox, callers)
+        match engine.finish(rt) {
+            Ok(report) => Ok(report),
+            Err(EngineFault::OutOfMemory) => Err(AllocError),
+            Err(EngineFault::NotNow | EngineFault::Stranger) => unreachable!(),
+        }
     }
 }
 
-/// Has an engine perform its script, while the callers post: at each drain it takes what is there, up to as many as that takes,
-/// and after the last event, when the callers have ended, what is left.
-fn drive<'s, R, J>(
+/// Has an engine perform its script, of whose callers these are the bodies, while they post: at each drain it takes what is there, up to
+/// as many as that takes, and after the last event, when the callers have ended, what is left. AllocError where memory is refused.
+pub fn drive<'s, R, J, D>(
     rt: &R,
     alloc: Global,
     engine: Engine<'s, J>,
     bodies: &[Items<Body>],
     inbox: Inbox,
     callers: Vec<Caller>,
-) -> Result<Report, AllocError>
+    driver: &D,
+) -> Result<D::End, AllocError>
 where
     R: Threads + Wait + RandomSource + AllocGlobal,
     J: JobSource,
+    D: Driver,
     requires first { engine ≡ first_engine engine.script }
     requires bodies { bodies.now ≡ engine.script.callers }
     requires serve { AllServe bodies.now inbox callers.items }
     requires untaken { TookBatches inbox [] }
-    ensures { IfOk result (IsRun engine.entry.script) }
+    ensures { IfOk result (D.ends engine.entry.script) }
 {
     let mut engine = engine;
     let mut inbox = inbox;
-    let Ok(is_lawful) = perform_events(rt, alloc, &mut engine, &mut inbox) else {
+    let mut notes = driver.start(alloc);
+    let Ok(is_lawful) = perform_events(rt, alloc, driver, &mut engine, &mut inbox, &mut notes)
+    else {
         engine.discard();
         return Err(AllocError);
     };
@@ -110,20 +128,23 @@ where
         // Now that the callers have ended, it is known that no post was a stranger.
         unreachable!()
     }
-    finish(rt, engine, rest)
+    finish(rt, alloc, driver, engine, rest, notes)
 }
 
 /// Performs all events, with what is there at each drain. Answers whether all posts that were taken are next posts of their
 /// callers; where not, it ends there.
-fn perform_events<'s, R, J>(
+fn perform_events<'s, R, J, D>(
     rt: &R,
     alloc: Global,
+    driver: &D,
     engine: &mut Engine<'s, J>,
     inbox: &mut Inbox,
+    notes: &mut D::Notes,
 ) -> Result<bool, AllocError>
 where
     R: Wait + RandomSource + AllocGlobal,
     J: JobSource,
+    D: Driver,
     requires going { engine.old.phase ≡ Going }
     requires agree { Agree engine.old inbox.old }
     ensures same { SameInbox inbox.old inbox.new }
@@ -131,6 +152,7 @@ where
     ensures no { IfOk result (λ lawful. IsFalse lawful → HasStranger engine.old.script.callers inbox.new) }
 {
     loop {
+        driver.note(notes, engine.told())?;
         match engine.event(rt) {
             Ok(Next::Went) => {}
             Ok(Next::Drain(most)) => {
@@ -147,7 +169,7 @@ where
 
 /// Has an engine take what is there at a drain. Answers whether each post is the next one of its caller; where not, the engine
 /// takes none.
-pub fn drain<'s, R, J>(
+fn drain<'s, R, J>(
     rt: &R,
     alloc: Global,
     engine: &mut Engine<'s, J>,
@@ -173,7 +195,7 @@ where
 }
 
 /// Has an engine take the last batch, with which it has taken all posts.
-pub fn take_rest<'s, R, J>(
+fn take_rest<'s, R, J>(
     rt: &R,
     engine: &mut Engine<'s, J>,
     rest: Items<Posted>,
@@ -183,7 +205,7 @@ where
     J: JobSource,
     requires ended { engine.old.phase ≡ Ended }
     requires all { (c : ℕ) → of c (joined engine.old.batches ++ rest) ≡ posts_of engine.old.script.callers c }
-    ensures { OnOk result (Takes rest engine.old engine.new) }
+    ensures { OnOk result (HasTakenAll engine.old engine.new) }
 {
     match engine.drain(rt, rest) {
         Ok(()) => Ok(()),
@@ -193,27 +215,27 @@ where
     }
 }
 
-/// Has an engine take the last batch, and gives its report.
-fn finish<'s, R, J>(
+/// Has an engine take the last batch, and keeps what is kept of it.
+fn finish<'s, R, J, D>(
     rt: &R,
+    alloc: Global,
+    driver: &D,
     engine: Engine<'s, J>,
     rest: Items<Posted>,
-) -> Result<Report, AllocError>
+    notes: D::Notes,
+) -> Result<D::End, AllocError>
 where
     R: Threads + Wait + RandomSource + AllocGlobal,
     J: JobSource,
+    D: Driver,
     requires ended { engine.phase ≡ Ended }
     requires all { (c : ℕ) → of c (joined engine.batches ++ rest) ≡ posts_of engine.script.callers c }
-    ensures { IfOk result (IsRun engine.entry.script) }
+    ensures { IfOk result (D.ends engine.entry.script) }
 {
     let mut engine = engine;
     let Ok(()) = take_rest(rt, &mut engine, rest) else {
         engine.discard();
         return Err(AllocError);
     };
-    match engine.finish(rt) {
-        Ok(report) => Ok(report),
-        Err(EngineFault::OutOfMemory) => Err(AllocError),
-        Err(EngineFault::NotNow | EngineFault::Stranger) => unreachable!(),
-    }
+    driver.keep(rt, alloc, engine, notes)
 }

@@ -1,8 +1,8 @@
-ghost use Rattle.std.specs.Prelude.{◌≡◌, ◌<◌, ◌≤◌, ◌^◌, ◌-◌, [], length, All, IfOk};
+ghost use Rattle.std.specs.Prelude.{◌≡◌, ◌<◌, ◌≤◌, ◌^◌, ◌-◌, [], length, map, min, All, IfOk};
 ghost use Rattle.dv_posts.specs.Callers.{AllServe, AreFew, TookBatches};
 ghost use Rattle.dv_script.specs.declared.limits.TheConstants.{MOST_POOLS, MOST_WORKERS};
 
-use crate::driving::Driver;
+use crate::driving::{Driver, drive};
 use dv_engine::engine::Engine;
 use dv_inline::poller::Poller;
 use dv_jobs::gate::Gate;
@@ -20,8 +20,10 @@ use std::sync::Wait;
 use std::thread;
 use std::thread::Threads;
 
-/// How many workers each of these pools has, and no more than pools have, as none has of a script that is read.
+/// How many workers each of these pools is given: as many as it has, but `MOST_WORKERS` at most, which no pool of a script that is read
+/// passes.
 fn workers_of_pools(alloc: Global, pools: &[NamedPool]) -> Result<Vec<u32>, AllocError>
+    ensures each { IfOk result (λ named. named.items ≡ map (λ pool. min pool.workers MOST_WORKERS) pools.now) }
     ensures len { IfOk result (λ named. length named.items ≡ length pools.now) }
     ensures few { IfOk result (λ named. All (λ n. n ≤ MOST_WORKERS) named.items) }
 {
@@ -112,5 +114,13 @@ where
     ensures { IfOk result (D.ends script.now) }
 {
     let engine = Engine::new(alloc, poller, keys, jobs, script)?;
-    driver.drive(rt, alloc, engine, script.callers.as_slice(), inbox, callers)
+    drive(
+        rt,
+        alloc,
+        engine,
+        script.callers.as_slice(),
+        inbox,
+        callers,
+        driver,
+    )
 }

@@ -2,7 +2,7 @@ ghost use Rattle.std.specs.Prelude.{◌≡◌, ◌≤◌, length, OnOk, IfOk, If
 ghost use Rattle.dv_posts.specs.Callers.{AreFew};
 ghost use Rattle.dv_script.specs.declared.limits.TheConstants.{MOST_LIMIT, MOST_POOLS, MOST_WORKERS};
 ghost use Rattle.dv_run.specs.Headline.{Prints};
-ghost use Rattle.dv_run.specs.Run.{SaysScript, GivesNoScript, GivesUp, ReaderFailed, WriterFailed, reported};
+ghost use Rattle.dv_run.specs.Run.{SaysScript, GivesNoScript, GivesUp, HasRead, Leaves, ReaderFailed, WriterFailed};
 
 use crate::driving::Reporting;
 use crate::performing::perform;
@@ -53,6 +53,7 @@ where
     ensures err { IfErr result (λ fault. GivesUp fault (R.left reader.old) (W.taken writer.old) (W.taken writer.new)) }
     ensures reader { ReaderFailed result (R.failures reader.old) (R.failures reader.new) }
     ensures writer { WriterFailed result (W.failures writer.old) (W.failures writer.new) }
+    ensures left { Leaves result (R.left reader.old) (R.left reader.new) }
 {
     match run_and_keep(rt, reader, writer, workers, gate) {
         Ok(Kept { script, report }) => {
@@ -90,8 +91,9 @@ where
     ensures ok { IfOk result (λ kept. Prints (R.left reader.old) (W.taken writer.old) (W.taken writer.new) kept.report) }
     ensures script { IfOk result (λ kept. SaysScript (R.left reader.old) kept.script) }
     ensures err { IfErr result (λ fault. GivesUp fault (R.left reader.old) (W.taken writer.old) (W.taken writer.new)) }
-    ensures reader { ReaderFailed (reported result) (R.failures reader.old) (R.failures reader.new) }
-    ensures writer { WriterFailed (reported result) (W.failures writer.old) (W.failures writer.new) }
+    ensures reader { ReaderFailed result (R.failures reader.old) (R.failures reader.new) }
+    ensures writer { WriterFailed result (W.failures writer.old) (W.failures writer.new) }
+    ensures left { Leaves result (R.left reader.old) (R.left reader.new) }
 {
     let alloc = rt.alloc();
     let script = script_of(alloc, reader)?;
@@ -117,7 +119,8 @@ pub fn script_of<R: Source>(alloc: Global, reader: &mut R) -> Result<Script, Run
     ensures pools { IfOk result (λ script. length script.pools ≤ MOST_POOLS) }
     ensures limited { IfOk result (λ script. script.limit ≤ MOST_LIMIT) }
     ensures kept { OnOk result (R.failures reader.new ≡ R.failures reader.old) }
-    ensures err { IfErr result (λ fault. GivesNoScript fault (R.left reader.old) (R.failures reader.old) (R.failures reader.new)) }
+    ensures left { OnOk result (HasRead (R.left reader.old) (R.left reader.new)) }
+    ensures err { IfErr result (λ fault. GivesNoScript fault (R.left reader.old) (R.left reader.new) (R.failures reader.old) (R.failures reader.new)) }
 {
     let bytes = read_up_to(alloc, reader, MOST_BYTES + 1)?;
     Ok(Script::read(alloc, bytes.as_slice())?)

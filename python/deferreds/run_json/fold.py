@@ -418,11 +418,11 @@ class Fold:
         for kind, thing in self._waited_for():
             times = thing.waiting.count(deferred.number)
             hangs += [{"at": kind, "object": self._object(kind, thing)}] * times
-        hangs += [
-            {"at": "job", "object": {"kind": "job", "name": None, "number": upcoming.number}}
-            for upcoming in self.upcoming
-            if upcoming.words == "later job" and self.jobs[upcoming.number] == deferred.number
-        ]
+        for upcoming in self.upcoming:
+            if upcoming.words == "later job" and self.jobs[upcoming.number] == deferred.number:
+                hangs.append({"at": "job", "object": {"kind": "job", "name": None, "number": upcoming.number}})
+            elif upcoming.words == "later timeout" and upcoming.number == deferred.number:
+                hangs.append({"at": "timeout", "due": upcoming.due})
         for loop in self.loops.values():
             if loop.of == deferred.number:
                 hangs.append({"at": "loop", "object": self._object("loop", loop)})

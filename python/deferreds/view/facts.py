@@ -128,6 +128,8 @@ def _take_entry(facts: Facts, told: Json) -> None:
 
 
 def _hang(told: Json) -> Hang:
+    if told["at"] == At.TIMEOUT.value:
+        return Hang(At.TIMEOUT, _number(told["due"]))
     return Hang(At(told["at"]), _of(told, "deferred" if "deferred" in told else "object"))
 
 

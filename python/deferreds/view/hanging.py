@@ -48,11 +48,12 @@ class Hanging:
             self.on.setdefault(self._end(number), []).append(number)
 
     def _first(self, number: int) -> Optional[Hang]:
-        """At what the Deferred hangs before anything else."""
+        """At what the Deferred hangs before anything else. A timer only ends the waiting, so it isn't what it waits for."""
         left = self._stuck[number]
         if left.running:
             return None
-        return min(left.hangs, key=_rank) if left.hangs else None
+        hangs = [hang for hang in left.hangs if hang.at is not At.TIMEOUT]
+        return min(hangs, key=_rank) if hangs else None
 
     def _next(self, number: int) -> Union[int, Root]:
         """The Deferred on which this one hangs, or where that ends."""

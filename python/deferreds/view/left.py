@@ -26,10 +26,11 @@ class At(enum.Enum):
     TASK = "task"
     CHILD = "child"
     CHAIN = "chain"
+    TIMEOUT = "timeout"
 
 
 class Hang(NamedTuple):
-    """At what a Deferred hangs: the number of a Deferred, or of an object of the kind."""
+    """At what a Deferred hangs: the number of a Deferred, or of an object of the kind, or when a timer is due."""
 
     at: At
     number: int
@@ -178,7 +179,10 @@ def _hangs(fold: Fold, record: Record) -> Iterator[Hang]:
         yield Hang(At.LOCK if record.made is Made.ACQUIRE else At.QUEUE, record.of)
     elif record.made is Made.JOB and fold.world.jobs[record.of].is_left:
         yield Hang(At.JOB, record.of)
-    elif record.made is Made.LOOP and fold.world.loops.all[record.of].phase is not Phase.ENDED:
+    for timer in fold.world.timers:
+        if timer.deferred == record.number and timer.state is Wait.WAITING:
+            yield Hang(At.TIMEOUT, timer.due)
+    if record.made is Made.LOOP and fold.world.loops.all[record.of].phase is not Phase.ENDED:
         yield Hang(At.LOOP, record.of)
     elif record.made is Made.WHEN_DONE and not fold.world.tasks.all[record.of].has_ended:
         yield Hang(At.TASK, record.of)

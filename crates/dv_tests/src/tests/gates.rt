@@ -97,25 +97,25 @@ impl Gate for Counting {
     }
 }
 
-/// How often others are let run before a job is answered.
-const YIELDS: u32 = 500;
-
-/// Lets others run before each answer, until a sum has come.
+/// Lets others run before each answer, once more than before the last one, until a sum has come. So it soon has waited long enough,
+/// also where others run for long.
 #[derive(Drop)]
 pub struct Yielding {
+    jobs: AtomicU32,
     sums: AtomicU32,
 }
 
 impl Yielding {
     pub fn new() -> Yielding {
         Yielding {
+            jobs: AtomicU32::new(0),
             sums: AtomicU32::new(0),
         }
     }
 
-    /// Lets others run.
-    fn let_others_run(&self) {
-        for _ in 0..YIELDS {
+    /// Lets others run so often.
+    fn let_others_run(&self, times: u32) {
+        for _ in 0..times {
             if self.sums.load(Ordering::SeqCst) > 0 {
                 return;
             }
@@ -129,7 +129,7 @@ impl Gate for Yielding {
         if matches!(job.work, Work::Sum(_)) {
             self.sums.fetch_add(1, Ordering::SeqCst);
         }
-        self.let_others_run();
+        self.let_others_run(self.jobs.fetch_add(1, Ordering::SeqCst));
         job.done(alloc)
     }
 }

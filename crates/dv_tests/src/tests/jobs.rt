@@ -2,6 +2,7 @@ ghost use Rattle.std.specs.Prelude.{◌≤◌};
 
 use super::gates::{Counting, Holding, Noting};
 use super::runs::{fault_of, run_text};
+use dv_jobs::gate::OWNER;
 use dv_journal::entry::Entry;
 use dv_run::RunFault;
 use std::alloc::{AllocError, AllocGlobal, Global};
@@ -31,11 +32,33 @@ where
 const THREE: &str =
     r#"{"version":1,"events":[["thread","a",0,["sum",4]],["thread","b",0,["sum",9]],["thread","c",0,["sum",2]],["advance",0]]}"#;
 
+/// Three jobs of a pool of two workers.
+const THREE_OF_TWO: &str =
+    r#"{"version":2,"pools":[["io",2]],"events":[["threadIn","a","io",0,["sum",4]],["threadIn","b","io",0,["sum",9]],["threadIn","c","io",0,["sum",2]],["advance",0]]}"#;
+
+/// Three jobs of a pool without workers.
+const THREE_OF_NONE: &str =
+    r#"{"version":2,"pools":[["io",0]],"events":[["threadIn","a","io",0,["sum",4]],["threadIn","b","io",0,["sum",9]],["threadIn","c","io",0,["sum",2]],["advance",0]]}"#;
+
 #[test]
 fn two_workers_answer_side_by_side(rt: HostRuntime) -> Result<(), Fail> {
     // The owner, which helps where it waits, holds the third job.
     let (_, alone) = worker_of(&rt, THREE, 2, 3)?;
-    assert_eq!(rt; alone, 0);
+    let (_, alone_of_io) = worker_of(&rt, THREE_OF_TWO, 0, 3)?;
+    assert_eq!(rt; (alone, alone_of_io), (0, 0));
+    Ok(())
+}
+
+#[test]
+fn without_workers_the_owner_answers_each_job(rt: HostRuntime) -> Result<(), Fail> {
+    let plain = worker_of(&rt, THREE, 0, 1)?;
+    let named = worker_of(&rt, THREE_OF_NONE, 0, 1)?;
+    // A pool without workers has none of the others' either.
+    let beside_two = worker_of(&rt, THREE_OF_NONE, 2, 1)?;
+    assert_eq!(rt;
+        (plain, named, beside_two),
+        ((OWNER, 0), (OWNER, 0), (OWNER, 0))
+    );
     Ok(())
 }
 
