@@ -14,9 +14,9 @@ from typing import List, NamedTuple, Optional
 from unittest import mock
 
 from deferreds.twisted.commands import conform
-from deferreds.twisted.conforming import MOST_LATE, MOST_UNANSWERED, Progress, Tally
 from deferreds.twisted.comparing import Difference
-from deferreds.twisted.programs import Lack
+from deferreds.twisted.conforming import Progress, Tally
+from deferreds.twisted.programs import MOST_LATE, MOST_UNANSWERED, Lack
 
 #: more than any of these tests takes
 _LONG = 120

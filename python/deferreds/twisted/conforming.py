@@ -10,15 +10,9 @@ from typing import Callable, Counter, Iterator, List, Optional, TextIO
 
 from ..checkout import command_name
 from .comparing import Comparison, Difference, is_of_level
-from .programs import Answer, Many, Once, Program, ours
+from .programs import MOST_LATE, MOST_UNANSWERED, Answer, Many, Once, Program, ours
 from .randoms import Scripts
 from .rows import Expected, read_rows, row_files
-
-#: after so many scripts in a row that weren't answered in time no more are asked
-MOST_LATE = 3
-
-#: after so many scripts no more are asked, where none of them was answered
-MOST_UNANSWERED = 10
 
 _SECONDS_ON_A_TERMINAL = 0.2
 _MOST_SCRIPT = 2_000

@@ -15,6 +15,12 @@ Batches = Sequence[Sequence[Tuple[int, int]]]
 #: how many seconds a program has for a script, where nothing else is said
 SECONDS = 30.0
 
+#: after so many scripts in a row that weren't answered in time no more are asked
+MOST_LATE = 3
+
+#: after so many scripts no more are asked, where none of them was answered
+MOST_UNANSWERED = 10
+
 _MOST_HEAD = 100
 
 

@@ -22,7 +22,7 @@ from typing import List, Optional
 from ...checkout import as_called, command_name
 from ...ending import WRITE_FAILED, discard_output
 from .. import grammar
-from ..programs import SECONDS, Broken
+from ..programs import MOST_LATE, MOST_UNANSWERED, SECONDS, Broken
 
 _SHOWN = 20
 _PROGRESS = 10.0
@@ -54,8 +54,6 @@ def _shown(word: str) -> Optional[int]:
 
 
 def _arguments(words: List[str]) -> argparse.Namespace:
-    from ..conforming import MOST_LATE, MOST_UNANSWERED
-
     about = __doc__.format(late=MOST_LATE, unanswered=MOST_UNANSWERED)
     parser = argparse.ArgumentParser(
         prog=command_name("conform"),
