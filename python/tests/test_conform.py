@@ -14,8 +14,8 @@ from typing import List, NamedTuple, Optional
 from unittest import mock
 
 from deferreds.twisted.commands import conform
-from deferreds.twisted.conforming import Progress, Tally
 from deferreds.twisted.comparing import Difference
+from deferreds.twisted.conforming import Progress, Tally
 from deferreds.twisted.programs import MOST_LATE, MOST_UNANSWERED, Lack
 
 #: more than any of these tests takes

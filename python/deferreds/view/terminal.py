@@ -54,7 +54,8 @@ class Terminal:
     def _toned(self, tone: Optional[str], text: str) -> str:
         return f"\x1b[{_COLORS[tone]}m{text}\x1b[0m" if self._color and tone is not None else text
 
-    def _said(self, phrase: Phrase) -> str:
+    def said(self, phrase: Phrase) -> str:
+        """A phrase as text."""
         return "".join(map(self._part, phrase))
 
     def _part(self, part: Part) -> str:
@@ -87,14 +88,14 @@ class Terminal:
         if self._run.limits:
             yield self._run.limits
         for problem in self._run.problems:
-            yield self._toned("bad", f"warning: {self._said(problem)}")
+            yield self._toned("bad", f"warning: {self.said(problem)}")
 
     def _finding(self, finding: Finding) -> Iterator[str]:
         at = f"  (line {finding.row + 1})" if finding.row is not None else ""
-        text = f"{_SIGNS[finding.severity]} {finding.kind.value:<9} {self._said(finding.said)}{at}"
+        text = f"{_SIGNS[finding.severity]} {finding.kind.value:<9} {self.said(finding.said)}{at}"
         yield self._toned(_TONES[finding.severity], text)
         for detail in finding.details:
-            yield f"{'':13}{self._said(detail)}"
+            yield f"{'':13}{self.said(detail)}"
 
     def _row(self, row: Row) -> Iterator[str]:
         head = self._events.head(row)
@@ -120,7 +121,7 @@ class Terminal:
     def _why(self, row: Row) -> str:
         said: List[str] = []
         if row.cause and not (row.is_plain and row.actor.by is not By.SIDE):
-            said.append(f"   ← {self._said(row.cause)}")
+            said.append(f"   ← {self.said(row.cause)}")
         tail = self._events.tail(row)
         if tail:
             said.append(f"   ┄ {visible(clipped(tail, _MOST_EVENT))}")
