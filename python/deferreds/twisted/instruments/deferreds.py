@@ -24,7 +24,7 @@ from twisted.python.failure import Failure
 
 from ..classes import set_message
 from ..profile import Entry
-from ..telling import Action, Frame, Observer, Record, is_deferred, watched
+from ..telling import Action, Frame, Observer, Record, is_dead_reference, is_deferred, watched
 from ..texts import NULL, Outcome, error_of
 
 #: typed as a function by Twisted, since its overloads say what it gives
@@ -41,6 +41,7 @@ _unpause = Deferred.unpause
 _cancel = Deferred.cancel
 _list_cancel = DeferredList.cancel
 _run_code: CodeType = _run_callbacks.__code__
+_DEFER = _run_code.co_filename
 _succeed_code: CodeType = defer.succeed.__code__
 _inline_code: CodeType = defer._inlineCallbacks.__code__
 
@@ -97,7 +98,7 @@ def _set_result(deferred: Any, value: object) -> None:
         pass
     elif not deferred.called and sys._getframe(1).f_code is _succeed_code:
         _tell_made_fired(watcher, deferred, value)
-    elif watcher.quiet:
+    elif watcher.acting and sys._getframe(1).f_code.co_filename == _DEFER:
         _tell_result(watcher, deferred, value)
     else:
         watcher.problem("the result of a Deferred is set by hand")
@@ -468,10 +469,18 @@ def _instrumented_add_both(
 
 def _instrumented_chain(self: Deferred[Any], other: Deferred[Any]) -> Any:
     watcher = watched.observer
-    if watcher is None or watcher.quiet or not isinstance(other, Deferred):
-        return _chain_deferred(self, other)
+    if watcher is None or watcher.quiet or not _fires_as_twisted_does(other):
+        return _chain_deferred(self, other)  # told as the pair that it is made of
     action = Action(["chain", watcher.record(self), watcher.record(other)])
     return watcher.act(action, _chain_deferred, self, other)
+
+
+def _fires_as_twisted_does(other: object) -> bool:
+    """Whether it is a Deferred whose methods that fire it are Twisted's own."""
+    if not isinstance(other, Deferred):
+        return False
+    fires, fails = getattr(other.callback, "__func__", None), getattr(other.errback, "__func__", None)
+    return fires is Deferred.callback and fails is Deferred.errback
 
 
 # firing
@@ -487,6 +496,8 @@ def _instrumented_start(self: Deferred[Any], result: object) -> None:
         record.fired = record.starts = True
         _start(self, result)
     elif watcher.quiet:
+        if is_dead_reference(result):
+            watcher.problem("a weak reference has a method of a Deferred as its callback")
         _fire(watcher, self, record, result, _handed_on(watcher, record, result))
     elif watcher.frame.kind == "inline" and _ends_inline(watcher):
         _fire_inline(watcher, self, record, result)
@@ -501,14 +512,13 @@ def _instrumented_start(self: Deferred[Any], result: object) -> None:
 def _fire_inline(
     watcher: Observer, deferred: Deferred[Any], record: Record, result: object
 ) -> None:
-    """An inline body fires its own Deferred."""
+    """An inline body fires its own Deferred. What follows is inside what it was begun by, or gone on with."""
     frame = watcher.frame
-    watcher.quiet = True
-    try:
-        watcher.end_inline(frame, result)
-        _fire(watcher, deferred, record, result, watcher.texts.outcome(result))
-    finally:
-        watcher.quiet, watcher.frame = False, frame
+    watcher.acting = True
+    watcher.end_inline(frame, result)
+    if frame.outer is not None:
+        watcher.frame = frame.outer
+    _fire(watcher, deferred, record, result, watcher.texts.outcome(result))
 
 
 #: the error by which Twisted cancels an inline body, in the versions that have one

@@ -10,9 +10,10 @@ from twisted.python.failure import Failure
 
 from ..classes import clean, message_of
 from ..profile import Entry
-from ..telling import KINDS, Action, Failed, Frame, Observer, Record, Thing, is_deferred
+from ..telling import KINDS, Action, Failed, Frame, Observer, Record, Thing, is_deferred, switching
 from ..texts import NULL, Outcome, Text, compact, error_of, weight_of
 from .bodies import Body, Run, Steps, Unsayable
+from .inside import CALLED, FINALIZED, KIND_OF_ACTION, Inside, entry, is_uncalled
 from .places import FreeNames, name_of_spot, place, spot
 
 #: kinds of runs whose result is dropped
@@ -47,6 +48,9 @@ class Recorder(Observer):
         #: the actions of bodies that have failed
         self.failed: List[Action] = []
         self.problems: List[Problem] = []
+        #: the action that Twisted performs, and what the program has done inside it, though that calls for nothing
+        self._performed: Optional[Action] = None
+        self._inside: Optional[Inside] = None
         self._names = FreeNames()
         self._thread = get_ident()
 
@@ -83,8 +87,12 @@ class Recorder(Observer):
 
     # actions and bodies
 
+    @switching
     def act(self, action: Action, call: Callable[..., Any], *args: Any) -> Any:
         """Performs a call of the program's into Twisted, and notes it as an action."""
+        if self.acting:
+            return self._act_inside(action, call, *args)
+        self.acting = True
         if get_ident() != self._thread:
             self.problem("Deferreds are used in another thread")
         run = self.frame
@@ -96,14 +104,64 @@ class Recorder(Observer):
             run.note(action)
             if run.kind != "inline":
                 self.parts.append(action)
-        quiet, self.quiet = self.quiet, True
+        performed, inside = self._performed, self._inside
+        self._performed, self._inside = action, None
         try:
             return call(*args)
         except BaseException as error:
             self._end_action(run, action, error)
             raise
         finally:
-            self.quiet = quiet
+            if self._inside is not None:
+                self._refuse_unless_last(self._inside, action.raised is not None)
+            self._performed, self._inside = performed, inside
+            self.acting = False
+
+    @switching
+    def own(self, call: Callable[..., Any], *args: Any) -> Any:
+        """Has Twisted's own code run, as a part of an action that is performed or of a body that runs."""
+        inside, self._inside = self._inside, None
+        try:
+            return super().own(call, *args)
+        finally:
+            if self._inside is not None:
+                self._refuse_unless_last(self._inside, False)
+            self._inside = inside
+
+    # what the program does inside Twisted's own code
+
+    def is_inside(self) -> bool:
+        """Whether the program calls though Twisted's own code performs an action."""
+        return entry() is not None
+
+    def _act_inside(self, action: Action, call: Callable[..., Any], *args: Any) -> Any:
+        """Performs an action of the program's which Twisted's own code, that performs another one, doesn't call for.
+
+        It is noted after that one, and is refused unless that one tells nothing more.
+        """
+        entered = entry(1)
+        uncalled = entered is not None and is_uncalled(entered)
+        if not uncalled:
+            self.problem(CALLED, self._kind_performed())
+        frame = self.frame
+        kept = frame.expected, frame.anonymous, frame.passing, self._told, self.forwarded, self.turn, self.maker
+        frame.expected, frame.anonymous, frame.passing, self.forwarded, self.turn = (), False, None, None, None
+        self.acting = False
+        try:
+            return self.act(action, call, *args)
+        finally:
+            self.acting = True
+            frame.expected, frame.anonymous, frame.passing, self._told, self.forwarded, self.turn, self.maker = kept
+            self._inside = Inside(len(self.parts), place(), uncalled)
+
+    def _refuse_unless_last(self, inside: Inside, raised: bool) -> None:
+        """Refuses what was done inside Twisted's code, where that has gone on to tell something after it."""
+        if inside.is_uncalled and (raised or inside.told < len(self.parts)):
+            self.problems.append(Problem(FINALIZED, inside.place, None))
+
+    def _kind_performed(self) -> Optional[str]:
+        """The kind of objects to which what Twisted performs belongs."""
+        return None if self._performed is None else KIND_OF_ACTION.get(self._performed[0])
 
     def _note(self, action: Action, before: int) -> None:
         """Notes an action of the program, or of the body that runs, which was told after so many parts of lines."""
@@ -125,7 +183,9 @@ class Recorder(Observer):
             self.failed.append(action)
 
     def note(self, text: str) -> None:
-        """The program notes a text."""
+        """The program notes a text, unless that is inside Twisted's own code."""
+        if self.acting:
+            return
         said = clean(text)
         self.act(Action(["note", said]), self.tell, "note ", Text(compact(said), weight_of(said)))
 
