@@ -21,7 +21,7 @@ from deferreds.twisted.programs import Answer, Once
 from deferreds.twisted.recording.inside import CALLED, FINALIZED
 from deferreds.twisted.recording.programs import printing_notes
 from deferreds.twisted.recording.reactor import VirtualReactor, in_place_of_the_real
-from deferreds.twisted.recording.recorder import Recorder
+from deferreds.twisted.recording.recorder import ASKED, Recorder
 from deferreds.twisted.recording.saying import Said
 from deferreds.twisted.running import be_quiet, run
 from deferreds.twisted.telling import KINDS
@@ -31,6 +31,8 @@ PROGRAMS = Path(__file__).resolve().parent.parent / "data" / "programs"
 #: the programs that are refused, and why; all others are recorded
 REFUSED: Dict[str, str] = {
     "canceller_by_hand": CALLED,
+    "error_text_fires": ASKED,
+    "error_text_takes_a_lock": ASKED,
     "finalizer_between": FINALIZED,
     "finalizer_of_weak_reference": "a weak reference has a method of a Deferred as its callback",
     "inline_drops": FINALIZED,
@@ -123,6 +125,29 @@ class Programs(unittest.TestCase):
         said = record("subclass_adds").said
         self.assertEqual({problem.kind for problem in said.problems}, {"list"})
         self.assert_right(record("subclass_adds", KINDS - {"list"}).said)
+
+    def test_an_error_is_asked_for_its_text_once(self) -> None:
+        journal = self.journal("error_text_changes")
+        self.assertEqual([line for line in journal if "asked" in line], [
+            'fire #0 fail CountedError "asked 1 times"', 'set #0 fail CountedError "asked 1 times"'
+        ])
+
+    def test_what_is_printed_is_asked_for_its_text_once(self) -> None:
+        ran = record("print_asks")
+        self.assertEqual((ran.printed, ran.said.journal[-1]), ("asked 1 times in all!\n", 'note "asked 1 times in all"'))
+
+    def test_what_the_recorder_asks_for_is_told_nowhere(self) -> None:
+        made = [line for line in self.journal("error_text_uses_deferreds") if line.startswith("new")]
+        self.assertEqual(len(made), 2)  # the one that fails, and the one of the text that the program asks for
+
+    def test_no_value_is_asked_for_anything(self) -> None:
+        self.assertEqual(record("hostile_values").printed, "not asked\n")
+
+    def test_a_value_keeps_the_text_that_it_had_when_it_was_set(self) -> None:
+        lines = [line for line in self.journal("value_changes") if line.startswith(("fire #0", "set #0", "set #3"))]
+        self.assertEqual(lines, [
+            "fire #0 ok [1]", "set #0 ok [1,2,3]", "set #3 ok [[1,2,3],[1,2,3]]", "set #3 ok [[1,2,3,4],[1,2,3,4]]"
+        ])
 
 
 if __name__ == "__main__":

@@ -246,7 +246,7 @@ class Observer:
     def __init__(self, kinds: frozenset[str] = KINDS) -> None:
         self.kinds = kinds
         self.classes = Classes()
-        self.texts = Texts(self.classes)
+        self.texts: Texts = Texts(self.classes)
         #: the parts of all lines, each line followed by None. No line is an object of its own, since Python's collector
         #: of garbage goes over all objects again and again
         self.parts: List[Optional[Part]] = []
