@@ -343,12 +343,8 @@ class Refused(unittest.TestCase):
         places = [problem.place for problem in problems if problem.place]
         self.assertTrue(all("test_recording.py:" in place for place in places), places)
 
-    def test_a_value_that_holds_a_failure(self) -> None:
-        def program() -> None:
-            failed = defer.fail(ValueError("no"))
-            failed.addErrback(lambda failure: [failure])
-
-        self.assert_refused(program, "a value that holds a Failure is made by the program")
+    def test_a_failure_that_is_put_into_a_queue(self) -> None:
+        self.assert_refused(lambda: defer.DeferredQueue().put(Failure(ValueError("no"))), "a Failure is a value")
 
     def test_turns_that_do_something_else_each_time(self) -> None:
         def program() -> None:

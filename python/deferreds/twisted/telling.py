@@ -4,12 +4,15 @@ The instruments (`deferreds.twisted.instruments`) change Twisted's classes so th
 observer that is on, and is done by Twisted's own code. Where no observer is on they change nothing.
 
 A call from the program into Twisted is an *action*. What the program is called back for is a *body*. While Twisted's own
-code performs an action the observer is `quiet`: lines are told, and what Twisted calls is no action of the program's.
+code performs an action the observer is `quiet`: lines are told, and what Twisted calls is no action of the program's. What
+a finalizer of the program's calls meanwhile is one all the same, so whether the observer is quiet is asked where it matters.
 """
 
 from __future__ import annotations
 
 import contextlib
+import sys
+import weakref
 from typing import (
     Any,
     Callable,
@@ -20,7 +23,9 @@ from typing import (
     Mapping,
     Optional,
     Sequence,
+    Set,
     Tuple,
+    TypeVar,
     Union,
 )
 
@@ -62,6 +67,23 @@ def is_deferred(value: object) -> bool:
     if _waited_for is None:
         return Deferred in type(value).__mro__
     return type(value) in _waited_for
+
+
+def is_dead_reference(value: object) -> bool:
+    """Whether it is a weak reference to what is gone, which callbacks of such references are given."""
+    return type(value) is weakref.ReferenceType and value() is None
+
+
+_Function = TypeVar("_Function", bound=Callable[..., Any])
+
+#: the code objects, by their ids, of the functions between which and what they call an observer may be quiet
+switches: Set[int] = set()
+
+
+def switching(function: _Function) -> _Function:
+    """The function, which sets whether Twisted's own code acts."""
+    switches.add(id(getattr(function, "__code__")))
+    return function
 
 
 class Record:
@@ -187,6 +209,8 @@ class Frame:
     #: of an inline body
     record: Optional[Record] = None
     awaits: Optional[Deferred[Any]] = None
+    #: the run in which it was begun, or gone on with
+    outer: Optional["Frame"] = None
     #: what it awaited last had
     present: Optional[Outcome] = None
     #: whether a Deferred that is made now has no name
@@ -222,14 +246,15 @@ class Observer:
     def __init__(self, kinds: frozenset[str] = KINDS) -> None:
         self.kinds = kinds
         self.classes = Classes()
-        self.texts = Texts(self.classes)
+        self.texts: Texts = Texts(self.classes)
         #: the parts of all lines, each line followed by None. No line is an object of its own, since Python's collector
         #: of garbage goes over all objects again and again
         self.parts: List[Optional[Part]] = []
         self.records: List[Record] = []
         self.top = Frame("event")
         self.frame = self.top
-        self.quiet = False
+        #: whether Twisted's own code performs an action
+        self.acting = False
         #: the Deferred to which a cancel is being passed on along a wait
         self.forwarded: Optional[Deferred[Any]] = None
         #: what the body that has ended last gave, where it was asked for
@@ -259,12 +284,25 @@ class Observer:
         finally:
             watched.observer = before
 
+    @property
+    def quiet(self) -> bool:
+        """Whether it is Twisted's own code that calls now, while it performs an action."""
+        return self.acting and not self.is_inside()
+
+    @quiet.setter
+    def quiet(self, quiet: bool) -> None:
+        self.acting = quiet
+        switches.add(id(sys._getframe(1).f_code))
+
+    def is_inside(self) -> bool:
+        """Whether the program calls though Twisted's own code performs an action."""
+        return False
+
     # lines
 
     def tell(self, *parts: Part) -> None:
         """Tells a line."""
-        self.parts.extend(parts)
-        self.parts.append(None)
+        self.parts.extend((*parts, None))
 
     def quirk(self, entry: Entry, place: Optional[int] = None) -> None:
         """Notes that Twisted does here, or where so many parts are told, what an entry of the profile names."""
@@ -379,13 +417,23 @@ class Observer:
 
     # actions and bodies
 
+    @switching
     def act(self, action: Action, call: Callable[..., Any], *args: Any) -> Any:
         """Performs a call of the program's into Twisted."""
-        quiet, self.quiet = self.quiet, True
+        acting, self.acting = self.acting, True
         try:
             return call(*args)
         finally:
-            self.quiet = quiet
+            self.acting = acting
+
+    @switching
+    def own(self, call: Callable[..., Any], *args: Any) -> Any:
+        """Has Twisted's own code run, as a part of an action that is performed or of a body that runs."""
+        acting, self.acting = self.acting, True
+        try:
+            return call(*args)
+        finally:
+            self.acting = acting
 
     def perform(
         self,
@@ -398,8 +446,8 @@ class Observer:
     ) -> Any:
         """Has the program do what it was called back for: a run of the body, on what it is given."""
         frame = self.begin_body(body, kind, given)
-        before, quiet = self.frame, self.quiet
-        self.frame, self.quiet = frame, False
+        before, acting = self.frame, self.acting
+        self.frame, self.acting = frame, False
         try:
             result = call(*args, **kwargs)
         except BaseException as error:
@@ -409,7 +457,7 @@ class Observer:
             self.end_body(frame, None, result, given)
             return result
         finally:
-            self.frame, self.quiet = before, quiet
+            self.frame, self.acting = before, acting
 
     def new_body(self, kind: str) -> Any:
         """A body that the program hands to Twisted."""

@@ -69,9 +69,10 @@ def _instrumented_later(
     if not is_delay(delay):
         watcher.problem("a delay that is no number from 0", "clock")
         return _later(self, delay, f, *args, **kwargs)
+    if watcher.acting and any([tell(watcher, f, delay) for tell in own_calls]):
+        return _later(self, delay, f, *args, **kwargs)
     if watcher.quiet:
-        if not any([tell(watcher, f, delay) for tell in own_calls]):
-            watcher.problem("a delayed call from inside Twisted", "clock")
+        watcher.problem("a delayed call from inside Twisted", "clock")
         return _later(self, delay, f, *args, **kwargs)
     return _act_later(watcher, self, delay, f, args, kwargs)
 

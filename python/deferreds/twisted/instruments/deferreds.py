@@ -15,7 +15,7 @@ import functools
 import sys
 from functools import partial
 from operator import attrgetter
-from types import CodeType
+from types import CodeType, FunctionType, MethodType
 from typing import Any, Callable, Dict, List, Optional, Tuple
 
 from twisted.internet import defer
@@ -24,8 +24,8 @@ from twisted.python.failure import Failure
 
 from ..classes import set_message
 from ..profile import Entry
-from ..telling import Action, Frame, Observer, Record, is_deferred, watched
-from ..texts import NULL, Outcome, error_of
+from ..telling import Action, Frame, Observer, Record, is_dead_reference, is_deferred, watched
+from ..texts import NULL, Outcome
 
 #: typed as a function by Twisted, since its overloads say what it gives
 DeferredList: Any = defer.DeferredList
@@ -41,6 +41,7 @@ _unpause = Deferred.unpause
 _cancel = Deferred.cancel
 _list_cancel = DeferredList.cancel
 _run_code: CodeType = _run_callbacks.__code__
+_DEFER = _run_code.co_filename
 _succeed_code: CodeType = defer.succeed.__code__
 _inline_code: CodeType = defer._inlineCallbacks.__code__
 
@@ -74,8 +75,8 @@ special_pairs: Dict[str, AddSpecial] = {}
 
 
 def qualified(function: object) -> str:
-    """The name of a function with those of what it stands in."""
-    return str(getattr(function, "__qualname__", ""))
+    """The name of a function or method with those of what it stands in. Any other object, which might run code, has none."""
+    return str(getattr(function, "__qualname__", "")) if type(function) in (FunctionType, MethodType) else ""
 
 
 class _NoResult:
@@ -97,7 +98,7 @@ def _set_result(deferred: Any, value: object) -> None:
         pass
     elif not deferred.called and sys._getframe(1).f_code is _succeed_code:
         _tell_made_fired(watcher, deferred, value)
-    elif watcher.quiet:
+    elif watcher.acting and sys._getframe(1).f_code.co_filename == _DEFER:
         _tell_result(watcher, deferred, value)
     else:
         watcher.problem("the result of a Deferred is set by hand")
@@ -112,7 +113,7 @@ def _tell_made_fired(watcher: Observer, deferred: Deferred[Any], value: object) 
     """Later Twisteds have `succeed` set the result of the Deferred that it makes, and fire nothing."""
     record = watcher.record(deferred)
     if watcher.quiet:
-        _tell_fired(watcher, record, value, _handed_on(watcher, record, value))
+        _tell_fired(watcher, record, value, _handed_on(watcher, deferred, record, value))
     else:
         outcome = watcher.texts.outcome(value)
         action = watcher.firing(record, value, outcome)
@@ -147,7 +148,7 @@ def _tell_moved(
         record.before = record.outcome
     elif held is deferred:
         if isinstance(value, Failure):
-            watcher.end_by_warning(record, error_of(value))
+            watcher.end_by_warning(record, watcher.texts.error_of(value))
         record.waits_for = None
         _tell_set(watcher, record, value)
     elif is_deferred(held):
@@ -251,7 +252,6 @@ def _cancelled_inline(watcher: Observer) -> Optional[Record]:
 
 
 def _instrumented_canceller(watcher: Observer, body: Any, canceller: Canceller) -> Canceller:
-    @functools.wraps(canceller, updated=())
     def cancelled(deferred: Deferred[Any]) -> object:
         if watched.observer is not watcher:
             return canceller(deferred)
@@ -259,6 +259,7 @@ def _instrumented_canceller(watcher: Observer, body: Any, canceller: Canceller) 
             watcher.problem("a cancel of an inline body that isn't told as one")
         return watcher.perform(body, "canceller", None, canceller, (deferred,))
 
+    cancelled.__qualname__ = qualified(canceller) or "cancelled"
     return cancelled
 
 
@@ -315,7 +316,7 @@ def _act_pair(
         action[0], second = "addCallback", errback
     elif callback is _passthru:
         action[0], second = "addErrback", _side(watcher, record, errback, body)
-    elif callback != errback or not _are_same(arguments):
+    elif not _is_same_function(callback, errback) or not _are_same(arguments):
         action[0], other = "addCallbacks", watcher.new_body("callback")
         action.append(other)
         second = _side(watcher, record, errback, other)
@@ -324,10 +325,34 @@ def _act_pair(
     watcher.act(action, _tell_pair, watcher, deferred, record, first, second, arguments)
 
 
+def _is_same_function(one: object, other: object) -> bool:
+    """Whether both are one function, or one method of one object. No object is asked, which might run code."""
+    if type(one) is MethodType and type(other) is MethodType:
+        return one.__func__ is other.__func__ and one.__self__ is other.__self__
+    return one is other
+
+
 def _are_same(arguments: PairArguments) -> bool:
-    """Whether callback and errback have the same arguments. Some give None for none."""
+    """Whether callback and errback have the same objects as arguments. Some give None for none."""
     on_value, by_name, on_failure, by_name_on_failure = arguments
-    return (on_value or ()) == (on_failure or ()) and (by_name or {}) == (by_name_on_failure or {})
+    if on_value is on_failure and by_name is by_name_on_failure:
+        return True
+    first, second = _parts(on_value, by_name), _parts(on_failure, by_name_on_failure)
+    return len(first) == len(second) and all(one is other for one, other in zip(first, second))
+
+
+def _parts(positional: object, by_name: object) -> List[object]:
+    """The arguments one after the other, where these are a tuple or a list, and a dict."""
+    parts: List[object] = []
+    for given in (positional, by_name):
+        if isinstance(given, (tuple, list)):
+            parts += given
+        elif isinstance(given, dict):
+            parts += [part for pair in given.items() for part in pair]
+        elif given is not None:
+            parts.append(given)
+        parts.append(_NO_RESULT)
+    return parts
 
 
 def _tell_pair(
@@ -468,10 +493,18 @@ def _instrumented_add_both(
 
 def _instrumented_chain(self: Deferred[Any], other: Deferred[Any]) -> Any:
     watcher = watched.observer
-    if watcher is None or watcher.quiet or not isinstance(other, Deferred):
-        return _chain_deferred(self, other)
+    if watcher is None or watcher.quiet or not _fires_as_twisted_does(other):
+        return _chain_deferred(self, other)  # told as the pair that it is made of
     action = Action(["chain", watcher.record(self), watcher.record(other)])
     return watcher.act(action, _chain_deferred, self, other)
+
+
+def _fires_as_twisted_does(other: object) -> bool:
+    """Whether it is a Deferred whose methods that fire it are Twisted's own."""
+    if not isinstance(other, Deferred):
+        return False
+    fires, fails = getattr(other.callback, "__func__", None), getattr(other.errback, "__func__", None)
+    return fires is Deferred.callback and fails is Deferred.errback
 
 
 # firing
@@ -487,7 +520,9 @@ def _instrumented_start(self: Deferred[Any], result: object) -> None:
         record.fired = record.starts = True
         _start(self, result)
     elif watcher.quiet:
-        _fire(watcher, self, record, result, _handed_on(watcher, record, result))
+        if is_dead_reference(result):
+            watcher.problem("a weak reference has a method of a Deferred as its callback")
+        _fire(watcher, self, record, result, _handed_on(watcher, self, record, result))
     elif watcher.frame.kind == "inline" and _ends_inline(watcher):
         _fire_inline(watcher, self, record, result)
     else:
@@ -501,14 +536,13 @@ def _instrumented_start(self: Deferred[Any], result: object) -> None:
 def _fire_inline(
     watcher: Observer, deferred: Deferred[Any], record: Record, result: object
 ) -> None:
-    """An inline body fires its own Deferred."""
+    """An inline body fires its own Deferred. What follows is inside what it was begun by, or gone on with."""
     frame = watcher.frame
-    watcher.quiet = True
-    try:
-        watcher.end_inline(frame, result)
-        _fire(watcher, deferred, record, result, watcher.texts.outcome(result))
-    finally:
-        watcher.quiet, watcher.frame = False, frame
+    watcher.acting = True
+    watcher.end_inline(frame, result)
+    if frame.outer is not None:
+        watcher.frame = frame.outer
+    _fire(watcher, deferred, record, result, watcher.texts.outcome(result))
 
 
 #: the error by which Twisted cancels an inline body, in the versions that have one
@@ -547,21 +581,23 @@ def _fire(
         raise
 
 
-def _handed_on(watcher: Observer, record: Record, result: object) -> Outcome:
+def _handed_on(watcher: Observer, deferred: Deferred[Any], record: Record, result: object) -> Outcome:
     """What Twisted hands on shows what it had when it was told last, though the program has changed it since."""
     passing = watcher.frame.passing
     if passing is not None and passing[0] is result and type(result) is list:
         return passing[1]
-    came = _came_to(record.came, result) if record.kind == "list" and record.came else None
+    came = _came_to(deferred, record.came, passing, result) if record.kind == "list" and record.came else None
     return watcher.texts.outcome(result) if came is None else came
 
 
-def _came_to(came: Dict[int, Outcome], result: object) -> Optional[Outcome]:
-    """What a DeferredList is fired with, by what its children came with."""
-    if isinstance(result, tuple) and len(result) == 2 and result[1] in came:
-        return Outcome([came[result[1]].value, result[1]])
-    if isinstance(result, list) and len(result) == len(came):
-        return Outcome([[bool(pair[0]), came[place].value] for place, pair in enumerate(result)])
+def _came_to(
+    deferred: Any, came: Dict[int, Outcome], passing: Optional[Tuple[object, Outcome]], result: object
+) -> Optional[Outcome]:
+    """What a DeferredList is fired with, by what its children came with; None, where somebody else has made it."""
+    if type(result) is tuple and len(result) == 2 and passing is not None and result[0] is passing[0]:
+        return Outcome([passing[1].value, result[1]]) if type(result[1]) is int and result[1] in came else None
+    if result is deferred.resultList and len(deferred.resultList) == len(came):
+        return Outcome([[pair[0] is True, came[place].value] for place, pair in enumerate(deferred.resultList)])
     return None
 
 

@@ -7,7 +7,7 @@ from typing import Any, Callable, List
 from twisted.internet import defer
 from twisted.internet.defer import Deferred
 
-from ..telling import Action, Frame, Observer, Record, observer_of, watched
+from ..telling import Action, Frame, Observer, Record, observer_of, switching, watched
 from .deferreds import PairArguments, add_silently, named_as, special_pairs
 
 _cancellable = defer._cancellableInlineCallbacks
@@ -52,6 +52,7 @@ def _act(watcher: Observer, gen: Any) -> Any:
     return watcher.act(action, make)
 
 
+@switching
 def _instrumented_inline(result: object, gen: Any, status: Any, *context: Any) -> None:
     watcher = observer_of("inline")
     if watcher is None:
@@ -63,12 +64,13 @@ def _instrumented_inline(result: object, gen: Any, status: Any, *context: Any) -
     if kept is None or kept[0] is not watcher:
         _inline_callbacks(result, gen, status, *context)
         return
-    before = watcher.quiet, watcher.frame
-    watcher.quiet, watcher.frame = False, kept[1]
+    frame: Frame = kept[1]
+    acting, outer = watcher.acting, watcher.frame
+    watcher.acting, watcher.frame, frame.outer = False, frame, outer
     try:
         _inline_callbacks(result, gen, status, *context)
     finally:
-        watcher.quiet, watcher.frame = before
+        watcher.acting, watcher.frame = acting, outer
 
 
 def _add_await(
@@ -101,11 +103,7 @@ def _add_await(
         finally:
             record.ran = True
 
-    watcher.quiet = True
-    try:
-        add_silently(deferred, named_as(callback, got), got, arguments)
-    finally:
-        watcher.quiet, watcher.frame = False, frame
+    watcher.own(add_silently, deferred, named_as(callback, got), got, arguments)
     if not came:
         frame.awaits = deferred
     return True

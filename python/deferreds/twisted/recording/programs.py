@@ -50,11 +50,13 @@ def printing_notes(recorder: Recorder) -> Iterator[None]:
     real = getattr(builtins, "print")
 
     def noting(*values: Any, **kwargs: Any) -> None:
-        real(*values, **kwargs)
-        if kwargs.get("file") is None and watched.observer is recorder and not recorder.quiet:
-            said = io.StringIO()
-            real(*values, file=said, sep=kwargs.get("sep", " "), end="")
-            recorder.note(said.getvalue())
+        if kwargs.get("file") is not None or watched.observer is not recorder or recorder.acting:
+            real(*values, **kwargs)
+            return
+        said = io.StringIO()
+        real(*values, file=said, sep=kwargs.pop("sep", " "), end="")  # so that each value is asked for its text once
+        real(said.getvalue(), **kwargs)
+        recorder.note(said.getvalue())
 
     setattr(builtins, "print", noting)
     try:
