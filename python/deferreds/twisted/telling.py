@@ -10,6 +10,7 @@ code performs an action the observer is `quiet`: lines are told, and what Twiste
 from __future__ import annotations
 
 import contextlib
+from fractions import Fraction
 from typing import (
     Any,
     Callable,
@@ -136,7 +137,7 @@ class Time:
 
     __slots__ = ("seconds",)
 
-    def __init__(self, seconds: float) -> None:
+    def __init__(self, seconds: Union[float, Fraction]) -> None:
         self.seconds = seconds
 
 
@@ -151,6 +152,19 @@ class Action(List[Any]):
     caught = False
     #: the Deferred of the inline body in which such a one is told
     helper: Optional[Record] = None
+
+
+class Advance(Action):
+    """The action by which time goes on to what the reactor runs, or to what comes from elsewhere.
+
+    Among the parts of lines it is a whole line. Whether it is told, and with what times, is known when the run is over.
+    """
+
+    def __init__(self) -> None:
+        self.to = Time(0)
+        self.by = Time(0)
+        self.is_told = False
+        super().__init__(["advance", self.by])
 
 
 class Failed:
@@ -242,6 +256,8 @@ class Observer:
         #: what the instruments of a kind keep of this run
         self.clock: Optional[Any] = None
         self.clock_base = 0.0
+        #: the told time, where the clock is a real reactor
+        self.pace: Any = None
         self.cooperator: Optional[Any] = None
         #: whether what is due is run after an error of a delayed call too, as under a reactor
         self.goes_on_after_errors = False
@@ -273,6 +289,10 @@ class Observer:
     def problem(self, reason: str, kind: Optional[str] = None) -> None:
         """Notes what a script can't say: it may be told as the Python that objects of this kind are made of."""
 
+    def place(self) -> str:
+        """Where the program is, if that is known."""
+        return ""
+
     @contextlib.contextmanager
     def undoing(self, record: Record) -> Iterator[None]:
         """Has a Deferred keep what it had, where what is told here isn't told any more."""
@@ -287,6 +307,10 @@ class Observer:
         if id(error) != self._told:
             self._told = id(error)
             self.tell("unhandled ", self.texts.failure(error))
+
+    def is_told(self, error: BaseException) -> bool:
+        """Whether this is the failure that was told last, by the event that happens."""
+        return id(error) == self._told
 
     # Deferreds
 

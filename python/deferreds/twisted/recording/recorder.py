@@ -10,7 +10,7 @@ from twisted.python.failure import Failure
 
 from ..classes import clean, message_of
 from ..profile import Entry
-from ..telling import KINDS, Action, Failed, Frame, Observer, Record, Thing, is_deferred
+from ..telling import KINDS, Action, Advance, Failed, Frame, Observer, Record, Thing, is_deferred
 from ..texts import NULL, Outcome, Text, compact, error_of, weight_of
 from .bodies import Body, Run, Steps, Unsayable
 from .places import FreeNames, name_of_spot, place, spot
@@ -54,6 +54,10 @@ class Recorder(Observer):
         """Notes what a script can't say."""
         self.problems.append(Problem(reason, place(), kind))
 
+    def place(self) -> str:
+        """The place in the program."""
+        return place()
+
     # names
 
     def thing(self, kind: str) -> Thing:
@@ -88,6 +92,8 @@ class Recorder(Observer):
         if get_ident() != self._thread:
             self.problem("Deferreds are used in another thread")
         run = self.frame
+        if run is self.top and self.pace is not None and not isinstance(action, Advance):
+            self.pace.event(action[0] == "loop")
         if run is self.top:
             self._told = None
             self.events.append(action)

@@ -4,14 +4,14 @@ from __future__ import annotations
 
 import math
 from fractions import Fraction
-from itertools import accumulate
-from typing import Any, Dict, Iterator, List, Optional, Set, Tuple
+from itertools import accumulate, compress
+from typing import Any, Dict, Iterator, List, Optional, Set, Tuple, Union
 
 from .. import grammar
 from ..instruments.tasks import Cooperating
 from ..profile import Entry
 from ..script import depth, nodes
-from ..telling import Action, Failed, Part, Record, Thing, Time
+from ..telling import Action, Advance, Failed, Part, Record, Thing, Time
 from ..texts import Outcome, Text, compact
 from .bodies import Body, Run, Steps, Unsayable
 from .places import FreeNames, name_of_spot
@@ -33,6 +33,7 @@ class Said:
         self._recorder = recorder
         self._scale = 1
         self.problems: List[Problem] = list(recorder.problems)
+        self._settle()
         self.records: List[Record] = []
         self.rebinds = False
         self._name()
@@ -53,6 +54,11 @@ class Said:
             self._refuse_size(self.script)
 
     @property
+    def tick(self) -> str:
+        """What a unit of the clock is, or nothing, where no clock was used."""
+        return "" if self._recorder.clock is None else _second_part(self._scale)
+
+    @property
     def output(self) -> str:
         """The journal and the outcomes."""
         return "".join(line + "\n" for line in self.journal + self.outcomes)
@@ -61,6 +67,16 @@ class Said:
         self.problems.append(Problem(reason, place, kind))
 
     # numbers and times
+
+    def _settle(self) -> None:
+        """Has the times of a real reactor be set, and leaves out the advances that aren't told."""
+        recorder = self._recorder
+        conflict = None if recorder.pace is None else recorder.pace.settle()
+        if conflict is not None:
+            self._problem(conflict.reason, conflict.kind, conflict.place)
+        told = [not isinstance(action, Advance) or action.is_told for action in recorder.events]
+        self._events = list(compress(recorder.events, told))
+        self._begins = list(compress(recorder.begins, told))
 
     def _name(self) -> None:
         """Names the Deferreds of the program by where they were made, in the order in which they were."""
@@ -94,7 +110,8 @@ class Said:
         if self._recorder.clock is None and self._recorder.cooperator is None:
             return
         times = [part.seconds for part in self._recorder.parts if isinstance(part, Time)]
-        times += _times(self._recorder.events, set())
+        times += [part.to.seconds for part in self._recorder.parts if isinstance(part, Advance) and part.is_told]
+        times += _times(self._events, set())
         for seconds in times:
             denominator = _exact(seconds).denominator
             self._scale = self._scale * denominator // math.gcd(self._scale, denominator)
@@ -114,7 +131,7 @@ class Said:
         self.journal = "".join(texts).split("\n")[:-1]
         before = [0, *accumulate(text.count("\n") for text in texts)]
         self.quirks = [(before[place], entry) for place, entry in self._recorder.quirks]
-        self.begins = [before[place] for place in self._recorder.begins]
+        self.begins = [before[place] for place in self._begins]
 
     def _part(self, part: Optional[Part]) -> str:
         """A part of a line, or its end."""
@@ -128,6 +145,8 @@ class Said:
             return str(_first(self._recorder.records[part]).name)
         if isinstance(part, Time):
             return str(self._units(part))
+        if isinstance(part, Advance):
+            return f"advance {self._units(part.to)}\n" if part.is_told else ""
         if isinstance(part, Action):
             helper = part.helper
             return "" if helper is None else f"new #{helper.number} {helper.name}\n"
@@ -141,7 +160,7 @@ class Said:
     def _script(self) -> Optional[Dict[str, Any]]:
         script: Dict[str, Any] = {"version": 1, "limit": _MOST_LIMIT}
         try:
-            events = [self._action(action) for action in self._recorder.events]
+            events = [self._action(action) for action in self._events]
             if isinstance(self._recorder.cooperator, Cooperating):
                 script["cooperator"] = self._cooperator(self._recorder.cooperator)
         except CannotSay:
@@ -252,7 +271,7 @@ class Said:
         units = full.pop() if full else grammar.UNITS[-1]
         if full or units not in grammar.UNITS or any(n > units for n, _ in cooperating.ticks):
             raise self._cannot("ticks of different numbers of steps", "cooperator")
-        delays = {_exact(delay) for delay in cooperating.delays} or {Fraction(1)}
+        delays = {_exact(delay.seconds) for delay in cooperating.delays} or {Fraction(1)}
         delay = int(delays.pop() * self._scale)
         if delays or delay < 1:
             raise self._cannot("ticks that are due after different times, or at once", "cooperator")
@@ -340,7 +359,15 @@ class Said:
             self._problem("the script has more classes than one may have")
 
 
-def _exact(seconds: float) -> Fraction:
+def _second_part(count: int) -> str:
+    """How long one of so many parts of a second is."""
+    for unit, factor in (("s", 1), ("ms", 1_000), ("µs", 1_000_000), ("ns", 1_000_000_000)):
+        if factor % count == 0:
+            return f"{factor // count} {unit}"
+    return f"1/{count} s"
+
+
+def _exact(seconds: Union[float, Fraction]) -> Fraction:
     return Fraction(seconds).limit_denominator(_FINEST)
 
 
@@ -351,7 +378,7 @@ def _first(record: Record) -> Record:
     return record
 
 
-def _times(part: Any, seen: Set[int]) -> Iterator[float]:
+def _times(part: Any, seen: Set[int]) -> Iterator[Union[float, Fraction]]:
     """The times that a part of an action has, but for those of runs that were seen before."""
     if isinstance(part, Time):
         yield part.seconds
