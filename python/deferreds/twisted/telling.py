@@ -10,6 +10,7 @@ code performs an action the observer is `quiet`: lines are told, and what Twiste
 from __future__ import annotations
 
 import contextlib
+import threading
 from fractions import Fraction
 from typing import (
     Any,
@@ -38,11 +39,13 @@ KINDS = frozenset(
 )
 
 
-class _Twisted:
-    """Twisted, as it is watched."""
+class _Twisted(threading.local):
+    """Twisted, as it is watched in a thread."""
 
     #: the observer that is on, if any
     observer: Optional["Observer"] = None
+    #: whether one is at rest: what is scheduled now is none of the program's, and is watched by nobody when it runs
+    is_resting = False
 
 
 watched = _Twisted()

@@ -25,7 +25,8 @@ from ...view.run import run_of_journal
 from ...view.scripts import Script
 
 from ..instruments import install
-from ..recording.programs import LADDER, NotLoaded, record_program, record_test, tests_of
+from ..recording.case import record_test
+from ..recording.programs import LADDER, NotLoaded, record_program, tests_of
 from ..recording.recorder import Recorder
 from ..recording.saying import Said
 from ..telling import KINDS
@@ -106,7 +107,7 @@ def _written(said: Said, name: str, view: bool) -> int:
 def _finish(said: Said, name: str, view: bool) -> int:
     if said.problems or said.script is None:
         return _refused(said)
-    if not said.journal:
+    if said.is_empty:
         _say("nothing was recorded: the program has used no Deferreds")
         return 66
     return _written(said, name, view)
@@ -151,9 +152,6 @@ def _test(arguments: argparse.Namespace) -> int:
         run = record_test(*found[0], kinds, arguments.virtual)
         tried = Said(run.recorder)
         said = said or tried
-        if run.waits and not arguments.virtual:
-            _say("the test waits for a reactor: --virtual runs it with one whose time is virtual")
-            return 1
         if not tried.problems and tried.script is not None:
             said = tried
             break

@@ -62,6 +62,8 @@ def waiting_of(watcher: Optional[Observer], call: Any) -> Optional[Waiting]:
 
 def _instrumented_later(self: Any, delay: float, f: Callable[..., Any], *args: Any, **kwargs: Any) -> Any:
     watcher = observer_of("clock")
+    if watched.observer is None and watched.is_resting:
+        return _later(self, delay, unwatched(f), *args, **kwargs)
     if watcher is None or not has_clock(watcher, self):
         return _later(self, delay, f, *args, **kwargs)
     if not is_delay(delay):
@@ -71,6 +73,20 @@ def _instrumented_later(self: Any, delay: float, f: Callable[..., Any], *args: A
     if watcher.quiet:
         return _schedule_own(watcher, self, delay, f, call)
     return _act_later(watcher, self, delay, f, call)
+
+
+def unwatched(f: Callable[..., Any]) -> Callable[..., Any]:
+    """The function, watched by nobody while it runs."""
+
+    @functools.wraps(f, updated=())
+    def call(*args: Any, **kwargs: Any) -> Any:
+        before, watched.observer = watched.observer, None
+        try:
+            return f(*args, **kwargs)
+        finally:
+            watched.observer = before
+
+    return call
 
 
 def _schedule_own(watcher: Observer, reactor: Any, delay: float, f: Callable[..., Any], call: Callable[[], Any]) -> Any:

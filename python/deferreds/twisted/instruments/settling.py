@@ -334,8 +334,9 @@ class _Settling:
                 self._last = entry.key
                 return
             is_next = entry.due > self._now or (entry.due == self._now and not self._waited(entry, self._count))
-            if is_next and (first is None or entry.key < first.key):
-                self._advance(step, self._late(step, entry.due))
+            to = self._late(step, entry.due)
+            if is_next and (first is None or to < first.due or (entry.key < first.key and self._is_right(step, to))):
+                self._advance(step, to)
                 self._last = entry.key
                 return
         self._run_moved(step, entry, first)

@@ -54,6 +54,16 @@ class Said:
             self._refuse_size(self.script)
 
     @property
+    def is_empty(self) -> bool:
+        """Whether nothing has happened, but that time went on."""
+        return all(isinstance(action, Advance) for action in self._events) and not self.records
+
+    @property
+    def with_times(self) -> bool:
+        """Whether times of a real reactor are told."""
+        return any(isinstance(action, Advance) for action in self._events)
+
+    @property
     def tick(self) -> str:
         """What a unit of the clock is, or nothing, where no clock was used."""
         return "" if self._recorder.clock is None else _second_part(self._scale)
