@@ -4,6 +4,7 @@ from __future__ import annotations
 
 import json
 import os
+import re
 import subprocess
 import sys
 import tempfile
@@ -124,6 +125,32 @@ class RealReactor(unittest.TestCase):
 
     def test_futures_of_asyncio(self) -> None:
         self.assertTrue(any(line.startswith('note "(') for line in self.recorded("futures").lines))
+
+    def test_results_of_threads_come_at_their_times(self) -> None:
+        recording = self.recorded("result_of_a_thread")
+        script = json.loads(recording.script)
+        [pool] = script["pools"]
+        self.assertEqual((script["version"], pool[1]), (2, 2))
+        by_word = {event[0]: event for event in recording.events}
+        self.assertEqual(by_word["thread"][3], ["value", ["read", 42]])
+        self.assertEqual(by_word["threadIn"][2:3] + by_word["threadIn"][4:], [pool[0], ["raise", "OSError", "no such file: a.txt"]])
+        tick = re.search(r"1 tick = (\d+) ms", recording.said)
+        assert tick is not None, recording.said
+        self.assertGreaterEqual(by_word["thread"][2] * int(tick.group(1)), 150)
+        self.assert_in_order(recording.lines, "deliver 1", "deliver 0")
+
+    def test_a_result_that_nobody_wants_and_one_that_never_comes(self) -> None:
+        recording = self.recorded("result_that_comes_late")
+        self.assert_in_order(recording.lines, "deliver 0", "swallow #0")
+        self.assertNotIn("deliver 1", recording.lines)
+
+    def test_deferreds_of_another_thread_are_left_out(self) -> None:
+        recording = self.recorded("deferred_in_a_thread")
+        self.assertIn("left out: 3 Deferreds of other threads", recording.said)
+        self.assertIn('note "[1, 2]"', recording.lines)
+
+    def test_a_deferred_that_two_threads_use_is_refused(self) -> None:
+        self.assertIn("a Deferred of the program is used in another thread", self.refused("fired_in_a_thread"))
 
     def test_ticks_by_the_wall_clock_are_refused(self) -> None:
         self.assertIn("ticks of different numbers of steps (--plain cooperator ", self.refused("ticks_by_the_clock"))

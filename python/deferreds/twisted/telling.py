@@ -12,6 +12,7 @@ from __future__ import annotations
 import contextlib
 import threading
 from fractions import Fraction
+from threading import get_ident
 from typing import (
     Any,
     Callable,
@@ -20,6 +21,7 @@ from typing import (
     Iterator,
     List,
     Mapping,
+    NamedTuple,
     Optional,
     Sequence,
     Tuple,
@@ -35,7 +37,7 @@ from .texts import NULL, Outcome, Text, Texts
 
 #: the kinds of objects that the language has, each of which can be told as such or as the Python that it is made of
 KINDS = frozenset(
-    {"maybe", "list", "lock", "queue", "clock", "timer", "loop", "cooperator", "inline"}
+    {"maybe", "list", "lock", "queue", "clock", "timer", "loop", "cooperator", "inline", "thread"}
 )
 
 
@@ -49,6 +51,24 @@ class _Twisted(threading.local):
 
 
 watched = _Twisted()
+
+
+#: the observers that are on, in any thread
+_on: List["Observer"] = []
+
+
+def count_elsewhere() -> None:
+    """Counts a Deferred that is made where no observer is on, for those that are on in other threads."""
+    for observer in _on:
+        if observer.thread != get_ident():
+            observer.elsewhere += 1
+
+
+def refuse_elsewhere(deferred: Any) -> None:
+    """A Deferred is used where no observer is on: one that is told must not be used in another thread."""
+    known: Optional[Tuple[Observer, Record]] = deferred._dv_record
+    if known is not None and known[0].is_on and known[0].thread != get_ident():
+        known[0].problem("a Deferred of the program is used in another thread")
 
 
 def observer_of(kind: str) -> Optional["Observer"]:
@@ -133,6 +153,14 @@ class Thing:
 
     def __str__(self) -> str:
         return self.name
+
+
+class Pool(NamedTuple):
+    """A pool of threads that has a name: at most so many of them do its jobs."""
+
+    threads: object
+    thing: Thing
+    workers: int
 
 
 class Time:
@@ -262,6 +290,12 @@ class Observer:
         #: the told time, where the clock is a real reactor
         self.pace: Any = None
         self.cooperator: Optional[Any] = None
+        self.jobs = 0
+        self.pools: List[Pool] = []
+        #: whether it is on in its thread, and how many Deferreds were made in others meanwhile
+        self.is_on = False
+        self.thread = get_ident()
+        self.elsewhere = 0
         #: whether what is due is run after an error of a delayed call too, as under a reactor
         self.goes_on_after_errors = False
         #: the function after which the next Deferred is named, where that isn't the one that makes it
@@ -273,10 +307,15 @@ class Observer:
     def watching(self) -> Iterator["Observer"]:
         """Has Twisted be watched by this observer, and by no other."""
         before, watched.observer = watched.observer, self
+        was_on, self.is_on, self.thread = self.is_on, True, get_ident()
+        if not was_on:
+            _on.append(self)
         try:
             yield self
         finally:
-            watched.observer = before
+            if not was_on:
+                _on.remove(self)
+            watched.observer, self.is_on = before, was_on
 
     # lines
 
@@ -484,6 +523,10 @@ class Observer:
     def value(self, outcome: Outcome) -> Any:
         """A value of the program's that is shown so, as an action of it has it."""
         return None
+
+    def raised(self, error: BaseException) -> Any:
+        """A failure, as the work of a job has it."""
+        return []
 
     def firing(self, record: Record, result: object, outcome: Outcome) -> Action:
         """The action that fires a Deferred with this, which is shown so."""

@@ -99,6 +99,8 @@ def _written(said: Said, name: str, view: bool) -> int:
         _say(f"Twisted does here what docs/PROFILE.md says of {entry}")
     if said.tick:
         _say(f"1 tick = {said.tick}")
+    if said.elsewhere:
+        _say(f"left out: {several(said.elsewhere, 'Deferred', 'Deferreds')} of other threads")
     lines, deferreds = several(len(said.journal), "line", "lines"), several(len(said.records), "Deferred", "Deferreds")
     _say(f"{name}.json and {name}.journal: {lines}, {deferreds}")
     return 0

@@ -24,7 +24,7 @@ from twisted.python.failure import Failure
 
 from ..classes import set_message
 from ..profile import Entry
-from ..telling import Action, Frame, Observer, Record, is_deferred, watched
+from ..telling import Action, Frame, Observer, Record, count_elsewhere, is_deferred, refuse_elsewhere, watched
 from ..texts import NULL, Outcome, error_of
 
 #: typed as a function by Twisted, since its overloads say what it gives
@@ -200,6 +200,7 @@ def _tell_taken(watcher: Observer, record: Record, giver: Record) -> None:
 def _instrumented_init(self: Deferred[Any], canceller: Optional[Canceller] = None) -> None:
     watcher = watched.observer
     if watcher is None:
+        count_elsewhere()
         _init(self, canceller)
         return
     record = Record()
@@ -277,6 +278,8 @@ def _instrumented_add(
     errback = _failthru if errback is None else errback
     arguments = callbackArgs, callbackKeywords, errbackArgs, errbackKeywords
     watcher = watched.observer
+    if watcher is None:
+        refuse_elsewhere(self)
     if watcher is None or not callable(callback) or not callable(errback):
         _add_callbacks(self, callback, errback, *arguments)
         if watcher is not None:
@@ -480,6 +483,7 @@ def _instrumented_chain(self: Deferred[Any], other: Deferred[Any]) -> Any:
 def _instrumented_start(self: Deferred[Any], result: object) -> None:
     watcher = watched.observer
     if watcher is None:
+        refuse_elsewhere(self)
         _start(self, result)
         return
     record = watcher.record(self)
@@ -616,6 +620,8 @@ def _is_abandoned(giver: Deferred[Any]) -> bool:
 
 def _instrumented_pause(self: Deferred[Any]) -> None:
     watcher = watched.observer
+    if watcher is None:
+        refuse_elsewhere(self)
     if watcher is None or watcher.quiet or sys._getframe(1).f_code is _run_code:
         _pause(self)
         return
@@ -633,6 +639,8 @@ def _tell_paused(watcher: Observer, deferred: Deferred[Any], record: Record) -> 
 
 def _instrumented_unpause(self: Deferred[Any]) -> None:
     watcher = watched.observer
+    if watcher is None:
+        refuse_elsewhere(self)
     if watcher is None or watcher.quiet:
         _unpause(self)
         return
@@ -664,6 +672,7 @@ def _instrumented_list_cancel(self: Any) -> None:
 def _cancelled(deferred: Deferred[Any], cancel: Callable[[Any], None]) -> None:
     watcher = watched.observer
     if watcher is None:
+        refuse_elsewhere(deferred)
         cancel(deferred)
     elif watcher.quiet:
         _tell_cancel(watcher, deferred, cancel)

@@ -55,6 +55,10 @@ class Pace:
 
     # the reactor's turns
 
+    def begin_turn(self) -> None:
+        """The reactor is about to run what other threads have posted, and what is due."""
+        self._turn = None
+
     def look(self) -> None:
         """The reactor is about to look what is due."""
         self._turn = self._real()

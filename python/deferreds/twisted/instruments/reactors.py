@@ -197,10 +197,12 @@ def _instrumented_turn(self: Any) -> None:
     if watcher is None or not has_clock(watcher, self):
         _turn(self)
         return
+    pace: Pace = watcher.pace
+    pace.begin_turn()
     try:
         _turn(self)
     finally:
-        watcher.pace.end_turn()
+        pace.end_turn()
 
 
 def _instrumented_insert(self: Any) -> None:

@@ -25,6 +25,7 @@ LADDER: Tuple[frozenset[str], ...] = tuple(
         ("cooperator",),
         ("loop",),
         ("loop", "cooperator"),
+        ("thread",),
         ("inline",),
         ("list",),
         ("lock", "queue", "maybe"),

@@ -2,7 +2,6 @@
 
 from __future__ import annotations
 
-from threading import get_ident
 from typing import Any, Callable, List, NamedTuple, Optional, Tuple, Union
 
 from twisted.internet.defer import Deferred, FirstError
@@ -38,7 +37,7 @@ class Recorder(Observer):
     frame: Run
 
     def __init__(self, kinds: frozenset[str] = KINDS) -> None:
-        super().__init__(kinds if "clock" in kinds else kinds - {"timer", "loop"})
+        super().__init__(kinds if "clock" in kinds else kinds - {"timer", "loop", "thread"})
         self.top = Run("event")
         self.frame = self.top
         #: the actions of the program itself, and how many parts of lines were told before each
@@ -48,7 +47,6 @@ class Recorder(Observer):
         self.failed: List[Action] = []
         self.problems: List[Problem] = []
         self._names = FreeNames()
-        self._thread = get_ident()
 
     def problem(self, reason: str, kind: Optional[str] = None) -> None:
         """Notes what a script can't say."""
@@ -89,8 +87,6 @@ class Recorder(Observer):
 
     def act(self, action: Action, call: Callable[..., Any], *args: Any) -> Any:
         """Performs a call of the program's into Twisted, and notes it as an action."""
-        if get_ident() != self._thread:
-            self.problem("Deferreds are used in another thread")
         run = self.frame
         if run is self.top and self.pace is not None and not isinstance(action, Advance):
             self.pace.event(action[0] == "loop")
@@ -253,6 +249,11 @@ class Recorder(Observer):
             reason = "a value that holds a Failure is made by the program"
             return Unsayable(reason, place(), outcome.text)
         return shown
+
+    def raised(self, error: BaseException) -> Any:
+        """A failure, as the work of a job has it."""
+        raising = self.raising(error)
+        return raising if isinstance(raising, list) else ["value", raising]
 
     def raising(self, error: BaseException) -> Any:
         """The END that raises a failure."""

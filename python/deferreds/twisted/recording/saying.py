@@ -54,6 +54,11 @@ class Said:
             self._refuse_size(self.script)
 
     @property
+    def elsewhere(self) -> int:
+        """How many Deferreds of other threads are left out."""
+        return self._recorder.elsewhere
+
+    @property
     def is_empty(self) -> bool:
         """Whether nothing has happened, but that time went on."""
         return all(isinstance(action, Advance) for action in self._events) and not self.records
@@ -178,6 +183,9 @@ class Said:
         except RecursionError:
             self._problem("bodies are nested too deep", "clock")
             return None
+        if self._recorder.pools:
+            script["version"] = 2
+            script["pools"] = [[pool.thing.name, pool.workers] for pool in self._recorder.pools]
         if self._recorder.classes.declared:
             script["classes"] = [list(pair) for pair in self._recorder.classes.declared]
         script["events"] = events
