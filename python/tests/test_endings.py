@@ -4,7 +4,9 @@ from __future__ import annotations
 
 import contextlib
 import os
+import re
 import signal
+import subprocess
 import unittest
 from pathlib import Path
 from typing import List, Optional
@@ -310,14 +312,64 @@ class Asked(RecordingCase):
         self.ask("itself")
 
 
+class InCalls(RecordingCase):
+    """Programs that end, or are asked, in the midst of what the real reactor runs."""
+
+    def setUp(self) -> None:
+        super().setUp()
+        self.begun, self.goes_on = self.folder / "begun", self.folder / "goes_on"
+
+    def wait_in_a_call(self) -> "subprocess.Popen[str]":
+        """Starts the program, and waits until it is in the second call of one advance."""
+        process = self.start("waits_in_a_call.py", str(self.begun), str(self.goes_on))
+        self.wait_for(self.begun.exists, "the call")
+        return process
+
+    def assert_of_the_beginning(self) -> None:
+        """The script ends before the advance that runs both calls, since that hasn't ended."""
+        self.assert_goes_together("waits_in_a_call")
+        journal = self.text("waits_in_a_call.journal")
+        self.assertIn('ok "start"', journal)
+        self.assertNotIn('ok "first"', journal)
+        self.assertIn('ok "second"', self.text("waits_in_a_call.whole.journal"))
+
+    def test_a_signal_in_the_midst_of_an_advance(self) -> None:
+        process = self.wait_in_a_call()
+        process.send_signal(signal.SIGHUP)
+        ended = self.end(process)
+        self.assertEqual(ended.status, -signal.SIGHUP, ended.said)
+        self.assert_of_the_beginning()
+        self.assertRegex(ended.said, "the script is of the first [0-9]+ of [0-9]+ events, since an event was under way at the end")
+
+    def test_what_is_asked_in_the_midst_of_an_advance(self) -> None:
+        process = self.wait_in_a_call()
+        process.send_signal(signal.SIGUSR1)
+        self.wait_for((self.folder / "waits_in_a_call.recording").exists, "the run so far")
+        self.assert_of_the_beginning()
+        self.goes_on.touch()
+        ended = self.end(process)
+        self.assertEqual(ended.status, 0, ended.said)
+        self.assert_goes_together("waits_in_a_call")
+        journal = self.text("waits_in_a_call.journal")
+        self.assertLess(journal.index('ok "second"'), journal.index('ok "third"'))
+        self.assertFalse((self.folder / "waits_in_a_call.whole.journal").exists())
+
+    def test_a_run_with_times_that_is_too_large_is_cut_at_an_event(self) -> None:
+        ended = self.record("large_calls.py")
+        self.assertEqual(ended.status, 0, ended.said)
+        self.assert_goes_together("large_calls")
+        made = [len(re.findall('fire #[0-9]+ ok \\["A', self.text(f"large_calls.{kind}"))) for kind in ("journal", "whole.journal")]
+        self.assertEqual(made, [5, 8])
+
+
 class Limits(RecordingCase):
     """Runs that are larger than a script may be."""
 
     def test_the_script_is_of_the_longest_beginning(self) -> None:
         for words, reason, events in (
-            (("12000", "0", "65"), "the script has more nodes than one may have", 18_723),
-            (("12", "50000", "65"), "the journal weighs more than a script's may", 7),
-            (("6", "30000", "1"), "the script is longer than one may be", 11),
+            (("12000", "0", "0", "65"), "the script has more nodes than one may have", 18_723),
+            (("12", "190", "200", "65"), "the journal weighs more than a script's may", 11),
+            (("6", "190", "160", "1"), "the script is longer than one may be", 11),
         ):
             with self.subTest(reason=reason):
                 ended = self.record("-o", "run", "--view", "large.py", *words)

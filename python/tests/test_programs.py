@@ -1,4 +1,4 @@
-"""The programs of python/data/programs: each is recorded as it ran, or refused with its reason.
+"""The programs of python/data/programs/virtual: each is recorded as it ran, or refused with its reason.
 
 What is recorded is given to `deferreds`, which prints the same lines, or parts from them at the entry that is named.
 """
@@ -26,7 +26,7 @@ from deferreds.twisted.recording.saying import Said
 from deferreds.twisted.running import be_quiet, run
 from deferreds.twisted.telling import KINDS
 
-PROGRAMS = Path(__file__).resolve().parent.parent / "data" / "programs"
+PROGRAMS = Path(__file__).resolve().parent.parent / "data" / "programs" / "virtual"
 
 #: the programs that are refused, and why; all others are recorded
 REFUSED: Dict[str, str] = {

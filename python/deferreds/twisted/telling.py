@@ -12,7 +12,10 @@ from __future__ import annotations
 
 import contextlib
 import sys
+import threading
 import weakref
+from fractions import Fraction
+from threading import get_ident
 from typing import (
     Any,
     Callable,
@@ -21,6 +24,7 @@ from typing import (
     Iterator,
     List,
     Mapping,
+    NamedTuple,
     Optional,
     Sequence,
     Set,
@@ -38,18 +42,38 @@ from .texts import NULL, Outcome, Text, Texts
 
 #: the kinds of objects that the language has, each of which can be told as such or as the Python that it is made of
 KINDS = frozenset(
-    {"maybe", "list", "lock", "queue", "clock", "timer", "loop", "cooperator", "inline"}
+    {"maybe", "list", "lock", "queue", "clock", "timer", "loop", "cooperator", "inline", "thread"}
 )
 
 
-class _Twisted:
-    """Twisted, as it is watched."""
+class _Twisted(threading.local):
+    """Twisted, as it is watched in a thread."""
 
     #: the observer that is on, if any
     observer: Optional["Observer"] = None
+    #: whether one is at rest: what is scheduled now is none of the program's, and is watched by nobody when it runs
+    is_resting = False
 
 
 watched = _Twisted()
+
+
+#: the observers that are on, in any thread
+_on: List["Observer"] = []
+
+
+def count_elsewhere() -> None:
+    """Counts a Deferred that is made where no observer is on, for those that are on in other threads."""
+    for observer in _on:
+        if observer.thread != get_ident():
+            observer.elsewhere += 1
+
+
+def refuse_elsewhere(deferred: Any) -> None:
+    """A Deferred is used where no observer is on: one that is told must not be used in another thread."""
+    known: Optional[Tuple[Observer, Record]] = deferred._dv_record
+    if known is not None and known[0].is_on and known[0].thread != get_ident():
+        known[0].problem("a Deferred of the program is used in another thread")
 
 
 def observer_of(kind: str) -> Optional["Observer"]:
@@ -153,12 +177,20 @@ class Thing:
         return self.name
 
 
+class Pool(NamedTuple):
+    """A pool of threads that has a name: at most so many of them do its jobs."""
+
+    threads: object
+    thing: Thing
+    workers: int
+
+
 class Time:
     """A part of a line: a time of the clock, in the program's seconds."""
 
     __slots__ = ("seconds",)
 
-    def __init__(self, seconds: float) -> None:
+    def __init__(self, seconds: Union[float, Fraction]) -> None:
         self.seconds = seconds
 
 
@@ -173,6 +205,19 @@ class Action(List[Any]):
     caught = False
     #: the Deferred of the inline body in which such a one is told
     helper: Optional[Record] = None
+
+
+class Advance(Action):
+    """The action by which time goes on to what the reactor runs, or to what comes from elsewhere.
+
+    Among the parts of lines it is a whole line. Whether it is told, and with what times, is known when the run is over.
+    """
+
+    def __init__(self) -> None:
+        self.to = Time(0)
+        self.by = Time(0)
+        self.is_told = False
+        super().__init__(["advance", self.by])
 
 
 class Failed:
@@ -267,7 +312,15 @@ class Observer:
         #: what the instruments of a kind keep of this run
         self.clock: Optional[Any] = None
         self.clock_base = 0.0
+        #: the told time, where the clock is a real reactor
+        self.pace: Any = None
         self.cooperator: Optional[Any] = None
+        self.jobs = 0
+        self.pools: List[Pool] = []
+        #: whether it is on in its thread, and how many Deferreds were made in others meanwhile
+        self.is_on = False
+        self.thread = get_ident()
+        self.elsewhere = 0
         #: whether what is due is run after an error of a delayed call too, as under a reactor
         self.goes_on_after_errors = False
         #: the function after which the next Deferred is named, where that isn't the one that makes it
@@ -279,10 +332,15 @@ class Observer:
     def watching(self) -> Iterator["Observer"]:
         """Has Twisted be watched by this observer, and by no other."""
         before, watched.observer = watched.observer, self
+        was_on, self.is_on, self.thread = self.is_on, True, get_ident()
+        if not was_on:
+            _on.append(self)
         try:
             yield self
         finally:
-            watched.observer = before
+            if not was_on:
+                _on.remove(self)
+            watched.observer, self.is_on = before, was_on
 
     @property
     def quiet(self) -> bool:
@@ -311,6 +369,10 @@ class Observer:
     def problem(self, reason: str, kind: Optional[str] = None) -> None:
         """Notes what a script can't say: it may be told as the Python that objects of this kind are made of."""
 
+    def place(self) -> str:
+        """Where the program is, if that is known."""
+        return ""
+
     @contextlib.contextmanager
     def undoing(self, record: Record) -> Iterator[None]:
         """Has a Deferred keep what it had, where what is told here isn't told any more."""
@@ -325,6 +387,10 @@ class Observer:
         if id(error) != self._told:
             self._told = id(error)
             self.tell("unhandled ", self.texts.failure(error))
+
+    def is_told(self, error: BaseException) -> bool:
+        """Whether this is the failure that was told last, by the event that happens."""
+        return id(error) == self._told
 
     # Deferreds
 
@@ -505,6 +571,10 @@ class Observer:
     def value(self, outcome: Outcome) -> Any:
         """A value of the program's that is shown so, as an action of it has it."""
         return None
+
+    def raised(self, error: BaseException) -> Any:
+        """A failure, as the work of a job has it."""
+        return []
 
     def firing(self, record: Record, result: object, outcome: Outcome) -> Action:
         """The action that fires a Deferred with this, which is shown so."""

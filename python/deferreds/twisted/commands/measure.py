@@ -24,7 +24,6 @@ from ..recording.measuring import (
     NOTHING,
     SAME,
     SKIPPED,
-    WAITS,
     Measured,
     bare_failures,
     counted,
@@ -54,7 +53,7 @@ _HEADER = (
 def _row(name: str, measured: List[Measured]) -> str:
     counts = counted(measured)
     whole = counts[SAME] + counts[NAMED] + counts[DIFFERS]
-    nothing = counts[NOTHING] + counts[SKIPPED] + counts[WAITS]
+    nothing = counts[NOTHING] + counts[SKIPPED]
     cells = (len(measured), nothing, whole, counts[SAME], counts[NAMED], counts[DIFFERS], counts[CANNOT])
     return f"| {name} | " + " | ".join(map(str, cells)) + " |"
 
@@ -99,8 +98,8 @@ def _run(arguments: argparse.Namespace) -> int:
 
 def _tell_each(measured: List[Measured]) -> None:
     down = [one for one in measured if one.state == SAME and not one.natively]
-    virtual = [one for one in measured if one.virtual]
-    print(f"{len(down)} of the same are told one level down, {len(virtual)} run with a virtual reactor")
+    timed = [one for one in measured if one.state == SAME and one.with_times]
+    print(f"{len(down)} of the same are told one level down, {len(timed)} with times of the real reactor")
     for one in measured:
         if not one.passed and one.test in COMPARE_ATTRIBUTES:
             print(f"{one.test} fails, since it compares attributes that the recorder sets")

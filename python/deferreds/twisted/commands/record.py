@@ -36,12 +36,13 @@ from ...checkout import as_called, command_name
 
 from ..instruments import install
 from ..recording.agreeing import program
+from ..recording.case import TestRun, record_test
 from ..recording.endings import Endings
 from ..recording.files import NoPlace, Place
 from ..recording.keeper import Keeper
 from ..recording.keeping import Keeping, Status
 from ..recording.messages import Messages
-from ..recording.programs import LADDER, NotLoaded, TestRun, record_program, record_test, tests_of
+from ..recording.programs import LADDER, NotLoaded, record_program, tests_of
 from ..recording.recorder import Recorder
 from ..recording.saying import Said
 from ..telling import KINDS
@@ -190,9 +191,6 @@ def _test(arguments: argparse.Namespace, messages: Messages) -> int:
         run = record_test(*found[0], kinds, arguments.virtual)
         said = Said(run.recorder)
         best = best or (run, said)
-        if run.waits and not arguments.virtual:
-            messages.say("the test waits for a reactor: --virtual runs it with one whose time is virtual")
-            return Status.REFUSED
         if said.script is not None and len(said.problems) == len(said.too_large):
             best = run, said
             break

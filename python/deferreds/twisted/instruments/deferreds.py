@@ -24,7 +24,17 @@ from twisted.python.failure import Failure
 
 from ..classes import set_message
 from ..profile import Entry
-from ..telling import Action, Frame, Observer, Record, is_dead_reference, is_deferred, watched
+from ..telling import (
+    Action,
+    Frame,
+    Observer,
+    Record,
+    count_elsewhere,
+    is_dead_reference,
+    is_deferred,
+    refuse_elsewhere,
+    watched,
+)
 from ..texts import NULL, Outcome
 
 #: typed as a function by Twisted, since its overloads say what it gives
@@ -201,6 +211,7 @@ def _tell_taken(watcher: Observer, record: Record, giver: Record) -> None:
 def _instrumented_init(self: Deferred[Any], canceller: Optional[Canceller] = None) -> None:
     watcher = watched.observer
     if watcher is None:
+        count_elsewhere()
         _init(self, canceller)
         return
     record = Record()
@@ -278,6 +289,8 @@ def _instrumented_add(
     errback = _failthru if errback is None else errback
     arguments = callbackArgs, callbackKeywords, errbackArgs, errbackKeywords
     watcher = watched.observer
+    if watcher is None:
+        refuse_elsewhere(self)
     if watcher is None or not callable(callback) or not callable(errback):
         _add_callbacks(self, callback, errback, *arguments)
         if watcher is not None:
@@ -513,6 +526,7 @@ def _fires_as_twisted_does(other: object) -> bool:
 def _instrumented_start(self: Deferred[Any], result: object) -> None:
     watcher = watched.observer
     if watcher is None:
+        refuse_elsewhere(self)
         _start(self, result)
         return
     record = watcher.record(self)
@@ -652,6 +666,8 @@ def _is_abandoned(giver: Deferred[Any]) -> bool:
 
 def _instrumented_pause(self: Deferred[Any]) -> None:
     watcher = watched.observer
+    if watcher is None:
+        refuse_elsewhere(self)
     if watcher is None or watcher.quiet or sys._getframe(1).f_code is _run_code:
         _pause(self)
         return
@@ -669,6 +685,8 @@ def _tell_paused(watcher: Observer, deferred: Deferred[Any], record: Record) -> 
 
 def _instrumented_unpause(self: Deferred[Any]) -> None:
     watcher = watched.observer
+    if watcher is None:
+        refuse_elsewhere(self)
     if watcher is None or watcher.quiet:
         _unpause(self)
         return
@@ -700,6 +718,7 @@ def _instrumented_list_cancel(self: Any) -> None:
 def _cancelled(deferred: Deferred[Any], cancel: Callable[[Any], None]) -> None:
     watcher = watched.observer
     if watcher is None:
+        refuse_elsewhere(deferred)
         cancel(deferred)
     elif watcher.quiet:
         _tell_cancel(watcher, deferred, cancel)

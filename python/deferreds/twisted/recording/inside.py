@@ -56,6 +56,8 @@ KIND_OF_ACTION: Dict[str, str] = {
     "resumeTask": "cooperator",
     "stopTask": "cooperator",
     "whenDone": "cooperator",
+    "thread": "thread",
+    "threadIn": "thread",
 }
 
 

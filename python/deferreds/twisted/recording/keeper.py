@@ -9,6 +9,7 @@ import warnings
 from types import FrameType
 from typing import NoReturn, Optional
 
+from ..instruments.pace import Pace
 from ..telling import Observer
 from .keeping import Keeping, Status
 from .recorder import Recorder
@@ -17,7 +18,7 @@ from .saying import Said
 #: the code by which the recorder notes what happens: where it runs, an event is under way
 _NOTING = {
     function.__code__
-    for cls in (Observer, Recorder)
+    for cls in (Observer, Recorder, Pace)
     for name, function in vars(cls).items()
     if inspect.isfunction(function) and name != "watching"
 }

@@ -53,7 +53,7 @@ class Keeping:
         if refusals or said.script is None:
             self._refuse(refusals)
             return Status.REFUSED
-        if not said.journal:
+        if said.is_empty:
             self._tell_nothing()
             return Status.NOTHING
         return self._write(said, how)
@@ -112,11 +112,16 @@ class Keeping:
             "events": len(said.begins),
             "events of the script": said.events,
             "compared": agreed.text,
+            **({"tick": said.tick} if said.tick else {}),
         }
 
     def _tell(self, said: Said, name: str, agreed: Agreement) -> None:
         for entry in sorted({entry.value for _, entry in said.quirks}):
             self.messages.say(f"Twisted does here what docs/PROFILE.md says of {entry}")
+        if said.tick:
+            self.messages.say(f"1 tick = {said.tick}")
+        if said.elsewhere:
+            self.messages.say(f"left out: {several(said.elsewhere, 'Deferred', 'Deferreds')} of other threads")
         lines, deferreds = several(len(said.journal), "line", "lines"), several(len(said.records), "Deferred", "Deferreds")
         if agreed.is_wrong:
             self.messages.say(f"{name}.journal: {lines}, {deferreds}. No script is left: it would be wrong, since {agreed.text}")

@@ -2,14 +2,13 @@
 
 from __future__ import annotations
 
-from threading import get_ident
 from typing import Any, Callable, List, NamedTuple, Optional, Tuple, Union
 
 from twisted.internet.defer import Deferred, FirstError
 from twisted.python.failure import Failure
 
 from ..profile import Entry
-from ..telling import KINDS, Action, Failed, Frame, Observer, Record, Thing, is_deferred, switching, watched
+from ..telling import KINDS, Action, Advance, Failed, Frame, Observer, Record, Thing, is_deferred, switching, watched
 from ..texts import NULL, Outcome, Text, compact, weight_of
 from .bodies import Body, Run, Steps, Unsayable
 from .hiding import SECRETS, Hiding
@@ -82,7 +81,7 @@ class Recorder(Observer):
     frame: Run
 
     def __init__(self, kinds: frozenset[str] = KINDS, redact: str = SECRETS) -> None:
-        super().__init__(kinds if "clock" in kinds else kinds - {"timer", "loop"})
+        super().__init__(kinds if "clock" in kinds else kinds - {"timer", "loop", "thread"})
         self.texts: Values = Values(self.classes, self.ask, Hiding(redact))
         self._aside = Aside(self)
         self.top = Run("event")
@@ -97,11 +96,14 @@ class Recorder(Observer):
         self._performed: Optional[Action] = None
         self._inside: Optional[Inside] = None
         self._names = FreeNames()
-        self._thread = get_ident()
 
     def problem(self, reason: str, kind: Optional[str] = None) -> None:
         """Notes what a script can't say."""
         self.problems.append(Problem(reason, place(), kind))
+
+    def place(self) -> str:
+        """The place in the program."""
+        return place()
 
     def ask(self, call: Callable[[], Any]) -> Any:
         """What the program's code says of an object of its own. What it does beside that is told nowhere."""
@@ -148,10 +150,10 @@ class Recorder(Observer):
         """Performs a call of the program's into Twisted, and notes it as an action."""
         if self.acting:
             return self._act_inside(action, call, *args)
-        self.acting = True
-        if get_ident() != self._thread:
-            self.problem("Deferreds are used in another thread")
         run = self.frame
+        if run is self.top and self.pace is not None and not isinstance(action, Advance):
+            self.pace.event(action[0] == "loop")
+        self.acting = True
         if run is self.top:
             self._told = None
             self.events.append(action)
@@ -367,6 +369,11 @@ class Recorder(Observer):
         if isinstance(shown, (list, dict)) and _holds_failures(shown):
             return Unsayable("a Failure is a value", place(), outcome.text)
         return shown
+
+    def raised(self, error: BaseException) -> Any:
+        """A failure, as the work of a job has it."""
+        raising = self.raising(error)
+        return raising if isinstance(raising, list) else ["value", raising]
 
     def raising(self, error: BaseException) -> Any:
         """The END that raises a failure."""
