@@ -10,7 +10,20 @@ from ..known import UnknownTwisted, refuse_unusable, version
 
 refuse_unusable()
 try:
-    from . import clock, deferreds, inline, lists, locks, loops, maybe, queues, tasks, timers
+    from . import (
+        clock,
+        deferreds,
+        inline,
+        lists,
+        locks,
+        loops,
+        maybe,
+        queues,
+        scheduled,
+        tasks,
+        timers,
+        tracebacks,
+    )
 except ModuleNotFoundError:
     raise
 except (AttributeError, ImportError) as missing:
@@ -29,6 +42,8 @@ def install() -> None:
         _installed = True
         for instrument in (deferreds, lists, maybe, locks, queues, clock, timers, loops, inline, tasks):
             instrument.install()
+        scheduled.install()
+        tracebacks.install()
     from ..self_test import check
 
     check()

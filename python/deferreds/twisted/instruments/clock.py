@@ -9,6 +9,7 @@ from twisted.internet import base, task
 
 from ..profile import Entry
 from ..telling import Action, Line, Observer, Thing, Time, observer_of, watched
+from .scheduled import stand_for
 
 _later = task.Clock.callLater
 _advance = task.Clock.advance
@@ -90,7 +91,7 @@ def _act_later(
     def due(*args: Any, **kwargs: Any) -> Any:
         return _run_due(watcher, clock, delayed, f, args, kwargs)
 
-    due.__qualname__ = str(getattr(f, "__qualname__", "due"))
+    stand_for(due, f)
 
     def schedule() -> Any:
         watcher.tell("later call ", delayed.thing, " ", due_time(watcher, delay))
