@@ -20,6 +20,7 @@ from deferreds.program import NotRun, found
 from deferreds.twisted.comparing import compared
 from deferreds.twisted.instruments import install
 from deferreds.twisted.programs import Answer, Once
+from deferreds.twisted.recording.hiding import CHOICES, SECRETS
 from deferreds.twisted.recording.inside import CALLED, FINALIZED
 from deferreds.twisted.recording.programs import printing_notes
 from deferreds.twisted.recording.reactor import VirtualReactor, in_place_of_the_real
@@ -53,11 +54,11 @@ class Ran(NamedTuple):
     printed: str
 
 
-def record(name: str, kinds: frozenset[str] = KINDS) -> Ran:
+def record(name: str, kinds: frozenset[str] = KINDS, redact: str = SECRETS) -> Ran:
     """Runs a program under the recorder, with a reactor whose time is virtual."""
     be_quiet()
     install()
-    recorder = Recorder(kinds)
+    recorder = Recorder(kinds, redact)
     printed = io.StringIO()
     with contextlib.redirect_stdout(printed), in_place_of_the_real(VirtualReactor()), printing_notes(recorder):
         with recorder.watching():
@@ -158,6 +159,14 @@ class Programs(unittest.TestCase):
         said = record("awaited_failure").said
         self.assertEqual([outcome for outcome in said.outcomes if " fail " in outcome], [])
         self.assert_right(record("awaited_failure", KINDS - {"inline"}).said)
+
+    def test_secrets_are_hidden_unless_that_is_not_wanted(self) -> None:
+        shown = {redact: record("secrets", redact=redact).said.output for redact in CHOICES}
+        self.assertNotIn("hunter2", shown["secrets"])
+        self.assertIn("hunter2", shown["none"])
+        for word in ("hunter2", "plain", "lost", ",1]"):
+            self.assertNotIn(word, shown["all"])
+        self.assert_right(record("secrets", redact="all").said)
 
     def test_a_delayed_call_has_the_function_of_the_program(self) -> None:
         self.assertEqual(record("call_function").printed, "True True {'value': 1} True\nFalse\n")

@@ -25,6 +25,7 @@ from ...view.run import run_of_journal
 from ...view.scripts import Script
 
 from ..instruments import install
+from ..recording.hiding import CHOICES, SECRETS
 from ..recording.programs import LADDER, NotLoaded, record_program, record_test, tests_of
 from ..recording.recorder import Recorder
 from ..recording.saying import Said
@@ -49,6 +50,7 @@ def _arguments(words: List[str]) -> argparse.Namespace:
         default="",
         help=f"tell these as the Python that they are made of: {', '.join(sorted(KINDS))}",
     )
+    add("--redact", metavar="WHAT", default=SECRETS, help="hide `all` values, those that look like `secrets` (so by itself), or `none`")
     add("program", nargs=argparse.REMAINDER, metavar="PROGRAM [ARGS..]")
     try:
         parsed = parser.parse_args(words)
@@ -58,6 +60,9 @@ def _arguments(words: List[str]) -> argparse.Namespace:
     unknown = plain - KINDS
     if unknown:
         _say(f"--plain has no {', '.join(sorted(unknown))}: {', '.join(sorted(KINDS))}")
+        raise SystemExit(64)
+    if parsed.redact not in CHOICES:
+        _say(f"--redact has no {parsed.redact}: {', '.join(CHOICES)}")
         raise SystemExit(64)
     if not (parsed.program or parsed.module or parsed.test):
         _say("a PROGRAM, -m MODULE or --test MODULE.CLASS.METHOD is needed; --help says more")
@@ -120,7 +125,7 @@ def _is_module(name: str) -> bool:
 
 def _program(arguments: argparse.Namespace) -> int:
     kinds = KINDS - set(arguments.plain.split(","))
-    recorder = Recorder(kinds)
+    recorder = Recorder(kinds, arguments.redact)
     target = arguments.module or arguments.program[0]
     words = arguments.program if arguments.module else arguments.program[1:]
     if not (_is_module(target) if arguments.module else Path(target).is_file()):
@@ -146,7 +151,7 @@ def _test(arguments: argparse.Namespace) -> int:
     said: Optional[Said] = None
     ladder = [KINDS - set(arguments.plain.split(","))] if arguments.plain else LADDER
     for kinds in ladder:
-        run = record_test(*found[0], kinds, arguments.virtual)
+        run = record_test(*found[0], kinds, arguments.virtual, arguments.redact)
         tried = Said(run.recorder)
         said = said or tried
         if run.waits and not arguments.virtual:

@@ -16,6 +16,7 @@ from twisted.internet.defer import Deferred
 
 from ..instruments import install
 from ..telling import KINDS, watched
+from .hiding import SECRETS
 from .reactor import VirtualReactor, in_place_of_the_real
 from .recorder import Recorder
 
@@ -107,12 +108,12 @@ class TestRun:
 
 
 def record_test(
-    cls: type[unittest.TestCase], method: str, kinds: frozenset[str], virtual: bool
+    cls: type[unittest.TestCase], method: str, kinds: frozenset[str], virtual: bool, redact: str = SECRETS
 ) -> TestRun:
-    """Runs one test: its `setUp` and its method are the program."""
+    """Runs one test: its `setUp` and its method are the program. `redact` says what is hidden, as of a Recorder."""
     install()
     run = TestRun()
-    run.recorder = Recorder(kinds)
+    run.recorder = Recorder(kinds, redact)
     reactor = VirtualReactor() if virtual else None
     case = cls(method)
     module = sys.modules[cls.__module__]
