@@ -10,6 +10,8 @@ import functools
 import io
 import os
 import runpy
+import subprocess
+import sys
 import unittest
 from pathlib import Path
 from typing import Dict, List, NamedTuple, Optional
@@ -18,6 +20,7 @@ from deferreds.program import NotRun, found
 from deferreds.twisted.comparing import compared
 from deferreds.twisted.instruments import install
 from deferreds.twisted.programs import Answer, Once
+from deferreds.twisted.recording.hiding import CHOICES, SECRETS
 from deferreds.twisted.recording.inside import CALLED, FINALIZED
 from deferreds.twisted.recording.programs import printing_notes
 from deferreds.twisted.recording.reactor import VirtualReactor, in_place_of_the_real
@@ -30,6 +33,7 @@ PROGRAMS = Path(__file__).resolve().parent.parent / "data" / "programs" / "virtu
 
 #: the programs that are refused, and why; all others are recorded
 REFUSED: Dict[str, str] = {
+    "awaited_failure_used": "a failed Deferred that a coroutine has awaited is used again",
     "canceller_by_hand": CALLED,
     "error_text_fires": ASKED,
     "error_text_takes_a_lock": ASKED,
@@ -40,7 +44,7 @@ REFUSED: Dict[str, str] = {
 }
 
 #: the recorded programs in which Twisted does what an entry of docs/PROFILE.md says, so that a line differs
-ENTRIES: Dict[str, str] = {}
+ENTRIES: Dict[str, str] = {"cancelled_coroutine": "cancelled-inline"}
 
 
 class Ran(NamedTuple):
@@ -50,11 +54,11 @@ class Ran(NamedTuple):
     printed: str
 
 
-def record(name: str, kinds: frozenset[str] = KINDS) -> Ran:
+def record(name: str, kinds: frozenset[str] = KINDS, redact: str = SECRETS) -> Ran:
     """Runs a program under the recorder, with a reactor whose time is virtual."""
     be_quiet()
     install()
-    recorder = Recorder(kinds)
+    recorder = Recorder(kinds, redact)
     printed = io.StringIO()
     with contextlib.redirect_stdout(printed), in_place_of_the_real(VirtualReactor()), printing_notes(recorder):
         with recorder.watching():
@@ -87,6 +91,8 @@ class Programs(unittest.TestCase):
                 self.assertIsNone(first)
             elif first is not None:
                 self.assertIn(entry, [quirk.value for place, quirk in said.quirks if place < first[0]])
+        if entry is not None:
+            self.assertIn(entry, [quirk.value for _, quirk in said.quirks])
 
     def test_each_is_recorded_as_it_ran_or_refused(self) -> None:
         for path in sorted(PROGRAMS.glob("*.py")):
@@ -148,6 +154,29 @@ class Programs(unittest.TestCase):
         self.assertEqual(lines, [
             "fire #0 ok [1]", "set #0 ok [1,2,3]", "set #3 ok [[1,2,3],[1,2,3]]", "set #3 ok [[1,2,3,4],[1,2,3,4]]"
         ])
+
+    def test_a_failure_that_a_coroutine_catches_is_lost_to_nobody(self) -> None:
+        said = record("awaited_failure").said
+        self.assertEqual([outcome for outcome in said.outcomes if " fail " in outcome], [])
+        self.assert_right(record("awaited_failure", KINDS - {"inline"}).said)
+
+    def test_secrets_are_hidden_unless_that_is_not_wanted(self) -> None:
+        shown = {redact: record("secrets", redact=redact).said.output for redact in CHOICES}
+        self.assertNotIn("hunter2", shown["secrets"])
+        self.assertIn("hunter2", shown["none"])
+        for word in ("hunter2", "plain", "lost", ",1]"):
+            self.assertNotIn(word, shown["all"])
+        self.assert_right(record("secrets", redact="all").said)
+
+    def test_a_delayed_call_has_the_function_of_the_program(self) -> None:
+        self.assertEqual(record("call_function").printed, "True True {'value': 1} True\nFalse\n")
+
+    def test_tracebacks_are_those_of_a_program_that_nobody_records(self) -> None:
+        bare = subprocess.run(
+            [sys.executable, str(PROGRAMS / "tracebacks.py")], capture_output=True, text=True, check=True
+        )
+        self.assertEqual(record("tracebacks").printed, bare.stdout)
+        self.assertEqual(bare.stdout.count("False"), 4)
 
 
 if __name__ == "__main__":

@@ -299,6 +299,7 @@ class Command(unittest.TestCase):
             cases = (
                 ((), 64),
                 (("--plain", "nothing", "program.py"), 64),
+                (("--redact", "some", "program.py"), 64),
                 (("nosuch.py",), 66),
                 (("-m", "nosuch"), 66),
                 (("-m", "nosuch.below"), 66),

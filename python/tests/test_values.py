@@ -153,8 +153,9 @@ class Hidden(unittest.TestCase):
         says = values(SECRETS)
         told = says.shown(["token=abc", "token=abd", ("password", "abc"), b"secret=abd"])
         self.assertEqual(
-            told, ["token=<secret_1>", "token=<secret_2>", ["password", "<secret_3>"], "<bytes b'secret=<secret_2>'>"]
+            told, ["token=<secret_1>", "token=<secret_2>", ["password", "<secret_1>"], "<bytes b'secret=<secret_2>'>"]
         )
+        self.assertEqual(says.shown(["abc", "abcd", ["password", 3]]), ["<secret_1>", "abcd", ["password", "<secret_3>"]])
 
     def test_a_secret_at_the_end_of_what_is_shown(self) -> None:
         text = "x" * (SHOWN - 12) + " password=hunter2hunter2hunter2" + "x" * 500

@@ -71,9 +71,12 @@ def count_elsewhere() -> None:
 
 def refuse_elsewhere(deferred: Any) -> None:
     """A Deferred is used where no observer is on: one that is told must not be used in another thread."""
-    known: Optional[Tuple[Observer, Record]] = deferred._dv_record
-    if known is not None and known[0].is_on and known[0].thread != get_ident():
-        known[0].problem("a Deferred of the program is used in another thread")
+    known: Optional[Tuple[Union[Observer, Settled], Record]] = deferred._dv_record
+    if known is None:
+        return
+    observer = known[0].observer if isinstance(known[0], Settled) else known[0]
+    if observer.is_on and observer.thread != get_ident():
+        observer.problem("a Deferred of the program is used in another thread")
 
 
 def observer_of(kind: str) -> Optional["Observer"]:
@@ -251,6 +254,8 @@ def weight(line: Line) -> int:
 class Frame:
     """A run of a body: `kind` is the kind of body, or `event` for the program itself."""
 
+    #: how it ended, where that is noted
+    end: Any = None
     #: of an inline body
     record: Optional[Record] = None
     awaits: Optional[Deferred[Any]] = None
@@ -279,6 +284,12 @@ class Expected:
     ) -> None:
         self.name = name
         self.made = made
+
+
+class Settled(NamedTuple):
+    """In place of the observer that knows a Deferred: that it is told as settled, though Twisted keeps its failure in it."""
+
+    observer: "Observer"
 
 
 _NOTHING = Expected()
@@ -417,6 +428,19 @@ class Observer:
     def keep(self, deferred: Any, record: Record) -> None:
         """Has a Deferred be known by this record."""
         deferred._dv_record = (self, record)
+
+    def settle(self, deferred: Any, record: Record) -> None:
+        """Tells a pair that takes the failure of a Deferred, which Twisted keeps in it all the same."""
+        self.tell("add ", record)
+        self.tell("run ", record)
+        self.tell("set ", record, " ", NULL)
+        record.outcome = NULL
+        deferred._dv_record = (Settled(self), record)
+
+    def is_settled(self, deferred: Any) -> bool:
+        """Whether a Deferred is told as settled, though Twisted keeps its failure in it."""
+        known = deferred._dv_record
+        return known is not None and isinstance(known[0], Settled) and known[0].observer is self
 
     def locate(self, record: Record) -> None:
         """Notes where the program makes a Deferred, if it is named by that."""

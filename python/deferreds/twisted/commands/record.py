@@ -39,6 +39,7 @@ from ..recording.agreeing import program
 from ..recording.case import TestRun, record_test
 from ..recording.endings import Endings
 from ..recording.files import NoPlace, Place
+from ..recording.hiding import CHOICES, SECRETS
 from ..recording.keeper import Keeper
 from ..recording.keeping import Keeping, Status
 from ..recording.messages import Messages
@@ -80,6 +81,7 @@ def _arguments(words: List[str]) -> argparse.Namespace:
         default="",
         help=f"tell these as the Python that they are made of: {', '.join(sorted(KINDS))}",
     )
+    add("--redact", metavar="WHAT", default=SECRETS, help="hide `all` values, those that look like `secrets` (so by itself), or `none`")
     add("program", nargs=argparse.REMAINDER, metavar="PROGRAM [ARGS..]")
     try:
         parsed = parser.parse_args(_detached(words))
@@ -92,7 +94,7 @@ def _arguments(words: List[str]) -> argparse.Namespace:
 
 def _detached(words: List[str]) -> List[str]:
     """The words, where `-mMODULE`, as Python takes it, is two of them."""
-    takes_word = ("-o", "--test", "--plain")
+    takes_word = ("-o", "--test", "--plain", "--redact")
     before = ""
     for place, word in enumerate(words):
         if before not in takes_word:
@@ -110,6 +112,8 @@ def _check(arguments: argparse.Namespace) -> None:
     unknown = plain - KINDS
     if unknown:
         raise Refused(_USAGE, f"--plain has no {', '.join(sorted(unknown))}: {', '.join(sorted(KINDS))}")
+    if arguments.redact not in CHOICES:
+        raise Refused(_USAGE, f"--redact has no {arguments.redact}: {', '.join(CHOICES)}")
     if arguments.module == []:
         raise Refused(_USAGE, "-m needs a MODULE")
     wanted = [bool(arguments.program), bool(arguments.module), bool(arguments.test)]
@@ -167,7 +171,7 @@ def _program(arguments: argparse.Namespace, messages: Messages) -> int:
     target, words = _target(arguments)
     name = target.split(".")[-1] if arguments.module else Path(target).stem
     keeping = _keeping(arguments, name, messages)
-    recorder = Recorder(KINDS - set(arguments.plain.split(",")))
+    recorder = Recorder(KINDS - set(arguments.plain.split(",")), arguments.redact)
     keeper = Keeper(recorder, keeping)
     with Endings(keeper).watched():
         status = record_program(recorder, target, words, bool(arguments.module), arguments.virtual)
@@ -188,7 +192,7 @@ def _test(arguments: argparse.Namespace, messages: Messages) -> int:
     best: Optional[Tuple[TestRun, Said]] = None
     ladder = [KINDS - set(arguments.plain.split(","))] if arguments.plain else LADDER
     for kinds in ladder:
-        run = record_test(*found[0], kinds, arguments.virtual)
+        run = record_test(*found[0], kinds, arguments.virtual, arguments.redact)
         said = Said(run.recorder)
         best = best or (run, said)
         if said.script is not None and len(said.problems) == len(said.too_large):

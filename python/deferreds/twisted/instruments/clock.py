@@ -11,6 +11,7 @@ from twisted.internet import task
 from ..profile import Entry
 from ..telling import Action, Line, Observer, Time, observer_of, watched
 from .pace import Pace, Waiting
+from .scheduled import stand_for
 
 _later = task.Clock.callLater
 _advance = task.Clock.advance
@@ -121,7 +122,7 @@ def _act_later(
     def due(*args: Any, **kwargs: Any) -> Any:
         return run_delayed(watcher, clock, delayed, f, args, kwargs)
 
-    due.__qualname__ = str(getattr(f, "__qualname__", "due"))
+    stand_for(due, f)
 
     def schedule() -> Any:
         watcher.tell("later call ", delayed.thing, " ", due_time(watcher, delay))

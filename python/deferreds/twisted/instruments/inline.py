@@ -2,16 +2,21 @@
 
 from __future__ import annotations
 
+import functools
 from typing import Any, Callable, List
 
 from twisted.internet import defer
 from twisted.internet.defer import Deferred
+from twisted.python.failure import Failure
 
 from ..telling import Action, Frame, Observer, Record, observer_of, switching, watched
-from .deferreds import PairArguments, add_silently, named_as, special_pairs
+from .deferreds import PairArguments, add_silently, named_as, result_of, special_pairs
 
 _cancellable = defer._cancellableInlineCallbacks
 _inline_callbacks = defer._inlineCallbacks
+#: what a coroutine asks a Deferred by: in earlier Twisteds a Deferred is its own iterator
+_ASKS = "send" if hasattr(Deferred, "send") else "__iter__"
+_asked: Callable[..., Any] = getattr(Deferred, _ASKS)
 
 #: the names, in one version or another, of the errback by which a body awaits
 AWAITS = ("_inlineCallbacks.<locals>.gotResult", "_gotResultInlineCallbacks")
@@ -124,8 +129,36 @@ def _add_hidden(
     return True
 
 
+def _instrumented_asked(self: Deferred[Any], *given: object) -> Any:
+    """A coroutine that awaits a fired Deferred asks it for what it has, and adds no pair; a failure isn't lost then."""
+    watcher = watched.observer
+    if watcher is not None and not self.paused and not self._runningCallbacks:
+        held = result_of(self)
+        if isinstance(held, Failure) and not watcher.is_settled(self):
+            _tell_failure_taken(watcher, self, held)
+    return _asked(self, *given)
+
+
+def _tell_failure_taken(watcher: Observer, deferred: Deferred[Any], failure: Failure) -> None:
+    """Tells that a coroutine awaits a failed Deferred, or where coroutines aren't told as such that an errback takes it."""
+    frame, record = watcher.frame, watcher.record(deferred)
+    if "inline" in watcher.kinds and frame.kind == "inline" and not watcher.acting:
+        awaited, outcome = watcher.begin_await(frame, record), record.outcome
+        if frame.record is not None:
+            watcher.tell("await ", frame.record, " ", record)
+        watcher.settle(deferred, record)
+        watcher.end_await(awaited, failure, outcome)
+    elif not watcher.quiet:
+        body = watcher.new_body("callback")
+        watcher.begin_body(body, "callback", (failure, record.outcome)).end = ["return", None]
+        watcher.act(Action(["addErrback", record, body]), watcher.settle, deferred, record)
+
+
 def install() -> None:
     """Puts the instrument into twisted.internet.defer."""
+    asked = functools.wraps(_asked)(_instrumented_asked)
+    setattr(Deferred, _ASKS, asked)
+    setattr(Deferred, "__next__" if _ASKS == "send" else "__await__", asked)
     setattr(defer, "_cancellableInlineCallbacks", _instrumented_cancellable)
     setattr(defer, "_inlineCallbacks", _instrumented_inline)
     special_pairs.update(dict.fromkeys(AWAITS, _add_await))

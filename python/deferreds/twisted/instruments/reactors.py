@@ -20,6 +20,7 @@ from zope.interface import directlyProvides
 from ..telling import Observer, Time, observer_of, watched
 from .clock import Delayed, Own, is_delay, own_call, run_delayed
 from .pace import Pace, Waiting, has_clock, is_real
+from .scheduled import stand_for
 
 _later = base.ReactorBase.callLater
 _turn = base.ReactorBase.runUntilCurrent
@@ -69,14 +70,13 @@ def _instrumented_later(self: Any, delay: float, f: Callable[..., Any], *args: A
     if not is_delay(delay):
         watcher.problem("a delay that is no number from 0", "clock")
         return _later(self, delay, f, *args, **kwargs)
-    call = functools.partial(f, *args, **kwargs)
     own = own_call(watcher, f) if watcher.acting else None
     if own is not None:
-        return _schedule_own(watcher, self, delay, own, call)
+        return _schedule_own(watcher, self, delay, own, functools.partial(f, *args, **kwargs))
     if watcher.quiet:
         watcher.problem("a delayed call from inside Twisted", "clock")
-        return _later(self, delay, call)
-    return _act_later(watcher, self, delay, f, call)
+        return _later(self, delay, f, *args, **kwargs)
+    return _act_later(watcher, self, delay, f, args, kwargs)
 
 
 def unwatched(f: Callable[..., Any]) -> Callable[..., Any]:
@@ -104,27 +104,27 @@ def _schedule_own(watcher: Observer, reactor: Any, delay: float, own: Own, call:
     return made
 
 
-def _act_later(watcher: Observer, reactor: Any, delay: float, f: Callable[..., Any], call: Callable[[], Any]) -> Any:
+def _act_later(watcher: Observer, reactor: Any, delay: float, f: Callable[..., Any], args: Any, kwargs: Any) -> Any:
     """The program schedules a call."""
     pace: Pace = watcher.pace
     delayed = Delayed(watcher, Time(delay))
     level = pace.level + 1
 
-    def due() -> Any:
-        waiting = waiting_of(watcher, made)
+    def due(*args: Any, **kwargs: Any) -> Any:
+        waiting, call = waiting_of(watcher, made), functools.partial(f, *args, **kwargs)
         if watched.observer is not watcher or waiting is None:
             return call()
         if level > _MOST_NESTED:
             return _run_flat(watcher, pace, delayed, waiting, call)
         return pace.run(waiting, functools.partial(_run_nested, watcher, pace, level, delayed, call))
 
-    due.__qualname__ = str(getattr(f, "__qualname__", "due"))
+    stand_for(due, f)
 
     def schedule_it() -> Any:
         waiting = pace.later(delay)
         delayed.action[2] = waiting.delay
         watcher.tell("later call ", delayed.thing, " ", waiting.due)
-        scheduled: Any = _later(reactor, delay, due)
+        scheduled: Any = _later(reactor, delay, due, *args, **kwargs)
         scheduled.__dict__["_dv_delayed"] = (watcher, delayed)
         _keep_waiting(watcher, scheduled, waiting)
         return scheduled

@@ -20,6 +20,7 @@ from twisted.trial.unittest import TestCase
 from ..instruments import install
 from ..instruments.maybe import making
 from ..telling import is_deferred, watched
+from .hiding import SECRETS
 from .programs import printing_notes
 from .reactor import VirtualReactor, in_place_of_the_real
 from .recorder import Recorder
@@ -39,10 +40,10 @@ class TestRun:
         self.why = ""
 
 
-def record_test(cls: type[unittest.TestCase], method: str, kinds: frozenset[str], virtual: bool) -> TestRun:
-    """Runs one test, on the real reactor or on one whose time is virtual."""
+def record_test(cls: type[unittest.TestCase], method: str, kinds: frozenset[str], virtual: bool, redact: str = SECRETS) -> TestRun:
+    """Runs one test, on the real reactor or on one whose time is virtual. `redact` says what is hidden, as of a Recorder."""
     install()
-    run = TestRun(Recorder(kinds))
+    run = TestRun(Recorder(kinds, redact))
     case = cls(method)
     recorded: _Recorded = (_OnVirtual if virtual else _Recorded)(run.recorder, isinstance(case, TestCase))
     for name in (*_PARTS, method):

@@ -7,7 +7,7 @@ from __future__ import annotations
 
 import hashlib
 import re
-from typing import Any, Dict, Match, Tuple
+from typing import Any, Dict, Match, Pattern, Tuple
 
 #: what `--redact` may be
 ALL, SECRETS, NONE = CHOICES = ("all", "secrets", "none")
@@ -17,19 +17,25 @@ _NAMES = r"(?:pass(?:word|wd|phrase)?|pwd|secrets?|tokens?|api[_-]?key|private[_
 #: a name that says that what stands beside it is a secret
 _NAME = re.compile(rf"(?i)(?:[\w-]*[_-])?{_NAMES}(?:[_-]\w+)?")
 
-#: what looks like a secret: each time, what is hidden is the group
-_SECRET = re.compile(
-    rf"""(?xi)
-    -----BEGIN\ [A-Z\ ]*PRIVATE\ KEY-----(?P<pem>.*?)(?:-----END|\Z)
-    | [a-z][a-z0-9+.-]*://[^\s/:@]*:(?P<url>[^\s/@]+)@
-    | \b(?:bearer|basic|digest)\s+(?P<scheme>[a-z0-9._~+/=-]{{8,}})
-    | {_NAMES}["']?\s*[:=]\s*(?:(?:bearer|basic|digest)\s+)?["']?(?P<named>[^\s"'&;,<>(){{}}\[\]]+)
-    | \b(?P<jwt>eyJ[a-z0-9_-]{{8,}}\.[a-z0-9_-]+\.[a-z0-9_-]*)
-    | \b(?P<known>AKIA[0-9A-Z]{{16}}|gh[pousr]_[a-z0-9]{{20,}}|xox[abprs]-[a-z0-9-]{{10,}})\b
-    """,
-    re.DOTALL,
+#: what looks like a secret: words of which one has to be there, and where it is, the secret is the group
+_LOOKS: Tuple[Tuple[Tuple[str, ...], Pattern[str]], ...] = (
+    (
+        ("pass", "pwd", "secret", "token", "key", "authorization", "credential", "cookie"),
+        re.compile(
+            rf"""(?i){_NAMES}["']?\s*[:=]\s*(?:(?:bearer|basic|digest)\s+)?["']?([^\s"'&;,<>(){{}}\[\]]+)"""
+        ),
+    ),
+    (("bearer ", "basic ", "digest "), re.compile(r"(?i)\b(?:bearer|basic|digest)\s+([a-z0-9._~+/=-]{8,})")),
+    (("://",), re.compile(r"://[^\s/:@]*:([^\s/@<]+)@")),
+    (("private key-----",), re.compile(r"PRIVATE KEY-----([^<]*?)(?:-----END|\Z)")),
+    (("eyj",), re.compile(r"\b(eyJ[A-Za-z0-9_-]{8,}\.[A-Za-z0-9_-]+\.[A-Za-z0-9_-]*)")),
+    (("akia",), re.compile(r"\b(AKIA[0-9A-Z]{16})\b")),
+    (("gh",), re.compile(r"\b(gh[pousr]_[A-Za-z0-9]{20,})")),
+    (("xox",), re.compile(r"\b(xox[abprs]-[A-Za-z0-9-]{10,})")),
 )
 
+#: each of these words, with what may be there where it is
+_WORDS = tuple((word, look) for words, look in _LOOKS for word in words)
 
 #: of longer values a digest is kept
 _LONG = 200
@@ -55,8 +61,20 @@ class Hiding:
         return self._values.setdefault((type(value), key), f"value_{len(self._values) + 1}")
 
     def text(self, text: str) -> str:
-        """The text, with names in place of its secrets where these are hidden: `<secret_1>`, `<secret_2>`, .."""
-        return _SECRET.sub(self._without_secret, text) if self.hides_secrets else text
+        """The text, with names in place of its secrets where these are hidden: `<secret_1>`, `<secret_2>`, ..
+
+        A text that is itself a secret of an earlier one is hidden, too.
+        """
+        if not self.hides_secrets:
+            return text
+        known = self._secrets.get(text)
+        if known is not None:
+            return known
+        lower = text.lower()
+        looks = [look for word, look in _WORDS if word in lower]
+        for look in dict.fromkeys(looks):
+            text = look.sub(self._without_secret, text)
+        return text
 
     def secret(self, text: str) -> str:
         """The name of a secret."""
@@ -67,6 +85,6 @@ class Hiding:
         return self.hides_secrets and len(text) <= 40 and _NAME.fullmatch(text) is not None
 
     def _without_secret(self, found: Match[str]) -> str:
-        begin, end = found.span(found.lastgroup or 0)
+        begin, end = found.span(1)
         whole, start = found.group(0), found.start()
         return whole[: begin - start] + self.secret(whole[begin - start : end - start]) + whole[end - start :]

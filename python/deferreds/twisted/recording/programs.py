@@ -13,6 +13,7 @@ from typing import Any, Callable, Iterator, List, Tuple
 
 from ..instruments import install
 from ..telling import KINDS, watched
+from .hiding import SECRETS
 from .reactor import VirtualReactor, in_place_of_the_real
 from .recorder import Recorder
 

@@ -128,6 +128,12 @@ class Recorder(Observer):
 
     def adopt(self, deferred: Deferred[Any]) -> Record:
         """A Deferred that was made before the recording began is made, and fired, where it is met first."""
+        if self.is_settled(deferred):
+            known: Any = deferred
+            self.problem("a failed Deferred that a coroutine has awaited is used again")
+            record: Record = known._dv_record[1]
+            self.keep(deferred, record)
+            return record
         state, value = deferred.__dict__, getattr(deferred, "result", None)
         if state.get("callbacks") or deferred.paused or state.get("_canceller"):
             self.problem("a Deferred from before the recording, which has pairs, pauses or a canceller")

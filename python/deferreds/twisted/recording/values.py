@@ -247,7 +247,8 @@ class _Full:
     def items(self, items: Any, depth: int) -> List[Shown]:
         """Items of a list, of two of which the first may say that the second is a secret."""
         if len(items) == 2 and type(items[0]) is str and self.hiding.names_secret(items[0]):
-            return [self.item(items[0], depth), self.hiding.secret(compact(self.item(items[1], depth)))]
+            secret = items[1] if type(items[1]) is str else compact(self.item(items[1], depth))
+            return [self.item(items[0], depth), self.hiding.secret(secret)]
         return [self.item(item, depth) for item in items]
 
     def item(self, item: Any, depth: int) -> Shown:
