@@ -9,6 +9,7 @@ import subprocess
 import sys
 import tempfile
 import unittest
+from fractions import Fraction
 from pathlib import Path
 from typing import Any, List
 
@@ -67,6 +68,12 @@ class RealReactor(unittest.TestCase):
         self.assertEqual((recording.status, recording.script, recording.journal), (1, "", ""), recording.said)
         return recording.said
 
+    def seconds(self, recording: Recording, ticks: int) -> Fraction:
+        """So many ticks, as long as a tick is said to be."""
+        said = re.search(r"1 tick = (\d+) (s|ms|µs)", recording.said)
+        assert said is not None, recording.said
+        return Fraction(ticks * int(said.group(1)), {"s": 1, "ms": 1_000, "µs": 1_000_000}[said.group(2)])
+
     def assert_in_order(self, lines: List[str], *expected: str) -> None:
         """These lines are there, in this order."""
         rest = iter(lines)
@@ -93,14 +100,11 @@ class RealReactor(unittest.TestCase):
         self.assert_in_order(recording.lines, 'note "0 A"', 'note "2 OSError"', 'note "3 TimeoutError"', 'note "4 TimeoutError"')
 
     def test_times_have_the_unit_that_they_need(self) -> None:
-        for name, delays, tick in (
-            ("call_in_an_hour", [1, 14_400], "250 ms"),
-            ("call_in_microseconds", [13, 3_600_000_000], "1 µs"),
-        ):
+        for name, delay in (("call_in_an_hour", Fraction(1, 4)), ("call_in_microseconds", Fraction(13, 1_000_000))):
             with self.subTest(name):
                 recording = self.recorded(name)
-                self.assertEqual([event[2] for event in recording.events if event[0] == "later"], delays)
-                self.assertIn(f"1 tick = {tick}", recording.said)
+                delays = [self.seconds(recording, event[2]) for event in recording.events if event[0] == "later"]
+                self.assertEqual(delays, [delay, 3_600])
 
     def test_connections_have_their_times(self) -> None:
         recording = self.recorded("key_value_lines")
@@ -115,7 +119,7 @@ class RealReactor(unittest.TestCase):
 
     def test_loops_whose_turns_fall_together(self) -> None:
         recording = self.recorded("loops_that_meet")
-        self.assertEqual([event[3] for event in recording.events if event[0] == "loop"], [20, 60])
+        self.assertEqual([self.seconds(recording, event[3]) for event in recording.events if event[0] == "loop"], [0.25, 0.5])
         self.assertIn('note "True"', recording.lines)
 
     def test_servers(self) -> None:
@@ -134,9 +138,7 @@ class RealReactor(unittest.TestCase):
         by_word = {event[0]: event for event in recording.events}
         self.assertEqual(by_word["thread"][3], ["value", ["read", 42]])
         self.assertEqual(by_word["threadIn"][2:3] + by_word["threadIn"][4:], [pool[0], ["raise", "OSError", "no such file: a.txt"]])
-        tick = re.search(r"1 tick = (\d+) ms", recording.said)
-        assert tick is not None, recording.said
-        self.assertGreaterEqual(by_word["thread"][2] * int(tick.group(1)), 150)
+        self.assertGreaterEqual(self.seconds(recording, by_word["thread"][2]), 0.15)
         self.assert_in_order(recording.lines, "deliver 1", "deliver 0")
 
     def test_a_result_that_nobody_wants_and_one_that_never_comes(self) -> None:
