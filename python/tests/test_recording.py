@@ -347,6 +347,14 @@ class Refused(unittest.TestCase):
     def test_a_failure_that_is_put_into_a_queue(self) -> None:
         self.assert_refused(lambda: defer.DeferredQueue().put(Failure(ValueError("no"))), "a Failure is a value")
 
+    def test_a_delay_that_is_too_long_for_the_unit_of_the_others(self) -> None:
+        def program() -> None:
+            clock = task.Clock()
+            clock.callLater(30 * 24 * 3600, lambda: None)
+            clock.callLater(0.000001, lambda: None)
+
+        self.assert_refused(program, "a delay of 2.592e+06 seconds, where the other times need ticks of 1 µs")
+
     def test_turns_that_do_something_else_each_time(self) -> None:
         def program() -> None:
             clock = task.Clock()

@@ -5,8 +5,8 @@ from twisted.internet import reactor, task
 turns = []
 fast = task.LoopingCall(turns.append, "fast")
 slow = task.LoopingCall(turns.append, "slow")
-fast.start(0.02)
-slow.start(0.06, now=False)
+fast.start(0.25)
+slow.start(0.5, now=False)
 
 
 def end():
@@ -16,7 +16,7 @@ def end():
     reactor.stop()
 
 
-ending = reactor.callLater(1, end)
-ending.reset(0.2)
-ending.delay(0.11)
+ending = reactor.callLater(3, end)
+ending.reset(1)
+ending.delay(0.6)
 reactor.run()

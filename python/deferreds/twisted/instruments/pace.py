@@ -45,7 +45,7 @@ class Pace:
         self._turns: Dict[int, int] = {}
         #: when the reactor has looked what is due, and whether it has run that since something came from elsewhere
         self._turn: Optional[int] = None
-        self._fresh = True
+        self._fresh = False
         #: in how many bodies of calls what runs now lies
         self.level = 0
 
@@ -94,23 +94,32 @@ class Pace:
         the same body has just started.
         """
         step = self._steps[-1]
-        if step is self._steps[0] and not step.starts:
-            self._base = self._reactor.seconds()  # all that was scheduled until now is told to be at the beginning, too
-        real = self._real()
-        at = -(-real // MILLISECOND) * MILLISECOND
-        waiting = min(self._turns, default=at + 1)
-        if waiting <= at:
-            at = min(real, waiting - _BEFORE)
+        at = self._first_start() if step is self._steps[0] and not step.starts else self._next_start()
         if step.starts and at - step.starts[0].at < _APART:
             at = step.starts[0].at
         loop = Loop(max(1, round(interval * UNITS)), at, self._watcher.place())
         step.starts.append(loop)
         return loop
 
+    def _first_start(self) -> int:
+        """All that was scheduled until now is told to be at the beginning, which is the next millisecond."""
+        self._base = self._reactor.seconds() + 1 / 1000
+        return 0
+
+    def _next_start(self) -> int:
+        real = self._real()
+        at = -(-real // MILLISECOND) * MILLISECOND
+        waiting = min(self._turns, default=at + 1)
+        return at if waiting > at else min(real, waiting - _BEFORE)
+
     def turn(self, loop: Loop, looping: Any, delay: float) -> Waiting:
         """The next turn of a loop is scheduled, so many seconds from now."""
         since = self._reactor.seconds() + delay - looping.starttime
-        number = max(1, round(since / looping.interval))
+        number = max(1, round(since / looping.interval) - loop.missed)
+        if number > 1 and len(self._steps) == 1 and self._steps[0].starts == [loop]:
+            # its first turn has blocked: the beginning is told to be after that
+            loop.missed, number = number - 1, 1
+            self._base += loop.missed * loop.interval / UNITS
         return self._make(Entry(len(self._waiting), loop=loop, turn=number))
 
     def align(self, waiting: Waiting, call: Any) -> None:
@@ -132,8 +141,9 @@ class Pace:
 
     def event(self, starts_loop: bool) -> None:
         """The program does something of its own: time goes on to that, once in a turn of the reactor's, and where a loop starts."""
-        self._steps[-1].closed = True
-        if not (self._fresh or starts_loop):
+        step = self._steps[-1]
+        step.closed = True
+        if not self._fresh and (not starts_loop or (step is self._steps[0] and not step.starts)):
             return
         self._fresh = False
         advance = self._begin(None, self._real())

@@ -65,6 +65,8 @@ class Loop:
         self.interval = interval
         self.at = at
         self.place = place
+        #: how many of its turns were missed before the beginning of the told time
+        self.missed = 0
         #: the time at which it is told to start
         self.start = at
 
