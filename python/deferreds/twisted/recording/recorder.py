@@ -2,8 +2,10 @@
 
 from __future__ import annotations
 
+import contextlib
+import sys
 from threading import get_ident
-from typing import Any, Callable, List, NamedTuple, Optional, Tuple, Union
+from typing import Any, Callable, Iterator, List, NamedTuple, Optional, Tuple, Union
 
 from twisted.internet.defer import Deferred, FirstError
 from twisted.python.failure import Failure
@@ -31,6 +33,9 @@ class Problem(NamedTuple):
     place: str
     kind: Optional[str]
 
+
+#: how many times as many frames a program may have on Python's stack where it is recorded
+_ROOM = 3
 
 #: why a script can't say what the program does where it is asked for the text of an object
 ASKED = "the text of an object is worked out with more than Deferreds of its own"
@@ -98,6 +103,18 @@ class Recorder(Observer):
         self._inside: Optional[Inside] = None
         self._names = FreeNames()
         self._thread = get_ident()
+
+    @contextlib.contextmanager
+    def watching(self) -> Iterator[Observer]:
+        """Has Twisted be watched by this observer. Python's stack has room for what that takes of it."""
+        limit = sys.getrecursionlimit()
+        sys.setrecursionlimit(_ROOM * limit)
+        try:
+            with super().watching():
+                yield self
+        finally:
+            if sys.getrecursionlimit() == _ROOM * limit:
+                sys.setrecursionlimit(limit)
 
     def problem(self, reason: str, kind: Optional[str] = None) -> None:
         """Notes what a script can't say."""

@@ -13,7 +13,7 @@ from ..profile import Entry
 from ..script import depth, nodes
 from ..telling import Action, Failed, Part, Record, Thing, Time
 from ..texts import Outcome, Text, compact
-from .bodies import Body, Run, Steps, Unsayable
+from .bodies import Body, Run, Steps, Unsayable, deepest
 from .places import FreeNames, name_of_spot
 from .recorder import Problem, Recorder
 
@@ -94,7 +94,7 @@ class Said:
         if self._recorder.clock is None and self._recorder.cooperator is None:
             return
         times = [part.seconds for part in self._recorder.parts if isinstance(part, Time)]
-        times += _times(self._recorder.events, set())
+        times += _times(self._recorder.events)
         for seconds in times:
             denominator = _exact(seconds).denominator
             self._scale = self._scale * denominator // math.gcd(self._scale, denominator)
@@ -147,7 +147,7 @@ class Said:
         except CannotSay:
             return None
         except RecursionError:
-            self._problem("bodies are nested too deep", "clock")
+            self._refuse_depth()
             return None
         if self._recorder.classes.declared:
             script["classes"] = [list(pair) for pair in self._recorder.classes.declared]
@@ -329,9 +329,14 @@ class Said:
         helpers = sum(record.helper for record in self.records)
         return len(self.journal) + sum(weights) + helpers <= _MOST_LIMIT
 
+    def _refuse_depth(self) -> None:
+        """Bodies lie in each other too deep: names the deepest, and the kind of objects that would be told flat."""
+        found = deepest(self._recorder.events)
+        self._problem("bodies are nested too deep", found and found.kind, found.of if found else "")
+
     def _refuse_size(self, script: Dict[str, Any]) -> None:
         if depth(self.text) > grammar.DEEPEST:
-            self._problem("bodies are nested too deep", "clock")
+            self._refuse_depth()
         if len(self.text.encode()) > grammar.MOST_BYTES:
             self._problem("the script is longer than one may be")
         elif nodes(script) > grammar.MOST_NODES:
@@ -351,17 +356,20 @@ def _first(record: Record) -> Record:
     return record
 
 
-def _times(part: Any, seen: Set[int]) -> Iterator[float]:
-    """The times that a part of an action has, but for those of runs that were seen before."""
-    if isinstance(part, Time):
-        yield part.seconds
-    elif isinstance(part, (list, tuple)):
-        for item in part:
-            yield from _times(item, seen)
-    elif isinstance(part, Body):
-        yield from _times(part.runs, seen)
-    elif isinstance(part, Steps):
-        yield from _times(part.bodies, seen)
-    elif isinstance(part, Run) and id(part) not in seen:
-        seen.add(id(part))
-        yield from _times(part.actions, seen)
+def _times(part: Any) -> Iterator[float]:
+    """The times that a part of an action has, each run of a body once. However deep these lie, this takes no room on the stack."""
+    seen: Set[int] = set()
+    left = [part]
+    while left:
+        part = left.pop()
+        if isinstance(part, Time):
+            yield part.seconds
+        elif isinstance(part, (list, tuple)):
+            left += part
+        elif isinstance(part, Body):
+            left += part.runs
+        elif isinstance(part, Steps):
+            left += part.bodies
+        elif isinstance(part, Run) and id(part) not in seen:
+            seen.add(id(part))
+            left += part.actions
