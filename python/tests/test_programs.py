@@ -31,6 +31,8 @@ from deferreds.twisted.telling import KINDS
 
 PROGRAMS = Path(__file__).resolve().parent.parent / "data" / "programs" / "virtual"
 
+DEEP = "bodies are nested too deep"
+
 #: the programs that are refused, and why; all others are recorded
 REFUSED: Dict[str, str] = {
     "awaited_failure_used": "a failed Deferred that a coroutine has awaited is used again",
@@ -39,7 +41,10 @@ REFUSED: Dict[str, str] = {
     "error_text_takes_a_lock": ASKED,
     "finalizer_between": FINALIZED,
     "finalizer_of_weak_reference": "a weak reference has a method of a Deferred as its callback",
+    "heartbeat": DEEP,
     "inline_drops": FINALIZED,
+    "nested_inline": DEEP,
+    "poll_again": DEEP,
     "subclass_adds": CALLED,
 }
 
@@ -101,7 +106,8 @@ class Programs(unittest.TestCase):
                 if path.stem in REFUSED:
                     reasons = {problem.reason for problem in said.problems}
                     self.assertEqual(reasons, {REFUSED[path.stem]})
-                    self.assertTrue(all(f"{path.stem}.py:" in problem.place for problem in said.problems))
+                    places = [problem.place for problem in said.problems if problem.reason != DEEP]
+                    self.assertTrue(all(f"{path.stem}.py:" in place for place in places))
                 else:
                     self.assert_right(said, ENTRIES.get(path.stem))
 
@@ -159,6 +165,19 @@ class Programs(unittest.TestCase):
         said = record("awaited_failure").said
         self.assertEqual([outcome for outcome in said.outcomes if " fail " in outcome], [])
         self.assert_right(record("awaited_failure", KINDS - {"inline"}).said)
+
+    def test_bodies_that_are_nested_too_deep_are_named_with_what_would_be_told_flat(self) -> None:
+        for name, place, kind in (
+            ("nested_inline", r"^inline of descend_9_\d+$", "inline"),
+            ("poll_again", r"^addCallback of read_13_1\d+$", None),
+            ("heartbeat", r"^later of call_beat_13_1\d+$", "clock"),
+        ):
+            with self.subTest(program=name):
+                (problem,) = record(name).said.problems
+                self.assertRegex(problem.place, place)
+                self.assertEqual(problem.kind, kind)
+                if kind is not None:
+                    self.assert_right(record(name, KINDS - {kind}).said)
 
     def test_secrets_are_hidden_unless_that_is_not_wanted(self) -> None:
         shown = {redact: record("secrets", redact=redact).said.output for redact in CHOICES}

@@ -123,7 +123,7 @@ class RealReactor(unittest.TestCase):
 
     def test_loops_whose_turns_fall_together(self) -> None:
         recording = self.recorded("loops_that_meet")
-        self.assertEqual([self.seconds(recording, event[3]) for event in recording.events if event[0] == "loop"], [0.25, 0.5])
+        self.assertEqual([event[3] * recording.tick for event in recording.events if event[0] == "loop"], [0.25, 0.5])
         self.assertIn('note "True"', recording.lines)
 
     def test_servers(self) -> None:

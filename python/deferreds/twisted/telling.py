@@ -309,7 +309,7 @@ class Observer:
         self.records: List[Record] = []
         self.top = Frame("event")
         self.frame = self.top
-        #: whether Twisted's own code performs an action
+        #: whether Twisted's own code performs an action; where it doesn't, nobody has to ask whether this is `quiet`
         self.acting = False
         #: the Deferred to which a cancel is being passed on along a wait
         self.forwarded: Optional[Deferred[Any]] = None

@@ -225,7 +225,7 @@ def _instrumented_init(self: Deferred[Any], canceller: Optional[Canceller] = Non
             watcher.keep(self, record)
             watcher.made(self, record, "inline")
         return
-    if watcher.quiet:
+    if watcher.acting and watcher.quiet:
         _init(self, canceller)
         watcher.keep(self, record)
         watcher.made(self, record)
@@ -305,7 +305,7 @@ def _instrumented_add(
         special = special_pairs.get(qualified(errback))
         if special is not None and special(watcher, self, record, callback, errback, arguments):
             return self
-    if watcher.quiet:
+    if watcher.acting and watcher.quiet:
         first, second = _own_side(watcher, record, callback), _own_side(watcher, record, errback)
         _tell_pair(watcher, self, record, first, second, arguments)
     else:
@@ -533,7 +533,7 @@ def _instrumented_start(self: Deferred[Any], result: object) -> None:
     if "inline" in watcher.kinds and _is_internal(result):
         record.fired = record.starts = True
         _start(self, result)
-    elif watcher.quiet:
+    elif watcher.acting and watcher.quiet:
         if is_dead_reference(result):
             watcher.problem("a weak reference has a method of a Deferred as its callback")
         _fire(watcher, self, record, result, _handed_on(watcher, self, record, result))

@@ -2,7 +2,9 @@
 
 from __future__ import annotations
 
-from typing import Any, Callable, List, NamedTuple, Optional, Tuple, Union
+import contextlib
+import sys
+from typing import Any, Callable, Iterator, List, NamedTuple, Optional, Tuple, Union
 
 from twisted.internet.defer import Deferred, FirstError
 from twisted.python.failure import Failure
@@ -30,6 +32,9 @@ class Problem(NamedTuple):
     place: str
     kind: Optional[str]
 
+
+#: how many times as many frames a program may have on Python's stack where it is recorded
+_ROOM = 3
 
 #: why a script can't say what the program does where it is asked for the text of an object
 ASKED = "the text of an object is worked out with more than Deferreds of its own"
@@ -96,6 +101,19 @@ class Recorder(Observer):
         self._performed: Optional[Action] = None
         self._inside: Optional[Inside] = None
         self._names = FreeNames()
+
+    @contextlib.contextmanager
+    def watching(self) -> Iterator[Observer]:
+        """Has Twisted be watched by this observer. Python's stack has room for what that takes of it."""
+        limit = sys.getrecursionlimit()
+        raised = limit if self.is_on else _ROOM * limit
+        sys.setrecursionlimit(raised)
+        try:
+            with super().watching():
+                yield self
+        finally:
+            if sys.getrecursionlimit() == raised:
+                sys.setrecursionlimit(limit)
 
     def problem(self, reason: str, kind: Optional[str] = None) -> None:
         """Notes what a script can't say."""

@@ -16,7 +16,7 @@ from ..profile import Entry
 from ..script import depth, nodes
 from ..telling import Action, Advance, Failed, Part, Record, Thing, Time
 from ..texts import Outcome, Text, compact
-from .bodies import Body, Run, Steps, Unsayable
+from .bodies import Body, Run, Steps, Unsayable, deepest
 from .outcomes import outcomes_of
 from .places import FreeNames, name_of_spot
 from .recorder import Problem, Recorder
@@ -159,16 +159,16 @@ class Said:
             return
         times = [part.seconds for part in self._recorder.parts if isinstance(part, Time)]
         times += [part.to.seconds for part in self._recorder.parts if isinstance(part, Advance) and part.is_told]
-        times += _times(self._events, set())
+        times += _times(self._events)
         for seconds in times:
             denominator = _exact(seconds).denominator
             self._scale = self._scale * denominator // math.gcd(self._scale, denominator)
         if self._scale > _LARGEST_SCALE:
             self._problem("times that have no unit in common", "clock")
             self._scale = _FINEST
-        longest = max(_times([action for action in self._events if action[0] != "advance"], set()), default=0)
+        longest = max(_times([action for action in self._events if action[0] != "advance"]), default=0)
         if longest * self._scale > grammar.DELAYS[-1]:
-            self._problem(f"a delay of {longest:g} seconds, where the other times need ticks of {self.tick}", "clock")
+            self._problem(f"a delay of {float(longest):g} seconds, where the other times need ticks of {self.tick}", "clock")
 
     def _units(self, time: Time) -> int:
         return int(_exact(time.seconds) * self._scale)
@@ -217,7 +217,7 @@ class Said:
         except CannotSay:
             return None
         except RecursionError:
-            self._problem("bodies are nested too deep", "clock")
+            self._refuse_depth()
             return None
         if self._recorder.pools:
             script["version"] = 2
@@ -405,10 +405,15 @@ class Said:
         weight = len(lines) + len("".join(lines).encode())
         script["limit"] = min(_MOST_LIMIT, max(grammar.DEFAULT_LIMIT, weight))
 
+    def _refuse_depth(self) -> None:
+        """Bodies lie in each other too deep: names the deepest, and the kind of objects that would be told flat."""
+        found = deepest(self._events)
+        self._problem("bodies are nested too deep", found and found.kind, found.of if found else "")
+
     def _refuse_size(self, script: Dict[str, Any]) -> None:
         """Notes what is larger than a script may be. Where that is the whole run, the script is cut to its beginning."""
         if depth(self.text) > grammar.DEEPEST:
-            self._problem("bodies are nested too deep", "clock")
+            self._refuse_depth()
         if len(script.get("classes", [])) > grammar.MOST_CLASSES:
             self._problem("the script has more classes than one may have")
         reasons = self._too_large(script)
@@ -486,17 +491,20 @@ def _first(record: Record) -> Record:
     return record
 
 
-def _times(part: Any, seen: Set[int]) -> Iterator[Union[float, Fraction]]:
-    """The times that a part of an action has, but for those of runs that were seen before."""
-    if isinstance(part, Time):
-        yield part.seconds
-    elif isinstance(part, (list, tuple)):
-        for item in part:
-            yield from _times(item, seen)
-    elif isinstance(part, Body):
-        yield from _times(part.runs, seen)
-    elif isinstance(part, Steps):
-        yield from _times(part.bodies, seen)
-    elif isinstance(part, Run) and id(part) not in seen:
-        seen.add(id(part))
-        yield from _times(part.actions, seen)
+def _times(part: Any) -> Iterator[Union[float, Fraction]]:
+    """The times that a part of an action has, each run of a body once. However deep these lie, this takes no room on the stack."""
+    seen: Set[int] = set()
+    left = [part]
+    while left:
+        part = left.pop()
+        if isinstance(part, Time):
+            yield part.seconds
+        elif isinstance(part, (list, tuple)):
+            left += part
+        elif isinstance(part, Body):
+            left += part.runs
+        elif isinstance(part, Steps):
+            left += part.bodies
+        elif isinstance(part, Run) and id(part) not in seen:
+            seen.add(id(part))
+            left += part.actions
