@@ -174,7 +174,7 @@ def _call_first(call: Callable[[], None]) -> None:
 def install() -> None:
     """Has each of trial's asynchronous test cases run so. Done twice, it is done once.
 
-    A case that is run by a test is a part of that, and runs as it is.
+    What a case does that a test runs isn't recorded.
     """
     run: Callable[..., Any] = TestCase.run
     if getattr(run, "_is_recorded", False):
@@ -183,11 +183,11 @@ def install() -> None:
     @functools.wraps(run)
     def recorded_run(self: TestCase, result: Any) -> Any:
         test = running()
-        if test is not None and test.case is not self:
-            return run(self, result)
         before = watched.observer
         watched.observer = None
         try:
+            if test is not None and test.case is not self:
+                return run(self, result)
             with _Case(self).prepared():
                 return run(self, result)
         finally:
