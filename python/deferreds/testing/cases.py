@@ -23,6 +23,12 @@ from .recorded import RecordedTest, running
 _MISSING = object()
 
 
+def without_own_frames(error: Any) -> None:
+    """Takes the frames of this module out of what a failure shows."""
+    if isinstance(error, Failure):
+        error.frames = [frame for frame in error.frames if frame[1] != __file__]
+
+
 class _Handed(Deferred[Any]):
     """What trial gets in place of a Deferred of the test."""
 
@@ -91,6 +97,7 @@ class _Case:
 
         @functools.wraps(method)
         def once() -> Any:
+            __tracebackhide__ = True
             self._put_back(name)
             return own()
 
@@ -111,6 +118,7 @@ class _Case:
         """A function of the test, which runs under the recorder."""
 
         def recorded(*args: Any, **kwargs: Any) -> Any:
+            __tracebackhide__ = True
             test = running()
             if test is None:
                 return call(*args, **kwargs)
@@ -164,16 +172,22 @@ def _call_first(call: Callable[[], None]) -> None:
 
 
 def install() -> None:
-    """Has each of trial's asynchronous test cases run so, where a test is recorded. Done twice, it is done once."""
+    """Has each of trial's asynchronous test cases run so. Done twice, it is done once.
+
+    What a case does that a test runs isn't recorded.
+    """
     run: Callable[..., Any] = TestCase.run
     if getattr(run, "_is_recorded", False):
         return
 
     @functools.wraps(run)
     def recorded_run(self: TestCase, result: Any) -> Any:
+        test = running()
         before = watched.observer
         watched.observer = None
         try:
+            if test is not None and test.case is not self:
+                return run(self, result)
             with _Case(self).prepared():
                 return run(self, result)
         finally:

@@ -96,6 +96,12 @@ class Recording:
             self._tests.end(self._test)
             self._test = before
 
+    @pytest.hookimpl(tryfirst=True)
+    def pytest_runtest_call(self, item: Any) -> None:
+        """The fixtures are there, and a case is made."""
+        if self._test is not None:
+            self._test.case = getattr(item, "instance", None)
+
     @pytest.hookimpl(hookwrapper=True)
     def pytest_runtest_makereport(self) -> Generator[None, Any, None]:
         """A part of the test has ended."""

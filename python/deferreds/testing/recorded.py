@@ -20,6 +20,8 @@ class RecordedTest:
         self.name = name
         self.recorder = Recorder(kinds)
         self.failed = False
+        #: the test case that it is, where it is one
+        self.case: object = None
 
     @contextlib.contextmanager
     def on(self) -> Iterator[None]:

@@ -61,6 +61,7 @@ def _recording(reporter: Any, tests: RecordedTests) -> Any:
         def startTest(self, test: Any) -> None:
             super().startTest(test)
             recorded = tests.begin(test.id())
+            recorded.case = test
             # an asynchronous case turns its recorder on itself, where its own functions run
             whole = None if isinstance(test, TestCase) else recorded.on()
             if whole is not None:
@@ -80,20 +81,21 @@ def _recording(reporter: Any, tests: RecordedTests) -> Any:
                 whole.__exit__(None, None, None)
             tests.end(test)
 
-        def _failed(self) -> None:
+        def _failed(self, error: Any) -> None:
+            cases.without_own_frames(error)
             if self._recorded is not None:
                 self._recorded[0].failed = True
 
         def addError(self, test: Any, error: Any) -> None:
-            self._failed()
+            self._failed(error)
             super().addError(test, error)
 
         def addFailure(self, test: Any, fail: Any) -> None:
-            self._failed()
+            self._failed(fail)
             super().addFailure(test, fail)
 
         def addUnexpectedSuccess(self, test: Any, todo: Any = None) -> None:
-            self._failed()
+            self._failed(None)
             super().addUnexpectedSuccess(test, todo)
 
         def done(self) -> None:
