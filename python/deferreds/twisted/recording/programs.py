@@ -45,13 +45,14 @@ _RUNNERS = {__file__, runpy.run_path.__code__.co_filename, "<frozen runpy>"}
 
 
 @contextlib.contextmanager
-def printing_notes(recorder: Recorder) -> Iterator[None]:
+def printing_notes() -> Iterator[None]:
     """Has what the program prints be notes of the journal."""
     real = getattr(builtins, "print")
 
     def noting(*values: Any, **kwargs: Any) -> None:
         real(*values, **kwargs)
-        if kwargs.get("file") is None and watched.observer is recorder and not recorder.quiet:
+        recorder = watched.observer
+        if kwargs.get("file") is None and isinstance(recorder, Recorder) and not recorder.quiet:
             said = io.StringIO()
             real(*values, file=said, sep=kwargs.get("sep", " "), end="")
             recorder.note(said.getvalue())
@@ -72,7 +73,7 @@ def record_program(
     before, sys.argv = sys.argv, [target, *words]
     try:
         place = contextlib.nullcontext() if reactor is None else in_place_of_the_real(reactor)
-        with place, printing_notes(recorder):
+        with place, printing_notes():
             status = _run(recorder, target, is_module)
         return status
     finally:

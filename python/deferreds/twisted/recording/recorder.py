@@ -47,6 +47,8 @@ class Recorder(Observer):
         #: the actions of bodies that have failed
         self.failed: List[Action] = []
         self.problems: List[Problem] = []
+        #: how many events come before those by which the runs of bodies count
+        self.preceding = 0
         self._names = FreeNames()
         self._thread = get_ident()
 
