@@ -65,7 +65,7 @@ def record(name: str, kinds: frozenset[str] = KINDS, redact: str = SECRETS) -> R
     install()
     recorder = Recorder(kinds, redact)
     printed = io.StringIO()
-    with contextlib.redirect_stdout(printed), in_place_of_the_real(VirtualReactor()), printing_notes(recorder):
+    with contextlib.redirect_stdout(printed), in_place_of_the_real(VirtualReactor()), printing_notes():
         with recorder.watching():
             runpy.run_path(str(PROGRAMS / f"{name}.py"), run_name="__main__")
     return Ran(Said(recorder), printed.getvalue())

@@ -62,6 +62,13 @@ watched = _Twisted()
 _on: List["Observer"] = []
 
 
+def _take_off(observer: "Observer") -> None:
+    """Has an observer, or the one that has taken over from it, be on no more."""
+    for other in [other for other in _on if other.lineage is observer.lineage]:
+        _on.remove(other)
+        other.is_on = False
+
+
 def count_elsewhere() -> None:
     """Counts a Deferred that is made where no observer is on, for those that are on in other threads."""
     for observer in _on:
@@ -74,9 +81,10 @@ def refuse_elsewhere(deferred: Any) -> None:
     known: Optional[Tuple[Union[Observer, Settled], Record]] = deferred._dv_record
     if known is None:
         return
-    observer = known[0].observer if isinstance(known[0], Settled) else known[0]
-    if observer.is_on and observer.thread != get_ident():
-        observer.problem("a Deferred of the program is used in another thread")
+    lineage = (known[0].observer if isinstance(known[0], Settled) else known[0]).lineage
+    for observer in _on:
+        if observer.lineage is lineage and observer.thread != get_ident():
+            observer.problem("a Deferred of the program is used in another thread")
 
 
 def observer_of(kind: str) -> Optional["Observer"]:
@@ -328,6 +336,8 @@ class Observer:
         self.cooperator: Optional[Any] = None
         self.jobs = 0
         self.pools: List[Pool] = []
+        #: one object for all observers that take over from each other
+        self.lineage: object = object()
         #: whether it is on in its thread, and how many Deferreds were made in others meanwhile
         self.is_on = False
         self.thread = get_ident()
@@ -350,8 +360,15 @@ class Observer:
             yield self
         finally:
             if not was_on:
-                _on.remove(self)
-            watched.observer, self.is_on = before, was_on
+                _take_off(self)
+            watched.observer = before
+
+    def give_over(self, following: "Observer") -> None:
+        """Has another observer be on in the place of this one."""
+        following.lineage, following.thread = self.lineage, self.thread
+        _on[_on.index(self)] = following
+        self.is_on, following.is_on = False, True
+        watched.observer = following
 
     @property
     def quiet(self) -> bool:

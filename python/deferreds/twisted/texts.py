@@ -185,6 +185,10 @@ class Texts:
             kept = thing
         self._named[key] = (kept, text)
 
+    def forget_kept(self) -> None:
+        """Forgets the objects that can't be forgotten when they go, and so are kept alive: each gets another text from now on."""
+        self._named = {key: named for key, named in self._named.items() if isinstance(named[0], weakref.ref)}
+
     def named(self, thing: object) -> str:
         """An object, by its type and a number."""
         known = self._named.get(id(thing))

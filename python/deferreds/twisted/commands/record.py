@@ -12,6 +12,10 @@ The run is kept where the program ends by Ctrl-C, by a signal that it doesn't ha
 written, and the program goes on. A forked child writes files of its own, NAME.PID.json and so on. Where a run is too long for a
 script, or ends in the midst of an event, NAME.json is of its beginning, and NAME.whole.journal is its whole journal.
 
+`--last N` is for a program that runs for days. NAME is of its last events, N at most, and NAME.before of the N events before these;
+what was before that is forgotten. Each script begins with the Deferreds as they stood then. Loops, delayed calls and tasks from
+before are told as the Python that they are made of, and so are locks and queues.
+
 Where `./deferreds` is there, it runs the script, and its lines are compared with those of the run. Where they differ, and
 docs/PROFILE.md has no entry for that, no script is left.
 
@@ -42,6 +46,7 @@ from ..recording.files import NoPlace, Place
 from ..recording.hiding import CHOICES, SECRETS
 from ..recording.keeper import Keeper
 from ..recording.keeping import Keeping, Status
+from ..recording.last import LastRecorder
 from ..recording.messages import Messages
 from ..recording.programs import LADDER, NotLoaded, record_program, tests_of
 from ..recording.recorder import Recorder
@@ -74,6 +79,7 @@ def _arguments(words: List[str]) -> argparse.Namespace:
     add("-m", dest="module", nargs=argparse.REMAINDER, metavar="MODULE [ARGS..]", help="run a module")
     add("--test", metavar="MODULE.CLASS.METHOD", help="run one test")
     add("--view", action="store_true", help="write NAME.html, a page of the run (docs/VIEW.md), too")
+    add("--last", type=_count, metavar="N", help="keep the last events, as NAME up to N of them and as NAME.before the N before these")
     add("--virtual", action="store_true", help="with a reactor whose time is virtual")
     add(
         "--plain",
@@ -92,9 +98,17 @@ def _arguments(words: List[str]) -> argparse.Namespace:
     return parsed
 
 
+def _count(word: str) -> int:
+    """A number of events. Raises ArgumentTypeError for others."""
+    count = int(word)
+    if count < 1:
+        raise argparse.ArgumentTypeError("it isn't from 1 on")
+    return count
+
+
 def _detached(words: List[str]) -> List[str]:
     """The words, where `-mMODULE`, as Python takes it, is two of them."""
-    takes_word = ("-o", "--test", "--plain", "--redact")
+    takes_word = ("-o", "--test", "--plain", "--redact", "--last")
     before = ""
     for place, word in enumerate(words):
         if before not in takes_word:
@@ -119,6 +133,8 @@ def _check(arguments: argparse.Namespace) -> None:
     wanted = [bool(arguments.program), bool(arguments.module), bool(arguments.test)]
     if not any(wanted):
         raise Refused(_USAGE, "a PROGRAM, -m MODULE or --test MODULE.CLASS.METHOD is needed; --help says more")
+    if arguments.test and arguments.last is not None:
+        raise Refused(_USAGE, "--last is for programs and modules, and not for --test")
     if wanted.count(True) > 1:
         raise Refused(_USAGE, "one of PROGRAM, -m MODULE and --test MODULE.CLASS.METHOD is taken, and not two")
 
@@ -159,7 +175,7 @@ def _is_python(path: str) -> bool:
 
 def _keeping(arguments: argparse.Namespace, name: str, messages: Messages) -> Keeping:
     """Where the recording is kept. Raises Refused where it can't be."""
-    place = Place(arguments.output or name, arguments.overwrites)
+    place = Place(name, arguments.overwrites)
     try:
         place.check([".json", ".journal", *([".html"] if arguments.view else [])])
     except NoPlace as why:
@@ -170,9 +186,15 @@ def _keeping(arguments: argparse.Namespace, name: str, messages: Messages) -> Ke
 def _program(arguments: argparse.Namespace, messages: Messages) -> int:
     target, words = _target(arguments)
     name = target.split(".")[-1] if arguments.module else Path(target).stem
+    name = arguments.output or name
+    kinds = KINDS - set(arguments.plain.split(","))
     keeping = _keeping(arguments, name, messages)
-    recorder = Recorder(KINDS - set(arguments.plain.split(",")), arguments.redact)
-    keeper = Keeper(recorder, keeping)
+    if arguments.last is None:
+        recorder = Recorder(kinds, arguments.redact)
+        keeper = Keeper(recorder, keeping)
+    else:
+        recorder = LastRecorder(kinds, arguments.redact, arguments.last, lambda following: keeper.take_over(following))
+        keeper = Keeper(recorder, keeping, _keeping(arguments, f"{name}.before", messages))
     with Endings(keeper).watched():
         status = record_program(recorder, target, words, bool(arguments.module), arguments.virtual)
         kept = keeper.keep(f"status {status}")
@@ -188,7 +210,7 @@ def _test(arguments: argparse.Namespace, messages: Messages) -> int:
         raise Refused(_NO_PROGRAM, str(why)) from None
     if len(found) != 1:
         raise Refused(_NO_PROGRAM, f"{arguments.test} isn't one test")
-    keeping = _keeping(arguments, found[0][1], messages)
+    keeping = _keeping(arguments, arguments.output or found[0][1], messages)
     best: Optional[Tuple[TestRun, Said]] = None
     ladder = [KINDS - set(arguments.plain.split(","))] if arguments.plain else LADDER
     for kinds in ladder:

@@ -271,6 +271,7 @@ def _instrumented_canceller(watcher: Observer, body: Any, canceller: Canceller) 
         return watcher.perform(body, "canceller", None, canceller, (deferred,))
 
     cancelled.__qualname__ = qualified(canceller) or "cancelled"
+    setattr(cancelled, "__wrapped__", canceller)
     return cancelled
 
 
@@ -322,6 +323,18 @@ def _act_pair(
     arguments: PairArguments,
 ) -> None:
     """A pair of the program's."""
+    action, first, second = _pair(watcher, record, callback, errback, arguments)
+    watcher.act(action, _tell_pair, watcher, deferred, record, first, second, arguments)
+
+
+def _pair(
+    watcher: Observer,
+    record: Record,
+    callback: Callable[..., Any],
+    errback: Callable[..., Any],
+    arguments: PairArguments,
+) -> Tuple[Action, Callable[..., Any], Callable[..., Any]]:
+    """The action that adds a pair of the program's, and the two sides that Twisted is given for it."""
     body = watcher.new_body("callback")
     action = Action(["addBoth", record, body])
     first = _side(watcher, record, callback, body)
@@ -335,7 +348,7 @@ def _act_pair(
         second = _side(watcher, record, errback, other)
     else:
         second = first
-    watcher.act(action, _tell_pair, watcher, deferred, record, first, second, arguments)
+    return action, first, second
 
 
 def _is_same_function(one: object, other: object) -> bool:
@@ -709,7 +722,9 @@ def _instrumented_cancel(self: Deferred[Any]) -> None:
 
 def _instrumented_list_cancel(self: Any) -> None:
     watcher = watched.observer
-    if watcher is not None and watcher.record(self).kind != "list" and not watcher.quiet:
+    if watcher is not None and watcher.record(self).kind != "list" and not self.called:
+        if watcher.quiet:
+            watcher.problem("a cancel comes to a DeferredList that isn't told as one", "list")
         _list_cancel(self)  # told as what it is made of
         return
     _cancelled(self, _list_cancel)
@@ -777,6 +792,46 @@ def _waits_in_a_circle(deferred: Deferred[Any]) -> bool:
         deferred = held
     return bool(deferred.called)
 
+
+
+def runs_callbacks() -> bool:
+    """Whether the callbacks of a Deferred are being run."""
+    return bool(_givers)
+
+
+def take_over(watcher: Observer, deferred: Any, record: Record) -> List[Any]:
+    """Has the pairs of a Deferred that another observer has known be told by this one, as pairs of the program's.
+
+    Gives what is in its queue, in order: the action that adds a pair, or a Deferred that waits.
+    """
+    queue: List[Any] = []
+    for place, ((callback, *on_value), (errback, *on_failure)) in enumerate(deferred.callbacks):
+        if callback is _CONTINUE:
+            queue.append(on_value[0][0])
+            continue
+        arguments = on_value[0], on_value[1], on_failure[0], on_failure[1]
+        action, first, second = _pair(watcher, record, _stands_for(callback), _stands_for(errback), arguments)
+        deferred.callbacks[place] = (first, *on_value), (second, *on_failure)
+        queue.append(action)
+    return queue
+
+
+def take_over_canceller(watcher: Observer, deferred: Any) -> Any:
+    """Likewise its canceller: the body of that, or None where there is none."""
+    canceller = deferred._canceller
+    if canceller is None or not callable(canceller):
+        return None
+    if getattr(canceller, "__code__", None) is _CANCELLED:
+        canceller = canceller.__wrapped__
+    body = watcher.new_body("canceller")
+    deferred._canceller = _instrumented_canceller(watcher, body, canceller)
+    return body
+
+
+_CONTINUE: object = getattr(defer, "_Sentinel")._CONTINUE
+
+#: the code of the cancellers that stand in the place of the program's
+_CANCELLED = getattr(_instrumented_canceller(Observer(), None, defer.passthru), "__code__")
 
 
 def _warn_about(offender: Callable[..., Any], text: str) -> None:

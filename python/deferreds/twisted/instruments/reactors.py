@@ -197,12 +197,13 @@ def _instrumented_turn(self: Any) -> None:
     if watcher is None or not has_clock(watcher, self):
         _turn(self)
         return
-    pace: Pace = watcher.pace
-    pace.begin_turn()
+    watcher.pace.begin_turn()
     try:
         _turn(self)
     finally:
-        pace.end_turn()
+        after = observer_of("clock")  # another observer may have taken over
+        if after is not None and after.clock is self:
+            after.pace.end_turn()
 
 
 def _instrumented_insert(self: Any) -> None:

@@ -51,6 +51,10 @@ class Run(Frame):
         """The actions, in order."""
         return self._actions or ()
 
+    def forget(self) -> None:
+        """Keeps no action."""
+        self._actions = None
+
     def note(self, action: Action) -> None:
         """Notes an action: the body has gone on after the failure of the last one, if that failed."""
         if self._actions is None:

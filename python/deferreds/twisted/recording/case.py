@@ -50,7 +50,7 @@ def record_test(cls: type[unittest.TestCase], method: str, kinds: frozenset[str]
         setattr(case, name, recorded.part(_method(case, name)))
     setattr(case, "addCleanup", functools.partial(_add_cleanup, recorded, case.addCleanup))
     result = unittest.TestResult()
-    with recorded.running(), printing_notes(run.recorder):
+    with recorded.running(), printing_notes():
         unittest.TestSuite([case]).run(result)
     bad = result.failures + result.errors
     run.passed, run.skipped = not bad, bool(result.skipped)

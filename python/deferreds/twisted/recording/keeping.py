@@ -47,8 +47,8 @@ class Keeping:
         self.place.be_of_this_process()
         self.messages.be_of_child()
 
-    def keep(self, said: Said, how: str) -> Status:
-        """Keeps a run that ended so. What can't be kept is told, with the reason."""
+    def keep(self, said: Said, how: str, earlier: int = 0) -> Status:
+        """Keeps a run that ended so, and before which so many events were, which aren't kept. What can't be kept is told."""
         refusals = [problem for problem in said.problems if problem not in said.too_large]
         if refusals or said.script is None:
             self._refuse(refusals)
@@ -56,7 +56,7 @@ class Keeping:
         if said.is_empty:
             self._tell_nothing()
             return Status.NOTHING
-        return self._write(said, how)
+        return self._write(said, how, earlier)
 
     def _tell_nothing(self) -> None:
         if self.children:
@@ -73,7 +73,7 @@ class Keeping:
             plainly = f" (--plain {problem.kind} tells it as what it is made of)" if problem.kind else ""
             self.messages.say(f"a script can't say this: {problem.reason}{at}{plainly}")
 
-    def _write(self, said: Said, how: str) -> Status:
+    def _write(self, said: Said, how: str, earlier: int) -> Status:
         agreed = agreement(said, self._asked)
         files: Dict[str, str] = {}
         if agreed.is_wrong:
@@ -83,7 +83,7 @@ class Keeping:
             if not said.is_whole:
                 files[".whole.journal"] = said.whole_output
         counts = self._add_page(files, said) if self._view else ""
-        written = self.place.write(files, self._facts(said, how, agreed))
+        written = self.place.write(files, self._facts(said, how, earlier, agreed))
         for failure in written.failures:
             self.messages.say(failure)
         if not written.is_any:
@@ -103,12 +103,13 @@ class Keeping:
         files[".html"] = Page(run).html()
         return run.counts
 
-    def _facts(self, said: Said, how: str, agreed: Agreement) -> Dict[str, Any]:
+    def _facts(self, said: Said, how: str, earlier: int, agreed: Agreement) -> Dict[str, Any]:
         """What the list of the files says of the recording."""
         return {
             "twisted": str(twisted.__version__),
             "python": platform.python_version(),
             "ended": how,
+            "earlier events": earlier,
             "events": len(said.begins),
             "events of the script": said.events,
             "compared": agreed.text,

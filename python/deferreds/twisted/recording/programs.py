@@ -44,12 +44,13 @@ _RUNNERS = {__file__, runpy.run_path.__code__.co_filename, "<frozen runpy>"}
 
 
 @contextlib.contextmanager
-def printing_notes(recorder: Recorder) -> Iterator[None]:
+def printing_notes() -> Iterator[None]:
     """Has what the program prints be notes of the journal."""
     real = getattr(builtins, "print")
 
     def noting(*values: Any, **kwargs: Any) -> None:
-        if kwargs.get("file") is not None or watched.observer is not recorder or recorder.acting:
+        recorder = watched.observer
+        if kwargs.get("file") is not None or not isinstance(recorder, Recorder) or recorder.acting:
             real(*values, **kwargs)
             return
         said = io.StringIO()
@@ -73,7 +74,7 @@ def record_program(
     before, sys.argv = sys.argv, [target, *words]
     try:
         place = contextlib.nullcontext() if reactor is None else in_place_of_the_real(reactor)
-        with place, printing_notes(recorder):
+        with place, printing_notes():
             status = _run(recorder, target, is_module)
         return status
     finally:

@@ -100,6 +100,8 @@ class Recorder(Observer):
         #: the action that Twisted performs, and what the program has done inside it, though that calls for nothing
         self._performed: Optional[Action] = None
         self._inside: Optional[Inside] = None
+        #: how many events come before those by which the runs of bodies count
+        self.preceding = 0
         self._names = FreeNames()
 
     @contextlib.contextmanager

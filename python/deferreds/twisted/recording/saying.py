@@ -326,7 +326,7 @@ class Said:
         """The runs of a body, but for those of an event that isn't part of the script."""
         if self._ended == len(self._recorder.events):
             return body.runs
-        return [run for run in body.runs if run.began <= self._ended]
+        return [run for run in body.runs if run.began + self._recorder.preceding <= self._ended]
 
     def _cooperator(self, cooperating: Cooperating) -> Dict[str, int]:
         full = {steps for steps, left in cooperating.ticks if left}

@@ -48,6 +48,10 @@ class Values(Texts):
         self._whole: Dict[type, _Leaf] = {}
         self._ways: Dict[type, _Leaf] = {}
 
+    def ask_by(self, ask: Callable[[Callable[[], Any]], Any]) -> None:
+        """From here on this calls what may be code of the program's."""
+        self._ask = ask
+
     def ask(self, call: Callable[[], _Given]) -> _Given:
         """What code of the program's says of an object, where that uses Deferreds of its own alone."""
         given: _Given = self._ask(call)
