@@ -62,8 +62,9 @@ class _Case:
     def __init__(self, case: TestCase) -> None:
         self._case = case
         self._before: Dict[str, object] = {}
-        #: whether a Deferred of the test waits for the reactor
+        #: whether a Deferred of the test waits for the reactor, and what has the recorder be on while that runs
         self._waits = False
+        self._while_reactor_runs = contextlib.ExitStack()
 
     @contextlib.contextmanager
     def prepared(self) -> Iterator[None]:
@@ -77,7 +78,9 @@ class _Case:
             return add_cleanup(self._own(f), *args, **kwargs)
 
         def unwatched(result: Any) -> Any:
-            self._waits, watched.observer = False, None
+            self._waits = False
+            self._while_reactor_runs.close()
+            watched.observer = None
             return clean_up(result)
 
         self._put("addCleanup", recorded_cleanup)
@@ -85,6 +88,7 @@ class _Case:
         try:
             yield
         finally:
+            self._while_reactor_runs.close()
             for name in list(self._before):
                 self._put_back(name)
 
@@ -150,7 +154,7 @@ class _Case:
 
         def start() -> None:
             if self._waits:
-                watched.observer = test.recorder
+                self._while_reactor_runs.enter_context(test.on())
 
         _call_first(start)
 

@@ -3,11 +3,11 @@
 from __future__ import annotations
 
 from bisect import bisect_right
-from typing import Dict, List, NamedTuple, Optional, Sequence
+from typing import Dict, List, NamedTuple, Optional
 
 from ..twisted.recording.recorder import Recorder
 from ..twisted.recording.saying import Said
-from ..twisted.telling import Record, Thing
+from ..twisted.telling import Advance, Record, Thing
 from ..view.page import Page
 from ..view.report import Finding, Kind, Severity
 from ..view.run import Run, run_of_journal
@@ -54,13 +54,14 @@ def recording_of(recorder: Recorder, title: str) -> Recording:
     said = Said(recorder)
     problem = _problem(said)
     script = Script(said.script if problem is None else None)
-    run = run_of_journal(said.output, title, script, False, said.begins)
+    journal = said.whole_output
+    run = run_of_journal(journal, title, script, False, said.begins)
     if problem is not None:
         run.problems.append((f"a script can't say this: {problem}. What is shown may lack it",))
-    files = {".journal": said.output, ".html": Page(run).html()}
+    files = {".journal": journal, ".html": Page(run).html()}
     if problem is None:
         files[".json"] = f"{said.text}\n"
-    return Recording(_left(run, recorder, said.begins), problem, files)
+    return Recording(_left(run, said), problem, files)
 
 
 def _problem(said: Said) -> Optional[str]:
@@ -73,18 +74,21 @@ def _problem(said: Said) -> Optional[str]:
     return f"{first.reason}{at}{f', and {more} more' if more else ''}"
 
 
-def _left(run: Run, recorder: Recorder, begins: Sequence[int]) -> List[str]:
+def _left(run: Run, said: Said) -> List[str]:
     terminal = Terminal(run, False)
     return [
         terminal.said(finding.said)
         for finding in run.report.findings
-        if finding.severity is not Severity.NOTE and not _came_to_the_program(finding, recorder, begins)
+        if finding.severity is not Severity.NOTE and not _came_to_the_program(finding, said)
     ]
 
 
-def _came_to_the_program(finding: Finding, recorder: Recorder, begins: Sequence[int]) -> bool:
+def _came_to_the_program(finding: Finding, said: Said) -> bool:
     """Whether it is an error that the test got from what it called, so that it is the test's own."""
     if finding.kind is not Kind.UNHANDLED or finding.row is None:
         return False
-    event = bisect_right(begins, finding.row) - 1
-    return event >= 0 and recorder.events[event].raised is not None
+    place = bisect_right(said.begins, finding.row) - 1
+    if place < 0:
+        return False
+    event = said.actions[place]
+    return event.raised is not None and not isinstance(event, Advance)  # what a reactor runs is logged by that

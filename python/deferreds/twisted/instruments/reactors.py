@@ -194,14 +194,12 @@ def _logs_of_reactor(frame: Optional[FrameType]) -> bool:
 
 def _instrumented_turn(self: Any) -> None:
     watcher = observer_of("clock")
-    if watcher is None or not has_clock(watcher, self):
-        _turn(self)
-        return
-    watcher.pace.begin_turn()
+    if watcher is not None and has_clock(watcher, self):
+        watcher.pace.begin_turn()
     try:
         _turn(self)
     finally:
-        after = observer_of("clock")  # another observer may have taken over
+        after = observer_of("clock")  # one may have come on, or have taken over
         if after is not None and after.clock is self:
             after.pace.end_turn()
 

@@ -31,8 +31,7 @@ def _is_own(file: str) -> bool:
 
 def _hide(failure: Any) -> None:
     """Takes the frames of what watches out of what a Failure shows."""
-    for name in ("frames", "stack"):
-        frames = getattr(failure, name, None)
+    for frames in (failure.frames, vars(failure).get("stack")):  # later Twisteds keep no stack, and warn who asks for it
         if frames:
             frames[:] = [frame for frame in frames if not _is_own(frame[1])]
 

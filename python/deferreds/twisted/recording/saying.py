@@ -70,7 +70,7 @@ class Said:
     @property
     def is_whole(self) -> bool:
         """Whether the script is of the whole run."""
-        return self.events == len(self._events) and not self.too_large
+        return self.events == len(self.actions) and not self.too_large
 
     @property
     def elsewhere(self) -> int:
@@ -80,12 +80,12 @@ class Said:
     @property
     def is_empty(self) -> bool:
         """Whether nothing has happened, but that time went on."""
-        return all(isinstance(action, Advance) for action in self._events) and not self.records
+        return all(isinstance(action, Advance) for action in self.actions) and not self.records
 
     @property
     def with_times(self) -> bool:
         """Whether times of a real reactor are told."""
-        return any(isinstance(action, Advance) for action in self._events)
+        return any(isinstance(action, Advance) for action in self.actions)
 
     @property
     def tick(self) -> str:
@@ -120,7 +120,8 @@ class Said:
         if conflict is not None:
             self._problem(conflict.reason, conflict.kind, conflict.place)
         told = [not isinstance(action, Advance) or action.is_told for action in recorder.events]
-        self._events = list(compress(recorder.events, told))
+        #: the events of the whole run that are told
+        self.actions = list(compress(recorder.events, told))
         self._begins = list(compress(recorder.begins, told))
         while self._ended < len(told) and not told[self._ended]:
             self._ended -= 1
@@ -159,14 +160,14 @@ class Said:
             return
         times = [part.seconds for part in self._recorder.parts if isinstance(part, Time)]
         times += [part.to.seconds for part in self._recorder.parts if isinstance(part, Advance) and part.is_told]
-        times += _times(self._events)
+        times += _times(self.actions)
         for seconds in times:
             denominator = _exact(seconds).denominator
             self._scale = self._scale * denominator // math.gcd(self._scale, denominator)
         if self._scale > _LARGEST_SCALE:
             self._problem("times that have no unit in common", "clock")
             self._scale = _FINEST
-        longest = max(_times([action for action in self._events if action[0] != "advance"]), default=0)
+        longest = max(_times([action for action in self.actions if action[0] != "advance"]), default=0)
         if longest * self._scale > grammar.DELAYS[-1]:
             self._problem(f"a delay of {float(longest):g} seconds, where the other times need ticks of {self.tick}", "clock")
 
@@ -211,7 +212,7 @@ class Said:
     def _script(self) -> Optional[Dict[str, Any]]:
         script: Dict[str, Any] = {"version": 1, "limit": _MOST_LIMIT}
         try:
-            events = [self._action(action) for action in self._events[: self.events]]
+            events = [self._action(action) for action in self.actions[: self.events]]
             if isinstance(self._recorder.cooperator, Cooperating):
                 script["cooperator"] = self._cooperator(self._recorder.cooperator)
         except CannotSay:
@@ -407,7 +408,7 @@ class Said:
 
     def _refuse_depth(self) -> None:
         """Bodies lie in each other too deep: names the deepest, and the kind of objects that would be told flat."""
-        found = deepest(self._events)
+        found = deepest(self.actions)
         self._problem("bodies are nested too deep", found and found.kind, found.of if found else "")
 
     def _refuse_size(self, script: Dict[str, Any]) -> None:
