@@ -259,6 +259,10 @@ class Observer:
         finally:
             watched.observer = before
 
+    def hand_over(self, following: "Observer") -> None:
+        """Has another observer watch from here on, in the place of this one."""
+        watched.observer = following
+
     # lines
 
     def tell(self, *parts: Part) -> None:

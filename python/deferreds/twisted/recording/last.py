@@ -9,14 +9,14 @@ queues from then on, since one from before can't be told from another.
 
 from __future__ import annotations
 
+import copy
 import gc
-from threading import get_ident
 from typing import Any, Callable, List, Optional
 
 from twisted.internet.defer import Deferred
 
 from ..instruments.deferreds import result_of, runs_callbacks, take_over, take_over_canceller
-from ..telling import Action, Part, Record, watched
+from ..telling import Action, Record, watched
 from ..texts import NULL, Outcome
 from .bodies import Body, Run, Steps, Unsayable
 from .places import place
@@ -86,14 +86,14 @@ class LastRecorder(Recorder):
 
     def _is_between_events(self) -> bool:
         is_outside = self.frame is self.top and not self.quiet and not self.top.expected
-        return is_outside and watched.observer is self and get_ident() == self._thread and not runs_callbacks()
+        return is_outside and watched.observer is self and not runs_callbacks()
 
     def _hand_over(self) -> None:
         if self.before is not None:
             self.before.forget()
             self.before = None
         following = LastRecorder(self.kinds - _MADE_PLAIN, self._count, self._took_over, self)
-        watched.observer = following
+        self.hand_over(following)
         self._took_over(following)
 
     def forget(self) -> None:
@@ -251,18 +251,15 @@ class LastRecorder(Recorder):
 
     def said(self, ended: Optional[int] = None) -> Said:
         """What is recorded here, after what stood. `ended`: how many events have ended, as for `Said`."""
-        whole = Recorder(self.kinds)
-        shift, preceding = len(self._stood_parts), len(self._stood_events)
-        whole.preceding = preceding
-        whole.classes, whole.clock, whole.cooperator = self.classes, self.clock, self.cooperator
-        whole.clock_base, whole.problems, whole.failed = self.clock_base, self.problems, self.failed
+        whole = copy.copy(self)
+        shift = len(self._stood_parts)
+        whole.preceding = len(self._stood_events)
         whole.events = self._stood_events + self.events
         whole.begins = self._stood_begins + [at + shift for at in self.begins]
-        parts: List[Optional[Part]] = [*self._stood_parts, *self.parts]
-        whole.parts = parts
+        whole.parts = [*self._stood_parts, *self.parts]
         whole.records = self._stood_records + self.records
         whole.quirks = [(at + shift, entry) for at, entry in self.quirks]
-        return Said(whole, None if ended is None else ended + preceding)
+        return Said(whole, None if ended is None else ended + whole.preceding)
 
 
 def _is_odd(deferred: Any) -> bool:
