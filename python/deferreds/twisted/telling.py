@@ -363,8 +363,8 @@ class Observer:
                 _take_off(self)
             watched.observer = before
 
-    def give_over(self, following: "Observer") -> None:
-        """Has another observer be on in the place of this one."""
+    def hand_over(self, following: "Observer") -> None:
+        """Has another observer watch from here on, in the place of this one."""
         following.lineage, following.thread = self.lineage, self.thread
         _on[_on.index(self)] = following
         self.is_on, following.is_on = False, True

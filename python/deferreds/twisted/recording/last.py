@@ -9,13 +9,14 @@ queues from then on, since one from before can't be told from another.
 
 from __future__ import annotations
 
+import copy
 import gc
 from typing import Any, Callable, List, Optional
 
 from twisted.internet.defer import Deferred
 
 from ..instruments.deferreds import result_of, runs_callbacks, take_over, take_over_canceller
-from ..telling import Action, Part, Record, watched
+from ..telling import Action, Record, watched
 from ..texts import NULL, Outcome
 from .bodies import Body, Run, Steps, Unsayable
 from .places import place
@@ -99,7 +100,7 @@ class LastRecorder(Recorder):
             self.before.forget()
             self.before = None
         following = LastRecorder(self.kinds - _MADE_PLAIN, self._redact, self._count, self._took_over, self)
-        self.give_over(following)
+        self.hand_over(following)
         self._took_over(following)
 
     def forget(self) -> None:
@@ -257,19 +258,15 @@ class LastRecorder(Recorder):
 
     def said(self, ended: Optional[int] = None) -> Said:
         """What is recorded here, after what stood. `ended`: how many events have ended, as for `Said`."""
-        whole = Recorder(self.kinds)
-        shift, preceding = len(self._stood_parts), len(self._stood_events)
-        whole.preceding = preceding
-        whole.classes, whole.clock, whole.cooperator = self.classes, self.clock, self.cooperator
-        whole.pace, whole.pools, whole.elsewhere = self.pace, self.pools, self.elsewhere
-        whole.clock_base, whole.problems, whole.failed = self.clock_base, self.problems, self.failed
+        whole = copy.copy(self)
+        shift = len(self._stood_parts)
+        whole.preceding = len(self._stood_events)
         whole.events = self._stood_events + self.events
         whole.begins = self._stood_begins + [at + shift for at in self.begins]
-        parts: List[Optional[Part]] = [*self._stood_parts, *self.parts]
-        whole.parts = parts
+        whole.parts = [*self._stood_parts, *self.parts]
         whole.records = self._stood_records + self.records
         whole.quirks = [(at + shift, entry) for at, entry in self.quirks]
-        return Said(whole, None if ended is None else ended + preceding)
+        return Said(whole, None if ended is None else ended + whole.preceding)
 
 
 def _is_odd(deferred: Any) -> bool:
