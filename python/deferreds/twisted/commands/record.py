@@ -2,7 +2,8 @@
 
 `-m MODULE` runs a module, `--test MODULE.CLASS.METHOD` one test. The program runs as it is. NAME.json is the script,
 NAME.journal the journal and the outcomes as real Twisted gave them. `--view` writes NAME.html, a page of the run, too. What a
-script can't say is refused with the reason and the place in the program, and nothing is written.
+script can't say is refused with the reason and the place in the program, and nothing is written. Times are those of the real
+reactor, unless `--virtual` puts another in its place; what is said at the end tells how long a tick of the script's clock is.
 
 Ctrl-C ends the program, and what it did until then is recorded.
 

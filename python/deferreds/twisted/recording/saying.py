@@ -135,7 +135,7 @@ class Said:
             self._scale = _FINEST
         longest = max(_times([action for action in self._events if action[0] != "advance"], set()), default=0)
         if longest * self._scale > grammar.DELAYS[-1]:
-            self._problem(f"a delay of {longest:g} seconds, where the other times need ticks of {self.tick}", "clock")
+            self._problem(f"a delay of {float(longest):g} seconds, where the other times need ticks of {self.tick}", "clock")
 
     def _units(self, time: Time) -> int:
         return int(_exact(time.seconds) * self._scale)
