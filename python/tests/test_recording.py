@@ -11,7 +11,7 @@ import unittest
 from pathlib import Path
 from typing import Any, Callable, List
 
-from twisted.internet import defer, task
+from twisted.internet import defer, reactor, task
 from twisted.python.failure import Failure
 
 from deferreds.twisted.instruments import install
@@ -353,7 +353,13 @@ class Refused(unittest.TestCase):
             clock.callLater(30 * 24 * 3600, lambda: None)
             clock.callLater(0.000001, lambda: None)
 
-        self.assert_refused(program, "a delay of 2.592e+06 seconds, where the other times need ticks of 1 µs")
+        def on_reactor() -> None:
+            real: Any = reactor
+            for seconds in (30 * 24 * 3600, 0.000001):
+                real.callLater(seconds, lambda: None).cancel()
+
+        for each in (program, on_reactor):
+            self.assert_refused(each, "a delay of 2.592e+06 seconds, where the other times need ticks of 1 µs")
 
     def test_turns_that_do_something_else_each_time(self) -> None:
         def program() -> None:

@@ -39,6 +39,11 @@ MODULES = (
     "twisted.internet.test.test_inlinecb",
     "twisted.test.test_task",
     "twisted.test.test_cooperator",
+    "twisted.test.test_internet",
+    "twisted.test.test_tcp",
+    "twisted.test.test_threads",
+    "twisted.test.test_loopback",
+    "twisted.test.test_policies",
 )
 
 #: tests that compare all attributes of two Deferreds, one of which is what the recorder keeps of each

@@ -2,6 +2,7 @@
 
 `-m MODULE` runs a module, and `--test MODULE.CLASS.METHOD` one test. All words after PROGRAM or MODULE are the program's. PROGRAM
 is a file, or the name of a Python script on the PATH. The program runs as it is.
+Times are those of the real reactor, unless `--virtual` puts another in its place; how long a tick of the script's clock is, is told.
 
 NAME.json is the script. NAME.journal is the journal and the outcomes as real Twisted gave them. `--view` writes NAME.html,
 a page of the run, too. NAME.recording lists these files. Without -o, NAME is what PROGRAM or MODULE is called, in the folder
