@@ -16,12 +16,12 @@ import unittest
 from pathlib import Path
 from typing import Dict, List, NamedTuple, Optional
 
-from deferreds.program import NotRun, found
+from deferreds.program import NotRun, built
 from deferreds.twisted.comparing import compared
 from deferreds.twisted.instruments import install
 from deferreds.twisted.programs import Answer, Once
 from deferreds.twisted.recording.hiding import CHOICES, SECRETS
-from deferreds.twisted.recording.inside import CALLED, FINALIZED
+from deferreds.twisted.recording.inside import CALLED, FINALIZED, MEDDLED
 from deferreds.twisted.recording.programs import printing_notes
 from deferreds.twisted.recording.reactor import VirtualReactor, in_place_of_the_real
 from deferreds.twisted.recording.recorder import ASKED, Recorder
@@ -40,6 +40,7 @@ REFUSED: Dict[str, str] = {
     "error_text_fires": ASKED,
     "error_text_takes_a_lock": ASKED,
     "finalizer_between": FINALIZED,
+    "finalizer_meddles": MEDDLED,
     "finalizer_of_weak_reference": "a weak reference has a method of a Deferred as its callback",
     "heartbeat": DEEP,
     "inline_drops": FINALIZED,
@@ -75,7 +76,7 @@ def record(name: str, kinds: frozenset[str] = KINDS, redact: str = SECRETS) -> R
 def ours() -> Optional[Once]:
     """The program `deferreds`, where it can be run."""
     with contextlib.suppress(NotRun):
-        return Once([os.fspath(found())])
+        return Once([os.fspath(built())])
     return None
 
 

@@ -21,6 +21,7 @@ from ..telling import is_dead_reference, switches
 
 #: the files of Twisted's code that performs actions
 _ACTING = {module.__file__ for module in (base, defer, task, threads, context, failure)}
+_MODULES = {module.__name__ for module in (base, defer, task)}
 #: the folders of what watches Twisted, and of Twisted's logger
 _WATCHING = os.path.dirname(os.path.dirname(__file__)) + os.sep
 _LOGGER = os.path.dirname(logger.__file__) + os.sep
@@ -30,6 +31,7 @@ _GENERATORS = inspect.CO_GENERATOR | inspect.CO_COROUTINE | inspect.CO_ASYNC_GEN
 #: why a script can't say what the program does inside Twisted's code
 CALLED = "Twisted's own code calls the program's, which uses Deferreds there"
 FINALIZED = "a finalizer or a log observer uses Deferreds inside Twisted's own code, which goes on after it"
+MEDDLED = "a finalizer or a log observer uses what Twisted's own code works on"
 
 #: which kind may be told as what it is made of, by the action that Twisted performs
 KIND_OF_ACTION: Dict[str, str] = {
@@ -92,6 +94,21 @@ def entry(called: int = 0) -> Optional[FrameType]:
             found = frame
         frame = frame.f_back
     return found
+
+
+def worked_on(entered: FrameType) -> Iterator[Any]:
+    """What Twisted's functions work on that are under way around the frame in which the program's code was entered."""
+    frame = entered.f_back
+    while frame is not None and id(frame.f_code) not in switches:
+        if frame.f_code.co_filename in _ACTING:
+            for value in list(frame.f_locals.values()):
+                yield from filter(_is_twisteds, value if type(value) is list else [value])
+        frame = frame.f_back
+
+
+def _is_twisteds(value: object) -> bool:
+    """Whether it is an object of a class of Twisted's, or of one below that."""
+    return any(base.__module__ in _MODULES for base in type(value).__mro__)
 
 
 def is_uncalled(frame: FrameType) -> bool:

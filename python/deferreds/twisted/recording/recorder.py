@@ -14,7 +14,7 @@ from ..telling import KINDS, Action, Advance, Failed, Frame, Observer, Record, T
 from ..texts import NULL, Outcome, Text, compact, weight_of
 from .bodies import Body, Run, Steps, Unsayable
 from .hiding import SECRETS, Hiding
-from .inside import CALLED, FINALIZED, KIND_OF_ACTION, Inside, entry, is_uncalled
+from .inside import CALLED, FINALIZED, KIND_OF_ACTION, MEDDLED, Inside, entry, is_uncalled, worked_on
 from .places import FreeNames, name_of_spot, place, spot
 from .values import Values
 
@@ -224,10 +224,13 @@ class Recorder(Observer):
         It is noted after that one, and is refused unless that one tells nothing more.
         """
         entered = entry(1)
+        if self._inside is not None:
+            self._refuse_unless_last(self._inside, False)
         uncalled = entered is not None and is_uncalled(entered)
         if not uncalled:
             self.problem(CALLED, self._kind_performed())
-        frame = self.frame
+        busy = [] if entered is None else [self._known_as(one) for one in worked_on(entered)]
+        frame, before = self.frame, len(self.parts)
         kept = frame.expected, frame.anonymous, frame.passing, self._told, self.forwarded, self.turn, self.maker
         frame.expected, frame.anonymous, frame.passing, self.forwarded, self.turn = (), False, None, None, None
         self.acting = False
@@ -236,7 +239,18 @@ class Recorder(Observer):
         finally:
             self.acting = True
             frame.expected, frame.anonymous, frame.passing, self._told, self.forwarded, self.turn, self.maker = kept
+            if uncalled and any(part is one for part in self.parts[before:] if part is not None for one in busy):
+                self.problem(MEDDLED)
             self._inside = Inside(len(self.parts), place(), uncalled)
+
+    def _known_as(self, thing: object) -> object:
+        """What lines name an object by, if any do."""
+        for name in ("_dv_record", "_dv_thing", "_dv_loop", "_dv_task"):
+            known = getattr(thing, "__dict__", {}).get(name)
+            if known is not None and known[0] is self:
+                named = known[1][0] if isinstance(known[1], tuple) else known[1]
+                return getattr(named, "thing", named)
+        return None
 
     def _refuse_unless_last(self, inside: Inside, raised: bool) -> None:
         """Refuses what was done inside Twisted's code, where that has gone on to tell something after it."""
