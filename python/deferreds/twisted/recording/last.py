@@ -79,10 +79,11 @@ class LastRecorder(Recorder):
 
     def act(self, action: Action, call: Callable[..., Any], *args: Any) -> Any:
         """Performs a call of the program's into Twisted. After the last one that is recorded here, another recorder takes over."""
-        result = super().act(action, call, *args)
-        if len(self.events) >= self._count and self._is_between_events():
-            self._hand_over()
-        return result
+        try:
+            return super().act(action, call, *args)
+        finally:
+            if len(self.events) >= self._count and self._is_between_events():
+                self._hand_over()
 
     def _is_between_events(self) -> bool:
         is_outside = self.frame is self.top and not self.quiet and not self.top.expected
@@ -183,6 +184,7 @@ class LastRecorder(Recorder):
             self.problem("a Deferred from before what is kept, which can't be told as it stood")
         record = Record()
         record.made_at = stood.made_at or ("stood", None)
+        record.number = 0  # (it has one; which, is known when the run is said)
         self.keep(deferred, record)
         made = Action(["deferred", record])
         canceller = None if deferred.called else take_over_canceller(self, deferred)
