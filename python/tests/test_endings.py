@@ -52,6 +52,15 @@ class Words(RecordingCase):
         ended = self.record("--test", "a.b.c", "configured.py")
         self.assertEqual((ended.status, ended.said.count("\n")), (64, 1), ended.said)
 
+    def test_a_package_that_cant_be_run(self) -> None:
+        (self.folder / "package").mkdir()
+        (self.folder / "package" / "__init__.py").touch()
+        ended = self.record("-m", "package")
+        self.assertEqual((ended.status, ended.said.count("\n")), (66, 1), ended.said)
+        (self.folder / "package" / "__main__.py").write_text("from twisted.internet import defer\ndefer.succeed(1)\n", encoding="utf-8")
+        self.assertEqual(self.record("-m", "package").status, 0)
+        self.assert_goes_together("package")
+
     def test_a_script_on_the_path_is_found(self) -> None:
         (self.folder / "bin").mkdir()
         tool = self.folder / "bin" / "tool"

@@ -11,7 +11,7 @@ class Last(RecordingCase):
     """Two recordings: the last events, and as many before these."""
 
     def test_a_script_begins_with_what_stood(self) -> None:
-        for count in (7, 20, 50):
+        for count in (7, 21, 50):
             with self.subTest(count=count):
                 name = f"last{count}"
                 ended = self.record("-o", name, "--last", str(count), "goes_on.py", "40")
@@ -19,7 +19,15 @@ class Last(RecordingCase):
                 self.assertEqual(ended.said.count("./deferreds prints the same, line for line"), 2, ended.said)
                 for each in (name, f"{name}.before"):
                     self.assert_goes_together(each)
-                self.assertEqual(self.text(f"{name}.before.json").count('"limit"'), 1)
+                self.assertGreaterEqual(self.facts(f"{name}.before")["events"], count)
+
+    def test_where_another_has_just_taken_over_there_is_one_recording(self) -> None:
+        self.record("-o", "whole", "goes_on.py", "40")
+        half = self.facts("whole")["events"] // 2
+        self.assertEqual(self.record("-o", "last", "--last", str(half), "goes_on.py", "40").status, 0)
+        self.assert_goes_together("last")
+        has_rest = self.facts("whole")["events"] % 2 == 1
+        self.assertEqual("last.before.json" in self.files(), has_rest)
 
     def test_a_deferred_that_stood_and_was_never_met_is_told(self) -> None:
         self.record("-o", "last", "--last", "10", "goes_on.py", "40")

@@ -12,6 +12,7 @@ def request(name):
 
 
 never = defer.Deferred(lambda deferred: print("nobody cancels this"))
+unfired = request("unfired")
 late = request("late").addErrback(lambda failure: failure.trap(defer.CancelledError) and "given up")
 cancelled = request("cancelled").addErrback(lambda failure: failure.trap(defer.CancelledError) and "given up")
 cancelled.cancel()
@@ -41,5 +42,6 @@ waited.callback(41)
 chainer.callback("link")
 chained.addCallback(lambda value: None)
 paused.unpause()
+defer.maybeDeferred(lambda: unfired)
 cancellable.addErrback(lambda failure: None)
 cancellable.cancel()

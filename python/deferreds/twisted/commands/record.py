@@ -13,8 +13,8 @@ The run is kept where the program ends by Ctrl-C, by a signal that it doesn't ha
 written, and the program goes on. A forked child writes files of its own, NAME.PID.json and so on. Where a run is too long for a
 script, or ends in the midst of an event, NAME.json is of its beginning, and NAME.whole.journal is its whole journal.
 
-`--last N` is for a program that runs for days. NAME is of its last events, N at most, and NAME.before of the N events before these;
-what was before that is forgotten. Each script begins with the Deferreds as they stood then. Loops, delayed calls and tasks from
+`--last N` is for a program that runs for days. NAME is of its last events, about N at most, and NAME.before of as many before these.
+What was before that is forgotten. Each script begins with the Deferreds as they stood then. Loops, delayed calls and tasks from
 before are told as the Python that they are made of, and so are locks and queues.
 
 Where `./deferreds` is there, it runs the script, and its lines are compared with those of the run. Where they differ, and
@@ -34,6 +34,7 @@ import os
 import shutil
 import signal
 import sys
+from importlib.machinery import PathFinder
 from pathlib import Path
 from typing import List, Optional, Set, Tuple
 
@@ -140,20 +141,24 @@ def _check(arguments: argparse.Namespace) -> None:
         raise Refused(_USAGE, "one of PROGRAM, -m MODULE and --test MODULE.CLASS.METHOD is taken, and not two")
 
 
-def _is_module(name: str) -> bool:
-    """Whether a module of this name is found."""
+def _refuse_module(name: str) -> None:
+    """Raises Refused where no module of this name can be run."""
     try:
-        return importlib.util.find_spec(name) is not None
+        spec = importlib.util.find_spec(name)
     except (ImportError, ValueError):
-        return False
+        spec = None
+    if spec is None:
+        raise Refused(_NO_PROGRAM, f"{name} isn't a module")
+    folders = spec.submodule_search_locations
+    if folders is not None and PathFinder.find_spec(f"{name}.__main__", folders) is None:
+        raise Refused(_NO_PROGRAM, f"{name} is a package, and has no module __main__ that could be run")
 
 
 def _target(arguments: argparse.Namespace) -> Tuple[str, List[str]]:
     """The module or the file that is run, and the words for it. Raises Refused where there is none."""
     target, *words = arguments.module or arguments.program
     if arguments.module:
-        if not _is_module(target):
-            raise Refused(_NO_PROGRAM, f"{target} isn't a module")
+        _refuse_module(target)
         return target, words
     if not Path(target).is_file():
         found = shutil.which(target) if os.sep not in target else None

@@ -72,6 +72,7 @@ class Keeper:
             return self._keeping.keep(Said(recorder, ended), how)
         before = recorder.before
         if before is not None and not recorder.events:
+            before.meet_all()
             return self._keeping.keep(before.said(), how, before.earlier)
         if before is not None and self._before is not None:
             self._before.keep(before.said(), f"{len(recorder.events)} events later", before.earlier)

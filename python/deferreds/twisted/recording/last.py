@@ -84,12 +84,11 @@ class LastRecorder(Recorder):
         """Performs a call of the program's into Twisted. After the last one that is recorded here, another recorder takes over."""
         outer, self._records = self._records, True
         try:
-            result = super().act(action, call, *args)
+            return super().act(action, call, *args)
         finally:
             self._records = outer
-        if len(self.events) >= self._count and self._is_between_events():
-            self._hand_over()
-        return result
+            if len(self.events) >= self._count and self._is_between_events():
+                self._hand_over()
 
     def _is_between_events(self) -> bool:
         is_outside = self.frame is self.top and not self.acting and not self.top.expected
@@ -190,6 +189,7 @@ class LastRecorder(Recorder):
             self.problem("a Deferred from before what is kept, which can't be told as it stood")
         record = Record()
         record.made_at = stood.made_at or ("stood", None)
+        record.number = 0  # (it has one; which, is known when the run is said)
         self.keep(deferred, record)
         made = Action(["deferred", record])
         canceller = None if deferred.called else take_over_canceller(self, deferred)
