@@ -65,10 +65,12 @@ class Last(RecordingCase):
                 name = f"echo{count}"
                 ended = self.record("-o", name, "--last", str(count), "echo.py")
                 self.assertEqual(ended.status, 0, ended.said)
-                for each in (name, f"{name}.before"):
-                    self.assert_goes_together(each)
                 self.assertGreater(self.facts(name)["earlier events"], 0)
-                self.assertIn("advance", [event[0] for event in self.events(f"{name}.before")])
+                self.assertIn(f"{name}.json", self.files())
+                kept = [each for each in (name, f"{name}.before") if f"{each}.json" in self.files()]  # one, where the last is full
+                for each in kept:
+                    self.assert_goes_together(each)
+                self.assertIn("advance", [event[0] for each in kept for event in self.events(each)])
 
     def test_wrong_words(self) -> None:
         for words in (("--last", "0", "goes_on.py"), ("--last", "x", "goes_on.py"), ("--last", "5", "--test", "a.b.c")):
