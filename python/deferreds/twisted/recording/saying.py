@@ -126,14 +126,14 @@ class Said:
             return
         times = [part.seconds for part in self._recorder.parts if isinstance(part, Time)]
         times += [part.to.seconds for part in self._recorder.parts if isinstance(part, Advance) and part.is_told]
-        times += _times(self._events, set())
+        times += _times(self._events)
         for seconds in times:
             denominator = _exact(seconds).denominator
             self._scale = self._scale * denominator // math.gcd(self._scale, denominator)
         if self._scale > _LARGEST_SCALE:
             self._problem("times that have no unit in common", "clock")
             self._scale = _FINEST
-        longest = max(_times([action for action in self._events if action[0] != "advance"], set()), default=0)
+        longest = max(_times([action for action in self._events if action[0] != "advance"]), default=0)
         if longest * self._scale > grammar.DELAYS[-1]:
             self._problem(f"a delay of {float(longest):g} seconds, where the other times need ticks of {self.tick}", "clock")
 
@@ -399,17 +399,20 @@ def _first(record: Record) -> Record:
     return record
 
 
-def _times(part: Any, seen: Set[int]) -> Iterator[Union[float, Fraction]]:
-    """The times that a part of an action has, but for those of runs that were seen before."""
-    if isinstance(part, Time):
-        yield part.seconds
-    elif isinstance(part, (list, tuple)):
-        for item in part:
-            yield from _times(item, seen)
-    elif isinstance(part, Body):
-        yield from _times(part.runs, seen)
-    elif isinstance(part, Steps):
-        yield from _times(part.bodies, seen)
-    elif isinstance(part, Run) and id(part) not in seen:
-        seen.add(id(part))
-        yield from _times(part.actions, seen)
+def _times(part: Any) -> Iterator[Union[float, Fraction]]:
+    """The times that actions have, with those of the bodies in them."""
+    seen: Set[int] = set()
+    parts = [part]
+    while parts:
+        part = parts.pop()
+        if isinstance(part, Time):
+            yield part.seconds
+        elif isinstance(part, (list, tuple)):
+            parts += part
+        elif isinstance(part, Body):
+            parts += part.runs
+        elif isinstance(part, Steps):
+            parts += part.bodies
+        elif isinstance(part, Run) and id(part) not in seen:
+            seen.add(id(part))
+            parts += part.actions
