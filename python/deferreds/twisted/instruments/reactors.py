@@ -26,7 +26,7 @@ _turn = base.ReactorBase.runUntilCurrent
 _insert = base.ReactorBase._insertNewDelayedCalls
 
 #: in how many other bodies that of a call may lie
-_MOST_NESTED = 12
+_MOST_NESTED = 24
 
 #: the files of what logs, and the folder of reactors
 _LOGGING = (
