@@ -570,6 +570,10 @@ class Observer:
         """A body that the program hands to Twisted."""
         return kind
 
+    def depth_of(self, body: Any) -> int:
+        """In how many others a body lies, as it is told."""
+        return 0
+
     def begin_body(
         self, body: Any, kind: str, given: Optional[Tuple[object, Outcome]]
     ) -> Frame:

@@ -46,8 +46,6 @@ class Pace:
         #: when the reactor has looked what is due, and whether it has run that since something came from elsewhere
         self._turn: Optional[int] = None
         self._fresh = False
-        #: in how many bodies of calls what runs now lies
-        self.level = 0
 
     def _real(self) -> int:
         """The reactor's time, in whole units since the run began."""

@@ -26,8 +26,8 @@ _later = base.ReactorBase.callLater
 _turn = base.ReactorBase.runUntilCurrent
 _insert = base.ReactorBase._insertNewDelayedCalls
 
-#: so many bodies of calls lie in one another
-_MOST_NESTED = 6
+#: in how many other bodies that of a call may lie
+_MOST_NESTED = 24
 
 #: the files of what logs, and the folder of reactors
 _LOGGING = (
@@ -108,15 +108,15 @@ def _act_later(watcher: Observer, reactor: Any, delay: float, f: Callable[..., A
     """The program schedules a call."""
     pace: Pace = watcher.pace
     delayed = Delayed(watcher, Time(delay))
-    level = pace.level + 1
+    is_flat = watcher.depth_of(delayed.body) > _MOST_NESTED
 
     def due(*args: Any, **kwargs: Any) -> Any:
         waiting, call = waiting_of(watcher, made), functools.partial(f, *args, **kwargs)
         if watched.observer is not watcher or waiting is None:
             return call()
-        if level > _MOST_NESTED:
+        if is_flat:
             return _run_flat(watcher, pace, delayed, waiting, call)
-        return pace.run(waiting, functools.partial(_run_nested, watcher, pace, level, delayed, call))
+        return pace.run(waiting, functools.partial(run_delayed, watcher, None, delayed, call))
 
     stand_for(due, f)
 
@@ -131,14 +131,6 @@ def _act_later(watcher: Observer, reactor: Any, delay: float, f: Callable[..., A
 
     made: Any = watcher.act(delayed.action, schedule_it)
     return made
-
-
-def _run_nested(watcher: Observer, pace: Pace, level: int, delayed: Delayed, call: Callable[[], Any]) -> Any:
-    before, pace.level = pace.level, level
-    try:
-        return run_delayed(watcher, None, delayed, call)
-    finally:
-        pace.level = before
 
 
 def _run_flat(watcher: Observer, pace: Pace, delayed: Delayed, waiting: Waiting, call: Callable[[], Any]) -> Any:

@@ -21,15 +21,18 @@ class Unsayable:
 class Body:
     """What the program hands to Twisted to be called back."""
 
-    def __init__(self, kind: str) -> None:
+    def __init__(self, kind: str, depth: int = 0) -> None:
         self.kind = kind
+        #: in how many others it lies
+        self.depth = depth
         self.runs: List["Run"] = []
 
 
 class Steps:
     """What the program hands to a Cooperator: the bodies of the steps of a task."""
 
-    def __init__(self) -> None:
+    def __init__(self, depth: int = 0) -> None:
+        self.depth = depth
         self.bodies: List[Body] = []
 
 
@@ -42,9 +45,11 @@ class Run(Frame):
     began = 0
     _actions: Optional[List[Action]] = None
 
-    def __init__(self, kind: str, given: Optional[Outcome] = None) -> None:
+    def __init__(self, kind: str, given: Optional[Outcome] = None, depth: int = -1) -> None:
         self.kind = kind
         self.given = given
+        #: that of its body
+        self.depth = depth
 
     @property
     def actions(self) -> Sequence[Action]:

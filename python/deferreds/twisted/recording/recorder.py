@@ -289,13 +289,18 @@ class Recorder(Observer):
 
     def new_body(self, kind: str) -> Union[Body, Steps]:
         """A body that the program hands to Twisted."""
-        return Steps() if kind == "steps" else Body(kind)
+        depth = self.frame.depth + 1
+        return Steps(depth) if kind == "steps" else Body(kind, depth)
+
+    def depth_of(self, body: Any) -> int:
+        """In how many others a body lies."""
+        return int(body.depth)
 
     def begin_body(
         self, body: Any, kind: str, given: Optional[Tuple[object, Outcome]]
     ) -> Run:
         """A run of a body begins."""
-        run = Run(kind, None if given is None else given[1])
+        run = Run(kind, None if given is None else given[1], body.depth)
         run.began = len(self.events)
         body.runs.append(run)
         return run
@@ -350,7 +355,7 @@ class Recorder(Observer):
 
     def begin_step(self, steps: Any) -> Body:
         """A step of a task begins."""
-        body = Body("step")
+        body = Body("step", steps.depth)
         steps.bodies.append(body)
         return body
 
