@@ -156,6 +156,9 @@ class Recorder(Observer):
             self.problem("a Deferred from before the recording, which waits for another")
         if self.quiet:
             self.problem("a Deferred from before the recording, which Twisted meets first")
+        return self.own(self._adopt, deferred, value)  # type: ignore[no-any-return]
+
+    def _adopt(self, deferred: Deferred[Any], value: object) -> Record:
         before = len(self.parts)
         record = super().adopt(deferred)
         self._note(Action(["deferred", record]), before)
@@ -169,11 +172,14 @@ class Recorder(Observer):
     @switching
     def act(self, action: Action, call: Callable[..., Any], *args: Any) -> Any:
         """Performs a call of the program's into Twisted, and notes it as an action."""
-        if self.acting:
-            return self._act_inside(action, call, *args)
-        self.acting = True
         if get_ident() != self._thread:
             self.problem("Deferreds are used in another thread")
+        if self.acting:
+            return self._act_inside(action, call, *args)
+        # Python's collector may run a finalizer anywhere, so that this is set before anything is noted
+        self.acting = True
+        performed, inside = self._performed, self._inside
+        self._performed, self._inside = action, None
         run = self.frame
         if run is self.top:
             self._told = None
@@ -183,8 +189,6 @@ class Recorder(Observer):
             run.note(action)
             if run.kind != "inline":
                 self.parts.append(action)
-        performed, inside = self._performed, self._inside
-        self._performed, self._inside = action, None
         try:
             return call(*args)
         except BaseException as error:
