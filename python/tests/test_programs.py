@@ -42,6 +42,7 @@ REFUSED: Dict[str, str] = {
     "finalizer_between": FINALIZED,
     "finalizer_meddles": MEDDLED,
     "finalizer_of_weak_reference": "a weak reference has a method of a Deferred as its callback",
+    "gather_by_hand": "a gatherResults is fired by hand with a list that isn't shown in full",
     "heartbeat": DEEP,
     "inline_drops": FINALIZED,
     "nested_inline": DEEP,

@@ -90,11 +90,27 @@ def _add_await(
     frame = watcher.frame
     if "inline" not in watcher.kinds or frame.kind != "inline" or watcher.quiet:
         return False
+    came: List[bool] = []
+    watcher.own(_await, watcher, deferred, record, callback, arguments, came)
+    if not came:
+        frame.awaits = deferred
+    return True
+
+
+def _await(
+    watcher: Observer,
+    deferred: Deferred[Any],
+    record: Record,
+    callback: Callable[..., Any],
+    arguments: PairArguments,
+    came: List[bool],
+) -> None:
+    """Tells that the body that runs awaits, and adds the pair; has `came` hold something when the result has come."""
+    frame = watcher.frame
     awaited = watcher.begin_await(frame, record)
     if frame.record is not None:
         watcher.tell("await ", frame.record, " ", record)
     watcher.tell("add ", record)
-    came = []
 
     def got(value: object, *args: Any, **kwargs: Any) -> object:
         if watched.observer is not watcher:
@@ -108,10 +124,7 @@ def _add_await(
         finally:
             record.ran = True
 
-    watcher.own(add_silently, deferred, named_as(callback, got), got, arguments)
-    if not came:
-        frame.awaits = deferred
-    return True
+    add_silently(deferred, named_as(callback, got), got, arguments)
 
 
 def _add_hidden(
@@ -143,15 +156,21 @@ def _tell_failure_taken(watcher: Observer, deferred: Deferred[Any], failure: Fai
     """Tells that a coroutine awaits a failed Deferred, or where coroutines aren't told as such that an errback takes it."""
     frame, record = watcher.frame, watcher.record(deferred)
     if "inline" in watcher.kinds and frame.kind == "inline" and not watcher.acting:
-        awaited, outcome = watcher.begin_await(frame, record), record.outcome
-        if frame.record is not None:
-            watcher.tell("await ", frame.record, " ", record)
-        watcher.settle(deferred, record)
-        watcher.end_await(awaited, failure, outcome)
+        watcher.own(_await_failure, watcher, deferred, record, failure)
     elif not watcher.quiet:
         body = watcher.new_body("callback")
         watcher.begin_body(body, "callback", (failure, record.outcome)).end = ["return", None]
         watcher.act(Action(["addErrback", record, body]), watcher.settle, deferred, record)
+
+
+def _await_failure(watcher: Observer, deferred: Deferred[Any], record: Record, failure: Failure) -> None:
+    """Tells that the body that runs awaits a failed Deferred, whose failure is thrown in it."""
+    frame, outcome = watcher.frame, record.outcome
+    awaited = watcher.begin_await(frame, record)
+    if frame.record is not None:
+        watcher.tell("await ", frame.record, " ", record)
+    watcher.settle(deferred, record)
+    watcher.end_await(awaited, failure, outcome)
 
 
 def install() -> None:

@@ -161,6 +161,9 @@ class Recorder(Observer):
             self.problem("a Deferred from before the recording, which waits for another")
         if self.quiet:
             self.problem("a Deferred from before the recording, which Twisted meets first")
+        return self.own(self._adopt, deferred, value)  # type: ignore[no-any-return]
+
+    def _adopt(self, deferred: Deferred[Any], value: object) -> Record:
         before = len(self.parts)
         record = super().adopt(deferred)
         self._note(Action(["deferred", record]), before)
@@ -179,7 +182,10 @@ class Recorder(Observer):
         run = self.frame
         if run is self.top and self.pace is not None and not isinstance(action, Advance):
             self.pace.event(action[0] == "loop")
+        # Python's collector may run a finalizer anywhere, so that this is set before anything is noted
         self.acting = True
+        performed, inside = self._performed, self._inside
+        self._performed, self._inside = action, None
         if run is self.top:
             self._told = None
             self.events.append(action)
@@ -188,8 +194,6 @@ class Recorder(Observer):
             run.note(action)
             if run.kind != "inline":
                 self.parts.append(action)
-        performed, inside = self._performed, self._inside
-        self._performed, self._inside = action, None
         try:
             return call(*args)
         except BaseException as error:
