@@ -11,12 +11,14 @@ import sys
 import tempfile
 import unittest
 from pathlib import Path
-from typing import List, Tuple
+from types import ModuleType
+from typing import Any, List, Tuple
 
 from deferreds.twisted.comparing import compared
 from deferreds.twisted.programs import Answer, ours
 from deferreds.twisted.recording.case import TestRun, record_test
 from deferreds.twisted.recording.programs import tests_of
+from deferreds.twisted.recording.reactor import VirtualReactor, in_place_of_the_real
 from deferreds.twisted.recording.saying import Said
 from deferreds.twisted.running import be_quiet
 from deferreds.twisted.telling import KINDS
@@ -77,6 +79,30 @@ class Cases(unittest.TestCase):
         [(cls, method)] = tests_of("waiting_cases.VirtualCase.test_sockets")
         run = record_test(cls, method, KINDS, True)
         self.assertIn("a reactor whose time is virtual (--virtual) has no listenTCP", run.why)
+
+
+class InPlaceOfTheReal(unittest.TestCase):
+    """A reactor whose time is virtual, in the place of the real one."""
+
+    def test_it_stands_in_every_module_that_has_imported_the_real_one(self) -> None:
+        from twisted.internet import reactor
+
+        user: Any = ModuleType("user_of_the_reactor")
+        user.clock = user.reactor = reactor
+        sys.modules[user.__name__] = user
+        self.addCleanup(sys.modules.pop, user.__name__)
+        virtual = VirtualReactor()
+        with in_place_of_the_real(virtual):
+            from twisted.internet import reactor as other
+
+            self.assertEqual([user.clock, user.reactor, other], [virtual] * 3)
+        self.assertEqual([user.clock, user.reactor], [reactor] * 2)
+
+    def test_what_it_has_not_is_no_attribute(self) -> None:
+        virtual = VirtualReactor()
+        self.assertFalse(hasattr(virtual, "spawnProcess"))
+        with self.assertRaisesRegex(AttributeError, r"\(--virtual\) has no spawnProcess$"):
+            virtual.spawnProcess()
 
 
 class Commands(unittest.TestCase):

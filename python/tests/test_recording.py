@@ -3,6 +3,7 @@
 from __future__ import annotations
 
 import json
+import math
 import os
 import subprocess
 import sys
@@ -360,6 +361,27 @@ class Refused(unittest.TestCase):
 
         for each in (program, on_reactor):
             self.assert_refused(each, "a delay of 2.592e+06 seconds, where the other times need ticks of 1 µs")
+
+    def test_a_delay_that_has_no_end(self) -> None:
+        def scheduled() -> None:
+            real: Any = reactor
+            real.callLater(math.inf, lambda: None).cancel()
+
+        def moved() -> None:
+            for clock in (task.Clock(), reactor):
+                with_time: Any = clock
+                call = with_time.callLater(1, lambda: None)
+                call.reset(math.inf)
+                call.cancel()
+
+        def looping() -> None:
+            loop = task.LoopingCall(lambda: None)
+            loop.start(math.inf)
+            loop.stop()
+
+        self.assert_refused(scheduled, "a delay that is no number from 0")
+        self.assert_refused(moved, "a delayed call is moved by what is no number of seconds (reset)")
+        self.assert_refused(looping, "a delay that is no number from 0")
 
     def test_turns_that_do_something_else_each_time(self) -> None:
         def program() -> None:

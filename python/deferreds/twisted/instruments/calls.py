@@ -7,7 +7,7 @@ from typing import Any, Callable, Optional
 from twisted.internet import base
 
 from ..telling import Action, Observer, Time, observer_of
-from .clock import Delayed, delayed_of, refuse_timer
+from .clock import Delayed, delayed_of, is_time, refuse_timer
 from .reactors import move, waiting_of
 
 _cancel = base.DelayedCall.cancel
@@ -42,6 +42,9 @@ def _instrument_moving(name: str) -> None:
         delayed = None if watcher is None else delayed_of(watcher, self)
         refuse_timer(watcher, self, name)
         if watcher is None or watcher.quiet or delayed is None or not self.active():
+            original(self, seconds)
+        elif not is_time(seconds):
+            watcher.problem(f"a delayed call is moved by what is no number of seconds ({name})", "clock")
             original(self, seconds)
         elif waiting_of(watcher, self) is not None:
             move(watcher, self, delayed, original, seconds)

@@ -67,6 +67,11 @@ def is_delay(delay: object) -> bool:
     return isinstance(delay, (int, float)) and math.isfinite(delay) and delay >= 0
 
 
+def is_time(seconds: object) -> bool:
+    """Whether it is a number of seconds."""
+    return isinstance(seconds, (int, float)) and math.isfinite(seconds)
+
+
 def schedule(clock: task.Clock, delay: float, f: Callable[[], object]) -> Any:
     """Schedules a call, of which nothing is told."""
     return _later(clock, delay, f)

@@ -10,7 +10,7 @@ from twisted.internet.defer import Deferred
 from ..classes import set_message
 from ..profile import Entry
 from ..telling import Action, Observer, Record, Thing, Time, observer_of
-from .clock import Own, own_calls
+from .clock import Own, is_delay, own_calls
 from .deferreds import PairArguments, add_silently, special_pairs
 from .pace import has_clock, is_real, seconds_of
 from .settling import Loop
@@ -71,7 +71,7 @@ def _can_be_told(watcher: Observer, loop: task.LoopingCall, interval: float) -> 
     """Whether the language has such a loop."""
     return (
         not loop.running
-        and bool(interval)
+        and is_delay(interval)
         and interval > 0
         and (isinstance(loop.clock, task.Clock) or is_real(loop.clock))
         and "clock" in watcher.kinds

@@ -202,7 +202,7 @@ def _due_turn(entry: Entry, loop: Loop) -> int:
     return loop.at + entry.turn * loop.interval
 
 
-def seconds_of(units: int) -> Any:
+def seconds_of(units: int) -> Fraction:
     """A number of units, in seconds, exactly."""
     return Fraction(units, UNITS)
 

@@ -212,7 +212,7 @@ def move(watcher: Observer, call: Any, delayed: Delayed, how: Callable[[Any, flo
     if waiting is not None:
         pace.end(waiting)
     how(call, seconds)
-    left = seconds if how.__name__ == "reset" else round(max(0.0, call.getTime() - call.seconds()), 3)
+    left = max(0, seconds) if how.__name__ == "reset" else round(max(0.0, call.getTime() - call.seconds()), 3)
 
     def again() -> None:
         fresh = pace.later(left)
