@@ -147,4 +147,4 @@ class Keeper:
             if frame.f_code in _NOTING:
                 return True
             frame = frame.f_back
-        return self._recorder.frame is not self._recorder.top or self._recorder.quiet
+        return self._recorder.frame is not self._recorder.top or self._recorder.acting
