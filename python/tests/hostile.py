@@ -46,8 +46,13 @@ class Program:
         self._locks: Dict[str, Any] = {}
         self._queues: Dict[str, defer.DeferredQueue[Any]] = {}
         self._calls: Dict[str, Any] = {}
+        self._loops: Dict[str, Any] = {}
+        self._tasks: Dict[str, Any] = {}
         self._lists: List[List[Any]] = []
         self._clock = task.Clock()
+        self._cooperator = task.Cooperator(
+            terminationPredicateFactory=lambda: lambda: True, scheduler=lambda tick: self._clock.callLater(1, tick)
+        )
         self._ending = 0
 
     def run(self, events: List[List[Any]]) -> None:
@@ -68,9 +73,13 @@ class Program:
 
     def value(self, value: Any) -> Any:
         """A value, in which there may be something hostile."""
-        choice = self._random.randrange(5)
+        choice = self._random.randrange(6)
         if choice == 0:
             return Mortal(self)
+        if choice == 4:
+            circle: List[Any] = [Mortal(self)]
+            circle.append(circle)
+            return {"circle": circle}
         if choice == 1:
             return [value, Mortal(self)]
         if choice == 2:
@@ -144,6 +153,23 @@ class Program:
                     value = yield from self.statements(statement[1])
                 except Exception:
                     value = yield from self.statements(statement[3])
+            elif statement[0] == "end":
+                return self.end(statement[1], value)
+        return self.value(value)
+
+    async def coroutine(self, statements: List[Any]) -> Any:
+        """The same as a coroutine."""
+        value: Any = None
+        for statement in statements:
+            if statement[0] == "do":
+                self.perform(statement[1])
+            elif statement[0] == "await" and statement[1] in self._deferreds:
+                value = await self._deferreds[statement[1]]
+            elif statement[0] == "try":
+                try:
+                    value = await self.coroutine(statement[1])
+                except Exception:
+                    value = await self.coroutine(statement[3])
             elif statement[0] == "end":
                 return self.end(statement[1], value)
         return self.value(value)
@@ -255,8 +281,42 @@ class Program:
         self._clock.advance(seconds)
 
     def do_inline(self, name: str, statements: List[Any]) -> None:
-        """Calls a function with inlineCallbacks."""
-        self._deferreds[name] = defer.inlineCallbacks(self.statements)(statements)
+        """Calls a function with inlineCallbacks, or a coroutine."""
+        if self._random.randrange(2):
+            self._deferreds[name] = defer.inlineCallbacks(self.statements)(statements)
+        else:
+            self._deferreds[name] = defer.ensureDeferred(self.coroutine(statements))
+
+    def do_loop(self, name: str, deferred: str, interval: int, now: bool, body: Any) -> None:
+        """Starts a LoopingCall."""
+        loop: Any = task.LoopingCall(self.body(body))
+        loop.clock = self._clock
+        self._loops[name] = loop
+        self._deferreds[deferred] = loop.start(interval, now)
+
+    def do_stopLoop(self, name: str) -> None:
+        """Stops a LoopingCall."""
+        self._loops[name].stop()
+
+    def do_cooperate(self, name: str, bodies: List[Any]) -> None:
+        """Hands a task to the Cooperator."""
+        self._tasks[name] = self._cooperator.cooperate(self.body(body)() for body in bodies)
+
+    def do_pauseTask(self, name: str) -> None:
+        """Pauses a task."""
+        self._tasks[name].pause()
+
+    def do_resumeTask(self, name: str) -> None:
+        """Resumes a task."""
+        self._tasks[name].resume()
+
+    def do_stopTask(self, name: str) -> None:
+        """Stops a task."""
+        self._tasks[name].stop()
+
+    def do_whenDone(self, name: str, task_name: str) -> None:
+        """Asks for the end of a task."""
+        self._deferreds[name] = self._tasks[task_name].whenDone()
 
 
 class Mortal:

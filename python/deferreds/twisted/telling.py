@@ -262,8 +262,9 @@ def weight(line: Line) -> int:
 class Frame:
     """A run of a body: `kind` is the kind of body, or `event` for the program itself."""
 
-    #: how it ended, where that is noted
+    #: how it ended, where that is noted, and of an inline body whether its end was told
     end: Any = None
+    has_fired = False
     #: of an inline body
     record: Optional[Record] = None
     awaits: Optional[Deferred[Any]] = None

@@ -565,7 +565,7 @@ def _fire_inline(
 ) -> None:
     """An inline body fires its own Deferred. What follows is inside what it was begun by, or gone on with."""
     frame = watcher.frame
-    watcher.acting = True
+    watcher.acting = frame.has_fired = True
     watcher.end_inline(frame, result)
     if frame.outer is not None:
         watcher.frame = frame.outer

@@ -74,6 +74,10 @@ def _instrumented_inline(result: object, gen: Any, status: Any, *context: Any) -
     watcher.acting, watcher.frame, frame.outer = False, frame, outer
     try:
         _inline_callbacks(result, gen, status, *context)
+    except BaseException:
+        if not frame.has_fired:
+            watcher.problem("an inline body gives a Deferred as its result", "inline")  # later Twisteds take it
+        raise
     finally:
         watcher.acting, watcher.frame = acting, outer
 

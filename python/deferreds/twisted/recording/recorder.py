@@ -348,8 +348,6 @@ class Recorder(Observer):
         self.gave = before if is_same else outcome
         if is_same and (given is None or result is given[0]):
             return None
-        if frame.kind == "turn":
-            return None
         said = self.value(outcome)
         if isinstance(said, Unsayable):
             return None if is_same else said
