@@ -13,7 +13,7 @@ from ..profile import Entry
 from ..telling import KINDS, Action, Failed, Frame, Observer, Record, Thing, is_deferred
 from ..texts import NULL, Outcome, Text, compact, error_of, weight_of
 from .bodies import Body, Run, Steps, Unsayable
-from .places import FreeNames, name_of_spot, place, spot
+from .places import FreeNames, Spots, name_of_spot, place, spot
 
 #: kinds of runs whose result is dropped
 _DROPPED = frozenset({"call", "canceller", "step"})
@@ -47,6 +47,9 @@ class Recorder(Observer):
         #: the actions of bodies that have failed
         self.failed: List[Action] = []
         self.problems: List[Problem] = []
+        #: where actions were performed and Deferreds made
+        self.spots = Spots()
+        self._note_spot = self.spots.note
         self._names = FreeNames()
         self._thread = get_ident()
 
@@ -62,7 +65,7 @@ class Recorder(Observer):
 
     def locate(self, record: Record) -> None:
         """Notes where a Deferred is made."""
-        record.made_at = spot(self.maker, _INSTRUMENTS)
+        record.made_at = self.spots.locate(record, self.maker, _INSTRUMENTS)
 
     def adopt(self, deferred: Deferred[Any]) -> Record:
         """A Deferred that was made before the recording began is made, and fired, where it is met first."""
@@ -96,6 +99,8 @@ class Recorder(Observer):
             run.note(action)
             if run.kind != "inline":
                 self.parts.append(action)
+        if action[0] != "deferred":
+            self._note_spot(action)
         quiet, self.quiet = self.quiet, True
         try:
             return call(*args)

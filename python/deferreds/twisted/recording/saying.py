@@ -35,6 +35,8 @@ class Said:
         self.problems: List[Problem] = list(recorder.problems)
         self.records: List[Record] = []
         self.rebinds = False
+        #: by the numbers of Python for the arrays of the script that are actions, what was noted of these
+        self.acted: Dict[int, Action] = {}
         self._name()
         self._number()
         self._find_scale()
@@ -159,6 +161,11 @@ class Said:
         return CannotSay(reason)
 
     def _action(self, said: Action) -> List[Any]:
+        array = self._words_of(said)
+        self.acted[id(array)] = said
+        return array
+
+    def _words_of(self, said: Action) -> List[Any]:
         chained = self._as_chain(said)
         if chained is not None:
             return chained
