@@ -231,14 +231,15 @@ class WaitingTest(ConformTest):
 
     def test_a_command_that_never_answers_is_told_with_the_script(self) -> None:
         number = self.folder / "number"
-        command = self.shell(f"cat >/dev/null; echo 'note \"a\"'; sleep {_LONG} & echo $! >{number}; wait")
+        hangs = f"""*'"b"'*) echo 'note "a"'; sleep {_LONG} & echo $! >{number}; wait;;"""
+        command = self.shell(f"""case $(cat) in {hangs} *) echo 'note "a"';; esac""")
         start = time.monotonic()
-        ran = conforming("--rows", "--timeout", "1", "--", command)
+        ran = conforming("--rows", "--timeout", "5", "--", command)
         self.assertLess(time.monotonic() - start, _LONG / 2)
         self.assertEqual(ran.status, 1)
         self.assertIn(
             'small.rows: two notes: line 2 differs\n  deferreds: note "b"\n'
-            '  command:   (no answer within 1 seconds)\n  {"version":1,"events":[["note","a"],["note","b"]]}\n',
+            '  command:   (no answer within 5 seconds)\n  {"version":1,"events":[["note","a"],["note","b"]]}\n',
             ran.output,
         )
         last = int(number.read_text(encoding="utf-8"))
@@ -321,10 +322,10 @@ class ManyTest(ConformTest):
     def test_one_that_never_answers_is_told_with_the_script(self) -> None:
         answer = f"""__import__('time').sleep({_LONG}) if b'"b"' in script else print('0 9 0\\nnote "a"')"""
         start = time.monotonic()
-        ran = conforming("--rows", "--many", "--timeout", "5", "--", self.many(answer))
+        ran = conforming("--rows", "--many", "--timeout", "10", "--", self.many(answer))
         self.assertLess(time.monotonic() - start, _LONG / 2)
         self.assertIn(
-            "  command:   (no answer within 5 seconds)\n"
+            "  command:   (no answer within 10 seconds)\n"
             '  {"version":1,"events":[["note","a"],["note","b"]]}\n',
             ran.output,
         )

@@ -17,7 +17,7 @@ from deferreds.twisted.recording.saying import Said
 from deferreds.twisted.running import be_quiet, run
 
 from .hostile import Program
-from .test_programs import ours
+from .test_programs import TURNS, ours
 
 _SEED = 1
 _SCRIPTS = 30
@@ -59,13 +59,14 @@ class Hostile(unittest.TestCase):
     def test_each_is_recorded_as_it_ran_or_refused(self) -> None:
         be_quiet()
         install()
+        self.addCleanup(gc.collect)  # finalizers that run in another test would be recorded there
         for level in ("core", "lists", "locks", "inline"):
             whole = 0
             for number in range(_SCRIPTS):
                 with self.subTest(level=level, number=number):
                     said = recorded(level, number)
                     if said.problems:
-                        self.assertTrue(all(problem.place for problem in said.problems))
+                        self.assertTrue(all(problem.place for problem in said.problems if problem.reason != TURNS))
                     else:
                         whole += 1
                         self.assertIsNone(difference(said))

@@ -18,6 +18,8 @@ from deferreds.testing import recorded
 from deferreds.testing.folder import HEADER, LIST, Folder, NotUsable, name_of
 from deferreds.testing.recorded import RecordedTests, running
 from deferreds.twisted.running import be_quiet, run
+from deferreds.view.places import SUFFIX as PLACES
+from deferreds.view.places import read_places
 from twisted.internet.defer import Deferred
 
 _HAS_PYTEST = importlib.util.find_spec("pytest") is not None
@@ -258,6 +260,8 @@ class TestingTest(unittest.TestCase):
         """Each script of the folder, run on real Twisted, prints the journal beside it. How many there are."""
         count = 0
         for path in self.out.glob("*.json"):
+            if path.name.endswith(PLACES):
+                continue
             journal = path.with_suffix(".journal").read_text(encoding="utf-8")
             self.assertEqual(run(path.read_bytes()).output, journal, path.name)
             count += 1
@@ -310,6 +314,10 @@ class PytestTest(TestingTest):
         )
         self.assertEqual(self.recordings(), sorted(f"test_plain.{name}" for name in told))
         self.assertEqual(self.assert_scripts_say_the_journals(), len(told) - 1)
+        places = read_places((self.out / f"test_plain.test_fails{PLACES}").read_text(encoding="utf-8"))
+        made_at = places.of_event(0)
+        line = line_of(_PLAIN, "d.addCallback(lambda x") - 1
+        self.assertEqual(made_at, (str(self.folder / "test_plain.py"), line))
         page = (self.out / "test_plain.test_sets_a_result_by_hand.html").read_text(encoding="utf-8")
         self.assertIn("a script can&#x27;t say this: the result of a Deferred is set by hand", page)
 

@@ -16,7 +16,7 @@ LIST = "deferreds-recordings.txt"
 HEADER = "# What deferreds has recorded of tests. The next run removes the files of each name in this list."
 
 #: what the files of a recording end with
-SUFFIXES = (".json", ".journal", ".html")
+SUFFIXES = (".json", ".places.json", ".journal", ".html")
 
 _MOST_NAME = 120
 _NAME = re.compile(r"[A-Za-z0-9_][A-Za-z0-9_.-]*")

@@ -146,8 +146,8 @@ class Record:
     #: of an inline body: its frame
     body: Optional["Frame"] = None
     made_in: Optional["Frame"] = None
-    #: the function and the line of the program where it was made, by which it is named
-    made_at: Optional[Tuple[str, Optional[int]]] = None
+    #: where in the program it was made, by which it is named
+    made_at: Optional[Tuple[Any, ...]] = None
     alias: Optional["Record"] = None
     helper = False
 

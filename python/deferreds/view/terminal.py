@@ -5,7 +5,8 @@ from __future__ import annotations
 from typing import Dict, Iterator, List, Optional
 
 from .events import Events
-from .phrases import OfDeferred, OfEvent, OfLine, OfScript, Part, Phrase
+from .phrases import OfDeferred, OfEvent, OfLine, OfPlace, OfScript, Part, Phrase
+from .places import Place
 from .records import By, Ended, Record, Row, ended
 from .report import Finding, Severity
 from .run import Run
@@ -35,7 +36,7 @@ class Terminal:
     def __init__(self, run: Run, color: bool) -> None:
         self._run = run
         self._color = color
-        self._events = Events(run.fold, run.script)
+        self._events = Events(run.fold, run.script, run.places)
         self._number = len(str(len(run.fold.rows)))
         self._time = max(1, len(str(run.fold.world.now)))
 
@@ -69,6 +70,8 @@ class Terminal:
                     f"event {part.number} {self._run.script.shown(part.number)}".rstrip(), _MOST_EVENT
                 )
             )
+        if isinstance(part, OfPlace):
+            return visible(part.place.text)
         return visible(clipped(part.text, _MOST_TEXT)) if isinstance(part, OfScript) else visible(part)
 
     def _deferred(self, number: int) -> str:
@@ -100,7 +103,7 @@ class Terminal:
     def _row(self, row: Row) -> Iterator[str]:
         head = self._events.head(row)
         if head is not None:
-            text = visible(clipped(head, _MOST_EVENT))
+            text = visible(clipped(head, _MOST_EVENT) + self._at(self._events.place(row)))
             yield self._toned("strong", f"{'':{self._number + self._time + 2}}┄ {text}")
         time = str(row.time) if row.entry.word == "advance" or row.place == 0 else "·"
         tone = "bad" if row.entry.fails else _WORD_TONES.get(row.entry.word)
@@ -124,14 +127,18 @@ class Terminal:
             said.append(f"   ← {self.said(row.cause)}")
         tail = self._events.tail(row)
         if tail:
-            said.append(f"   ┄ {visible(clipped(tail, _MOST_EVENT))}")
+            said.append(f"   ┄ {visible(clipped(tail, _MOST_EVENT) + self._at(self._events.place(row)))}")
         return "".join(said)
 
     def _outcome(self, record: Record) -> str:
         end = ended(record.end)
         tone = "good" if end is Ended.OK else "bad" if end is Ended.FAIL else "wait"
         text = f"#{record.number} {record.name or '-'} {clipped(record.end, _MOST_TEXT)}"
-        return self._toned(tone, visible(text))
+        return self._toned(tone, visible(text + self._at(self._run.places.of_deferred(record.names))))
+
+    @staticmethod
+    def _at(place: Optional[Place]) -> str:
+        return f"  ({place.text})" if place is not None else ""
 
 
 def _bars(row: Row) -> str:

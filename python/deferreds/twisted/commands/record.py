@@ -4,8 +4,8 @@
 is a file, or the name of a Python script on the PATH. The program runs as it is.
 Times are those of the real reactor, unless `--virtual` puts another in its place; how long a tick of the script's clock is, is told.
 
-NAME.json is the script. NAME.journal is the journal and the outcomes as real Twisted gave them. `--view` writes NAME.html,
-a page of the run, too. NAME.recording lists these files. Without -o, NAME is what PROGRAM or MODULE is called, in the folder
+NAME.json is the script. NAME.journal is the journal and the outcomes as real Twisted gave them. NAME.places.json says where in the
+program it happened. `--view` writes NAME.html, a page of the run, too. NAME.recording lists these files. Without -o, NAME is what PROGRAM or MODULE is called, in the folder
 where the command is given. A file of another origin is only overwritten with -f. What a script can't say is refused
 with the reason and the place in the program, and nothing is written.
 
@@ -39,6 +39,7 @@ from pathlib import Path
 from typing import List, Optional, Set, Tuple
 
 from ...checkout import as_called, command_name
+from ...view.places import SUFFIX as PLACES
 
 from ..instruments import install
 from ..recording.agreeing import program
@@ -183,7 +184,7 @@ def _keeping(arguments: argparse.Namespace, name: str, messages: Messages) -> Ke
     """Where the recording is kept. Raises Refused where it can't be."""
     place = Place(name, arguments.overwrites)
     try:
-        place.check([".json", ".journal", *([".html"] if arguments.view else [])])
+        place.check([".json", ".journal", PLACES, *([".html"] if arguments.view else [])])
     except NoPlace as why:
         raise Refused(Status.NOT_WRITTEN, str(why)) from None
     return Keeping(place, messages, arguments.view, program())

@@ -10,6 +10,8 @@ import twisted
 
 from ...view.page import Page
 from ...view.phrases import several
+from ...view.places import SUFFIX as PLACES
+from ...view.places import read_places
 from ...view.run import run_of_journal
 from ...view.scripts import Script
 from ..programs import Program
@@ -18,6 +20,7 @@ from .files import Place
 from .messages import Messages
 from .recorder import Problem
 from .saying import Said
+from .whereabouts import whereabouts_of
 
 
 class Status(enum.IntEnum):
@@ -82,7 +85,10 @@ class Keeping:
             files.update({".json": said.text + "\n", ".journal": said.output})
             if not said.is_whole:
                 files[".whole.journal"] = said.whole_output
-        counts = self._add_page(files, said) if self._view else ""
+        places = None if agreed.is_wrong else whereabouts_of(said.recorder, said)
+        if places is not None:
+            files[PLACES] = places
+        counts = self._add_page(files, said, places) if self._view else ""
         written = self.place.write(files, self._facts(said, how, earlier, agreed))
         for failure in written.failures:
             self.messages.say(failure)
@@ -95,11 +101,12 @@ class Keeping:
             return Status.REFUSED
         return Status.NOT_WRITTEN if written.failures else Status.RECORDED
 
-    def _add_page(self, files: Dict[str, str], said: Said) -> str:
+    def _add_page(self, files: Dict[str, str], said: Said, places: Optional[str]) -> str:
         """Adds the page of the whole run, and gives how large that is."""
         run = run_of_journal(said.whole_output, self.place.name.name, Script(said.script), False, said.begins)
         if not said.is_whole:
             run.problems.append((_beginning(said),))
+        run.places = read_places(places) if places is not None else run.places
         files[".html"] = Page(run).html()
         return run.counts
 

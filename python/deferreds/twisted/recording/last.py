@@ -111,6 +111,7 @@ class LastRecorder(Recorder):
         everything: List[List[Any]] = [self.events, self.parts, self.records, self.failed, self.quirks, self.begins]
         for kept in (*everything, self._stood_events, self._stood_parts, self._stood_records, self._stood_begins):
             kept.clear()
+        self.spots.forget()
         self.clock = self.pace = self.cooperator = None
 
     # Deferreds
@@ -188,7 +189,7 @@ class LastRecorder(Recorder):
         if _is_odd(deferred) or (waits_for is not None and not isinstance(result_of(deferred), Deferred)):
             self.problem("a Deferred from before what is kept, which can't be told as it stood")
         record = Record()
-        record.made_at = stood.made_at or ("stood", None)
+        record.made_at = stood.made_at or ("stood", None, 0)
         record.number = 0  # (it has one; which, is known when the run is said)
         self.keep(deferred, record)
         made = Action(["deferred", record])

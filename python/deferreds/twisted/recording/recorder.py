@@ -15,7 +15,7 @@ from ..texts import NULL, Outcome, Text, compact, weight_of
 from .bodies import Body, Run, Steps, Unsayable
 from .hiding import SECRETS, Hiding
 from .inside import CALLED, FINALIZED, KIND_OF_ACTION, MEDDLED, Inside, entry, is_uncalled, worked_on
-from .places import FreeNames, name_of_spot, place, spot
+from .places import FreeNames, Spots, name_of_spot, place, spot
 from .values import Values
 
 #: kinds of runs whose result is dropped
@@ -102,6 +102,9 @@ class Recorder(Observer):
         self._inside: Optional[Inside] = None
         #: how many events come before those by which the runs of bodies count
         self.preceding = 0
+        #: where actions were performed and Deferreds made
+        self.spots = Spots()
+        self._note_spot = self.spots.note
         self._names = FreeNames()
 
     @contextlib.contextmanager
@@ -144,7 +147,7 @@ class Recorder(Observer):
 
     def locate(self, record: Record) -> None:
         """Notes where a Deferred is made."""
-        record.made_at = spot(self.maker, _INSTRUMENTS)
+        record.made_at = self.spots.locate(record, self.maker, _INSTRUMENTS)
 
     def adopt(self, deferred: Deferred[Any]) -> Record:
         """A Deferred that was made before the recording began is made, and fired, where it is met first."""
@@ -194,6 +197,8 @@ class Recorder(Observer):
             run.note(action)
             if run.kind != "inline":
                 self.parts.append(action)
+        if action[0] != "deferred" and not isinstance(action, Advance):
+            self._note_spot(action)
         try:
             return call(*args)
         except BaseException as error:

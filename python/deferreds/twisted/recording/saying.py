@@ -45,6 +45,8 @@ class Said:
         self.events = self._settle()
         self.records: List[Record] = []
         self.rebinds = False
+        #: by the numbers of Python for the arrays of the script that are actions, what was noted of these
+        self.acted: Dict[int, Action] = {}
         self._name()
         self._number()
         self._find_scale()
@@ -71,6 +73,11 @@ class Said:
     def is_whole(self) -> bool:
         """Whether the script is of the whole run."""
         return self.events == len(self.actions) and not self.too_large
+
+    @property
+    def recorder(self) -> Recorder:
+        """Whose run it is."""
+        return self._recorder
 
     @property
     def elsewhere(self) -> int:
@@ -233,6 +240,11 @@ class Said:
         return CannotSay(reason)
 
     def _action(self, said: Action) -> List[Any]:
+        array = self._words_of(said)
+        self.acted[id(array)] = said
+        return array
+
+    def _words_of(self, said: Action) -> List[Any]:
         chained = self._as_chain(said)
         if chained is not None:
             return chained
