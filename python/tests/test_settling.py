@@ -205,6 +205,16 @@ class Fixed(unittest.TestCase):
         with self.assertRaises(Conflict):
             self.history.settled()
 
+    def test_no_call_is_due_before_it_is_scheduled(self) -> None:
+        early = self.history.turn(self.history.loop(10, 0), 1)
+        late = self.history.turn(self.history.loop(18, 0), 1)
+        self.history.run(early, 30)
+        at_once = self.history.later(0)
+        self.history.run(at_once, 30)
+        self.history.run(late, 30)
+        with self.assertRaises(Conflict):
+            self.history.settled()
+
     def test_ticks_are_due_after_one_time(self) -> None:
         tick = self.history.tick()
         for number in range(3):

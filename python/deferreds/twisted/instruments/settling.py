@@ -270,7 +270,7 @@ class _Settling:
         entry.at, entry.seen = self._now, self._count
         loop = entry.loop
         if loop is not None:
-            entry.due = loop.start + loop.interval * ((self._now - loop.start) // loop.interval + 1)
+            entry.due = _next_turn(loop, self._now)
             self._fixed.add(entry)
         elif entry.is_tick:
             entry.due = self._now + self._manner.tick
@@ -354,7 +354,7 @@ class _Settling:
     def _squeeze(self, entry: Entry) -> None:
         """It is told as due right after what ran last."""
         due, order = self._last
-        entry.due = due if entry.order > order else due + 1
+        entry.due = max(entry.at, due if entry.order > order else due + 1)
         self.moved += entry.delay is not None
 
     def _run_moved(self, step: Step, entry: Entry, first: Optional[Entry]) -> None:
@@ -457,6 +457,11 @@ class _Settling:
         return entry.due > self._before or not self._waited(entry, self._count - 1)
 
 
+def _next_turn(loop: Loop, now: int) -> int:
+    """When the next turn of a loop is due, as the language has it."""
+    return loop.start + loop.interval * ((now - loop.start) // loop.interval + 1)
+
+
 def _reached(entry: Entry, more: int = 0) -> int:
     """From what time on this turn of a loop, or one so many after it, is the next one."""
     assert entry.loop is not None
@@ -489,6 +494,8 @@ def _check(steps: Sequence[Step]) -> None:
         if ran is not None:
             seen.remove(ran)
         for entry in step.made:
+            if entry.due < now or (entry.loop is not None and entry.due != _next_turn(entry.loop, now)):
+                raise _conflict(entry, "it isn't due at its time")
             (seen if entry.inside else fresh).add(entry)
         for entry, _ in step.ended:
             seen.remove(entry)
