@@ -35,7 +35,7 @@ class Words(RecordingCase):
             with self.subTest(words=words):
                 ended = self.record("-o", "run", *words, "--reporter=text", "-o", "x", "--view")
                 self.assertEqual((ended.status, ended.printed), (0, "['--reporter=text', '-o', 'x', '--view']\n"), ended.said)
-                self.assertEqual(self.files(), ["run.journal", "run.json", "run.recording", "settings.py"])
+                self.assertEqual(self.files(), ["run.journal", "run.json", "run.places.json", "run.recording", "settings.py"])
 
     def test_all_words_after_the_program_are_its_own(self) -> None:
         ended = self.record("-o", "run", "configured.py", "-m", "x", "--view", "--", "-f")
@@ -46,7 +46,7 @@ class Words(RecordingCase):
         self.copied("configured.py", "package/inner.py")
         self.record("configured.py")
         self.record("-m", "package.inner")
-        self.assertEqual([name for name in self.files() if name.endswith(".json")], ["configured.json", "inner.json"])
+        self.assertEqual(self.scripts(), ["configured", "inner"])
 
     def test_two_of_program_module_and_test_are_one_too_many(self) -> None:
         ended = self.record("--test", "a.b.c", "configured.py")
@@ -79,7 +79,7 @@ class Files(RecordingCase):
 
     def test_a_name_is_taken_in_the_folder_of_the_start(self) -> None:
         ended = self.record("-o", "run", "chdir.py")
-        self.assertEqual((ended.status, self.files()), (0, ["run.journal", "run.json", "run.recording"]), ended.said)
+        self.assertEqual((ended.status, self.files()), (0, ["run.journal", "run.json", "run.places.json", "run.recording"]), ended.said)
 
     def test_a_file_of_somebody_else_is_not_overwritten(self) -> None:
         self.copied("configured.py", "service.py")
@@ -94,7 +94,7 @@ class Files(RecordingCase):
     def test_a_recording_is_overwritten_as_long_as_it_is_as_it_was_written(self) -> None:
         self.assertEqual(self.record("-o", "run", "--view", "configured.py").status, 0)
         self.assertEqual(self.record("-o", "run", "os_exit.py", "0").status, 0)
-        self.assertEqual(self.files(), ["run.journal", "run.json", "run.recording"], "the page of the other run is gone")
+        self.assertEqual(self.files(), ["run.journal", "run.json", "run.places.json", "run.recording"], "the page of the other run is gone")
         with (self.folder / "run.journal").open("a", encoding="utf-8") as file:
             file.write("what somebody has noted\n")
         ended = self.record("-o", "run", "configured.py")
@@ -118,7 +118,7 @@ class Files(RecordingCase):
         ended = self.record("-o", "run", "--view", "limits_files.py", "4096")
         self.assertEqual(ended.status, 73, ended.said)
         self.assertIn("run.html can't be written: File too large\n", ended.said)
-        self.assertEqual(self.files(), ["run.journal", "run.json", "run.recording"])
+        self.assertEqual(self.files(), ["run.journal", "run.json", "run.places.json", "run.recording"])
         self.assert_goes_together("run")
 
     def test_a_folder_that_has_gone_is_replaced_by_that_for_temporary_files(self) -> None:
@@ -219,7 +219,7 @@ class Ends(RecordingCase):
     def test_a_forked_child_writes_files_of_its_own(self) -> None:
         ended = self.record("forks.py")
         self.assertEqual(ended.status, 0, ended.said)
-        scripts = [name.removesuffix(".json") for name in self.files() if name.endswith(".json")]
+        scripts = self.scripts()
         self.assertEqual(len(scripts), 2, scripts)
         for name in scripts:
             self.assert_goes_together(name)

@@ -50,7 +50,11 @@ class WaitingCase(unittest.TestCase):
         return failing
 
     def test_no_answer(self):
-        return defer.Deferred()
+        return defer.Deferred().addErrback(self.tell)
+
+    def tell(self, failure):
+        print(failure.type.__name__)
+        return failure
 
     test_no_answer.timeout = 0.2
 

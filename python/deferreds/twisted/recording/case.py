@@ -90,7 +90,7 @@ class _Recorded:
                 result = self._perform(functools.partial(call, *args, **kwargs))
                 if not self._waits or not is_deferred(result):
                     return result
-                given = _Given()
+                given = _Given(self._recorder, result)
                 result.addBoth(given.take)
             return given.handed_over()
 
@@ -138,10 +138,26 @@ class _OnVirtual(_Recorded):
             return result
 
 
+class _Handed(Deferred[object]):
+    """What trial waits for in place of a Deferred of the test."""
+
+    def __init__(self, recorder: Recorder, own: Deferred[Any]) -> None:
+        super().__init__()
+        self._recorder = recorder
+        self._own = own
+
+    def errback(self, fail: Any = None) -> None:
+        """Trial's time for the test is over: the test's own Deferred is fired. Raises AlreadyCalledError where that was."""
+        with self._recorder.watching():
+            self._own.errback(fail)
+
+
 class _Given:
     """What a part of a test gives back, as its runner waits for it."""
 
-    def __init__(self) -> None:
+    def __init__(self, recorder: Recorder, own: Deferred[Any]) -> None:
+        self._recorder = recorder
+        self._own = own
         self._came: List[object] = []
         self._waiting: Optional[Deferred[object]] = None
 
@@ -161,7 +177,7 @@ class _Given:
     def handed_over(self) -> Deferred[object]:
         """A Deferred of the runner's, which is fired in the reactor's next turn, or has been, where it had come already."""
         if not self._came:
-            self._waiting = Deferred()
+            self._waiting = _Handed(self._recorder, self._own)
             return self._waiting
         value = self._came[0]
         return defer.fail(value) if isinstance(value, Failure) else defer.succeed(None)
