@@ -13,7 +13,7 @@ from ..profile import Entry
 from ..script import depth, nodes
 from ..telling import Action, Failed, Part, Record, Thing, Time
 from ..texts import Outcome, Text, compact
-from .bodies import Body, Run, Steps, Unsayable, deepest
+from .bodies import Body, Run, Steps, Unsayable, deepest, in_words
 from .places import FreeNames, name_of_spot
 from .recorder import Problem, Recorder
 
@@ -33,6 +33,8 @@ class Said:
         self._recorder = recorder
         self._scale = 1
         self.problems: List[Problem] = list(recorder.problems)
+        #: the actions in each other that are being said
+        self._saying: List[Action] = []
         self.records: List[Record] = []
         self.rebinds = False
         self._name()
@@ -159,6 +161,12 @@ class Said:
         return CannotSay(reason)
 
     def _action(self, said: Action) -> List[Any]:
+        self._saying.append(said)
+        words = self._words(said)
+        self._saying.pop()
+        return words
+
+    def _words(self, said: Action) -> List[Any]:
         chained = self._as_chain(said)
         if chained is not None:
             return chained
@@ -218,7 +226,8 @@ class Said:
         for other in body.runs[1:]:
             if not self._same_run(first, other):
                 kind = "loop" if body.kind == "turn" else None
-                raise self._cannot(f"a {body.kind} ran more than once, and did something else", kind)
+                place = in_words(self._saying[-1]) if self._saying else ""
+                raise self._cannot(f"a {body.kind} ran more than once, and did something else", kind, place)
         said: Dict[str, Any] = {}
         actions = [self._helped(action) for action in first.actions]
         if actions:
