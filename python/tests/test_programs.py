@@ -7,6 +7,7 @@ from __future__ import annotations
 
 import contextlib
 import functools
+import gc
 import io
 import os
 import runpy
@@ -76,6 +77,7 @@ def record(name: str, kinds: frozenset[str] = KINDS, redact: str = SECRETS) -> R
     """Runs a program under the recorder, with a reactor whose time is virtual."""
     be_quiet()
     install()
+    gc.collect()  # what other tests have left ends here, and not while this is recorded
     recorder = Recorder(kinds, redact)
     printed = io.StringIO()
     with contextlib.redirect_stdout(printed), in_place_of_the_real(VirtualReactor()), printing_notes(recorder):
