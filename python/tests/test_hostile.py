@@ -25,13 +25,14 @@ _SCRIPTS = 30
 
 @contextlib.contextmanager
 def without_collector() -> Iterator[None]:
-    """Python's collector of garbage runs where this ends, so that each run is the same."""
+    """Python's collector of garbage runs where this begins and where it ends, so that each run is the same."""
     gc.collect()
     gc.disable()
     try:
         yield
     finally:
         gc.enable()
+        gc.collect()
 
 
 def recorded(level: str, number: int) -> Said:

@@ -7,6 +7,7 @@ from __future__ import annotations
 
 import contextlib
 import functools
+import gc
 import io
 import os
 import runpy
@@ -52,6 +53,9 @@ REFUSED: Dict[str, str] = {
     "subclass_adds": CALLED,
 }
 
+#: the programs that are refused, whatever the reason
+OTHERS_REFUSED = {"finalizer_in_a_thread"}
+
 #: what a version of Twisted refuses or awaits and another one doesn't, so that the reason is its own
 BY_VERSION = {
     "inline_returns_a_deferred": ("a Deferred is fired with a Deferred", "an inline body gives a Deferred as its result"),
@@ -73,6 +77,7 @@ def record(name: str, kinds: frozenset[str] = KINDS, redact: str = SECRETS) -> R
     """Runs a program under the recorder, with a reactor whose time is virtual."""
     be_quiet()
     install()
+    gc.collect()  # what other tests have left ends here, and not while this is recorded
     recorder = Recorder(kinds, redact)
     printed = io.StringIO()
     with contextlib.redirect_stdout(printed), in_place_of_the_real(VirtualReactor()), printing_notes():
@@ -114,7 +119,9 @@ class Programs(unittest.TestCase):
             with self.subTest(program=path.stem):
                 said = record(path.stem).said
                 reasons = {problem.reason for problem in said.problems}
-                if path.stem in REFUSED:
+                if path.stem in OTHERS_REFUSED:
+                    self.assertTrue(reasons)
+                elif path.stem in REFUSED:
                     self.assertEqual(reasons, {REFUSED[path.stem]})
                     places = [problem.place for problem in said.problems if problem.reason not in (DEEP, TURNS)]
                     self.assertTrue(all(f"{path.stem}.py:" in place for place in places))
@@ -125,7 +132,7 @@ class Programs(unittest.TestCase):
 
     def test_each_expectation_is_of_a_program(self) -> None:
         names = {path.stem for path in PROGRAMS.glob("*.py")}
-        self.assertLessEqual(REFUSED.keys() | ENTRIES.keys() | BY_VERSION.keys(), names)
+        self.assertLessEqual(REFUSED.keys() | ENTRIES.keys() | BY_VERSION.keys() | OTHERS_REFUSED, names)
 
     def journal(self, name: str) -> List[str]:
         """The journal of a program that is recorded."""
@@ -195,6 +202,10 @@ class Programs(unittest.TestCase):
         for name, kind in (("loop_of_coroutine", "loop"), ("loop_of_other_values", "loop")):
             with self.subTest(program=name):
                 self.assert_right(record(name, KINDS - {kind}).said)
+
+    def test_where_turns_differ_the_loop_is_named(self) -> None:
+        (problem,) = record("loop_of_other_values").said.problems
+        self.assertEqual((problem.place, problem.kind), ("loop of loop_line_10", "loop"))
 
     def test_the_value_of_a_turn_is_told(self) -> None:
         said = record("loop_of_values").said

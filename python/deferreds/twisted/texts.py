@@ -24,7 +24,8 @@ def compact(value: Shown) -> str:
     return str(value) if type(value) is int else _ENCODER.encode(value)
 
 
-_ENCODER = json.JSONEncoder(ensure_ascii=False, separators=(",", ":"))
+#: what isn't JSON is a named object, whose name may be settled later
+_ENCODER = json.JSONEncoder(ensure_ascii=False, separators=(",", ":"), default=str)
 
 
 def weight_of(value: Shown) -> int:
@@ -36,7 +37,7 @@ def weight_of(value: Shown) -> int:
     if isinstance(value, dict):
         own = 1 + len(value["message"].encode("utf-8"))
         return own + (weight_of(value["sub"]) if "sub" in value else 0)
-    return 1
+    return 1 if value is None or isinstance(value, int) else 1 + len(str(value))
 
 
 def failure_text(failure: Dict[str, Any]) -> str:
@@ -85,6 +86,17 @@ class Outcome:
 NULL = Outcome(None)
 
 
+class Value(Outcome):
+    """A value alone, as JSON."""
+
+    __slots__ = ()
+
+    @property
+    def text(self) -> str:
+        """How a line shows it."""
+        return compact(self.value)
+
+
 class Text:
     """A part of a line that weighs: a value, a text or a failure."""
 
@@ -122,10 +134,9 @@ class Texts:
         shown = self.error(error)
         return Text(failure_text(shown), weight_of(shown))
 
-    def value(self, value: object) -> Text:
+    def value(self, value: object) -> Value:
         """A value, as JSON."""
-        shown = self.shown(value)
-        return Text(compact(shown), weight_of(shown))
+        return Value(self.shown(value))
 
     def shown(self, value: Any, depth: int = 0) -> Shown:
         """A value in the language."""
@@ -177,7 +188,7 @@ class Texts:
             return "<unprintable>"
 
     def bind(self, thing: object, text: Any) -> None:
-        """Has an object shown as this text, or as the text of this object's name."""
+        """Has an object shown as this text, or as the name that this object has when the run is said."""
         key = id(thing)
         try:
             kept: Any = weakref.ref(thing, lambda _: self._named.pop(key, None))
@@ -189,12 +200,12 @@ class Texts:
         """Forgets the objects that can't be forgotten when they go, and so are kept alive: each gets another text from now on."""
         self._named = {key: named for key, named in self._named.items() if isinstance(named[0], weakref.ref)}
 
-    def named(self, thing: object) -> str:
-        """An object, by its type and a number."""
+    def named(self, thing: object) -> Any:
+        """An object, by its type and a number, or by what it is bound to."""
         known = self._named.get(id(thing))
         if known is None:
             kind = type(thing).__name__
             number = self._counts[kind] = self._counts.get(kind, 0) + 1
             self.bind(thing, clean(f"<{kind} {number}>"))
             known = self._named[id(thing)]
-        return str(known[1])
+        return known[1]

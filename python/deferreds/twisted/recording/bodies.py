@@ -104,7 +104,7 @@ def deepest(actions: Sequence[Action]) -> Optional[Deepest]:
     while left:
         around, action = left.pop()
         for body in _bodies(action):
-            found.append((around, body.kind, _name(action)))
+            found.append((around, body.kind, in_words(action)))
             levels.append(levels[around] + 1 if around >= 0 else 1)
             if best < 0 or levels[-1] > levels[best]:
                 best = len(levels) - 1
@@ -129,7 +129,7 @@ def _bodies(action: Action) -> Iterator[Body]:
             yield from part.bodies
 
 
-def _name(action: Action) -> str:
+def in_words(action: Action) -> str:
     """What an action is of, in words."""
     named = next((part for part in action if isinstance(part, (Record, Thing))), None)
     name = named.name if named is not None else None

@@ -16,7 +16,7 @@ from ..profile import Entry
 from ..script import depth, nodes
 from ..telling import Action, Advance, Failed, Part, Record, Thing, Time
 from ..texts import Outcome, Text, compact
-from .bodies import Body, Run, Steps, Unsayable, deepest
+from .bodies import Body, Run, Steps, Unsayable, deepest, in_words
 from .outcomes import outcomes_of
 from .places import FreeNames, name_of_spot
 from .recorder import Problem, Recorder
@@ -43,6 +43,8 @@ class Said:
         self._ended = len(recorder.events) if ended is None else min(ended, len(recorder.events))
         #: how many events the script has
         self.events = self._settle()
+        #: the actions in each other that are being said
+        self._saying: List[Action] = []
         self.records: List[Record] = []
         self.rebinds = False
         #: by the numbers of Python for the arrays of the script that are actions, what was noted of these
@@ -240,11 +242,13 @@ class Said:
         return CannotSay(reason)
 
     def _action(self, said: Action) -> List[Any]:
-        array = self._words_of(said)
-        self.acted[id(array)] = said
-        return array
+        self._saying.append(said)
+        words = self._words(said)
+        self._saying.pop()
+        self.acted[id(words)] = said
+        return words
 
-    def _words_of(self, said: Action) -> List[Any]:
+    def _words(self, said: Action) -> List[Any]:
         chained = self._as_chain(said)
         if chained is not None:
             return chained
@@ -305,7 +309,8 @@ class Said:
         for other in runs[1:]:
             if not self._same_run(first, other):
                 kind = "loop" if body.kind == "turn" else None
-                raise self._cannot(f"a {body.kind} ran more than once, and did something else", kind)
+                place = in_words(self._saying[-1]) if self._saying else ""
+                raise self._cannot(f"a {body.kind} ran more than once, and did something else", kind, place)
         said: Dict[str, Any] = {}
         actions = [self._helped(action) for action in first.actions]
         if actions:

@@ -169,17 +169,17 @@ class Values(Texts):
 
     # objects
 
-    def named(self, thing: object) -> str:
+    def named(self, thing: object) -> Any:
         """An object, by its type and a number; one of which no weak reference can be had, by its type and what it holds."""
         known = self._named.get(id(thing))
         if known is not None:
-            return str(known[1])
+            return known[1]
         kind = clean(_name_of(type(thing)))[:LONGEST]
         if not _can_be_referred_to(thing):
             return f"<{kind}{self._contents(thing)}>"
         number = self._counts[kind] = self._counts.get(kind, 0) + 1
         self.bind(thing, f"<{kind} {number}>")
-        return str(self._named[id(thing)][1])
+        return self._named[id(thing)][1]
 
     def _contents(self, thing: object) -> str:
         """How much something holds; of a dict a digest, too, that is the same for equal ones."""
