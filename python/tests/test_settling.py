@@ -2,8 +2,11 @@
 
 from __future__ import annotations
 
+import random
 import unittest
-from typing import List, Optional, Tuple
+from typing import Any, Dict, List, Optional, Tuple
+
+from twisted.internet import task
 
 from deferreds.twisted.instruments.settling import MILLISECOND, Conflict, Entry, Loop, Step, settle
 
@@ -231,6 +234,118 @@ class Fixed(unittest.TestCase):
         self.history.run(call, 2.6)
         self.history.settled()
         self.assertEqual(call.due, 2_500)
+
+
+class Simulated:
+    """A reactor that runs what is due late, by a seed: calls, loops, cancels, and what comes from elsewhere.
+
+    `blocks`: how many milliseconds a body may block.
+    """
+
+    def __init__(self, seed: int, blocks: float) -> None:
+        self._random = random.Random(seed)
+        self.blocks = blocks
+        self.history = History()
+        self._now = 0.0
+        #: what waits, by when it is due on the reactor
+        self._waiting: List[Tuple[float, int, Entry]] = []
+        for interval in self._random.sample([5, 10, 20, 25], self._random.randrange(4)):
+            self._schedule_turn(self.history.loop(interval, 0), 1)
+        for _ in range(4):
+            self._schedule()
+
+    def run(self) -> None:
+        """Some turns of the reactor."""
+        for _ in range(25):
+            self._take_turn()
+
+    def _take_turn(self) -> None:
+        chance = self._random
+        if not self._waiting or chance.random() < 0.3:
+            self._now += chance.random() * 3
+            self.history.elsewhere(self._now)
+            self._schedule()
+            return
+        self._now = max(self._now, min(self._waiting)[0]) + chance.random() * chance.choice([0.3, 0.3, 12])
+        looked = self._now
+        for each in sorted(each for each in self._waiting if each[0] <= looked):
+            if each in self._waiting:
+                self._waiting.remove(each)
+                self._run(each[2], looked)
+
+    def _run(self, entry: Entry, looked: float) -> None:
+        self.history.run(entry, looked)
+        self._now += self._random.random() * self._random.choice([0.1, 0.1, 0.1, 0.1, self.blocks])
+        if entry.loop is not None:
+            self._schedule_turn(entry.loop, int(self._now * MILLISECOND) // entry.loop.interval + 1)
+        if self._random.random() < 0.6:
+            self._schedule()
+        calls = [each for each in self._waiting if each[2].loop is None]
+        if calls and self._random.random() < 0.2:
+            ended = self._random.choice(calls)
+            self._waiting.remove(ended)
+            self.history.end(ended[2])
+
+    def _schedule(self) -> None:
+        delay = self._random.choice([0, 1, 10, self._random.random() * 30])
+        entry = self.history.later(delay)
+        self._waiting.append((self._now + delay + 0.001, entry.order, entry))
+
+    def _schedule_turn(self, loop: Loop, number: int) -> None:
+        entry = self.history.turn(loop, number)
+        self._waiting.append((number * loop.interval / MILLISECOND, entry.order, entry))
+
+
+class OnClock(unittest.TestCase):
+    """What is told, run on Twisted's Clock."""
+
+    def replayed(self, steps: List[Step]) -> List[Entry]:
+        """What the Clock runs, in order, where calls are scheduled with the delays that are told."""
+        clock = task.Clock()
+        ran: List[Entry] = []
+        calls: Dict[Entry, Any] = {}
+        places = iter([step for step in steps if step.entry is not None])
+
+        def run(entry: Entry) -> None:
+            ran.append(entry)
+            happens(next(places))
+
+        def happens(step: Step, inside: bool = True) -> None:
+            for entry in step.made:
+                if entry.inside == inside:
+                    calls[entry] = clock.callLater(entry.due - entry.at, run, entry)
+            for entry, is_inside in step.ended:
+                if is_inside == inside and entry in calls:
+                    calls[entry].cancel()
+
+        for step in steps:
+            if step.advances:
+                clock.advance(step.by)
+            if step.entry is None:
+                happens(step, False)
+        return ran
+
+    def settled(self, blocks: float) -> int:
+        """How many of 300 runs are told, each of which the Clock runs in the same order."""
+        settled = 0
+        for seed in range(300):
+            simulated = Simulated(seed, blocks)
+            simulated.run()
+            steps = simulated.history.steps
+            try:
+                settle(steps)
+            except Conflict:
+                continue
+            settled += 1
+            with self.subTest(seed=seed, blocks=blocks):
+                self.assertEqual(self.replayed(steps), [step.entry for step in steps if step.entry is not None])
+        return settled
+
+    def test_it_runs_in_the_order_of_the_reactor(self) -> None:
+        self.assertGreater(self.settled(0.1), 285)
+
+    def test_so_it_does_where_bodies_block(self) -> None:
+        self.assertGreater(self.settled(30), 100)
 
 
 if __name__ == "__main__":
