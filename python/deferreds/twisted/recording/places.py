@@ -196,17 +196,20 @@ def name_of_spot(made_at: Spot) -> str:
     return str(function) if code is None else f"{_in_form(function)}_{line_of(code, instruction)}"
 
 
+#: by the numbers of Python for codes, these, where their instructions of each line begin, and the lines. (To find a code by its
+#: value takes Python long.)
+_LINES: Dict[int, Tuple[CodeType, List[int], List[int]]] = {}
+
+
 def line_of(code: CodeType, instruction: int) -> int:
     """The line of an instruction, by its place in the code."""
-    starts, lines = _lines_of(code)
+    known = _LINES.get(id(code))
+    if known is None:
+        found = [(start, line) for start, line in dis.findlinestarts(code) if line is not None]
+        starts, lines = [start for start, _ in found], [line for _, line in found]
+        known = _LINES[id(code)] = code, starts or [0], lines or [code.co_firstlineno]
+    _, starts, lines = known
     return lines[max(0, bisect.bisect_right(starts, instruction) - 1)]
-
-
-@functools.lru_cache(maxsize=4_096)
-def _lines_of(code: CodeType) -> Tuple[List[int], List[int]]:
-    """Where the instructions of each line of a code begin, and the lines."""
-    found = [(start, line) for start, line in dis.findlinestarts(code) if line is not None]
-    return [start for start, _ in found] or [0], [line for _, line in found] or [code.co_firstlineno]
 
 
 @functools.lru_cache(maxsize=4_096)
