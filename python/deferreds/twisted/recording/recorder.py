@@ -49,6 +49,8 @@ class Recorder(Observer):
         self.problems: List[Problem] = []
         #: how many events come before those by which the runs of bodies count
         self.preceding = 0
+        #: how many events have ended
+        self.ended = 0
         self._names = FreeNames()
         self._thread = get_ident()
 
@@ -106,12 +108,15 @@ class Recorder(Observer):
             raise
         finally:
             self.quiet = quiet
+            if run is self.top:
+                self.ended = len(self.events)
 
     def _note(self, action: Action, before: int) -> None:
         """Notes an action of the program, or of the body that runs, which was told after so many parts of lines."""
         if self.frame is self.top:
             self.events.append(action)
             self.begins.append(before)
+            self.ended += not self.quiet
         else:
             self.frame.note(action)
 
