@@ -3,28 +3,32 @@
 from __future__ import annotations
 
 import contextlib
-import inspect
 import os
+import select
 import warnings
 from types import FrameType
-from typing import Callable, Optional, Tuple
+from typing import Callable, List, Optional, Tuple
 
 from ..instruments.pace import Pace
 from ..telling import Observer
 from .keeping import Keeping, Status
 from .last import LastRecorder
+from .messages import file_of
 from .recorder import Recorder
 from .saying import Said
 
-#: the code by which the recorder notes what happens: where it runs, an event is under way
-_NOTING = {
-    function.__code__
+#: the code by which lines are told, of an event that isn't noted yet
+_TELLING = {
+    getattr(cls, name).__code__
     for cls in (Observer, Recorder, LastRecorder, Pace)
-    for name, function in vars(cls).items()
-    if inspect.isfunction(function) and name != "watching"
+    for name in ("tell", "tell_unhandled", "adopt", "_adopt", "_note", "run", "event")
+    if hasattr(cls, name)
 }
 
 _exit = os._exit
+
+#: how many seconds a copy that writes is waited for
+_MOST_SECONDS = 60.0
 
 
 def _forked() -> int:
@@ -44,6 +48,8 @@ class Keeper:
         self._before = before
         self._is_busy = False
         self._is_snapshot = False
+        #: of each copy that writes the run so far a pipe, which is at its end when that has written, and which file it is
+        self._writers: List[Tuple[int, object]] = []
         #: the recorder when this process was forked, and how many parts of lines it had told
         self._forked_at: Optional[Tuple[Recorder, int]] = None
 
@@ -62,6 +68,7 @@ class Keeper:
             return Status.RECORDED
         is_busy, self._is_busy = self._is_busy, True
         try:
+            self._wait_for_writers()
             return self._keep(how, self._ended(frame))
         finally:
             self._is_busy = is_busy
@@ -101,7 +108,31 @@ class Keeper:
             if _forked() == 0:
                 self.ends("asked by SIGUSR1", frame)
 
+        self._writers = [one for one in self._writers if not self._has_written(*one)]
+        try:
+            reader, writer = os.pipe()
+        except OSError as error:
+            self._keeping.messages.say(f"the run so far can't be kept: {error.strerror}")
+            return
         self._copy(write)
+        os.close(writer)
+        self._writers.append((reader, file_of(reader)))
+
+    def _wait_for_writers(self, most: float = _MOST_SECONDS) -> None:
+        """Waits until copies that write have done so: what they write is older. The program may have closed a pipe of theirs."""
+        for reader, file in self._writers:
+            if not self._has_written(reader, file, most):
+                os.close(reader)
+        self._writers.clear()
+
+    def _has_written(self, reader: int, file: object, most: float = 0) -> bool:
+        """Whether the copy of this pipe has written, which is closed then; so many seconds are waited for that at most."""
+        if file_of(reader) != file:
+            return True
+        has_written = bool(select.select([reader], [], [], most)[0])
+        if has_written:
+            os.close(reader)
+        return has_written
 
     def _copy(self, write: Callable[[], object]) -> None:
         """Has a copy of this process write, and waits for the end of that."""
@@ -129,6 +160,7 @@ class Keeper:
     def is_child(self) -> None:
         """From here on this is a forked child, whose files have its number in their names."""
         if not self._is_snapshot:
+            self._wait_for_writers(0)
             self._forked_at = self._recorder, len(self._recorder.parts)
             for keeping in filter(None, (self._keeping, self._before)):
                 keeping.be_of_child()
@@ -136,15 +168,18 @@ class Keeper:
     def _ended(self, frame: Optional[FrameType]) -> Optional[int]:
         """How many events have ended, where one is under way; None, where all have."""
         recorder = self._recorder
+        if recorder.ended < len(recorder.events):
+            return recorder.ended
         if len(recorder.events) == len(recorder.begins) and not self._is_under_way(frame):
             return None
         return max(0, len(recorder.events) - 1)
 
     def _is_under_way(self, frame: Optional[FrameType]) -> bool:
+        """Whether an event is under way, or lines of one are told that isn't noted yet."""
         if frame is None:
             return False
         while frame is not None:
-            if frame.f_code in _NOTING:
+            if frame.f_code in _TELLING:
                 return True
             frame = frame.f_back
         return self._recorder.frame is not self._recorder.top or self._recorder.acting

@@ -105,6 +105,8 @@ class Recorder(Observer):
         #: where actions were performed and Deferreds made
         self.spots = Spots()
         self._note_spot = self.spots.note
+        #: how many events have ended
+        self.ended = 0
         self._names = FreeNames()
 
     @contextlib.contextmanager
@@ -164,7 +166,10 @@ class Recorder(Observer):
             self.problem("a Deferred from before the recording, which waits for another")
         if self.quiet:
             self.problem("a Deferred from before the recording, which Twisted meets first")
-        return self.own(self._adopt, deferred, value)  # type: ignore[no-any-return]
+        adopted: Record = self.own(self._adopt, deferred, value)
+        if self.frame is self.top and not self.acting:
+            self.ended = len(self.events)
+        return adopted
 
     def _adopt(self, deferred: Deferred[Any], value: object) -> Record:
         before = len(self.parts)
@@ -209,6 +214,8 @@ class Recorder(Observer):
                 self._refuse_unless_last(self._inside, action.raised is not None)
             self._performed, self._inside = performed, inside
             self.acting = False
+            if run is self.top:
+                self.ended = len(self.events)
 
     @switching
     def own(self, call: Callable[..., Any], *args: Any) -> Any:
@@ -239,14 +246,14 @@ class Recorder(Observer):
         if not uncalled:
             self.problem(CALLED, self._kind_performed())
         busy = [] if entered is None else [self._known_as(one) for one in worked_on(entered)]
-        frame, before = self.frame, len(self.parts)
+        frame, before, ended = self.frame, len(self.parts), self.ended
         kept = frame.expected, frame.anonymous, frame.passing, self._told, self.forwarded, self.turn, self.maker
         frame.expected, frame.anonymous, frame.passing, self.forwarded, self.turn = (), False, None, None, None
         self.acting = False
         try:
             return self.act(action, call, *args)
         finally:
-            self.acting = True
+            self.acting, self.ended = True, ended
             frame.expected, frame.anonymous, frame.passing, self._told, self.forwarded, self.turn, self.maker = kept
             if uncalled and any(part is one for part in self.parts[before:] if part is not None for one in busy):
                 self.problem(MEDDLED)
