@@ -7,7 +7,6 @@ from typing import Dict, List, NamedTuple, Optional, Sequence
 
 from ..twisted.recording.recorder import Recorder
 from ..twisted.recording.saying import Said
-from ..twisted.recording.whereabouts import whereabouts_of
 from ..twisted.telling import Record, Thing
 from ..view.page import Page
 from ..view.places import SUFFIX as PLACES
@@ -60,7 +59,7 @@ def recording_of(recorder: Recorder, title: str) -> Recording:
     run = run_of_journal(said.output, title, script, False, said.begins)
     if problem is not None:
         run.problems.append((f"a script can't say this: {problem}. What is shown may lack it",))
-    places = whereabouts_of(recorder, said)
+    places = said.places
     run.places = read_places(places) if places is not None else run.places
     files = {".journal": said.output, ".html": Page(run).html()}
     if places is not None:

@@ -31,7 +31,6 @@ from ..instruments import install
 from ..recording.programs import LADDER, NotLoaded, record_program, record_test, tests_of
 from ..recording.recorder import Recorder
 from ..recording.saying import Said
-from ..recording.whereabouts import whereabouts_of
 from ..telling import KINDS
 
 
@@ -82,15 +81,15 @@ def _refused(said: Said) -> int:
     return 1
 
 
-def _written(said: Said, places: Optional[str], name: str, view: bool) -> int:
+def _written(said: Said, name: str, view: bool) -> int:
     """Writes the script, the journal, where in the program all happened, and if it is wanted the page."""
     files = {f"{name}.json": said.text + "\n", f"{name}.journal": said.output}
-    if places is not None:
-        files[f"{name}{PLACES}"] = places
+    if said.places is not None:
+        files[f"{name}{PLACES}"] = said.places
     shown = f"{name}.html"
     if view:
         run = run_of_journal(said.output, Path(name).name, Script(said.script), False, said.begins)
-        run.places = read_places(places) if places is not None else run.places
+        run.places = read_places(said.places) if said.places is not None else run.places
         files[shown] = Page(run).html()
         shown += f": {run.counts}"
     for path, text in files.items():
@@ -108,13 +107,13 @@ def _written(said: Said, places: Optional[str], name: str, view: bool) -> int:
     return 0
 
 
-def _finish(said: Said, recorder: Recorder, name: str, view: bool) -> int:
+def _finish(said: Said, name: str, view: bool) -> int:
     if said.problems or said.script is None:
         return _refused(said)
     if not said.journal:
         _say("nothing was recorded: the program has used no Deferreds")
         return 66
-    return _written(said, whereabouts_of(recorder, said), name, view)
+    return _written(said, name, view)
 
 
 def _is_module(name: str) -> bool:
@@ -138,7 +137,7 @@ def _program(arguments: argparse.Namespace) -> int:
     status = record_program(recorder, target, words, bool(arguments.module), arguments.virtual)
     if status:
         _say(f"the program has ended with status {status}")
-    return _finish(Said(recorder), recorder, arguments.output or Path(target).stem, arguments.view)
+    return _finish(Said(recorder), arguments.output or Path(target).stem, arguments.view)
 
 
 def _test(arguments: argparse.Namespace) -> int:
@@ -151,21 +150,19 @@ def _test(arguments: argparse.Namespace) -> int:
         _say(f"{arguments.test} isn't one test")
         return 66
     said: Optional[Said] = None
-    recorder = Recorder()
     ladder = [KINDS - set(arguments.plain.split(","))] if arguments.plain else LADDER
     for kinds in ladder:
         run = record_test(*found[0], kinds, arguments.virtual)
         tried = Said(run.recorder)
-        if said is None:
-            said, recorder = tried, run.recorder
+        said = said or tried
         if run.waits and not arguments.virtual:
             _say("the test waits for a reactor: --virtual runs it with one whose time is virtual")
             return 1
         if not tried.problems and tried.script is not None:
-            said, recorder = tried, run.recorder
+            said = tried
             break
     assert said is not None
-    return _finish(said, recorder, arguments.output or found[0][1], arguments.view)
+    return _finish(said, arguments.output or found[0][1], arguments.view)
 
 
 def main(words: List[str]) -> int:

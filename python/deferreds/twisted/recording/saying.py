@@ -16,6 +16,7 @@ from ..texts import Outcome, Text, compact
 from .bodies import Body, Run, Steps, Unsayable
 from .places import FreeNames, name_of_spot
 from .recorder import Problem, Recorder
+from .whereabouts import Acted, whereabouts_of
 
 _FINEST = 10**9
 _LARGEST_SCALE = 10**10
@@ -35,8 +36,8 @@ class Said:
         self.problems: List[Problem] = list(recorder.problems)
         self.records: List[Record] = []
         self.rebinds = False
-        #: by the numbers of Python for the arrays of the script that are actions, what was noted of these
-        self.acted: Dict[int, Action] = {}
+        #: by the numbers of Python for the arrays of the script that are actions, these, and what was noted of them
+        self.acted: Acted = {}
         self._name()
         self._number()
         self._find_scale()
@@ -58,6 +59,11 @@ class Said:
     def output(self) -> str:
         """The journal and the outcomes."""
         return "".join(line + "\n" for line in self.journal + self.outcomes)
+
+    @property
+    def places(self) -> Optional[str]:
+        """Where in the program's own files Deferreds were made and actions performed, as JSON; None where that isn't known."""
+        return whereabouts_of(self._recorder, self.records, self.script, self.acted)
 
     def _problem(self, reason: str, kind: Optional[str] = None, place: str = "") -> None:
         self.problems.append(Problem(reason, place, kind))
@@ -162,7 +168,7 @@ class Said:
 
     def _action(self, said: Action) -> List[Any]:
         array = self._words_of(said)
-        self.acted[id(array)] = said
+        self.acted[id(array)] = array, said
         return array
 
     def _words_of(self, said: Action) -> List[Any]:
