@@ -73,7 +73,7 @@ class Folder:
 
     def tell(self, name: str, said: str) -> None:
         """Adds a line to the list. Raises OSError."""
-        with self._list.open("a", encoding="utf-8") as file:
+        with self._list.open("a", encoding="utf-8", errors="backslashreplace") as file:
             file.write(f"{name}\t{_on_one_line(said)}\n")
 
     def name(self, test: str) -> str:

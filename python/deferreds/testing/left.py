@@ -7,7 +7,6 @@ from typing import Dict, List, NamedTuple, Optional
 
 from ..twisted.recording.recorder import Recorder
 from ..twisted.recording.saying import Said
-from ..twisted.recording.whereabouts import whereabouts_of
 from ..twisted.telling import Advance, Record, Thing
 from ..view.page import Page
 from ..view.places import SUFFIX as PLACES
@@ -61,7 +60,7 @@ def recording_of(recorder: Recorder, title: str) -> Recording:
     run = run_of_journal(journal, title, script, False, said.begins)
     if problem is not None:
         run.problems.append((f"a script can't say this: {problem}. What is shown may lack it",))
-    places = whereabouts_of(recorder, said)
+    places = said.places
     run.places = read_places(places) if places is not None else run.places
     files = {".journal": journal, ".html": Page(run).html()}
     if places is not None:

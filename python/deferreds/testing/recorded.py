@@ -95,8 +95,9 @@ class RecordedTests:
         told = f"{test.name}: {recording.told(test.failed)}"
         try:
             self._folder.write(name, recording.files)
-        except OSError as error:
-            self._tell("", f"{told}; its recording can't be written: {error.strerror}")
+        except (OSError, ValueError) as error:
+            why = getattr(error, "strerror", None) or error
+            self._tell("", f"{told}; its recording can't be written: {why}")
         else:
             self._tell(name, f"{told}; {self._folder.path / name}.html")
 

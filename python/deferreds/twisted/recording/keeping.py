@@ -20,7 +20,6 @@ from .files import Place
 from .messages import Messages
 from .recorder import Problem
 from .saying import Said
-from .whereabouts import whereabouts_of
 
 
 class Status(enum.IntEnum):
@@ -85,7 +84,7 @@ class Keeping:
             files.update({".json": said.text + "\n", ".journal": said.output})
             if not said.is_whole:
                 files[".whole.journal"] = said.whole_output
-        places = None if agreed.is_wrong else whereabouts_of(said.recorder, said)
+        places = None if agreed.is_wrong else said.places
         if places is not None:
             files[PLACES] = places
         counts = self._add_page(files, said, places) if self._view else ""

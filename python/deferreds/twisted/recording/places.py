@@ -134,6 +134,10 @@ class Spots:
         if frame is not None:
             self._note((noted, frame.f_code, frame.f_lasti))
 
+    def forget(self) -> None:
+        """Keeps nothing of what was noted."""
+        self._noted.clear()
+
     def all(self, made: Iterable[Tuple[object, Optional[Spot]]]) -> Iterator[Tuple[Any, str, int]]:
         """Each action or Deferred whose place is known, with the whole path of its file and the line.
 
@@ -192,8 +196,8 @@ def _spot_of(frame: Optional[FrameType], maker: Optional[str]) -> Spot:
 
 def name_of_spot(made_at: Spot) -> str:
     """A name in the form of names for what was made there."""
-    function, code, instruction = made_at
-    return str(function) if code is None else f"{_in_form(function)}_{line_of(code, instruction)}"
+    function, code = made_at[:2]
+    return str(function) if code is None else f"{_in_form(function)}_{line_of(code, made_at[2])}"
 
 
 #: by the numbers of Python for codes, these, where their instructions of each line begin, and the lines. (To find a code by its

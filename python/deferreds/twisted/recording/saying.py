@@ -20,6 +20,7 @@ from .bodies import Body, Run, Steps, Unsayable, deepest, in_words
 from .outcomes import outcomes_of
 from .places import FreeNames, name_of_spot
 from .recorder import Problem, Recorder
+from .whereabouts import Acted, whereabouts_of
 
 _FINEST = 10**9
 _LARGEST_SCALE = 10**10
@@ -47,8 +48,8 @@ class Said:
         self._saying: List[Action] = []
         self.records: List[Record] = []
         self.rebinds = False
-        #: by the numbers of Python for the arrays of the script that are actions, what was noted of these
-        self.acted: Dict[int, Action] = {}
+        #: by the numbers of Python for the arrays of the script that are actions, these, and what was noted of them
+        self.acted: Acted = {}
         self._name()
         self._number()
         self._find_scale()
@@ -75,11 +76,6 @@ class Said:
     def is_whole(self) -> bool:
         """Whether the script is of the whole run."""
         return self.events == len(self.actions) and not self.too_large
-
-    @property
-    def recorder(self) -> Recorder:
-        """Whose run it is."""
-        return self._recorder
 
     @property
     def elsewhere(self) -> int:
@@ -113,6 +109,11 @@ class Said:
     def whole_output(self) -> str:
         """The journal of the whole run, and the outcomes."""
         return "".join(line + "\n" for line in self.journal + self.outcomes)
+
+    @property
+    def places(self) -> Optional[str]:
+        """Where in the program's own files Deferreds were made and actions performed, as JSON; None where that isn't known."""
+        return whereabouts_of(self._recorder, self.records, self.script, self.acted)
 
     def _problem(self, reason: str, kind: Optional[str] = None, place: str = "") -> None:
         self.problems.append(Problem(reason, place, kind))
@@ -245,7 +246,7 @@ class Said:
         self._saying.append(said)
         words = self._words(said)
         self._saying.pop()
-        self.acted[id(words)] = said
+        self.acted[id(words)] = words, said
         return words
 
     def _words(self, said: Action) -> List[Any]:
