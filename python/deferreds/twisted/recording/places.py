@@ -112,10 +112,6 @@ class Spots:
             pass
         self._look_round(action, frame)
 
-    def forget(self) -> None:
-        """Forgets what was noted."""
-        self._noted.clear()
-
     def locate(self, record: object, maker: Optional[str], inside: int) -> Spot:
         """A Deferred is made: where. The caller's frame and so many more around it are known not to be the program's."""
         frame = program_frame(1 + inside)
