@@ -141,6 +141,6 @@ class Keeping:
 
 
 def _beginning(said: Said) -> str:
-    """Of what the script is, where it isn't of the whole run, and why."""
+    """Which events the script has, where it isn't of the whole run, and why."""
     why = "; ".join(problem.reason for problem in said.too_large) or "an event was under way at the end"
     return f"the script is of the first {said.events} of {several(len(said.begins), 'event', 'events')}, since {why}"
