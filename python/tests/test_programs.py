@@ -1,4 +1,4 @@
-"""The programs of python/data/programs/virtual: each is recorded as it ran, or refused with its reason.
+"""The programs of python/data/programs/awkward: each is recorded as it ran, or refused with its reason.
 
 What is recorded is given to `deferreds`, which prints the same lines, or parts from them at the entry that is named.
 """
@@ -30,7 +30,7 @@ from deferreds.twisted.recording.saying import Said
 from deferreds.twisted.running import be_quiet, run
 from deferreds.twisted.telling import KINDS
 
-PROGRAMS = Path(__file__).resolve().parent.parent / "data" / "programs" / "virtual"
+PROGRAMS = Path(__file__).resolve().parent.parent / "data" / "programs" / "awkward"
 
 DEEP = "bodies are nested too deep"
 TURNS = "a turn ran more than once, and did something else"
