@@ -9,9 +9,11 @@ prints how much slower a program is that is recorded.
 from __future__ import annotations
 
 import argparse
+import contextlib
 import os
 import sys
-from typing import List
+import tempfile
+from typing import Iterator, List, Optional, Sequence
 
 import twisted
 
@@ -83,11 +85,36 @@ def _module(name: str, program: object) -> List[Measured]:
 
 
 def _run(arguments: argparse.Namespace) -> int:
-    program = ours(arguments.ours.split() if arguments.ours else None)
+    program = ours(_command(arguments.ours))
+    with _folder_for_files():
+        return _measure(arguments.modules or MODULES, program)
+
+
+def _command(words: Optional[str]) -> Optional[List[str]]:
+    """The command, whose path doesn't depend on the folder."""
+    command = words.split() if words else []
+    if command and os.sep in command[0]:
+        command[0] = os.path.abspath(command[0])
+    return command or None
+
+
+@contextlib.contextmanager
+def _folder_for_files() -> Iterator[None]:
+    """Has tests leave their files in a folder that is removed."""
+    before = os.getcwd()
+    with tempfile.TemporaryDirectory() as folder:
+        os.chdir(folder)
+        try:
+            yield
+        finally:
+            os.chdir(before)
+
+
+def _measure(modules: Sequence[str], program: object) -> int:
     everything: List[Measured] = []
     failing: List[str] = []
     print(f"Twisted {twisted.__version__}, Python {sys.version.split()[0]}\n\n{_HEADER}", flush=True)
-    for module in arguments.modules or MODULES:
+    for module in modules:
         measured = _module(module, program)
         failing += _failing(module, measured)
         everything += measured
