@@ -16,7 +16,7 @@ from deferreds.twisted.commands import record
 from deferreds.twisted.recording.places import line_of
 
 _PROGRAM = """
-    from helper import made
+    from maker import made
     from twisted.internet import defer, task
     from twisted.internet.defer import Deferred
 
@@ -47,7 +47,7 @@ _PROGRAM = """
     defer.succeed(1).chainDeferred(Deferred())
 """
 
-_HELPER = """
+_MAKER = """
     from twisted.internet.defer import Deferred
 
     def made():
@@ -67,7 +67,7 @@ class PlacesTest(unittest.TestCase):
         room = tempfile.TemporaryDirectory()
         cls.addClassCleanup(room.cleanup)
         cls.folder = Path(room.name).resolve()
-        for name, text in (("program.py", _PROGRAM), ("helper.py", _HELPER)):
+        for name, text in (("program.py", _PROGRAM), ("maker.py", _MAKER)):
             (cls.folder / name).write_text(textwrap.dedent(text), encoding="utf-8")
         ran = subprocess.run(
             [sys.executable, "-m", "deferreds.twisted", "record", "-o", "run", "program.py"],
@@ -87,7 +87,7 @@ class PlacesTest(unittest.TestCase):
         """The line of the program at a place, which is in this file."""
         number, line = place
         self.assertEqual(self.places["files"][number], str(self.folder / file))
-        return textwrap.dedent(_PROGRAM if file == "program.py" else _HELPER).splitlines()[line - 1].strip()
+        return textwrap.dedent(_PROGRAM if file == "program.py" else _MAKER).splitlines()[line - 1].strip()
 
     def at(self, *action: object) -> List[str]:
         """The lines of the events that begin with these words."""
@@ -127,11 +127,11 @@ class PlacesTest(unittest.TestCase):
         self.assertEqual(self.line(deferreds[first]), "d = Deferred()")
         acquired = next(event[1] for event in self.script["events"] if event[0] == "acquire")
         self.assertEqual(self.line(deferreds[acquired]), "token = lock.acquire()")
-        made = [name for name, (number, _) in deferreds.items() if self.places["files"][number].endswith("helper.py")]
-        self.assertEqual([self.line(deferreds[name], "helper.py") for name in made], ["return Deferred()"] * 2)
+        made = [name for name, (number, _) in deferreds.items() if self.places["files"][number].endswith("maker.py")]
+        self.assertEqual([self.line(deferreds[name], "maker.py") for name in made], ["return Deferred()"] * 2)
 
     def test_a_file_is_named_once_and_none_is_twisteds(self) -> None:
-        self.assertEqual(sorted(self.places["files"]), [str(self.folder / name) for name in ("helper.py", "program.py")])
+        self.assertEqual(sorted(self.places["files"]), [str(self.folder / name) for name in ("maker.py", "program.py")])
 
 
 class LineTest(unittest.TestCase):
