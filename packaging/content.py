@@ -4,7 +4,7 @@ from __future__ import annotations
 
 import platform
 import sys
-from typing import List
+from typing import Dict, List
 
 from archives import File, files_below
 from project import TOP, Project
@@ -47,12 +47,17 @@ def program() -> bytes:
 
 def about(project: Project) -> List[File]:
     """What a folder `.dist-info` says of the project, but for the wheel."""
-    scripts = "".join(f"{name} = {call}\n" for name, call in sorted(project.scripts.items()))
+    groups = {"console_scripts": project.scripts, **project.entry_points}
     return [
         File("METADATA", metadata(project)),
-        File("entry_points.txt", f"[console_scripts]\n{scripts}".encode()),
+        File("entry_points.txt", "\n".join(map(_group, groups, groups.values())).encode()),
         File(_LICENSE, (TOP / _LICENSE).read_bytes()),
     ]
+
+
+def _group(name: str, points: Dict[str, str]) -> str:
+    """A group of entry points."""
+    return f"[{name}]\n" + "".join(f"{point} = {target}\n" for point, target in sorted(points.items()))
 
 
 def metadata(project: Project) -> bytes:

@@ -12,6 +12,7 @@ TOP = Path(__file__).resolve().parents[1]
 PYPROJECT = TOP / "pyproject.toml"
 
 _TABLE = "project"
+_POINTS = f"{_TABLE}.entry-points."
 
 
 class Project(NamedTuple):
@@ -28,6 +29,8 @@ class Project(NamedTuple):
     extras: Dict[str, List[str]]
     #: the function that each command calls
     scripts: Dict[str, str]
+    #: by the names of their groups, what other programs find in this project
+    entry_points: Dict[str, Dict[str, str]]
 
     @property
     def stem(self) -> str:
@@ -49,6 +52,9 @@ def read(path: Path = PYPROJECT) -> Project:
         keywords=own["keywords"],
         extras=tables[f"{_TABLE}.optional-dependencies"],
         scripts=tables[f"{_TABLE}.scripts"],
+        entry_points={
+            name[len(_POINTS) :]: table for name, table in tables.items() if name.startswith(_POINTS)
+        },
     )
 
 

@@ -19,6 +19,7 @@ _INSTALLED = {
     "deferreds": "deferreds",
     "on_twisted": "python3 -m deferreds.twisted on_twisted",
     "record": "deferreds-record",
+    "trial": "deferreds-trial",
     "view": "deferreds-view",
 }
 

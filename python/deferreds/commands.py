@@ -29,6 +29,11 @@ def conform() -> int:
     return run_on_twisted("conform", sys.argv[1:])
 
 
+def trial() -> int:
+    """`deferreds-trial`."""
+    return run_on_twisted("trial", sys.argv[1:])
+
+
 def run_on_twisted(name: str, words: List[str]) -> int:
     """Runs a command that needs Twisted, or says that it isn't there or isn't known."""
     try:

@@ -106,7 +106,7 @@ class FromTheWheel(InstalledTest):
 
     def test_where_twisted_is_missing_one_line_says_so(self) -> None:
         wanted = "needs Twisted, from 22.4 on: pip install 'deferreds[record]', or apt-get install python3-twisted"
-        for words in (("deferreds-record", "--help"), ("deferreds-conform", "--rows", "--", "true")):
+        for words in (("deferreds-record", "--help"), ("deferreds-trial", "--help"), ("deferreds-conform", "--rows", "--", "true")):
             ran = run(self.bin / words[0], *words[1:], cwd=self.empty)
             self.assert_refused(ran, 70, f"{words[0]}: {wanted}\n")
 

@@ -3,6 +3,7 @@
 from __future__ import annotations
 
 import base64
+import configparser
 import csv
 import hashlib
 import io
@@ -89,8 +90,12 @@ class Bytes(PackagingTest):
         self.assertEqual([said[name] for name in names], [project[key] for key in keys])
         self.assertEqual(said.get_all("Requires-Dist"), ['Twisted>=22.4; extra == "record"'])
         self.assertEqual(project["optional-dependencies"], {"record": ["Twisted>=22.4"]})
-        scripts = self.archive.read(f"{ABOUT}/entry_points.txt").decode().splitlines()
-        self.assertEqual(scripts[1:], [f"{name} = {call}" for name, call in project["scripts"].items()])
+        points = configparser.ConfigParser(delimiters="=")
+        points.read_string(self.archive.read(f"{ABOUT}/entry_points.txt").decode())
+        groups = {"console_scripts": project["scripts"], **project["entry-points"]}
+        self.assertEqual({name: dict(points[name]) for name in points.sections()}, groups)
+        for target in project["entry-points"]["pytest11"].values():
+            self.assertIn(f"{target.replace('.', '/')}.py", self.archive.namelist())
         self.assertEqual(pyproject["build-system"]["requires"], [])
 
 

@@ -81,6 +81,10 @@ class RecordingCase(unittest.TestCase):
         """What stands in the folder."""
         return sorted(os.listdir(self.folder))
 
+    def scripts(self) -> List[str]:
+        """The names of the recordings that have a script."""
+        return [name[: -len(".json")] for name in self.files() if name.endswith(".json") and not name.endswith(".places.json")]
+
     def text(self, name: str) -> str:
         """What a file of the folder holds."""
         return (self.folder / name).read_text(encoding="utf-8")

@@ -14,8 +14,8 @@ from typing import List, NamedTuple, Optional
 from unittest import mock
 
 from deferreds.twisted.commands import conform
-from deferreds.twisted.conforming import Progress, Tally
 from deferreds.twisted.comparing import Difference
+from deferreds.twisted.conforming import Progress, Tally
 from deferreds.twisted.programs import MOST_LATE, MOST_UNANSWERED, Lack
 
 #: more than any of these tests takes
@@ -231,17 +231,22 @@ class WaitingTest(ConformTest):
 
     def test_a_command_that_never_answers_is_told_with_the_script(self) -> None:
         number = self.folder / "number"
-        command = self.shell(f"cat >/dev/null; echo 'note \"a\"'; sleep {_LONG} & echo $! >{number}; wait")
+        hangs = f"""*'"b"'*) echo 'note "a"'; sleep {_LONG} & echo $! >{number}; wait;;"""
+        command = self.shell(f"""case $(cat) in {hangs} *) echo 'note "a"';; esac""")
         start = time.monotonic()
-        ran = conforming("--rows", "--timeout", "1", "--", command)
+        ran = conforming("--rows", "--timeout", "5", "--", command)
         self.assertLess(time.monotonic() - start, _LONG / 2)
         self.assertEqual(ran.status, 1)
         self.assertIn(
             'small.rows: two notes: line 2 differs\n  deferreds: note "b"\n'
-            '  command:   (no answer within 1 seconds)\n  {"version":1,"events":[["note","a"],["note","b"]]}\n',
+            '  command:   (no answer within 5 seconds)\n  {"version":1,"events":[["note","a"],["note","b"]]}\n',
             ran.output,
         )
-        self.assertFalse(is_running(int(number.read_text(encoding="utf-8"))))
+        last = int(number.read_text(encoding="utf-8"))
+        until = time.monotonic() + _LONG / 2
+        while is_running(last) and time.monotonic() < until:  # a killed process ends when it is its turn
+            time.sleep(0.02)
+        self.assertFalse(is_running(last))
 
     def test_after_some_in_a_row_no_more_are_asked(self) -> None:
         ran = conforming("--rows", "--timeout", "0.2", "--", self.shell(f"exec sleep {_LONG}"))
@@ -317,10 +322,10 @@ class ManyTest(ConformTest):
     def test_one_that_never_answers_is_told_with_the_script(self) -> None:
         answer = f"""__import__('time').sleep({_LONG}) if b'"b"' in script else print('0 9 0\\nnote "a"')"""
         start = time.monotonic()
-        ran = conforming("--rows", "--many", "--timeout", "5", "--", self.many(answer))
+        ran = conforming("--rows", "--many", "--timeout", "10", "--", self.many(answer))
         self.assertLess(time.monotonic() - start, _LONG / 2)
         self.assertIn(
-            "  command:   (no answer within 5 seconds)\n"
+            "  command:   (no answer within 10 seconds)\n"
             '  {"version":1,"events":[["note","a"],["note","b"]]}\n',
             ran.output,
         )

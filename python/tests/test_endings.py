@@ -4,7 +4,9 @@ from __future__ import annotations
 
 import contextlib
 import os
+import re
 import signal
+import subprocess
 import unittest
 from pathlib import Path
 from typing import List, Optional
@@ -33,7 +35,7 @@ class Words(RecordingCase):
             with self.subTest(words=words):
                 ended = self.record("-o", "run", *words, "--reporter=text", "-o", "x", "--view")
                 self.assertEqual((ended.status, ended.printed), (0, "['--reporter=text', '-o', 'x', '--view']\n"), ended.said)
-                self.assertEqual(self.files(), ["run.journal", "run.json", "run.recording", "settings.py"])
+                self.assertEqual(self.files(), ["run.journal", "run.json", "run.places.json", "run.recording", "settings.py"])
 
     def test_all_words_after_the_program_are_its_own(self) -> None:
         ended = self.record("-o", "run", "configured.py", "-m", "x", "--view", "--", "-f")
@@ -44,11 +46,20 @@ class Words(RecordingCase):
         self.copied("configured.py", "package/inner.py")
         self.record("configured.py")
         self.record("-m", "package.inner")
-        self.assertEqual([name for name in self.files() if name.endswith(".json")], ["configured.json", "inner.json"])
+        self.assertEqual(self.scripts(), ["configured", "inner"])
 
     def test_two_of_program_module_and_test_are_one_too_many(self) -> None:
         ended = self.record("--test", "a.b.c", "configured.py")
         self.assertEqual((ended.status, ended.said.count("\n")), (64, 1), ended.said)
+
+    def test_a_package_that_cant_be_run(self) -> None:
+        (self.folder / "package").mkdir()
+        (self.folder / "package" / "__init__.py").touch()
+        ended = self.record("-m", "package")
+        self.assertEqual((ended.status, ended.said.count("\n")), (66, 1), ended.said)
+        (self.folder / "package" / "__main__.py").write_text("from twisted.internet import defer\ndefer.succeed(1)\n", encoding="utf-8")
+        self.assertEqual(self.record("-m", "package").status, 0)
+        self.assert_goes_together("package")
 
     def test_a_script_on_the_path_is_found(self) -> None:
         (self.folder / "bin").mkdir()
@@ -68,7 +79,7 @@ class Files(RecordingCase):
 
     def test_a_name_is_taken_in_the_folder_of_the_start(self) -> None:
         ended = self.record("-o", "run", "chdir.py")
-        self.assertEqual((ended.status, self.files()), (0, ["run.journal", "run.json", "run.recording"]), ended.said)
+        self.assertEqual((ended.status, self.files()), (0, ["run.journal", "run.json", "run.places.json", "run.recording"]), ended.said)
 
     def test_a_file_of_somebody_else_is_not_overwritten(self) -> None:
         self.copied("configured.py", "service.py")
@@ -83,7 +94,7 @@ class Files(RecordingCase):
     def test_a_recording_is_overwritten_as_long_as_it_is_as_it_was_written(self) -> None:
         self.assertEqual(self.record("-o", "run", "--view", "configured.py").status, 0)
         self.assertEqual(self.record("-o", "run", "os_exit.py", "0").status, 0)
-        self.assertEqual(self.files(), ["run.journal", "run.json", "run.recording"], "the page of the other run is gone")
+        self.assertEqual(self.files(), ["run.journal", "run.json", "run.places.json", "run.recording"], "the page of the other run is gone")
         with (self.folder / "run.journal").open("a", encoding="utf-8") as file:
             file.write("what somebody has noted\n")
         ended = self.record("-o", "run", "configured.py")
@@ -107,7 +118,7 @@ class Files(RecordingCase):
         ended = self.record("-o", "run", "--view", "limits_files.py", "4096")
         self.assertEqual(ended.status, 73, ended.said)
         self.assertIn("run.html can't be written: File too large\n", ended.said)
-        self.assertEqual(self.files(), ["run.journal", "run.json", "run.recording"])
+        self.assertEqual(self.files(), ["run.journal", "run.json", "run.places.json", "run.recording"])
         self.assert_goes_together("run")
 
     def test_a_folder_that_has_gone_is_replaced_by_that_for_temporary_files(self) -> None:
@@ -208,7 +219,7 @@ class Ends(RecordingCase):
     def test_a_forked_child_writes_files_of_its_own(self) -> None:
         ended = self.record("forks.py")
         self.assertEqual(ended.status, 0, ended.said)
-        scripts = [name.removesuffix(".json") for name in self.files() if name.endswith(".json")]
+        scripts = self.scripts()
         self.assertEqual(len(scripts), 2, scripts)
         for name in scripts:
             self.assert_goes_together(name)
@@ -310,14 +321,64 @@ class Asked(RecordingCase):
         self.ask("itself")
 
 
+class InCalls(RecordingCase):
+    """Programs that end, or are asked, in the midst of what the real reactor runs."""
+
+    def setUp(self) -> None:
+        super().setUp()
+        self.begun, self.goes_on = self.folder / "begun", self.folder / "goes_on"
+
+    def wait_in_a_call(self) -> "subprocess.Popen[str]":
+        """Starts the program, and waits until it is in the second call of one advance."""
+        process = self.start("waits_in_a_call.py", str(self.begun), str(self.goes_on))
+        self.wait_for(self.begun.exists, "the call")
+        return process
+
+    def assert_of_the_beginning(self) -> None:
+        """The script ends before the advance that runs both calls, since that hasn't ended."""
+        self.assert_goes_together("waits_in_a_call")
+        journal = self.text("waits_in_a_call.journal")
+        self.assertIn('ok "start"', journal)
+        self.assertNotIn('ok "first"', journal)
+        self.assertIn('ok "second"', self.text("waits_in_a_call.whole.journal"))
+
+    def test_a_signal_in_the_midst_of_an_advance(self) -> None:
+        process = self.wait_in_a_call()
+        process.send_signal(signal.SIGHUP)
+        ended = self.end(process)
+        self.assertEqual(ended.status, -signal.SIGHUP, ended.said)
+        self.assert_of_the_beginning()
+        self.assertRegex(ended.said, "the script is of the first [0-9]+ of [0-9]+ events, since an event was under way at the end")
+
+    def test_what_is_asked_in_the_midst_of_an_advance(self) -> None:
+        process = self.wait_in_a_call()
+        process.send_signal(signal.SIGUSR1)
+        self.wait_for((self.folder / "waits_in_a_call.recording").exists, "the run so far")
+        self.assert_of_the_beginning()
+        self.goes_on.touch()
+        ended = self.end(process)
+        self.assertEqual(ended.status, 0, ended.said)
+        self.assert_goes_together("waits_in_a_call")
+        journal = self.text("waits_in_a_call.journal")
+        self.assertLess(journal.index('ok "second"'), journal.index('ok "third"'))
+        self.assertFalse((self.folder / "waits_in_a_call.whole.journal").exists())
+
+    def test_a_run_with_times_that_is_too_large_is_cut_at_an_event(self) -> None:
+        ended = self.record("large_calls.py")
+        self.assertEqual(ended.status, 0, ended.said)
+        self.assert_goes_together("large_calls")
+        made = [len(re.findall('fire #[0-9]+ ok \\["A', self.text(f"large_calls.{kind}"))) for kind in ("journal", "whole.journal")]
+        self.assertEqual(made, [5, 8])
+
+
 class Limits(RecordingCase):
     """Runs that are larger than a script may be."""
 
     def test_the_script_is_of_the_longest_beginning(self) -> None:
         for words, reason, events in (
-            (("12000", "0", "65"), "the script has more nodes than one may have", 18_723),
-            (("12", "50000", "65"), "the journal weighs more than a script's may", 7),
-            (("6", "30000", "1"), "the script is longer than one may be", 11),
+            (("12000", "0", "0", "65"), "the script has more nodes than one may have", 18_723),
+            (("12", "190", "200", "65"), "the journal weighs more than a script's may", 11),
+            (("6", "190", "160", "1"), "the script is longer than one may be", 11),
         ):
             with self.subTest(reason=reason):
                 ended = self.record("-o", "run", "--view", "large.py", *words)

@@ -25,6 +25,7 @@ WORDS = {
     "on_twisted": [],
     "record": ["-o", "/nowhere/run", __file__],
     "recorded_rows": ["--check"],
+    "trial": ["--deferreds-record", "/nowhere/run", __name__],
 }
 
 #: has a command be run where something is otherwise in Twisted

@@ -3,6 +3,7 @@
 from __future__ import annotations
 
 import json
+import math
 import os
 import subprocess
 import sys
@@ -11,7 +12,7 @@ import unittest
 from pathlib import Path
 from typing import Any, Callable, List
 
-from twisted.internet import defer, task
+from twisted.internet import defer, reactor, task
 from twisted.python.failure import Failure
 
 from deferreds.twisted.instruments import install
@@ -299,6 +300,7 @@ class Command(unittest.TestCase):
             cases = (
                 ((), 64),
                 (("--plain", "nothing", "program.py"), 64),
+                (("--redact", "some", "program.py"), 64),
                 (("nosuch.py",), 66),
                 (("-m", "nosuch"), 66),
                 (("-m", "nosuch.below"), 66),
@@ -343,12 +345,43 @@ class Refused(unittest.TestCase):
         places = [problem.place for problem in problems if problem.place]
         self.assertTrue(all("test_recording.py:" in place for place in places), places)
 
-    def test_a_value_that_holds_a_failure(self) -> None:
-        def program() -> None:
-            failed = defer.fail(ValueError("no"))
-            failed.addErrback(lambda failure: [failure])
+    def test_a_failure_that_is_put_into_a_queue(self) -> None:
+        self.assert_refused(lambda: defer.DeferredQueue().put(Failure(ValueError("no"))), "a Failure is a value")
 
-        self.assert_refused(program, "a value that holds a Failure is made by the program")
+    def test_a_delay_that_is_too_long_for_the_unit_of_the_others(self) -> None:
+        def program() -> None:
+            clock = task.Clock()
+            clock.callLater(30 * 24 * 3600, lambda: None)
+            clock.callLater(0.000001, lambda: None)
+
+        def on_reactor() -> None:
+            real: Any = reactor
+            for seconds in (30 * 24 * 3600, 0.000001):
+                real.callLater(seconds, lambda: None).cancel()
+
+        for each in (program, on_reactor):
+            self.assert_refused(each, "a delay of 2.592e+06 seconds, where the other times need ticks of 1 µs")
+
+    def test_a_delay_that_has_no_end(self) -> None:
+        def scheduled() -> None:
+            real: Any = reactor
+            real.callLater(math.inf, lambda: None).cancel()
+
+        def moved() -> None:
+            for clock in (task.Clock(), reactor):
+                with_time: Any = clock
+                call = with_time.callLater(1, lambda: None)
+                call.reset(math.inf)
+                call.cancel()
+
+        def looping() -> None:
+            loop = task.LoopingCall(lambda: None)
+            loop.start(math.inf)
+            loop.stop()
+
+        self.assert_refused(scheduled, "a delay that is no number from 0")
+        self.assert_refused(moved, "a delayed call is moved by what is no number of seconds (reset)")
+        self.assert_refused(looping, "a delay that is no number from 0")
 
     def test_turns_that_do_something_else_each_time(self) -> None:
         def program() -> None:

@@ -1,9 +1,9 @@
-"""Makes as many Deferreds as its first word says, each with a value of so many of a character as the others say."""
+"""Makes as many Deferreds as its first word says, each with a list of so many texts, of so many of a character, as the others say."""
 
 import sys
 
 from twisted.internet import defer
 
-count, length, character = sys.argv[1:]
-for number in range(int(count)):
-    defer.succeed(chr(int(character)) * int(length))
+count, texts, length, character = map(int, sys.argv[1:])
+for number in range(count):
+    defer.succeed([chr(character) * length] * texts)

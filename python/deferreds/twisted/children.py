@@ -28,7 +28,7 @@ class Came(enum.Enum):
 
 
 class Child:
-    """A process with pipes, in a session of its own, so that what it has started can be ended with it.
+    """A process with pipes, in a group of processes of its own, so that what it has started can be ended with it.
 
     Raises OSError where the command can't be run.
     """
@@ -110,7 +110,7 @@ class Child:
         self._close(self._process.stdout, self._process.stderr)
 
     def kill(self) -> None:
-        """Kills it, and all that it has started in its session."""
+        """Kills it, and all that it has started in its group."""
         self.interrupt()
         self.wait(_SECONDS_TO_END)
         self._close(self._input, self._process.stdout, self._process.stderr)

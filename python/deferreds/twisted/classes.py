@@ -93,26 +93,35 @@ class Classes:
         return failure
 
 
+#: what an error has beside its message; a class of the program's may say something else of its `__dict__`
+_attributes: Callable[[BaseException], Dict[str, Any]] = BaseException.__dict__["__dict__"].__get__
+
+_MESSAGE = "_dv_message"
+
+
 def set_message(failure: BaseException, message: str) -> None:
     """Has a failure that Twisted made show this message, where it shows none of its own yet."""
-    if not hasattr(failure, "_dv_message"):
-        vars(failure)["_dv_message"] = message
+    _attributes(failure).setdefault(_MESSAGE, message)
 
 
-def message_of(failure: BaseException) -> str:
-    """The message that the journal shows for a failure."""
-    own: Any = vars(failure).get("_dv_message")
-    if own is not None:
-        return str(own)
-    if isinstance(failure, RecursionError):
+def message_of(failure: BaseException, ask: Callable[[BaseException], str]) -> str:
+    """The message that the journal shows for a failure, which is asked for once."""
+    attributes = _attributes(failure)
+    own = attributes.get(_MESSAGE)
+    if own is None:
+        own = attributes[_MESSAGE] = ask(failure)
+    return str(own)
+
+
+def own_message(failure: BaseException) -> Optional[str]:
+    """The message of a failure that isn't the text of its error; None, where it is that."""
+    kind = type(failure)
+    if issubclass(kind, RecursionError):
         return ""  # Python says where the stack ended, which is another place in each run
-    if _is_twisteds(type(failure)):
-        first = failure.args[0] if failure.args else ""
-        return clean(first) if isinstance(first, str) else ""
-    try:
-        return clean(str(failure))
-    except Exception:
-        return "<unprintable>"
+    if not _is_twisteds(kind):
+        return None
+    first = failure.args[0] if failure.args else ""
+    return clean(first) if isinstance(first, str) else ""
 
 
 def _is_twisteds(cls: PyClass) -> bool:
@@ -122,6 +131,7 @@ def _is_twisteds(cls: PyClass) -> bool:
 
 def clean(text: str) -> str:
     """The text, with a question mark in place of what UTF-8 can't say."""
-    if text.isascii():
-        return text
-    return text.encode("utf-8", "replace").decode("utf-8")
+    plain = str.__str__(text)
+    if plain.isascii():
+        return plain
+    return plain.encode("utf-8", "replace").decode("utf-8")

@@ -180,7 +180,7 @@ class _Reply:
         end = self._data.find(b"\n")
         if end < 0 and len(self._data) <= _MOST_HEAD:
             return
-        line = bytes(self._data[: end if end >= 0 else _MOST_HEAD])
+        line = bytes(self._data[: end if 0 <= end < _MOST_HEAD else _MOST_HEAD])
         try:
             numbers = [int(part) for part in line.split()]
         except ValueError:

@@ -4,12 +4,18 @@ The instruments (`deferreds.twisted.instruments`) change Twisted's classes so th
 observer that is on, and is done by Twisted's own code. Where no observer is on they change nothing.
 
 A call from the program into Twisted is an *action*. What the program is called back for is a *body*. While Twisted's own
-code performs an action the observer is `quiet`: lines are told, and what Twisted calls is no action of the program's.
+code performs an action the observer is `quiet`: lines are told, and what Twisted calls is no action of the program's. What
+a finalizer of the program's calls meanwhile is one all the same, so whether the observer is quiet is asked where it matters.
 """
 
 from __future__ import annotations
 
 import contextlib
+import sys
+import threading
+import weakref
+from fractions import Fraction
+from threading import get_ident
 from typing import (
     Any,
     Callable,
@@ -18,9 +24,12 @@ from typing import (
     Iterator,
     List,
     Mapping,
+    NamedTuple,
     Optional,
     Sequence,
+    Set,
     Tuple,
+    TypeVar,
     Union,
 )
 
@@ -33,18 +42,49 @@ from .texts import NULL, Outcome, Text, Texts
 
 #: the kinds of objects that the language has, each of which can be told as such or as the Python that it is made of
 KINDS = frozenset(
-    {"maybe", "list", "lock", "queue", "clock", "timer", "loop", "cooperator", "inline"}
+    {"maybe", "list", "lock", "queue", "clock", "timer", "loop", "cooperator", "inline", "thread"}
 )
 
 
-class _Twisted:
-    """Twisted, as it is watched."""
+class _Twisted(threading.local):
+    """Twisted, as it is watched in a thread."""
 
     #: the observer that is on, if any
     observer: Optional["Observer"] = None
+    #: whether one is at rest: what is scheduled now is none of the program's, and is watched by nobody when it runs
+    is_resting = False
 
 
 watched = _Twisted()
+
+
+#: the observers that are on, in any thread
+_on: List["Observer"] = []
+
+
+def _take_off(observer: "Observer") -> None:
+    """Has an observer, or the one that has taken over from it, be on no more."""
+    for other in [other for other in _on if other.lineage is observer.lineage]:
+        _on.remove(other)
+        other.is_on = False
+
+
+def count_elsewhere() -> None:
+    """Counts a Deferred that is made where no observer is on, for those that are on in other threads."""
+    for observer in _on:
+        if observer.thread != get_ident():
+            observer.elsewhere += 1
+
+
+def refuse_elsewhere(deferred: Any) -> None:
+    """A Deferred is used where no observer is on: one that is told must not be used in another thread."""
+    known: Optional[Tuple[Union[Observer, Settled], Record]] = deferred._dv_record
+    if known is None:
+        return
+    lineage = (known[0].observer if isinstance(known[0], Settled) else known[0]).lineage
+    for observer in _on:
+        if observer.lineage is lineage and observer.thread != get_ident():
+            observer.problem("a Deferred of the program is used in another thread")
 
 
 def observer_of(kind: str) -> Optional["Observer"]:
@@ -62,6 +102,23 @@ def is_deferred(value: object) -> bool:
     if _waited_for is None:
         return Deferred in type(value).__mro__
     return type(value) in _waited_for
+
+
+def is_dead_reference(value: object) -> bool:
+    """Whether it is a weak reference to what is gone, which callbacks of such references are given."""
+    return type(value) is weakref.ReferenceType and value() is None
+
+
+_Function = TypeVar("_Function", bound=Callable[..., Any])
+
+#: the code objects, by their ids, of the functions between which and what they call an observer may be quiet
+switches: Set[int] = set()
+
+
+def switching(function: _Function) -> _Function:
+    """The function, which sets whether Twisted's own code acts."""
+    switches.add(id(getattr(function, "__code__")))
+    return function
 
 
 class Record:
@@ -89,8 +146,8 @@ class Record:
     #: of an inline body: its frame
     body: Optional["Frame"] = None
     made_in: Optional["Frame"] = None
-    #: the function and the line of the program where it was made, by which it is named
-    made_at: Optional[Tuple[str, Optional[int]]] = None
+    #: where in the program it was made, by which it is named
+    made_at: Optional[Tuple[Any, ...]] = None
     alias: Optional["Record"] = None
     helper = False
 
@@ -131,12 +188,20 @@ class Thing:
         return self.name
 
 
+class Pool(NamedTuple):
+    """A pool of threads that has a name: at most so many of them do its jobs."""
+
+    threads: object
+    thing: Thing
+    workers: int
+
+
 class Time:
     """A part of a line: a time of the clock, in the program's seconds."""
 
     __slots__ = ("seconds",)
 
-    def __init__(self, seconds: float) -> None:
+    def __init__(self, seconds: Union[float, Fraction]) -> None:
         self.seconds = seconds
 
 
@@ -151,6 +216,19 @@ class Action(List[Any]):
     caught = False
     #: the Deferred of the inline body in which such a one is told
     helper: Optional[Record] = None
+
+
+class Advance(Action):
+    """The action by which time goes on to what the reactor runs, or to what comes from elsewhere.
+
+    Among the parts of lines it is a whole line. Whether it is told, and with what times, is known when the run is over.
+    """
+
+    def __init__(self) -> None:
+        self.to = Time(0)
+        self.by = Time(0)
+        self.is_told = False
+        super().__init__(["advance", self.by])
 
 
 class Failed:
@@ -184,9 +262,14 @@ def weight(line: Line) -> int:
 class Frame:
     """A run of a body: `kind` is the kind of body, or `event` for the program itself."""
 
+    #: how it ended, where that is noted, and of an inline body whether its end was told
+    end: Any = None
+    has_fired = False
     #: of an inline body
     record: Optional[Record] = None
     awaits: Optional[Deferred[Any]] = None
+    #: the run in which it was begun, or gone on with
+    outer: Optional["Frame"] = None
     #: what it awaited last had
     present: Optional[Outcome] = None
     #: whether a Deferred that is made now has no name
@@ -212,6 +295,12 @@ class Expected:
         self.made = made
 
 
+class Settled(NamedTuple):
+    """In place of the observer that knows a Deferred: that it is told as settled, though Twisted keeps its failure in it."""
+
+    observer: "Observer"
+
+
 _NOTHING = Expected()
 _NO_KEYWORDS: Mapping[str, Any] = {}
 
@@ -222,14 +311,15 @@ class Observer:
     def __init__(self, kinds: frozenset[str] = KINDS) -> None:
         self.kinds = kinds
         self.classes = Classes()
-        self.texts = Texts(self.classes)
+        self.texts: Texts = Texts(self.classes)
         #: the parts of all lines, each line followed by None. No line is an object of its own, since Python's collector
         #: of garbage goes over all objects again and again
         self.parts: List[Optional[Part]] = []
         self.records: List[Record] = []
         self.top = Frame("event")
         self.frame = self.top
-        self.quiet = False
+        #: whether Twisted's own code performs an action; where it doesn't, nobody has to ask whether this is `quiet`
+        self.acting = False
         #: the Deferred to which a cancel is being passed on along a wait
         self.forwarded: Optional[Deferred[Any]] = None
         #: what the body that has ended last gave, where it was asked for
@@ -242,7 +332,17 @@ class Observer:
         #: what the instruments of a kind keep of this run
         self.clock: Optional[Any] = None
         self.clock_base = 0.0
+        #: the told time, where the clock is a real reactor
+        self.pace: Any = None
         self.cooperator: Optional[Any] = None
+        self.jobs = 0
+        self.pools: List[Pool] = []
+        #: one object for all observers that take over from each other
+        self.lineage: object = object()
+        #: whether it is on in its thread, and how many Deferreds were made in others meanwhile
+        self.is_on = False
+        self.thread = get_ident()
+        self.elsewhere = 0
         #: whether what is due is run after an error of a delayed call too, as under a reactor
         self.goes_on_after_errors = False
         #: the function after which the next Deferred is named, where that isn't the one that makes it
@@ -254,17 +354,42 @@ class Observer:
     def watching(self) -> Iterator["Observer"]:
         """Has Twisted be watched by this observer, and by no other."""
         before, watched.observer = watched.observer, self
+        was_on, self.is_on, self.thread = self.is_on, True, get_ident()
+        if not was_on:
+            _on.append(self)
         try:
             yield self
         finally:
+            if not was_on:
+                _take_off(self)
             watched.observer = before
+
+    def hand_over(self, following: "Observer") -> None:
+        """Has another observer watch from here on, in the place of this one."""
+        following.lineage, following.thread = self.lineage, self.thread
+        _on[_on.index(self)] = following
+        self.is_on, following.is_on = False, True
+        watched.observer = following
+
+    @property
+    def quiet(self) -> bool:
+        """Whether it is Twisted's own code that calls now, while it performs an action."""
+        return self.acting and not self.is_inside()
+
+    @quiet.setter
+    def quiet(self, quiet: bool) -> None:
+        self.acting = quiet
+        switches.add(id(sys._getframe(1).f_code))
+
+    def is_inside(self) -> bool:
+        """Whether the program calls though Twisted's own code performs an action."""
+        return False
 
     # lines
 
     def tell(self, *parts: Part) -> None:
         """Tells a line."""
-        self.parts.extend(parts)
-        self.parts.append(None)
+        self.parts.extend((*parts, None))
 
     def quirk(self, entry: Entry, place: Optional[int] = None) -> None:
         """Notes that Twisted does here, or where so many parts are told, what an entry of the profile names."""
@@ -272,6 +397,10 @@ class Observer:
 
     def problem(self, reason: str, kind: Optional[str] = None) -> None:
         """Notes what a script can't say: it may be told as the Python that objects of this kind are made of."""
+
+    def place(self) -> str:
+        """Where the program is, if that is known."""
+        return ""
 
     @contextlib.contextmanager
     def undoing(self, record: Record) -> Iterator[None]:
@@ -287,6 +416,10 @@ class Observer:
         if id(error) != self._told:
             self._told = id(error)
             self.tell("unhandled ", self.texts.failure(error))
+
+    def is_told(self, error: BaseException) -> bool:
+        """Whether this is the failure that was told last, by the event that happens."""
+        return id(error) == self._told
 
     # Deferreds
 
@@ -313,6 +446,19 @@ class Observer:
     def keep(self, deferred: Any, record: Record) -> None:
         """Has a Deferred be known by this record."""
         deferred._dv_record = (self, record)
+
+    def settle(self, deferred: Any, record: Record) -> None:
+        """Tells a pair that takes the failure of a Deferred, which Twisted keeps in it all the same."""
+        self.tell("add ", record)
+        self.tell("run ", record)
+        self.tell("set ", record, " ", NULL)
+        record.outcome = NULL
+        deferred._dv_record = (Settled(self), record)
+
+    def is_settled(self, deferred: Any) -> bool:
+        """Whether a Deferred is told as settled, though Twisted keeps its failure in it."""
+        known = deferred._dv_record
+        return known is not None and isinstance(known[0], Settled) and known[0].observer is self
 
     def locate(self, record: Record) -> None:
         """Notes where the program makes a Deferred, if it is named by that."""
@@ -379,13 +525,23 @@ class Observer:
 
     # actions and bodies
 
+    @switching
     def act(self, action: Action, call: Callable[..., Any], *args: Any) -> Any:
         """Performs a call of the program's into Twisted."""
-        quiet, self.quiet = self.quiet, True
+        acting, self.acting = self.acting, True
         try:
             return call(*args)
         finally:
-            self.quiet = quiet
+            self.acting = acting
+
+    @switching
+    def own(self, call: Callable[..., Any], *args: Any) -> Any:
+        """Has Twisted's own code run, as a part of an action that is performed or of a body that runs."""
+        acting, self.acting = self.acting, True
+        try:
+            return call(*args)
+        finally:
+            self.acting = acting
 
     def perform(
         self,
@@ -398,8 +554,8 @@ class Observer:
     ) -> Any:
         """Has the program do what it was called back for: a run of the body, on what it is given."""
         frame = self.begin_body(body, kind, given)
-        before, quiet = self.frame, self.quiet
-        self.frame, self.quiet = frame, False
+        before, acting = self.frame, self.acting
+        self.frame, self.acting = frame, False
         try:
             result = call(*args, **kwargs)
         except BaseException as error:
@@ -409,11 +565,15 @@ class Observer:
             self.end_body(frame, None, result, given)
             return result
         finally:
-            self.frame, self.quiet = before, quiet
+            self.frame, self.acting = before, acting
 
     def new_body(self, kind: str) -> Any:
         """A body that the program hands to Twisted."""
         return kind
+
+    def depth_of(self, body: Any) -> int:
+        """In how many others a body lies, as it is told."""
+        return 0
 
     def begin_body(
         self, body: Any, kind: str, given: Optional[Tuple[object, Outcome]]
@@ -457,6 +617,10 @@ class Observer:
     def value(self, outcome: Outcome) -> Any:
         """A value of the program's that is shown so, as an action of it has it."""
         return None
+
+    def raised(self, error: BaseException) -> Any:
+        """A failure, as the work of a job has it."""
+        return []
 
     def firing(self, record: Record, result: object, outcome: Outcome) -> Action:
         """The action that fires a Deferred with this, which is shown so."""

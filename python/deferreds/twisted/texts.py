@@ -4,12 +4,12 @@ from __future__ import annotations
 
 import json
 import weakref
-from typing import Any, Dict, Tuple, Union
+from typing import Any, Callable, Dict, Tuple, TypeVar, Union
 
 from twisted.internet.defer import FirstError
 from twisted.python.failure import Failure
 
-from .classes import Classes, clean, message_of
+from .classes import Classes, clean, message_of, own_message
 
 _LEAST, _MOST = -(2**63), 2**63 - 1
 
@@ -24,7 +24,8 @@ def compact(value: Shown) -> str:
     return str(value) if type(value) is int else _ENCODER.encode(value)
 
 
-_ENCODER = json.JSONEncoder(ensure_ascii=False, separators=(",", ":"))
+#: what isn't JSON is a named object, whose name may be settled later
+_ENCODER = json.JSONEncoder(ensure_ascii=False, separators=(",", ":"), default=str)
 
 
 def weight_of(value: Shown) -> int:
@@ -36,7 +37,7 @@ def weight_of(value: Shown) -> int:
     if isinstance(value, dict):
         own = 1 + len(value["message"].encode("utf-8"))
         return own + (weight_of(value["sub"]) if "sub" in value else 0)
-    return 1
+    return 1 if value is None or isinstance(value, int) else 1 + len(str(value))
 
 
 def failure_text(failure: Dict[str, Any]) -> str:
@@ -49,12 +50,6 @@ def failure_text(failure: Dict[str, Any]) -> str:
 
 class Copied(Exception):
     """An error of which a failure holds a text, since it was copied from another program."""
-
-
-def error_of(failure: Failure) -> BaseException:
-    """The error that a failure holds."""
-    error: object = failure.value
-    return error if isinstance(error, BaseException) else Copied(str(error))
 
 
 class Outcome:
@@ -91,6 +86,17 @@ class Outcome:
 NULL = Outcome(None)
 
 
+class Value(Outcome):
+    """A value alone, as JSON."""
+
+    __slots__ = ()
+
+    @property
+    def text(self) -> str:
+        """How a line shows it."""
+        return compact(self.value)
+
+
 class Text:
     """A part of a line that weighs: a value, a text or a failure."""
 
@@ -99,6 +105,9 @@ class Text:
     def __init__(self, text: str, weight: int) -> None:
         self.text = text
         self.weight = weight
+
+
+_Given = TypeVar("_Given")
 
 
 class Texts:
@@ -112,19 +121,22 @@ class Texts:
         self._named: Dict[int, Tuple[Any, Any]] = {}
         self._counts: Dict[str, int] = {}
 
+    def ask(self, call: Callable[[], _Given]) -> _Given:
+        """What code of the program's says of an object."""
+        return call()
+
     def outcome(self, value: object) -> Outcome:
         """What a Deferred that has this value shows."""
         return NULL if value is None else Outcome(self.shown(value))
 
     def failure(self, error: BaseException) -> Text:
         """An error, as the journal shows it."""
-        shown = self._error(error)
+        shown = self.error(error)
         return Text(failure_text(shown), weight_of(shown))
 
-    def value(self, value: object) -> Text:
+    def value(self, value: object) -> Value:
         """A value, as JSON."""
-        shown = self.shown(value)
-        return Text(compact(shown), weight_of(shown))
+        return Value(self.shown(value))
 
     def shown(self, value: Any, depth: int = 0) -> Shown:
         """A value in the language."""
@@ -133,30 +145,50 @@ class Texts:
             return value
         if kind is str:
             return clean(value)
-        if isinstance(value, int):
-            return int(value) if _LEAST <= value <= _MOST else f"<int {value}>"
-        if isinstance(value, str):
-            return clean("".join(value))
-        if isinstance(value, (list, tuple)) and depth < _DEEPEST:
-            items = list.__iter__(value) if isinstance(value, list) else tuple.__iter__(value)
-            return [self.shown(item, depth + 1) for item in items]
+        if kind in (list, tuple) and depth < _DEEPEST:
+            return [self.shown(item, depth + 1) for item in value]
         if isinstance(value, Failure):
-            return self._error(error_of(value), depth)
-        if isinstance(value, (float, complex, bytes)):
-            return clean(f"<{type(value).__name__} {value!r}>")
-        return self._object(value)
+            return self.error(self.error_of(value), depth)
+        return self.named(value)
 
-    def _error(self, error: BaseException, depth: int = 0) -> Dict[str, Any]:
-        name = self.classes.name_of(type(error))
-        message = message_of(error)
-        sub: Union[Failure, None] = getattr(error, "subFailure", None)
-        if not isinstance(error, FirstError) or sub is None or depth > _DEEPEST:
+    def error_of(self, failure: Failure) -> BaseException:
+        """The error that a failure holds."""
+        error: object = failure.value
+        return error if isinstance(error, BaseException) else Copied(self._copied(failure, error))
+
+    def _copied(self, failure: Failure, value: object) -> str:
+        """The text of what a failure holds in place of an error, which is asked for once."""
+        if type(value) is str:
+            return value
+        attributes = vars(failure)
+        if "_dv_copied" not in attributes:
+            attributes["_dv_copied"] = self.ask(lambda: clean(str(value)))
+        return str(attributes["_dv_copied"])
+
+    def error(self, error: BaseException, depth: int = 0) -> Dict[str, Any]:
+        """A failure of this error in the language."""
+        name, message = self.classes.name_of(type(error)), self.message(error)
+        sub: Union[Failure, None] = getattr(error, "subFailure", None) if isinstance(error, FirstError) else None
+        if sub is None or depth > _DEEPEST:
             return {"fail": name, "message": message}
-        below = self._error(error_of(sub), depth + 1)
-        return {"fail": name, "index": error.index, "message": message, "sub": below}
+        below = self.error(self.error_of(sub), depth + 1)
+        return {"fail": name, "index": getattr(error, "index"), "message": message, "sub": below}
+
+    def message(self, error: BaseException) -> str:
+        """The message of an error."""
+        return message_of(error, self._asked_message)
+
+    def _asked_message(self, error: BaseException) -> str:
+        own = own_message(error)
+        if own is not None:
+            return own
+        try:
+            return self.ask(lambda: clean(str(error)))
+        except Exception:
+            return "<unprintable>"
 
     def bind(self, thing: object, text: Any) -> None:
-        """Has an object shown as this text, or as the text of this object's name."""
+        """Has an object shown as this text, or as the name that this object has when the run is said."""
         key = id(thing)
         try:
             kept: Any = weakref.ref(thing, lambda _: self._named.pop(key, None))
@@ -164,11 +196,16 @@ class Texts:
             kept = thing
         self._named[key] = (kept, text)
 
-    def _object(self, thing: object) -> str:
+    def forget_kept(self) -> None:
+        """Forgets the objects that can't be forgotten when they go, and so are kept alive: each gets another text from now on."""
+        self._named = {key: named for key, named in self._named.items() if isinstance(named[0], weakref.ref)}
+
+    def named(self, thing: object) -> Any:
+        """An object, by its type and a number, or by what it is bound to."""
         known = self._named.get(id(thing))
         if known is None:
             kind = type(thing).__name__
             number = self._counts[kind] = self._counts.get(kind, 0) + 1
             self.bind(thing, clean(f"<{kind} {number}>"))
             known = self._named[id(thing)]
-        return str(known[1])
+        return known[1]

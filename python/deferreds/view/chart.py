@@ -6,7 +6,7 @@ from typing import Dict, Iterator, List, NamedTuple, Sequence, Tuple
 
 from .events import Events
 from .layout import CHUNK, SLOT, Lane, Lanes, Rows, Slot, SlotKind, chunks, text_width
-from .markup import Markup, attribute, isolated
+from .markup import Markup, attribute, isolated, placed
 from .records import By, Look, Record, Row, ended
 from .ruler import WIDTH as RULER
 from .ruler import Ruler, drawn_in, shown_time
@@ -74,6 +74,7 @@ class Chart:
         if slot.kind is SlotKind.HEAD:
             head, _, text = slot.text.partition("  ")
             shown = Html(f"  <b>{isolated(clipped(text, 160))}</b>") if text else Html("")
+            shown = Html(f"{shown}{self._at(self._run.fold.rows[slot.row])}")
             return Html(
                 f'<div class="row ev"><span class=n></span><span class=t>{escaped(head)}{shown}</span></div>'
             )
@@ -105,9 +106,13 @@ class Chart:
         tail = self._events.tail(row)
         cause = self._markup.said(row.cause, 80) if row.cause and not _shows_cause(row) else Html("")
         arrow_ = Html(f"← {cause}") if cause else Html("")
-        return Html(
-            "   ".join(filter(None, [arrow_, isolated(clipped(tail, _MOST_WHY)) if tail else Html("")]))
-        )
+        said = Html(f"{isolated(clipped(tail, _MOST_WHY))}{self._at(row)}") if tail else Html("")
+        return Html("   ".join(filter(None, [arrow_, said])))
+
+    def _at(self, row: Row) -> Html:
+        """Where in the program the event was performed that begins in this row."""
+        place = self._events.place(row)
+        return Html(f"  {placed(place)}") if place is not None else Html("")
 
     # the ruler
 

@@ -27,6 +27,7 @@ from ..ending import ended
 from ..program import NOT_RUN, NotRun, found
 from .facts import NotFacts, read_facts
 from .page import Page
+from .places import NOWHERE, SUFFIX, NotPlaces, Places, read_places
 from .run import Run, run_of_facts, run_of_journal
 from .scripts import Script
 from .terminal import Terminal
@@ -67,6 +68,14 @@ def _arguments(words: List[str]) -> argparse.Namespace:
         metavar="FILE",
         help=as_called("show what ./deferreds --json has told; SCRIPT may be the script of it"),
     )
+    add(
+        "--places",
+        metavar="FILE",
+        help=as_called(
+            "where in a program Deferreds were made and events performed, as ./record has told it "
+            "(NAME.places.json beside NAME.json or NAME.journal)"
+        ),
+    )
     add("--from", dest="first", type=int, metavar="N", help="the first line that the chart shows (1)")
     add("--to", dest="last", type=int, metavar="N", help="the last line (5000 lines at most)")
     add("scripts", nargs="*", metavar="SCRIPT", help="a script")
@@ -77,6 +86,9 @@ def _arguments(words: List[str]) -> argparse.Namespace:
     numbers = [number for number in (parsed.first, parsed.last) if number is not None]
     if min(numbers, default=1) < 1 or (len(numbers) == 2 and parsed.last < parsed.first):
         _say("--from and --to are numbers of lines, from 1 on, and --to isn't below --from")
+        raise SystemExit(_USAGE)
+    if parsed.places and len(parsed.scripts) > 1:
+        _say("with --places there is one SCRIPT at most")
         raise SystemExit(_USAGE)
     if (parsed.journal or parsed.json) and len(parsed.scripts) > 1:
         _say("a journal, or a run as JSON, has one SCRIPT at most")
@@ -169,6 +181,24 @@ def _given(arguments: argparse.Namespace, script: Optional[str]) -> Run:
     return run_script(script or "-")
 
 
+def _places(arguments: argparse.Namespace, script: Optional[str]) -> Places:
+    """The places that are given, or that stand beside the script or the journal. What is wrong with the latter is only told."""
+    if arguments.places:
+        try:
+            return read_places(_text(_read(arguments.places), arguments.places))
+        except NotPlaces as why:
+            raise Failed(_NO_INPUT, f"{arguments.places} doesn't tell places: {why}") from None
+    source = script or arguments.journal or arguments.json or "-"
+    path = Path(source).with_suffix(SUFFIX) if source != "-" else None
+    if path is None or not path.is_file():
+        return NOWHERE
+    try:
+        return read_places(path.read_text(encoding="utf-8"))
+    except (OSError, UnicodeDecodeError, NotPlaces) as why:
+        _say(f"{path} isn't used, since it doesn't tell places: {why}")
+        return NOWHERE
+
+
 def _target(arguments: argparse.Namespace, script: Optional[str]) -> Path:
     """Where the page is written."""
     source = arguments.journal or arguments.json or script or "-"
@@ -190,6 +220,7 @@ def write_page(page: Page, path: Path) -> None:
 
 def _show(arguments: argparse.Namespace, script: Optional[str]) -> None:
     run = _given(arguments, script)
+    run.places = _places(arguments, script)
     if arguments.text:
         color = (
             sys.stdout.isatty() and not os.environ.get("NO_COLOR") and os.environ.get("TERM") != "dumb"

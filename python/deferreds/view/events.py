@@ -8,6 +8,7 @@ from typing import Dict, Optional
 
 from .fold import Fold
 from .nesting import LAST_POSTS
+from .places import NOWHERE, Place, Places
 from .records import Row
 from .scripts import Script
 
@@ -18,8 +19,9 @@ _TELLING = frozenset({"advance", "drain", "note", "new"})
 class Events:
     """The heads of events, and the words behind lines."""
 
-    def __init__(self, fold: Fold, script: Script) -> None:
+    def __init__(self, fold: Fold, script: Script, places: Places = NOWHERE) -> None:
         self._script = script
+        self._places = places
         #: the first row of each event, and how many rows it has
         self._first: Dict[int, int] = {}
         self._size: Dict[int, int] = {}
@@ -50,6 +52,10 @@ class Events:
         if row.event == LAST_POSTS:
             return "the last posts"
         return f"event {row.event}" if row.entry.word in _TELLING else self.said(row.event)
+
+    def place(self, row: Row) -> Optional[Place]:
+        """Where in the program the event was performed that begins in this row, if one does."""
+        return self._places.of_event(row.event) if row.event is not None and self._begins(row) else None
 
     def said(self, event: int) -> str:
         """An event with what the script says."""

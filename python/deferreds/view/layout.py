@@ -8,7 +8,7 @@ from typing import Dict, List, NamedTuple, Optional, Sequence
 
 from .events import Events
 from .fold import Fold
-from .records import Ended, Record, ended
+from .records import Ended, Record, Row, ended
 
 #: the height of a slot, and how many slots a chunk has: no page breaks inside one, and stripes go on from one to the next
 SLOT, CHUNK = 20, 16
@@ -205,7 +205,7 @@ def text_width(fold: Fold, rows: Rows, events: Events) -> int:
 def _characters(fold: Fold, slot: Slot, events: Events) -> float:
     """About how many characters a slot shows; what is told in smaller letters counts less."""
     if slot.kind is SlotKind.HEAD:
-        return 0.95 * len(slot.text)
+        return 0.95 * (len(slot.text) + _at(fold.rows[slot.row], events))
     if slot.kind is not SlotKind.LINE:
         return 0
     row = fold.rows[slot.row]
@@ -217,7 +217,14 @@ def _characters(fold: Fold, slot: Slot, events: Events) -> float:
         + 2.3 * min(row.depth, 12)
         + cause
         + 0.95 * min(len(events.tail(row)), 40)
+        + 0.95 * (_at(row, events) if events.tail(row) else 0)
     )
+
+
+def _at(row: Row, events: Events) -> int:
+    """How many characters are shown of where the event was performed that begins in the row."""
+    place = events.place(row)
+    return len(place.text) + 2 if place is not None else 0
 
 
 def chunks(total: int) -> Sequence[range]:

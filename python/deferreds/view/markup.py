@@ -7,12 +7,13 @@ from typing import Dict, Optional, Set
 
 from .fold import Fold
 from .lines import WORDS
-from .phrases import OfDeferred, OfEvent, OfLine, OfScript, Part, Phrase
+from .phrases import OfDeferred, OfEvent, OfLine, OfPlace, OfScript, Part, Phrase
+from .places import Place
 from .records import Row
 from .scripts import Script
 from .texts import Html, clipped, escaped, joined, shortened
 
-_MOST_PART, _MOST_EVENT = 300, 80
+_MOST_PART, _MOST_EVENT, _MOST_PLACE = 300, 80, 60
 _OWN_TEXTS = frozenset({"note", "unhandled", "put"})
 _NUMBER = re.compile(r"#(\d+)")
 
@@ -68,6 +69,8 @@ class Markup:
             shown = self._script.shown(part.number)
             text = isolated(clipped(shown, min(most, _MOST_EVENT))) if shown else Html("")
             return Html(f"event {part.number} {text}".rstrip())
+        if isinstance(part, OfPlace):
+            return placed(part.place)
         return isolated(shortened(part.text, most)) if isinstance(part, OfScript) else escaped(part)
 
     def words(self, row: Row, most: int) -> Html:
@@ -92,6 +95,14 @@ class Markup:
 def isolated(text: str) -> Html:
     """A text of a script, whose direction changes nothing round it."""
     return Html(f"<bdi>{escaped(text)}</bdi>")
+
+
+def placed(place: Place) -> Html:
+    """A line of a file: a link to the file, where its path is known as a whole."""
+    shown, title = isolated(clipped(place.text, _MOST_PLACE)), attribute("title", place.whole)
+    if place.address is None:
+        return Html(f"<span class=at{title}>{shown}</span>")
+    return Html(f'<a class=at href="{escaped(place.address)}"{title}>{shown}</a>')
 
 
 def attribute(name: str, text: Optional[str]) -> Html:

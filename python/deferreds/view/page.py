@@ -10,7 +10,7 @@ from typing import Dict, Iterator, List, Optional
 from .chart import Chart
 from .events import Events
 from .layout import CHUNK, SLOT, Lanes, Rows
-from .markup import Markup, isolated
+from .markup import Markup, isolated, placed
 from .records import ArrowKind, Ended, Look, Record, State, ended
 from .report import Finding, Kind, Severity
 from .run import Run
@@ -51,7 +51,7 @@ class Page:
     def __init__(self, run: Run, first: Optional[int] = None, last: Optional[int] = None) -> None:
         self._run = run
         self.window = _window(len(run.fold.rows), first, last)
-        events = Events(run.fold, run.script)
+        events = Events(run.fold, run.script, run.places)
         self._rows = Rows(run.fold, events, self.window)
         self._lanes = Lanes(run.fold, self._rows)
         self._markup = Markup(run.fold, run.script, self.window, self._rows.folded)
@@ -174,7 +174,8 @@ class Page:
 
     def _table(self, records: List[Record]) -> Html:
         most = _MOST_VALUE if len(records) <= _MOST_ODD else _LEAST_VALUE
-        head = "<tr><th>No.</th><th>Name</th><th>At the end</th><th>Value</th><th>Fired by</th></tr>"
+        made = "<th>Made at</th>" if self._run.places else ""
+        head = f"<tr><th>No.</th><th>Name</th><th>At the end</th><th>Value</th><th>Fired by</th>{made}</tr>"
         return Html(f"<table>{head}{joined(self._outcome(record, most) for record in records)}</table>")
 
     def _outcome(self, record: Record, most: int) -> Html:
@@ -192,8 +193,15 @@ class Page:
         return Html(
             f"<tr id=o{record.number} data-d={record.number}><td class=mono>{self._markup.deferred(record.number, named=False)}</td>"
             f'<td class="mono name">{escaped(", ".join(record.names))}</td>'
-            f'<td class="state t-{CLASSES[end]}">{SIGNS[end]} {end.value}</td><td class="mono value">{shown}</td><td>{fired}</td></tr>'
+            f'<td class="state t-{CLASSES[end]}">{SIGNS[end]} {end.value}</td><td class="mono value">{shown}</td><td>{fired}</td>'
+            f"{self._made_at(record)}</tr>"
         )
+
+    def _made_at(self, record: Record) -> Html:
+        if not self._run.places:
+            return Html("")
+        place = self._run.places.of_deferred(record.names)
+        return Html(f"<td>{placed(place) if place is not None else ''}</td>")
 
     # the chart
 

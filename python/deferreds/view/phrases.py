@@ -4,6 +4,8 @@ from __future__ import annotations
 
 from typing import NamedTuple, Sequence, Tuple, Union
 
+from .places import Place
+
 
 class OfDeferred(NamedTuple):
     """A Deferred, shown by its number and its name."""
@@ -29,7 +31,13 @@ class OfScript(NamedTuple):
     text: str
 
 
-Part = Union[str, OfDeferred, OfLine, OfEvent, OfScript]
+class OfPlace(NamedTuple):
+    """A line of a file of the program."""
+
+    place: Place
+
+
+Part = Union[str, OfDeferred, OfLine, OfEvent, OfScript, OfPlace]
 Phrase = Tuple[Part, ...]
 
 

@@ -23,7 +23,8 @@ from .left import (
     LeftUnhandled,
     LeftValues,
 )
-from .phrases import OfDeferred, OfLine, OfScript, Part, Phrase, listed, several, words
+from .phrases import OfDeferred, OfLine, OfPlace, OfScript, Part, Phrase, listed, several, words
+from .places import NOWHERE, Places
 from .records import Made, Record
 from .scripts import Script
 from .world import Shelf, T
@@ -92,7 +93,10 @@ def _details(*parts: Sequence[Phrase]) -> Tuple[Phrase, ...]:
 class Report:
     """What is left of a run."""
 
-    def __init__(self, fold: Fold, left: Sequence[Left], stopped: bool, script: Script) -> None:
+    def __init__(
+        self, fold: Fold, left: Sequence[Left], stopped: bool, script: Script, places: Places = NOWHERE
+    ) -> None:
+        self._places_of = places
         self._fold = fold
         self._left = left
         self._script = script
@@ -234,8 +238,10 @@ class Report:
         if record.awaits is not None:
             stopped = [("its body has awaited ", OfDeferred(record.awaits), ", and didn't end")]
         places = self._places(record) if record.made is Made.ACTION else ()
+        made_at = self._places_of.of_deferred(record.names)
+        made: List[Phrase] = [("made at ", OfPlace(made_at))] if made_at is not None else []
         details = _details(
-            [places], stopped, [(pairs,)] if record.pairs else [], self._held(end, [record.number])
+            made, [places], stopped, [(pairs,)] if record.pairs else [], self._held(end, [record.number])
         )
         said: Phrase = ("nobody fired ", OfDeferred(record.number), paused)
         return Finding(Severity.LEFT, Kind.UNFIRED, said, details, record.row)
@@ -249,9 +255,14 @@ class Report:
             ("make", self._script.making(record.names)),
         ):
             if places:
-                shown: List[Part] = [OfScript(place) for place in places]
+                shown: List[Part] = [OfScript(self._with_line(place)) for place in places]
                 return (f"actions of the script that {word} one of this name: ", *listed(shown, 3))
         return ("no action of the script fires a Deferred of this name",)
+
+    def _with_line(self, pointer: str) -> str:
+        """A place of the script, with the line of the program, where that is known."""
+        place = self._places_of.of_action(pointer)
+        return f"{pointer} ({place.text})" if place is not None else pointer
 
     def _paused(self, record: Record, end: End) -> Finding:
         times = f" {record.pauses} times" if record.pauses > 1 else ""

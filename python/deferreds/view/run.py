@@ -9,6 +9,7 @@ from .fold import Fold
 from .left import Left, LeftDeferred, left_of
 from .lines import read_end, read_line, split
 from .phrases import Phrase, several
+from .places import NOWHERE, Places
 from .report import Report
 from .scripts import Script
 from .sections import places_of
@@ -30,13 +31,15 @@ class Run:
         self.knows_stop = True
         #: the weight of the journal, and its limit
         self.weight: Optional[str] = None
+        #: where in the program Deferreds were made and events performed, as far as that is known; set before the report is asked for
+        self.places: Places = NOWHERE
         self._report: Optional[Report] = None
 
     @property
     def report(self) -> Report:
         """What is left, and why."""
         if self._report is None:
-            self._report = Report(self.fold, self.left, self.stopped, self.script)
+            self._report = Report(self.fold, self.left, self.stopped, self.script, self.places)
         return self._report
 
     @property

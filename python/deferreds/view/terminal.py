@@ -5,7 +5,8 @@ from __future__ import annotations
 from typing import Dict, Iterator, List, Optional
 
 from .events import Events
-from .phrases import OfDeferred, OfEvent, OfLine, OfScript, Part, Phrase
+from .phrases import OfDeferred, OfEvent, OfLine, OfPlace, OfScript, Part, Phrase
+from .places import Place
 from .records import By, Ended, Record, Row, ended
 from .report import Finding, Severity
 from .run import Run
@@ -35,7 +36,7 @@ class Terminal:
     def __init__(self, run: Run, color: bool) -> None:
         self._run = run
         self._color = color
-        self._events = Events(run.fold, run.script)
+        self._events = Events(run.fold, run.script, run.places)
         self._number = len(str(len(run.fold.rows)))
         self._time = max(1, len(str(run.fold.world.now)))
 
@@ -54,7 +55,8 @@ class Terminal:
     def _toned(self, tone: Optional[str], text: str) -> str:
         return f"\x1b[{_COLORS[tone]}m{text}\x1b[0m" if self._color and tone is not None else text
 
-    def _said(self, phrase: Phrase) -> str:
+    def said(self, phrase: Phrase) -> str:
+        """A phrase as text."""
         return "".join(map(self._part, phrase))
 
     def _part(self, part: Part) -> str:
@@ -68,6 +70,8 @@ class Terminal:
                     f"event {part.number} {self._run.script.shown(part.number)}".rstrip(), _MOST_EVENT
                 )
             )
+        if isinstance(part, OfPlace):
+            return visible(part.place.text)
         return visible(clipped(part.text, _MOST_TEXT)) if isinstance(part, OfScript) else visible(part)
 
     def _deferred(self, number: int) -> str:
@@ -87,19 +91,19 @@ class Terminal:
         if self._run.limits:
             yield self._run.limits
         for problem in self._run.problems:
-            yield self._toned("bad", f"warning: {self._said(problem)}")
+            yield self._toned("bad", f"warning: {self.said(problem)}")
 
     def _finding(self, finding: Finding) -> Iterator[str]:
         at = f"  (line {finding.row + 1})" if finding.row is not None else ""
-        text = f"{_SIGNS[finding.severity]} {finding.kind.value:<9} {self._said(finding.said)}{at}"
+        text = f"{_SIGNS[finding.severity]} {finding.kind.value:<9} {self.said(finding.said)}{at}"
         yield self._toned(_TONES[finding.severity], text)
         for detail in finding.details:
-            yield f"{'':13}{self._said(detail)}"
+            yield f"{'':13}{self.said(detail)}"
 
     def _row(self, row: Row) -> Iterator[str]:
         head = self._events.head(row)
         if head is not None:
-            text = visible(clipped(head, _MOST_EVENT))
+            text = visible(clipped(head, _MOST_EVENT) + self._at(self._events.place(row)))
             yield self._toned("strong", f"{'':{self._number + self._time + 2}}┄ {text}")
         time = str(row.time) if row.entry.word == "advance" or row.place == 0 else "·"
         tone = "bad" if row.entry.fails else _WORD_TONES.get(row.entry.word)
@@ -120,17 +124,21 @@ class Terminal:
     def _why(self, row: Row) -> str:
         said: List[str] = []
         if row.cause and not (row.is_plain and row.actor.by is not By.SIDE):
-            said.append(f"   ← {self._said(row.cause)}")
+            said.append(f"   ← {self.said(row.cause)}")
         tail = self._events.tail(row)
         if tail:
-            said.append(f"   ┄ {visible(clipped(tail, _MOST_EVENT))}")
+            said.append(f"   ┄ {visible(clipped(tail, _MOST_EVENT) + self._at(self._events.place(row)))}")
         return "".join(said)
 
     def _outcome(self, record: Record) -> str:
         end = ended(record.end)
         tone = "good" if end is Ended.OK else "bad" if end is Ended.FAIL else "wait"
         text = f"#{record.number} {record.name or '-'} {clipped(record.end, _MOST_TEXT)}"
-        return self._toned(tone, visible(text))
+        return self._toned(tone, visible(text + self._at(self._run.places.of_deferred(record.names))))
+
+    @staticmethod
+    def _at(place: Optional[Place]) -> str:
+        return f"  ({place.text})" if place is not None else ""
 
 
 def _bars(row: Row) -> str:

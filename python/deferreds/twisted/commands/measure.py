@@ -9,9 +9,11 @@ prints how much slower a program is that is recorded.
 from __future__ import annotations
 
 import argparse
+import contextlib
 import os
 import sys
-from typing import List
+import tempfile
+from typing import Iterator, List, Optional, Sequence
 
 import twisted
 
@@ -24,7 +26,6 @@ from ..recording.measuring import (
     NOTHING,
     SAME,
     SKIPPED,
-    WAITS,
     Measured,
     bare_failures,
     counted,
@@ -40,6 +41,11 @@ MODULES = (
     "twisted.internet.test.test_inlinecb",
     "twisted.test.test_task",
     "twisted.test.test_cooperator",
+    "twisted.test.test_internet",
+    "twisted.test.test_tcp",
+    "twisted.test.test_threads",
+    "twisted.test.test_loopback",
+    "twisted.test.test_policies",
 )
 
 #: tests that compare all attributes of two Deferreds, one of which is what the recorder keeps of each
@@ -54,7 +60,7 @@ _HEADER = (
 def _row(name: str, measured: List[Measured]) -> str:
     counts = counted(measured)
     whole = counts[SAME] + counts[NAMED] + counts[DIFFERS]
-    nothing = counts[NOTHING] + counts[SKIPPED] + counts[WAITS]
+    nothing = counts[NOTHING] + counts[SKIPPED]
     cells = (len(measured), nothing, whole, counts[SAME], counts[NAMED], counts[DIFFERS], counts[CANNOT])
     return f"| {name} | " + " | ".join(map(str, cells)) + " |"
 
@@ -79,11 +85,36 @@ def _module(name: str, program: object) -> List[Measured]:
 
 
 def _run(arguments: argparse.Namespace) -> int:
-    program = ours(arguments.ours.split() if arguments.ours else None)
+    program = ours(_command(arguments.ours))
+    with _folder_for_files():
+        return _measure(arguments.modules or MODULES, program)
+
+
+def _command(words: Optional[str]) -> Optional[List[str]]:
+    """The command, whose path doesn't depend on the folder."""
+    command = words.split() if words else []
+    if command and os.sep in command[0]:
+        command[0] = os.path.abspath(command[0])
+    return command or None
+
+
+@contextlib.contextmanager
+def _folder_for_files() -> Iterator[None]:
+    """Has tests leave their files in a folder that is removed."""
+    before = os.getcwd()
+    with tempfile.TemporaryDirectory() as folder:
+        os.chdir(folder)
+        try:
+            yield
+        finally:
+            os.chdir(before)
+
+
+def _measure(modules: Sequence[str], program: object) -> int:
     everything: List[Measured] = []
     failing: List[str] = []
     print(f"Twisted {twisted.__version__}, Python {sys.version.split()[0]}\n\n{_HEADER}", flush=True)
-    for module in arguments.modules or MODULES:
+    for module in modules:
         measured = _module(module, program)
         failing += _failing(module, measured)
         everything += measured
@@ -99,8 +130,8 @@ def _run(arguments: argparse.Namespace) -> int:
 
 def _tell_each(measured: List[Measured]) -> None:
     down = [one for one in measured if one.state == SAME and not one.natively]
-    virtual = [one for one in measured if one.virtual]
-    print(f"{len(down)} of the same are told one level down, {len(virtual)} run with a virtual reactor")
+    timed = [one for one in measured if one.state == SAME and one.with_times]
+    print(f"{len(down)} of the same are told one level down, {len(timed)} with times of the real reactor")
     for one in measured:
         if not one.passed and one.test in COMPARE_ATTRIBUTES:
             print(f"{one.test} fails, since it compares attributes that the recorder sets")

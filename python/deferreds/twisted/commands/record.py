@@ -2,15 +2,20 @@
 
 `-m MODULE` runs a module, and `--test MODULE.CLASS.METHOD` one test. All words after PROGRAM or MODULE are the program's. PROGRAM
 is a file, or the name of a Python script on the PATH. The program runs as it is.
+Times are those of the real reactor, unless `--virtual` puts another in its place; how long a tick of the script's clock is, is told.
 
-NAME.json is the script. NAME.journal is the journal and the outcomes as real Twisted gave them. `--view` writes NAME.html,
-a page of the run, too. NAME.recording lists these files. Without -o, NAME is what PROGRAM or MODULE is called, in the folder
+NAME.json is the script. NAME.journal is the journal and the outcomes as real Twisted gave them. NAME.places.json says where in the
+program it happened. `--view` writes NAME.html, a page of the run, too. NAME.recording lists these files. Without -o, NAME is what PROGRAM or MODULE is called, in the folder
 where the command is given. A file of another origin is only overwritten with -f. What a script can't say is refused
 with the reason and the place in the program, and nothing is written.
 
 The run is kept where the program ends by Ctrl-C, by a signal that it doesn't handle, or by os._exit, too. SIGUSR1 has the run so far
 written, and the program goes on. A forked child writes files of its own, NAME.PID.json and so on. Where a run is too long for a
 script, or ends in the midst of an event, NAME.json is of its beginning, and NAME.whole.journal is its whole journal.
+
+`--last N` is for a program that runs for days. NAME is of its last events, about N at most, and NAME.before of as many before these.
+What was before that is forgotten. Each script begins with the Deferreds as they stood then. Loops, delayed calls and tasks from
+before are told as the Python that they are made of, and so are locks and queues.
 
 Where `./deferreds` is there, it runs the script, and its lines are compared with those of the run. Where they differ, and
 docs/PROFILE.md has no entry for that, no script is left.
@@ -29,19 +34,24 @@ import os
 import shutil
 import signal
 import sys
+from importlib.machinery import PathFinder
 from pathlib import Path
 from typing import List, Optional, Set, Tuple
 
 from ...checkout import as_called, command_name
+from ...view.places import SUFFIX as PLACES
 
 from ..instruments import install
 from ..recording.agreeing import program
+from ..recording.case import TestRun, record_test
 from ..recording.endings import Endings
 from ..recording.files import NoPlace, Place
+from ..recording.hiding import CHOICES, SECRETS
 from ..recording.keeper import Keeper
 from ..recording.keeping import Keeping, Status
+from ..recording.last import LastRecorder
 from ..recording.messages import Messages
-from ..recording.programs import LADDER, NotLoaded, TestRun, record_program, record_test, tests_of
+from ..recording.programs import LADDER, NotLoaded, record_program, tests_of
 from ..recording.recorder import Recorder
 from ..recording.saying import Said
 from ..telling import KINDS
@@ -72,6 +82,7 @@ def _arguments(words: List[str]) -> argparse.Namespace:
     add("-m", dest="module", nargs=argparse.REMAINDER, metavar="MODULE [ARGS..]", help="run a module")
     add("--test", metavar="MODULE.CLASS.METHOD", help="run one test")
     add("--view", action="store_true", help="write NAME.html, a page of the run (docs/VIEW.md), too")
+    add("--last", type=_count, metavar="N", help="keep the last events, as NAME up to N of them and as NAME.before the N before these")
     add("--virtual", action="store_true", help="with a reactor whose time is virtual")
     add(
         "--plain",
@@ -79,6 +90,7 @@ def _arguments(words: List[str]) -> argparse.Namespace:
         default="",
         help=f"tell these as the Python that they are made of: {', '.join(sorted(KINDS))}",
     )
+    add("--redact", metavar="WHAT", default=SECRETS, help="hide `all` values, those that look like `secrets` (so by itself), or `none`")
     add("program", nargs=argparse.REMAINDER, metavar="PROGRAM [ARGS..]")
     try:
         parsed = parser.parse_args(_detached(words))
@@ -89,9 +101,17 @@ def _arguments(words: List[str]) -> argparse.Namespace:
     return parsed
 
 
+def _count(word: str) -> int:
+    """A number of events. Raises ArgumentTypeError for others."""
+    count = int(word)
+    if count < 1:
+        raise argparse.ArgumentTypeError("it isn't from 1 on")
+    return count
+
+
 def _detached(words: List[str]) -> List[str]:
     """The words, where `-mMODULE`, as Python takes it, is two of them."""
-    takes_word = ("-o", "--test", "--plain")
+    takes_word = ("-o", "--test", "--plain", "--redact", "--last")
     before = ""
     for place, word in enumerate(words):
         if before not in takes_word:
@@ -109,29 +129,37 @@ def _check(arguments: argparse.Namespace) -> None:
     unknown = plain - KINDS
     if unknown:
         raise Refused(_USAGE, f"--plain has no {', '.join(sorted(unknown))}: {', '.join(sorted(KINDS))}")
+    if arguments.redact not in CHOICES:
+        raise Refused(_USAGE, f"--redact has no {arguments.redact}: {', '.join(CHOICES)}")
     if arguments.module == []:
         raise Refused(_USAGE, "-m needs a MODULE")
     wanted = [bool(arguments.program), bool(arguments.module), bool(arguments.test)]
     if not any(wanted):
         raise Refused(_USAGE, "a PROGRAM, -m MODULE or --test MODULE.CLASS.METHOD is needed; --help says more")
+    if arguments.test and arguments.last is not None:
+        raise Refused(_USAGE, "--last is for programs and modules, and not for --test")
     if wanted.count(True) > 1:
         raise Refused(_USAGE, "one of PROGRAM, -m MODULE and --test MODULE.CLASS.METHOD is taken, and not two")
 
 
-def _is_module(name: str) -> bool:
-    """Whether a module of this name is found."""
+def _refuse_module(name: str) -> None:
+    """Raises Refused where no module of this name can be run."""
     try:
-        return importlib.util.find_spec(name) is not None
+        spec = importlib.util.find_spec(name)
     except (ImportError, ValueError):
-        return False
+        spec = None
+    if spec is None:
+        raise Refused(_NO_PROGRAM, f"{name} isn't a module")
+    folders = spec.submodule_search_locations
+    if folders is not None and PathFinder.find_spec(f"{name}.__main__", folders) is None:
+        raise Refused(_NO_PROGRAM, f"{name} is a package, and has no module __main__ that could be run")
 
 
 def _target(arguments: argparse.Namespace) -> Tuple[str, List[str]]:
     """The module or the file that is run, and the words for it. Raises Refused where there is none."""
     target, *words = arguments.module or arguments.program
     if arguments.module:
-        if not _is_module(target):
-            raise Refused(_NO_PROGRAM, f"{target} isn't a module")
+        _refuse_module(target)
         return target, words
     if not Path(target).is_file():
         found = shutil.which(target) if os.sep not in target else None
@@ -154,9 +182,9 @@ def _is_python(path: str) -> bool:
 
 def _keeping(arguments: argparse.Namespace, name: str, messages: Messages) -> Keeping:
     """Where the recording is kept. Raises Refused where it can't be."""
-    place = Place(arguments.output or name, arguments.overwrites)
+    place = Place(name, arguments.overwrites)
     try:
-        place.check([".json", ".journal", *([".html"] if arguments.view else [])])
+        place.check([".json", ".journal", PLACES, *([".html"] if arguments.view else [])])
     except NoPlace as why:
         raise Refused(Status.NOT_WRITTEN, str(why)) from None
     return Keeping(place, messages, arguments.view, program())
@@ -165,9 +193,15 @@ def _keeping(arguments: argparse.Namespace, name: str, messages: Messages) -> Ke
 def _program(arguments: argparse.Namespace, messages: Messages) -> int:
     target, words = _target(arguments)
     name = target.split(".")[-1] if arguments.module else Path(target).stem
+    name = arguments.output or name
+    kinds = KINDS - set(arguments.plain.split(","))
     keeping = _keeping(arguments, name, messages)
-    recorder = Recorder(KINDS - set(arguments.plain.split(",")))
-    keeper = Keeper(recorder, keeping)
+    if arguments.last is None:
+        recorder = Recorder(kinds, arguments.redact)
+        keeper = Keeper(recorder, keeping)
+    else:
+        recorder = LastRecorder(kinds, arguments.redact, arguments.last, lambda following: keeper.take_over(following))
+        keeper = Keeper(recorder, keeping, _keeping(arguments, f"{name}.before", messages))
     with Endings(keeper).watched():
         status = record_program(recorder, target, words, bool(arguments.module), arguments.virtual)
         kept = keeper.keep(f"status {status}")
@@ -183,16 +217,13 @@ def _test(arguments: argparse.Namespace, messages: Messages) -> int:
         raise Refused(_NO_PROGRAM, str(why)) from None
     if len(found) != 1:
         raise Refused(_NO_PROGRAM, f"{arguments.test} isn't one test")
-    keeping = _keeping(arguments, found[0][1], messages)
+    keeping = _keeping(arguments, arguments.output or found[0][1], messages)
     best: Optional[Tuple[TestRun, Said]] = None
     ladder = [KINDS - set(arguments.plain.split(","))] if arguments.plain else LADDER
     for kinds in ladder:
-        run = record_test(*found[0], kinds, arguments.virtual)
+        run = record_test(*found[0], kinds, arguments.virtual, arguments.redact)
         said = Said(run.recorder)
         best = best or (run, said)
-        if run.waits and not arguments.virtual:
-            messages.say("the test waits for a reactor: --virtual runs it with one whose time is virtual")
-            return Status.REFUSED
         if said.script is not None and len(said.problems) == len(said.too_large):
             best = run, said
             break

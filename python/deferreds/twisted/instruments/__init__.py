@@ -10,7 +10,23 @@ from ..known import UnknownTwisted, refuse_unusable, version
 
 refuse_unusable()
 try:
-    from . import clock, deferreds, inline, lists, locks, loops, maybe, queues, tasks, timers
+    from . import (
+        calls,
+        clock,
+        deferreds,
+        inline,
+        jobs,
+        lists,
+        locks,
+        loops,
+        maybe,
+        queues,
+        reactors,
+        scheduled,
+        tasks,
+        timers,
+        tracebacks,
+    )
 except ModuleNotFoundError:
     raise
 except (AttributeError, ImportError) as missing:
@@ -27,8 +43,10 @@ def install() -> None:
     global _installed
     if not _installed:
         _installed = True
-        for instrument in (deferreds, lists, maybe, locks, queues, clock, timers, loops, inline, tasks):
+        for instrument in (deferreds, lists, maybe, locks, queues, clock, reactors, calls, jobs, timers, loops, inline, tasks):
             instrument.install()
+        scheduled.install()
+        tracebacks.install()
     from ..self_test import check
 
     check()

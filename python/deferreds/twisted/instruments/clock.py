@@ -1,31 +1,60 @@
-"""The instrument of Clock and of delayed calls."""
+"""The instrument of Clock, and what it shares with that of real reactors."""
 
 from __future__ import annotations
 
 import functools
-from typing import Any, Callable, Dict, List, Optional
+import math
+from typing import Any, Callable, Dict, List, NamedTuple, Optional
 
-from twisted.internet import base, task
+from twisted.internet import task
 
 from ..profile import Entry
-from ..telling import Action, Line, Observer, Thing, Time, observer_of, watched
+from ..telling import Action, Line, Observer, Time, observer_of, watched
+from .pace import Pace, Waiting
+from .scheduled import stand_for
 
 _later = task.Clock.callLater
 _advance = task.Clock.advance
-_cancel = base.DelayedCall.cancel
 
-#: tells what Twisted itself schedules: whether it was something that this knows
-TellScheduled = Callable[[Observer, Callable[..., Any], float], bool]
-own_calls: List[TellScheduled] = []
+_NO_KEYWORDS: Dict[str, Any] = {}
+
+
+class Own(NamedTuple):
+    """Something that Twisted itself schedules: its line without the time, and how it waits on a real reactor."""
+
+    line: Line
+    #: of the pace, and of the delay in seconds
+    wait: Callable[[Pace, float], Waiting]
+    #: is told of the delay, as it will be told
+    note: Callable[[Time], None]
+
+
+#: finds out what it is that Twisted schedules
+own_calls: List[Callable[[Observer, Callable[..., Any]], Optional[Own]]] = []
+
+
+def own_call(watcher: Observer, f: Callable[..., Any]) -> Optional[Own]:
+    """What Twisted schedules by this function, if that is told."""
+    return next(filter(None, (find(watcher, f) for find in own_calls)), None)
 
 
 class Delayed:
     """A delayed call of the program's: its name, its body, and the action that scheduled it."""
 
-    def __init__(self, watcher: Observer, delay: float) -> None:
+    def __init__(self, watcher: Observer, delay: Time) -> None:
         self.thing = watcher.thing("call")
         self.body = watcher.new_body("call")
-        self.action = Action(["later", self.thing, Time(delay), self.body])
+        self.action = Action(["later", self.thing, delay, self.body])
+
+    def cancel(self, watcher: Observer) -> None:
+        """Tells that it is cancelled."""
+        watcher.act(Action(["cancelCall", self.thing]), watcher.tell, "uncall ", self.thing)
+
+    def make_anew(self, watcher: Observer, delay: Time) -> None:
+        """It stands for another call of the same body: the one before never runs."""
+        again = Delayed(watcher, delay)
+        self.action[3], again.action[3] = again.body, self.body
+        self.thing, self.action = again.thing, again.action
 
 
 def due_time(watcher: Observer, delay: float) -> Time:
@@ -35,7 +64,12 @@ def due_time(watcher: Observer, delay: float) -> Time:
 
 def is_delay(delay: object) -> bool:
     """Whether the language has such a delay."""
-    return isinstance(delay, (int, float)) and delay >= 0
+    return isinstance(delay, (int, float)) and math.isfinite(delay) and delay >= 0
+
+
+def is_time(seconds: object) -> bool:
+    """Whether it is a number of seconds."""
+    return isinstance(seconds, (int, float)) and math.isfinite(seconds)
 
 
 def schedule(clock: task.Clock, delay: float, f: Callable[[], object]) -> Any:
@@ -48,7 +82,7 @@ def keep_timer(watcher: Observer, call: Any) -> None:
     call.__dict__["_dv_timer"] = watcher
 
 
-def _refuse_timer(watcher: Optional[Observer], call: Any, name: str) -> None:
+def refuse_timer(watcher: Optional[Observer], call: Any, name: str) -> None:
     """A call on a timer, which the language hasn't."""
     if watcher is not None and not watcher.quiet and call.__dict__.get("_dv_timer") is watcher:
         watcher.problem(f"the {name} of a timer that addTimeout has set", "timer")
@@ -69,9 +103,13 @@ def _instrumented_later(
     if not is_delay(delay):
         watcher.problem("a delay that is no number from 0", "clock")
         return _later(self, delay, f, *args, **kwargs)
+    own = own_call(watcher, f) if watcher.acting else None
+    if own is not None:
+        own.note(Time(delay))
+        watcher.tell(*own.line, due_time(watcher, delay))
+        return _later(self, delay, f, *args, **kwargs)
     if watcher.quiet:
-        if not any([tell(watcher, f, delay) for tell in own_calls]):
-            watcher.problem("a delayed call from inside Twisted", "clock")
+        watcher.problem("a delayed call from inside Twisted", "clock")
         return _later(self, delay, f, *args, **kwargs)
     return _act_later(watcher, self, delay, f, args, kwargs)
 
@@ -84,12 +122,12 @@ def _act_later(
     args: Any,
     kwargs: Any,
 ) -> Any:
-    delayed = Delayed(watcher, delay)
+    delayed = Delayed(watcher, Time(delay))
 
     def due(*args: Any, **kwargs: Any) -> Any:
-        return _run_due(watcher, clock, delayed, f, args, kwargs)
+        return run_delayed(watcher, clock, delayed, f, args, kwargs)
 
-    due.__qualname__ = str(getattr(f, "__qualname__", "due"))
+    stand_for(due, f)
 
     def schedule() -> Any:
         watcher.tell("later call ", delayed.thing, " ", due_time(watcher, delay))
@@ -100,15 +138,15 @@ def _act_later(
     return watcher.act(delayed.action, schedule)
 
 
-def _run_due(
+def run_delayed(
     watcher: Observer,
-    clock: task.Clock,
+    clock: Optional[task.Clock],
     delayed: Delayed,
     f: Callable[..., Any],
-    args: Any,
-    kwargs: Any,
+    args: Any = (),
+    kwargs: Any = _NO_KEYWORDS,
 ) -> Any:
-    """The time of a delayed call has come."""
+    """The time of a delayed call has come, on a Clock or on a real reactor."""
     if watched.observer is not watcher:
         return f(*args, **kwargs)
     if not watcher.quiet:
@@ -119,7 +157,7 @@ def _run_due(
 
 
 def tell_due(
-    watcher: Observer, clock: task.Clock, line: Line, happen: Callable[[], object]
+    watcher: Observer, clock: Optional[task.Clock], line: Line, happen: Callable[[], object]
 ) -> object:
     """Tells that something is due, and has it happen. An error that leaves it is told."""
     watcher.begin_event()
@@ -128,7 +166,7 @@ def tell_due(
         return happen()
     except BaseException as error:
         watcher.tell_unhandled(error)
-        left = clock.calls and clock.calls[0].getTime() <= clock.seconds()
+        left = clock is not None and clock.calls and clock.calls[0].getTime() <= clock.seconds()
         if left and not watcher.goes_on_after_errors:
             watcher.quirk(Entry.ERROR_LEAVES_ADVANCE)
         raise
@@ -157,57 +195,11 @@ def run_due(clock: task.Clock) -> None:
     _advance(clock, 0)
 
 
-def _instrumented_cancel(self: base.DelayedCall) -> None:
-    watcher = observer_of("clock")
-    delayed = None if watcher is None else delayed_of(watcher, self)
-    _refuse_timer(watcher, self, "cancel")
-    if watcher is None or watcher.quiet or delayed is None:
-        _cancel(self)
-        return
-    thing: Thing = delayed.thing
-    watcher.act(Action(["cancelCall", thing]), _tell_cancelled, watcher, self, thing)
-
-
-def _tell_cancelled(watcher: Observer, call: base.DelayedCall, thing: Thing) -> None:
-    if call.active():
-        watcher.tell("uncall ", thing)
-    _cancel(call)
-
-
-def _instrument_moving(name: str) -> None:
-    """`reset` and `delay`, which the language hasn't: told as a cancel and a new call."""
-    move = getattr(base.DelayedCall, name)
-
-    def moved(self: Any, seconds: float) -> None:
-        watcher = observer_of("clock")
-        delayed = None if watcher is None else delayed_of(watcher, self)
-        _refuse_timer(watcher, self, name)
-        if watcher is None or watcher.quiet or delayed is None or not self.active():
-            move(self, seconds)
-            return
-        cancel = Action(["cancelCall", delayed.thing])
-        watcher.act(cancel, watcher.tell, "uncall ", delayed.thing)
-        move(self, seconds)
-        if sum(call.getTime() == self.getTime() for call in watcher.clock_calls()) > 1:
-            watcher.problem(f"a delayed call is moved to the time of another ({name})", "clock")
-        again = Delayed(watcher, self.getTime() - watcher.clock_base - watcher.now())
-        again.body, delayed.action[3] = delayed.body, watcher.new_body("call")
-        again.action[3] = again.body
-        delayed.thing, delayed.action = again.thing, again.action
-        due = Time(self.getTime() - watcher.clock_base)
-        watcher.act(delayed.action, watcher.tell, "later call ", delayed.thing, " ", due)
-
-    setattr(base.DelayedCall, name, moved)
-
-
 def install() -> None:
-    """Puts the instrument into Clock and DelayedCall."""
+    """Puts the instrument into Clock."""
     wrapped: Dict[str, Callable[..., Any]] = {
         "callLater": _instrumented_later,
         "advance": _instrumented_advance,
     }
     for name, instrument in wrapped.items():
         setattr(task.Clock, name, instrument)
-    setattr(base.DelayedCall, "cancel", _instrumented_cancel)
-    _instrument_moving("reset")
-    _instrument_moving("delay")

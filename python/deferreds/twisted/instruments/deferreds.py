@@ -15,7 +15,7 @@ import functools
 import sys
 from functools import partial
 from operator import attrgetter
-from types import CodeType
+from types import CodeType, FunctionType, MethodType
 from typing import Any, Callable, Dict, List, Optional, Tuple
 
 from twisted.internet import defer
@@ -24,8 +24,18 @@ from twisted.python.failure import Failure
 
 from ..classes import set_message
 from ..profile import Entry
-from ..telling import Action, Frame, Observer, Record, is_deferred, watched
-from ..texts import NULL, Outcome, error_of
+from ..telling import (
+    Action,
+    Frame,
+    Observer,
+    Record,
+    count_elsewhere,
+    is_dead_reference,
+    is_deferred,
+    refuse_elsewhere,
+    watched,
+)
+from ..texts import NULL, Outcome
 
 #: typed as a function by Twisted, since its overloads say what it gives
 DeferredList: Any = defer.DeferredList
@@ -41,6 +51,7 @@ _unpause = Deferred.unpause
 _cancel = Deferred.cancel
 _list_cancel = DeferredList.cancel
 _run_code: CodeType = _run_callbacks.__code__
+_DEFER = _run_code.co_filename
 _succeed_code: CodeType = defer.succeed.__code__
 _inline_code: CodeType = defer._inlineCallbacks.__code__
 
@@ -74,8 +85,8 @@ special_pairs: Dict[str, AddSpecial] = {}
 
 
 def qualified(function: object) -> str:
-    """The name of a function with those of what it stands in."""
-    return str(getattr(function, "__qualname__", ""))
+    """The name of a function or method with those of what it stands in. Any other object, which might run code, has none."""
+    return str(getattr(function, "__qualname__", "")) if type(function) in (FunctionType, MethodType) else ""
 
 
 class _NoResult:
@@ -97,7 +108,7 @@ def _set_result(deferred: Any, value: object) -> None:
         pass
     elif not deferred.called and sys._getframe(1).f_code is _succeed_code:
         _tell_made_fired(watcher, deferred, value)
-    elif watcher.quiet:
+    elif watcher.acting and sys._getframe(1).f_code.co_filename == _DEFER:
         _tell_result(watcher, deferred, value)
     else:
         watcher.problem("the result of a Deferred is set by hand")
@@ -112,7 +123,7 @@ def _tell_made_fired(watcher: Observer, deferred: Deferred[Any], value: object) 
     """Later Twisteds have `succeed` set the result of the Deferred that it makes, and fire nothing."""
     record = watcher.record(deferred)
     if watcher.quiet:
-        _tell_fired(watcher, record, value, _handed_on(watcher, record, value))
+        _tell_fired(watcher, record, value, _handed_on(watcher, deferred, record, value))
     else:
         outcome = watcher.texts.outcome(value)
         action = watcher.firing(record, value, outcome)
@@ -147,7 +158,7 @@ def _tell_moved(
         record.before = record.outcome
     elif held is deferred:
         if isinstance(value, Failure):
-            watcher.end_by_warning(record, error_of(value))
+            watcher.end_by_warning(record, watcher.texts.error_of(value))
         record.waits_for = None
         _tell_set(watcher, record, value)
     elif is_deferred(held):
@@ -200,6 +211,7 @@ def _tell_taken(watcher: Observer, record: Record, giver: Record) -> None:
 def _instrumented_init(self: Deferred[Any], canceller: Optional[Canceller] = None) -> None:
     watcher = watched.observer
     if watcher is None:
+        count_elsewhere()
         _init(self, canceller)
         return
     record = Record()
@@ -213,7 +225,7 @@ def _instrumented_init(self: Deferred[Any], canceller: Optional[Canceller] = Non
             watcher.keep(self, record)
             watcher.made(self, record, "inline")
         return
-    if watcher.quiet:
+    if watcher.acting and watcher.quiet:
         _init(self, canceller)
         watcher.keep(self, record)
         watcher.made(self, record)
@@ -251,7 +263,6 @@ def _cancelled_inline(watcher: Observer) -> Optional[Record]:
 
 
 def _instrumented_canceller(watcher: Observer, body: Any, canceller: Canceller) -> Canceller:
-    @functools.wraps(canceller, updated=())
     def cancelled(deferred: Deferred[Any]) -> object:
         if watched.observer is not watcher:
             return canceller(deferred)
@@ -259,6 +270,8 @@ def _instrumented_canceller(watcher: Observer, body: Any, canceller: Canceller) 
             watcher.problem("a cancel of an inline body that isn't told as one")
         return watcher.perform(body, "canceller", None, canceller, (deferred,))
 
+    cancelled.__qualname__ = qualified(canceller) or "cancelled"
+    setattr(cancelled, "__wrapped__", canceller)
     return cancelled
 
 
@@ -277,6 +290,8 @@ def _instrumented_add(
     errback = _failthru if errback is None else errback
     arguments = callbackArgs, callbackKeywords, errbackArgs, errbackKeywords
     watcher = watched.observer
+    if watcher is None:
+        refuse_elsewhere(self)
     if watcher is None or not callable(callback) or not callable(errback):
         _add_callbacks(self, callback, errback, *arguments)
         if watcher is not None:
@@ -291,7 +306,7 @@ def _instrumented_add(
         special = special_pairs.get(qualified(errback))
         if special is not None and special(watcher, self, record, callback, errback, arguments):
             return self
-    if watcher.quiet:
+    if watcher.acting and watcher.quiet:
         first, second = _own_side(watcher, record, callback), _own_side(watcher, record, errback)
         _tell_pair(watcher, self, record, first, second, arguments)
     else:
@@ -308,6 +323,18 @@ def _act_pair(
     arguments: PairArguments,
 ) -> None:
     """A pair of the program's."""
+    action, first, second = _pair(watcher, record, callback, errback, arguments)
+    watcher.act(action, _tell_pair, watcher, deferred, record, first, second, arguments)
+
+
+def _pair(
+    watcher: Observer,
+    record: Record,
+    callback: Callable[..., Any],
+    errback: Callable[..., Any],
+    arguments: PairArguments,
+) -> Tuple[Action, Callable[..., Any], Callable[..., Any]]:
+    """The action that adds a pair of the program's, and the two sides that Twisted is given for it."""
     body = watcher.new_body("callback")
     action = Action(["addBoth", record, body])
     first = _side(watcher, record, callback, body)
@@ -315,19 +342,43 @@ def _act_pair(
         action[0], second = "addCallback", errback
     elif callback is _passthru:
         action[0], second = "addErrback", _side(watcher, record, errback, body)
-    elif callback != errback or not _are_same(arguments):
+    elif not _is_same_function(callback, errback) or not _are_same(arguments):
         action[0], other = "addCallbacks", watcher.new_body("callback")
         action.append(other)
         second = _side(watcher, record, errback, other)
     else:
         second = first
-    watcher.act(action, _tell_pair, watcher, deferred, record, first, second, arguments)
+    return action, first, second
+
+
+def _is_same_function(one: object, other: object) -> bool:
+    """Whether both are one function, or one method of one object. No object is asked, which might run code."""
+    if type(one) is MethodType and type(other) is MethodType:
+        return one.__func__ is other.__func__ and one.__self__ is other.__self__
+    return one is other
 
 
 def _are_same(arguments: PairArguments) -> bool:
-    """Whether callback and errback have the same arguments. Some give None for none."""
+    """Whether callback and errback have the same objects as arguments. Some give None for none."""
     on_value, by_name, on_failure, by_name_on_failure = arguments
-    return (on_value or ()) == (on_failure or ()) and (by_name or {}) == (by_name_on_failure or {})
+    if on_value is on_failure and by_name is by_name_on_failure:
+        return True
+    first, second = _parts(on_value, by_name), _parts(on_failure, by_name_on_failure)
+    return len(first) == len(second) and all(one is other for one, other in zip(first, second))
+
+
+def _parts(positional: object, by_name: object) -> List[object]:
+    """The arguments one after the other, where these are a tuple or a list, and a dict."""
+    parts: List[object] = []
+    for given in (positional, by_name):
+        if isinstance(given, (tuple, list)):
+            parts += given
+        elif isinstance(given, dict):
+            parts += [part for pair in given.items() for part in pair]
+        elif given is not None:
+            parts.append(given)
+        parts.append(_NO_RESULT)
+    return parts
 
 
 def _tell_pair(
@@ -468,10 +519,18 @@ def _instrumented_add_both(
 
 def _instrumented_chain(self: Deferred[Any], other: Deferred[Any]) -> Any:
     watcher = watched.observer
-    if watcher is None or watcher.quiet or not isinstance(other, Deferred):
-        return _chain_deferred(self, other)
+    if watcher is None or watcher.quiet or not _fires_as_twisted_does(other):
+        return _chain_deferred(self, other)  # told as the pair that it is made of
     action = Action(["chain", watcher.record(self), watcher.record(other)])
     return watcher.act(action, _chain_deferred, self, other)
+
+
+def _fires_as_twisted_does(other: object) -> bool:
+    """Whether it is a Deferred whose methods that fire it are Twisted's own."""
+    if not isinstance(other, Deferred):
+        return False
+    fires, fails = getattr(other.callback, "__func__", None), getattr(other.errback, "__func__", None)
+    return fires is Deferred.callback and fails is Deferred.errback
 
 
 # firing
@@ -480,14 +539,17 @@ def _instrumented_chain(self: Deferred[Any], other: Deferred[Any]) -> Any:
 def _instrumented_start(self: Deferred[Any], result: object) -> None:
     watcher = watched.observer
     if watcher is None:
+        refuse_elsewhere(self)
         _start(self, result)
         return
     record = watcher.record(self)
     if "inline" in watcher.kinds and _is_internal(result):
         record.fired = record.starts = True
         _start(self, result)
-    elif watcher.quiet:
-        _fire(watcher, self, record, result, _handed_on(watcher, record, result))
+    elif watcher.acting and watcher.quiet:
+        if is_dead_reference(result):
+            watcher.problem("a weak reference has a method of a Deferred as its callback")
+        _fire(watcher, self, record, result, _handed_on(watcher, self, record, result))
     elif watcher.frame.kind == "inline" and _ends_inline(watcher):
         _fire_inline(watcher, self, record, result)
     else:
@@ -501,14 +563,13 @@ def _instrumented_start(self: Deferred[Any], result: object) -> None:
 def _fire_inline(
     watcher: Observer, deferred: Deferred[Any], record: Record, result: object
 ) -> None:
-    """An inline body fires its own Deferred."""
+    """An inline body fires its own Deferred. What follows is inside what it was begun by, or gone on with."""
     frame = watcher.frame
-    watcher.quiet = True
-    try:
-        watcher.end_inline(frame, result)
-        _fire(watcher, deferred, record, result, watcher.texts.outcome(result))
-    finally:
-        watcher.quiet, watcher.frame = False, frame
+    watcher.acting = frame.has_fired = True
+    watcher.end_inline(frame, result)
+    if frame.outer is not None:
+        watcher.frame = frame.outer
+    _fire(watcher, deferred, record, result, watcher.texts.outcome(result))
 
 
 #: the error by which Twisted cancels an inline body, in the versions that have one
@@ -547,21 +608,23 @@ def _fire(
         raise
 
 
-def _handed_on(watcher: Observer, record: Record, result: object) -> Outcome:
+def _handed_on(watcher: Observer, deferred: Deferred[Any], record: Record, result: object) -> Outcome:
     """What Twisted hands on shows what it had when it was told last, though the program has changed it since."""
     passing = watcher.frame.passing
     if passing is not None and passing[0] is result and type(result) is list:
         return passing[1]
-    came = _came_to(record.came, result) if record.kind == "list" and record.came else None
+    came = _came_to(deferred, record.came, passing, result) if record.kind == "list" and record.came else None
     return watcher.texts.outcome(result) if came is None else came
 
 
-def _came_to(came: Dict[int, Outcome], result: object) -> Optional[Outcome]:
-    """What a DeferredList is fired with, by what its children came with."""
-    if isinstance(result, tuple) and len(result) == 2 and result[1] in came:
-        return Outcome([came[result[1]].value, result[1]])
-    if isinstance(result, list) and len(result) == len(came):
-        return Outcome([[bool(pair[0]), came[place].value] for place, pair in enumerate(result)])
+def _came_to(
+    deferred: Any, came: Dict[int, Outcome], passing: Optional[Tuple[object, Outcome]], result: object
+) -> Optional[Outcome]:
+    """What a DeferredList is fired with, by what its children came with; None, where somebody else has made it."""
+    if type(result) is tuple and len(result) == 2 and passing is not None and result[0] is passing[0]:
+        return Outcome([passing[1].value, result[1]]) if type(result[1]) is int and result[1] in came else None
+    if result is deferred.resultList and len(deferred.resultList) == len(came):
+        return Outcome([[pair[0] is True, came[place].value] for place, pair in enumerate(deferred.resultList)])
     return None
 
 
@@ -616,6 +679,8 @@ def _is_abandoned(giver: Deferred[Any]) -> bool:
 
 def _instrumented_pause(self: Deferred[Any]) -> None:
     watcher = watched.observer
+    if watcher is None:
+        refuse_elsewhere(self)
     if watcher is None or watcher.quiet or sys._getframe(1).f_code is _run_code:
         _pause(self)
         return
@@ -633,6 +698,8 @@ def _tell_paused(watcher: Observer, deferred: Deferred[Any], record: Record) -> 
 
 def _instrumented_unpause(self: Deferred[Any]) -> None:
     watcher = watched.observer
+    if watcher is None:
+        refuse_elsewhere(self)
     if watcher is None or watcher.quiet:
         _unpause(self)
         return
@@ -655,7 +722,9 @@ def _instrumented_cancel(self: Deferred[Any]) -> None:
 
 def _instrumented_list_cancel(self: Any) -> None:
     watcher = watched.observer
-    if watcher is not None and watcher.record(self).kind != "list" and not watcher.quiet:
+    if watcher is not None and watcher.record(self).kind != "list" and not self.called:
+        if watcher.quiet:
+            watcher.problem("a cancel comes to a DeferredList that isn't told as one", "list")
         _list_cancel(self)  # told as what it is made of
         return
     _cancelled(self, _list_cancel)
@@ -664,6 +733,7 @@ def _instrumented_list_cancel(self: Any) -> None:
 def _cancelled(deferred: Deferred[Any], cancel: Callable[[Any], None]) -> None:
     watcher = watched.observer
     if watcher is None:
+        refuse_elsewhere(deferred)
         cancel(deferred)
     elif watcher.quiet:
         _tell_cancel(watcher, deferred, cancel)
@@ -722,6 +792,46 @@ def _waits_in_a_circle(deferred: Deferred[Any]) -> bool:
         deferred = held
     return bool(deferred.called)
 
+
+
+def runs_callbacks() -> bool:
+    """Whether the callbacks of a Deferred are being run."""
+    return bool(_givers)
+
+
+def take_over(watcher: Observer, deferred: Any, record: Record) -> List[Any]:
+    """Has the pairs of a Deferred that another observer has known be told by this one, as pairs of the program's.
+
+    Gives what is in its queue, in order: the action that adds a pair, or a Deferred that waits.
+    """
+    queue: List[Any] = []
+    for place, ((callback, *on_value), (errback, *on_failure)) in enumerate(deferred.callbacks):
+        if callback is _CONTINUE:
+            queue.append(on_value[0][0])
+            continue
+        arguments = on_value[0], on_value[1], on_failure[0], on_failure[1]
+        action, first, second = _pair(watcher, record, _stands_for(callback), _stands_for(errback), arguments)
+        deferred.callbacks[place] = (first, *on_value), (second, *on_failure)
+        queue.append(action)
+    return queue
+
+
+def take_over_canceller(watcher: Observer, deferred: Any) -> Any:
+    """Likewise its canceller: the body of that, or None where there is none."""
+    canceller = deferred._canceller
+    if canceller is None or not callable(canceller):
+        return None
+    if getattr(canceller, "__code__", None) is _CANCELLED:
+        canceller = canceller.__wrapped__
+    body = watcher.new_body("canceller")
+    deferred._canceller = _instrumented_canceller(watcher, body, canceller)
+    return body
+
+
+_CONTINUE: object = getattr(defer, "_Sentinel")._CONTINUE
+
+#: the code of the cancellers that stand in the place of the program's
+_CANCELLED = getattr(_instrumented_canceller(Observer(), None, defer.passthru), "__code__")
 
 
 def _warn_about(offender: Callable[..., Any], text: str) -> None:

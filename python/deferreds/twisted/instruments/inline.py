@@ -2,16 +2,21 @@
 
 from __future__ import annotations
 
+import functools
 from typing import Any, Callable, List
 
 from twisted.internet import defer
 from twisted.internet.defer import Deferred
+from twisted.python.failure import Failure
 
-from ..telling import Action, Frame, Observer, Record, observer_of, watched
-from .deferreds import PairArguments, add_silently, named_as, special_pairs
+from ..telling import Action, Frame, Observer, Record, observer_of, switching, watched
+from .deferreds import PairArguments, add_silently, named_as, result_of, special_pairs
 
 _cancellable = defer._cancellableInlineCallbacks
 _inline_callbacks = defer._inlineCallbacks
+#: what a coroutine asks a Deferred by: in earlier Twisteds a Deferred is its own iterator
+_ASKS = "send" if hasattr(Deferred, "send") else "__iter__"
+_asked: Callable[..., Any] = getattr(Deferred, _ASKS)
 
 #: the names, in one version or another, of the errback by which a body awaits
 AWAITS = ("_inlineCallbacks.<locals>.gotResult", "_gotResultInlineCallbacks")
@@ -52,6 +57,7 @@ def _act(watcher: Observer, gen: Any) -> Any:
     return watcher.act(action, make)
 
 
+@switching
 def _instrumented_inline(result: object, gen: Any, status: Any, *context: Any) -> None:
     watcher = observer_of("inline")
     if watcher is None:
@@ -63,12 +69,17 @@ def _instrumented_inline(result: object, gen: Any, status: Any, *context: Any) -
     if kept is None or kept[0] is not watcher:
         _inline_callbacks(result, gen, status, *context)
         return
-    before = watcher.quiet, watcher.frame
-    watcher.quiet, watcher.frame = False, kept[1]
+    frame: Frame = kept[1]
+    acting, outer = watcher.acting, watcher.frame
+    watcher.acting, watcher.frame, frame.outer = False, frame, outer
     try:
         _inline_callbacks(result, gen, status, *context)
+    except BaseException:
+        if not frame.has_fired:
+            watcher.problem("an inline body gives a Deferred as its result", "inline")  # later Twisteds take it
+        raise
     finally:
-        watcher.quiet, watcher.frame = before
+        watcher.acting, watcher.frame = acting, outer
 
 
 def _add_await(
@@ -83,11 +94,27 @@ def _add_await(
     frame = watcher.frame
     if "inline" not in watcher.kinds or frame.kind != "inline" or watcher.quiet:
         return False
+    came: List[bool] = []
+    watcher.own(_await, watcher, deferred, record, callback, arguments, came)
+    if not came:
+        frame.awaits = deferred
+    return True
+
+
+def _await(
+    watcher: Observer,
+    deferred: Deferred[Any],
+    record: Record,
+    callback: Callable[..., Any],
+    arguments: PairArguments,
+    came: List[bool],
+) -> None:
+    """Tells that the body that runs awaits, and adds the pair; has `came` hold something when the result has come."""
+    frame = watcher.frame
     awaited = watcher.begin_await(frame, record)
     if frame.record is not None:
         watcher.tell("await ", frame.record, " ", record)
     watcher.tell("add ", record)
-    came = []
 
     def got(value: object, *args: Any, **kwargs: Any) -> object:
         if watched.observer is not watcher:
@@ -101,14 +128,7 @@ def _add_await(
         finally:
             record.ran = True
 
-    watcher.quiet = True
-    try:
-        add_silently(deferred, named_as(callback, got), got, arguments)
-    finally:
-        watcher.quiet, watcher.frame = False, frame
-    if not came:
-        frame.awaits = deferred
-    return True
+    add_silently(deferred, named_as(callback, got), got, arguments)
 
 
 def _add_hidden(
@@ -126,8 +146,42 @@ def _add_hidden(
     return True
 
 
+def _instrumented_asked(self: Deferred[Any], *given: object) -> Any:
+    """A coroutine that awaits a fired Deferred asks it for what it has, and adds no pair; a failure isn't lost then."""
+    watcher = watched.observer
+    if watcher is not None and not self.paused and not self._runningCallbacks:
+        held = result_of(self)
+        if isinstance(held, Failure) and not watcher.is_settled(self):
+            _tell_failure_taken(watcher, self, held)
+    return _asked(self, *given)
+
+
+def _tell_failure_taken(watcher: Observer, deferred: Deferred[Any], failure: Failure) -> None:
+    """Tells that a coroutine awaits a failed Deferred, or where coroutines aren't told as such that an errback takes it."""
+    frame, record = watcher.frame, watcher.record(deferred)
+    if "inline" in watcher.kinds and frame.kind == "inline" and not watcher.acting:
+        watcher.own(_await_failure, watcher, deferred, record, failure)
+    elif not watcher.quiet:
+        body = watcher.new_body("callback")
+        watcher.begin_body(body, "callback", (failure, record.outcome)).end = ["return", None]
+        watcher.act(Action(["addErrback", record, body]), watcher.settle, deferred, record)
+
+
+def _await_failure(watcher: Observer, deferred: Deferred[Any], record: Record, failure: Failure) -> None:
+    """Tells that the body that runs awaits a failed Deferred, whose failure is thrown in it."""
+    frame, outcome = watcher.frame, record.outcome
+    awaited = watcher.begin_await(frame, record)
+    if frame.record is not None:
+        watcher.tell("await ", frame.record, " ", record)
+    watcher.settle(deferred, record)
+    watcher.end_await(awaited, failure, outcome)
+
+
 def install() -> None:
     """Puts the instrument into twisted.internet.defer."""
+    asked = functools.wraps(_asked)(_instrumented_asked)
+    setattr(Deferred, _ASKS, asked)
+    setattr(Deferred, "__next__" if _ASKS == "send" else "__await__", asked)
     setattr(defer, "_cancellableInlineCallbacks", _instrumented_cancellable)
     setattr(defer, "_inlineCallbacks", _instrumented_inline)
     special_pairs.update(dict.fromkeys(AWAITS, _add_await))

@@ -18,6 +18,9 @@ _init = DeferredList.__init__
 _gather = defer.gatherResults
 _parse = defer._parseDeferredListResult
 
+#: classes of which Python asks no code of the program's whether a value of them is true
+_TRUTHS = (bool, int, str, list, tuple)
+
 _CANCELLER_RAISED = "Exception raised from user supplied"
 
 
@@ -85,15 +88,19 @@ def _instrumented_gather(
 @functools.wraps(_parse)
 def _instrumented_parse(resultList: Any, *args: Any, **kwargs: Any) -> Any:
     watcher = observer_of("list")
-    if watcher is not None and watcher.quiet and not _are_results(resultList):
-        watcher.quirk(Entry.GATHER_FIRED_BY_HAND)
+    if watcher is not None and watcher.quiet:
+        passing = watcher.frame.passing
+        if not _are_results(resultList):
+            watcher.quirk(Entry.GATHER_FIRED_BY_HAND)
+        elif passing is not None and passing[0] is resultList and not _are_results(passing[1].value):
+            watcher.problem("a gatherResults is fired by hand with a list that isn't shown in full", "list")
     return _parse(resultList, *args, **kwargs)
 
 
 def _are_results(value: object) -> bool:
     """Whether it is what a DeferredList of successes is fired with."""
     return isinstance(value, (list, tuple)) and all(
-        isinstance(item, (list, tuple)) and len(item) == 2 and item[0] for item in value
+        isinstance(item, (list, tuple)) and len(item) == 2 and type(item[0]) in _TRUTHS and item[0] for item in value
     )
 
 

@@ -2,7 +2,7 @@
 
 from __future__ import annotations
 
-from typing import Any, Callable, Optional, Tuple
+from typing import Any, Callable, NamedTuple, Optional
 
 from twisted.internet import task
 from twisted.internet.defer import Deferred
@@ -10,16 +10,23 @@ from twisted.internet.defer import Deferred
 from ..classes import set_message
 from ..profile import Entry
 from ..telling import Action, Observer, Record, Thing, Time, observer_of
-from .clock import due_time, own_calls
+from .clock import Own, is_delay, own_calls
 from .deferreds import PairArguments, add_silently, special_pairs
+from .pace import has_clock, is_real, seconds_of
+from .settling import Loop
 
 _start = task.LoopingCall.start
 _stop = task.LoopingCall.stop
 _call = task.LoopingCall.__call__
 _reset = task.LoopingCall.reset
 
-#: the loop, and the body of its turns
-Known = Tuple[Thing, Any]
+
+class Known(NamedTuple):
+    """What is known of a LoopingCall: its name, the body of its turns, and the loop on a real reactor."""
+
+    thing: Thing
+    body: Any
+    loop: Optional[Loop]
 
 
 def _known(watcher: Optional[Observer], loop: object) -> Optional[Known]:
@@ -41,7 +48,6 @@ def _act_start(
     watcher: Observer, loop: task.LoopingCall, interval: float, now: bool
 ) -> Any:
     thing, body = watcher.thing("loop"), watcher.new_body("turn")
-    loop.__dict__["_dv_loop"] = (watcher, (thing, body))
     watcher.texts.bind(loop, thing)
     action = Action(["loop", thing, None, Time(interval), bool(now), body])
 
@@ -51,6 +57,11 @@ def _act_start(
 
     def start() -> Any:
         watcher.expect(made)
+        paced = None
+        if watcher.pace is not None:
+            paced = watcher.pace.start_loop(interval)
+            action[3] = Time(seconds_of(paced.interval))
+        loop.__dict__["_dv_loop"] = (watcher, Known(thing, body, paced))
         return _start(loop, interval, now)
 
     return watcher.act(action, start)
@@ -60,11 +71,11 @@ def _can_be_told(watcher: Observer, loop: task.LoopingCall, interval: float) -> 
     """Whether the language has such a loop."""
     return (
         not loop.running
-        and bool(interval)
+        and is_delay(interval)
         and interval > 0
-        and isinstance(loop.clock, task.Clock)
+        and (isinstance(loop.clock, task.Clock) or is_real(loop.clock))
         and "clock" in watcher.kinds
-        and watcher.has_clock(loop.clock)
+        and has_clock(watcher, loop.clock)
     )
 
 
@@ -74,7 +85,7 @@ def _instrumented_stop(self: task.LoopingCall) -> None:
     if watcher is None or known is None or watcher.quiet:
         _stop(self)
         return
-    watcher.act(Action(["stopLoop", known[0]]), _tell_stop, watcher, self, known[0])
+    watcher.act(Action(["stopLoop", known.thing]), _tell_stop, watcher, self, known.thing)
 
 
 def _tell_stop(watcher: Observer, loop: task.LoopingCall, thing: Thing) -> None:
@@ -99,9 +110,8 @@ def _instrumented_call(self: task.LoopingCall) -> None:
         watcher.problem("a turn that the program itself runs", "loop")
         _call(self)
         return
-    thing, body = known
-    watcher.tell("turn ", thing)
-    watcher.turn = body
+    watcher.tell("turn ", known.thing)
+    watcher.turn = known.body
     _call(self)
 
 
@@ -112,12 +122,13 @@ def _instrumented_reset(self: task.LoopingCall) -> None:
     _reset(self)
 
 
-def _tell_turn_scheduled(watcher: Observer, call: Callable[..., Any], delay: float) -> bool:
+def _own_turn(watcher: Observer, call: Callable[..., Any]) -> Optional[Own]:
+    """Twisted schedules the next turn of a loop."""
     known = _known(watcher, call)
     if known is None:
-        return False
-    watcher.tell("later loop ", known[0], " ", due_time(watcher, delay))
-    return True
+        return None
+    loop: Any = known.loop
+    return Own(("later loop ", known.thing, " "), lambda pace, delay: pace.turn(loop, call, delay), lambda delay: None)
 
 
 def _add_second(
@@ -154,5 +165,5 @@ def install() -> None:
     setattr(task.LoopingCall, "stop", _instrumented_stop)
     setattr(task.LoopingCall, "reset", _instrumented_reset)
     setattr(task.LoopingCall, "__call__", _instrumented_call)
-    own_calls.append(_tell_turn_scheduled)
+    own_calls.append(_own_turn)
     special_pairs["LoopingCall.__call__.<locals>.eb"] = _add_second

@@ -10,7 +10,7 @@ from twisted.internet.defer import AlreadyCalledError, Deferred
 
 from ..profile import Entry
 from ..telling import Action, Observer, Record, Thing, Time, observer_of
-from .clock import due_time, own_calls
+from .clock import Own, own_calls
 
 _Task = task.CooperativeTask
 _Cooperator = task.Cooperator
@@ -33,7 +33,7 @@ class Cooperating:
 
     def __init__(self, cooperator: Any) -> None:
         self.cooperator = cooperator
-        self.delays: List[float] = []
+        self.delays: List[Time] = []
         #: how many steps each tick had, and whether tasks were left after it
         self.ticks: List[Tuple[int, bool]] = []
         #: the steps of the tick that goes on
@@ -110,14 +110,13 @@ def _is_told(watcher: Observer, cooperator: Any) -> bool:
 # ticks
 
 
-def _tell_tick_scheduled(watcher: Observer, call: Callable[..., Any], delay: float) -> bool:
+def _own_tick(watcher: Observer, call: Callable[..., Any]) -> Optional[Own]:
+    """Twisted schedules a tick of the Cooperator of the run."""
     cooperating = _cooperating(watcher, getattr(call, "__self__", None))
     if cooperating is None or getattr(call, "__func__", None) is not _instrumented_tick:
-        return False
+        return None
     cooperating.seen = True
-    cooperating.delays.append(delay)
-    watcher.tell("later tick ", due_time(watcher, delay))
-    return True
+    return Own(("later tick ",), lambda pace, delay: pace.tick(), cooperating.delays.append)
 
 
 def _instrumented_reschedule(self: Any) -> None:
@@ -144,7 +143,7 @@ def _tell_tick_alone(watcher: Observer, cooperating: Cooperating) -> None:
         watcher.problem(
             "a scheduler of a Cooperator that gives nothing to cancel", "cooperator"
         )
-    cooperating.delays.append(1)
+    cooperating.delays.append(Time(1))
     watcher.tell("later tick ", Time(cooperating.time + 1))
 
 
@@ -379,4 +378,4 @@ def install() -> None:
         setattr(_Task, name, instrument)
     for name, instrument in of_cooperators.items():
         setattr(_Cooperator, name, instrument)
-    own_calls.append(_tell_tick_scheduled)
+    own_calls.append(_own_tick)

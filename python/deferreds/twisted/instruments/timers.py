@@ -15,6 +15,8 @@ from twisted.internet.defer import Deferred
 
 from ..telling import Action, Observer, Record, Time, observer_of, watched
 from .clock import due_time, is_delay, keep_timer, schedule, tell_due
+from .pace import has_clock, is_real
+from .reactors import schedule_waiting
 
 _add_timeout = Deferred.addTimeout
 
@@ -24,26 +26,34 @@ OnCancel = Callable[[object, float], object]
 class _Timing:
     """The clock as one call of `addTimeout` sees it: what that schedules is the timer."""
 
-    def __init__(self, watcher: Observer, record: Record, clock: task.Clock) -> None:
+    def __init__(self, watcher: Observer, record: Record, clock: Any, action: Action) -> None:
         self._watcher = watcher
         self._record = record
         self._clock = clock
+        self._action = action
 
     def callLater(self, delay: float, f: Callable[[], None]) -> Any:
         """Tells that the timer is set, and sets it."""
-        watcher, record, clock = self._watcher, self._record, self._clock
-
-        def due() -> None:
-            _run_due(watcher, record, clock, f)
-
-        watcher.tell("later timeout ", record, " ", due_time(watcher, delay))
-        call = schedule(clock, delay, due)
-        keep_timer(watcher, call)
+        call = self._on_reactor(delay, f) if is_real(self._clock) else self._on_clock(delay, f)
+        keep_timer(self._watcher, call)
         return call
+
+    def _on_clock(self, delay: float, f: Callable[[], None]) -> Any:
+        watcher, record, clock = self._watcher, self._record, self._clock
+        watcher.tell("later timeout ", record, " ", due_time(watcher, delay))
+        return schedule(clock, delay, lambda: _run_due(watcher, record, clock, f))
+
+    def _on_reactor(self, delay: float, f: Callable[[], None]) -> Any:
+        watcher, record = self._watcher, self._record
+        waiting = watcher.pace.later(delay)
+        self._action[2] = waiting.delay
+        watcher.tell("later timeout ", record, " ", waiting.due)
+        due = functools.partial(_run_due, watcher, record, None, f)
+        return schedule_waiting(watcher, self._clock, delay, waiting, due)
 
 
 def _run_due(
-    watcher: Observer, record: Record, clock: task.Clock, f: Callable[[], None]
+    watcher: Observer, record: Record, clock: Optional[task.Clock], f: Callable[[], None]
 ) -> None:
     """The time of a timer has come."""
     if watched.observer is not watcher:
@@ -68,8 +78,8 @@ def _instrumented_add_timeout(
     record = watcher.record(self)
     if record.hidden_of is not None:
         return _add_timeout(self, timeout, clock)
-    timing: Any = _Timing(watcher, record, clock)
     action = Action(["addTimeout", record, Time(timeout)])
+    timing: Any = _Timing(watcher, record, clock, action)
     given: Deferred[Any] = watcher.act(action, _add_timeout, self, timeout, timing)
     return given
 
@@ -82,8 +92,8 @@ def _can_be_told(
         on_cancel is None
         and "clock" in watcher.kinds
         and is_delay(timeout)
-        and isinstance(clock, task.Clock)
-        and watcher.has_clock(clock)
+        and (isinstance(clock, task.Clock) or is_real(clock))
+        and has_clock(watcher, clock)
     )
 
 

@@ -2,9 +2,9 @@
 
 from __future__ import annotations
 
-from typing import Any, List, Optional, Sequence
+from typing import Any, Iterator, List, NamedTuple, Optional, Sequence, Tuple
 
-from ..telling import Action, Frame
+from ..telling import Action, Frame, Record, Thing
 from ..texts import Outcome
 
 
@@ -21,15 +21,18 @@ class Unsayable:
 class Body:
     """What the program hands to Twisted to be called back."""
 
-    def __init__(self, kind: str) -> None:
+    def __init__(self, kind: str, depth: int = 0) -> None:
         self.kind = kind
+        #: in how many others it lies
+        self.depth = depth
         self.runs: List["Run"] = []
 
 
 class Steps:
     """What the program hands to a Cooperator: the bodies of the steps of a task."""
 
-    def __init__(self) -> None:
+    def __init__(self, depth: int = 0) -> None:
+        self.depth = depth
         self.bodies: List[Body] = []
 
 
@@ -42,14 +45,20 @@ class Run(Frame):
     began = 0
     _actions: Optional[List[Action]] = None
 
-    def __init__(self, kind: str, given: Optional[Outcome] = None) -> None:
+    def __init__(self, kind: str, given: Optional[Outcome] = None, depth: int = -1) -> None:
         self.kind = kind
         self.given = given
+        #: that of its body
+        self.depth = depth
 
     @property
     def actions(self) -> Sequence[Action]:
         """The actions, in order."""
         return self._actions or ()
+
+    def forget(self) -> None:
+        """Keeps no action."""
+        self._actions = None
 
     def note(self, action: Action) -> None:
         """Notes an action: the body has gone on after the failure of the last one, if that failed."""
@@ -72,3 +81,56 @@ class Run(Frame):
             return True
         last.caught = True
         return False
+
+
+#: the kinds of bodies that aren't nested where their objects are told as what they are made of, and the kinds of these
+_TOLD_PLAINLY = {"inline": "inline", "call": "clock", "turn": "loop"}
+
+
+class Deepest(NamedTuple):
+    """The body that lies deepest in others: of what it is, and which kind of objects nests most, of those that may be told
+    as what they are made of."""
+
+    of: str
+    kind: Optional[str]
+
+
+def deepest(actions: Sequence[Action]) -> Optional[Deepest]:
+    """The body that lies deepest in others, if there is one. However deep that is, this takes no room on the stack."""
+    found: List[Tuple[int, str, str]] = []  # of each body: the place of the one around it, its kind, and of what it is
+    left: List[Tuple[int, Action]] = [(-1, action) for action in reversed(actions)]
+    levels: List[int] = []
+    best = -1
+    while left:
+        around, action = left.pop()
+        for body in _bodies(action):
+            found.append((around, body.kind, in_words(action)))
+            levels.append(levels[around] + 1 if around >= 0 else 1)
+            if best < 0 or levels[-1] > levels[best]:
+                best = len(levels) - 1
+            if body.runs:
+                left += [(len(found) - 1, inner) for inner in reversed(body.runs[0].actions)]
+    if best < 0:
+        return None
+    kinds: List[str] = []
+    place = best
+    while place >= 0:
+        kinds.append(found[place][1])
+        place = found[place][0]
+    most = max(_TOLD_PLAINLY, key=kinds.count)
+    return Deepest(found[best][2], _TOLD_PLAINLY[most] if most in kinds else None)
+
+
+def _bodies(action: Action) -> Iterator[Body]:
+    for part in action:
+        if isinstance(part, Body):
+            yield part
+        elif isinstance(part, Steps):
+            yield from part.bodies
+
+
+def in_words(action: Action) -> str:
+    """What an action is of, in words."""
+    named = next((part for part in action if isinstance(part, (Record, Thing))), None)
+    name = named.name if named is not None else None
+    return f"{action[0]} of {name}" if name else str(action[0])

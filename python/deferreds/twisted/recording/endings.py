@@ -13,7 +13,7 @@ import os
 import signal
 import sys
 from types import FrameType
-from typing import Any, Callable, Dict, Iterator, List, Optional, Protocol, Tuple
+from typing import Any, Callable, Dict, Iterator, List, NoReturn, Optional, Protocol, Tuple
 
 #: the signals that end a process which doesn't handle them, and leave it time
 _ENDING = tuple(
@@ -37,6 +37,9 @@ class Watcher(Protocol):
 
         Gives whether it may end: it may not while the run is being kept, after which it ends in any case.
         """
+
+    def becomes_another(self, how: str, frame: Optional[FrameType]) -> None:
+        """Another program takes the place of this one after this call, if it can. Raises nothing."""
 
     def is_asked(self, frame: Optional[FrameType]) -> None:
         """Somebody asks for the run so far. Raises nothing."""
@@ -99,18 +102,24 @@ class Endings:
 
     def _replaced(self) -> List[Tuple[Any, str, Callable[..., Any]]]:
         """What stands in the place of functions, by their modules and names."""
-        ending: List[Tuple[Any, str, Callable[..., Any]]] = [
-            (os, name, self._telling(f"os.{name}", getattr(os, name))) for name in ("_exit", *_REPLACING)
+        others: List[Tuple[Any, str, Callable[..., Any]]] = [
+            (os, name, self._replacing(f"os.{name}", getattr(os, name))) for name in _REPLACING
         ]
-        return [*ending, (signal, "signal", self._set_signal), (signal, "getsignal", self._get_signal)]
+        return [*others, (os, "_exit", self._end), (signal, "signal", self._set_signal), (signal, "getsignal", self._get_signal)]
 
-    def _telling(self, how: str, function: Callable[..., Any]) -> Callable[..., Any]:
-        """A function that ends the process, told before it is called."""
+    def _end(self, status: int) -> NoReturn:
+        """`os._exit`, told before."""
+        self._watcher.ends("os._exit", sys._getframe(1))
+        self._exit(status)
+
+    def _replacing(self, how: str, function: Callable[..., Any]) -> Callable[..., Any]:
+        """A function that puts another program in the place of this one. Where that is there, it is told before."""
 
         @functools.wraps(function)
-        def told(*args: Any, **kwargs: Any) -> Any:
-            self._watcher.ends(how, sys._getframe(1))
-            return function(*args, **kwargs)
+        def told(path: Any, *args: Any, **kwargs: Any) -> Any:
+            if not isinstance(path, (str, bytes, os.PathLike)) or os.access(path, os.X_OK):
+                self._watcher.becomes_another(how, sys._getframe(1))
+            return function(path, *args, **kwargs)
 
         return told
 

@@ -3,26 +3,32 @@
 from __future__ import annotations
 
 import contextlib
-import inspect
 import os
+import select
 import warnings
 from types import FrameType
-from typing import NoReturn, Optional
+from typing import Callable, List, Optional, Tuple
 
+from ..instruments.pace import Pace
 from ..telling import Observer
 from .keeping import Keeping, Status
+from .last import LastRecorder
+from .messages import file_of
 from .recorder import Recorder
 from .saying import Said
 
-#: the code by which the recorder notes what happens: where it runs, an event is under way
-_NOTING = {
-    function.__code__
-    for cls in (Observer, Recorder)
-    for name, function in vars(cls).items()
-    if inspect.isfunction(function) and name != "watching"
+#: the code by which lines are told, of an event that isn't noted yet
+_TELLING = {
+    getattr(cls, name).__code__
+    for cls in (Observer, Recorder, LastRecorder, Pace)
+    for name in ("tell", "tell_unhandled", "adopt", "_adopt", "_note", "run", "event")
+    if hasattr(cls, name)
 }
 
 _exit = os._exit
+
+#: how many seconds a copy that writes is waited for
+_MOST_SECONDS = 60.0
 
 
 def _forked() -> int:
@@ -35,18 +41,26 @@ def _forked() -> int:
 class Keeper:
     """Keeps what a recorder has of this process; a forked child keeps only what it has itself done, too."""
 
-    def __init__(self, recorder: Recorder, keeping: Keeping) -> None:
+    def __init__(self, recorder: Recorder, keeping: Keeping, before: Optional[Keeping] = None) -> None:
+        """`before`: where the recording of one that the recorder has taken over from is kept."""
         self._recorder = recorder
         self._keeping = keeping
+        self._before = before
         self._is_busy = False
         self._is_snapshot = False
-        #: how many parts of lines were told when this process was forked
-        self._forked_at: Optional[int] = None
+        #: of each copy that writes the run so far a pipe, which is at its end when that has written, and which file it is
+        self._writers: List[Tuple[int, object]] = []
+        #: the recorder when this process was forked, and how many parts of lines it had told
+        self._forked_at: Optional[Tuple[Recorder, int]] = None
+
+    def take_over(self, recorder: Recorder) -> None:
+        """From here on this one records."""
+        self._recorder = recorder
 
     @property
     def is_idle_child(self) -> bool:
         """Whether this is a forked child in which nothing was recorded."""
-        return self._forked_at is not None and self._forked_at == len(self._recorder.parts)
+        return self._forked_at == (self._recorder, len(self._recorder.parts))
 
     def keep(self, how: str, frame: Optional[FrameType] = None) -> Status:
         """Keeps the run so far, which ended so; the frame is that of the program, where that runs."""
@@ -54,9 +68,23 @@ class Keeper:
             return Status.RECORDED
         is_busy, self._is_busy = self._is_busy, True
         try:
-            return self._keeping.keep(Said(self._recorder, self._ended(frame)), how)
+            self._wait_for_writers()
+            return self._keep(how, self._ended(frame))
         finally:
             self._is_busy = is_busy
+
+    def _keep(self, how: str, ended: Optional[int]) -> Status:
+        recorder = self._recorder
+        if not isinstance(recorder, LastRecorder):
+            return self._keeping.keep(Said(recorder, ended), how)
+        before = recorder.before
+        if before is not None and not recorder.events:
+            before.meet_all()
+            return self._keeping.keep(before.said(), how, before.earlier)
+        if before is not None and self._before is not None:
+            self._before.keep(before.said(), f"{len(recorder.events)} events later", before.earlier)
+        recorder.meet_all()
+        return self._keeping.keep(recorder.said(ended), how, recorder.earlier)
 
     def ends(self, how: str, frame: Optional[FrameType]) -> bool:
         """The process ends after this call; whether it may, since the run isn't being kept at this moment."""
@@ -68,29 +96,62 @@ class Keeper:
             self._keeping.messages.say(f"the run can't be kept: {type(error).__name__}: {error}")
         return True
 
+    def becomes_another(self, how: str, frame: Optional[FrameType]) -> None:
+        """Another program takes the place of this one, if it can: a copy of this process writes the run, and has done so then."""
+        if not self.is_idle_child:
+            self._copy(lambda: self.ends(how, frame))
+
     def is_asked(self, frame: Optional[FrameType]) -> None:
-        """Somebody asks for the run so far: a copy of this process writes it, and this one goes on."""
+        """Somebody asks for the run so far: a copy of a copy writes it, for which the program doesn't wait."""
+
+        def write() -> None:
+            if _forked() == 0:
+                self.ends("asked by SIGUSR1", frame)
+
+        self._writers = [one for one in self._writers if not self._has_written(*one)]
+        try:
+            reader, writer = os.pipe()
+        except OSError as error:
+            self._keeping.messages.say(f"the run so far can't be kept: {error.strerror}")
+            return
+        self._copy(write)
+        os.close(writer)
+        self._writers.append((reader, file_of(reader)))
+
+    def _wait_for_writers(self, most: float = _MOST_SECONDS) -> None:
+        """Waits until copies that write have done so: what they write is older. The program may have closed a pipe of theirs."""
+        for reader, file in self._writers:
+            if not self._has_written(reader, file, most):
+                os.close(reader)
+        self._writers.clear()
+
+    def _has_written(self, reader: int, file: object, most: float = 0) -> bool:
+        """Whether the copy of this pipe has written, which is closed then; so many seconds are waited for that at most."""
+        if file_of(reader) != file:
+            return True
+        has_written = bool(select.select([reader], [], [], most)[0])
+        if has_written:
+            os.close(reader)
+        return has_written
+
+    def _copy(self, write: Callable[[], object]) -> None:
+        """Has a copy of this process write, and waits for the end of that."""
         if self._is_busy:
             return
         self._is_snapshot = True
         try:
             child = _forked()
             if child == 0:
-                self._write_snapshot(frame)
+                try:
+                    write()
+                finally:
+                    _exit(0)
             with contextlib.suppress(ChildProcessError):  # (the program may ignore the ends of children)
                 os.waitpid(child, 0)
         except OSError as error:
             self._keeping.messages.say(f"the run so far can't be kept: {error.strerror}")
         finally:
             self._is_snapshot = False
-
-    def _write_snapshot(self, frame: Optional[FrameType]) -> NoReturn:
-        """In the copy, has a copy of its own write, for which the program doesn't wait."""
-        try:
-            if _forked() == 0:
-                self.ends("asked by SIGUSR1", frame)
-        finally:
-            _exit(0)
 
     def has_forked(self) -> None:
         """A child of this process was forked."""
@@ -99,21 +160,26 @@ class Keeper:
     def is_child(self) -> None:
         """From here on this is a forked child, whose files have its number in their names."""
         if not self._is_snapshot:
-            self._forked_at = len(self._recorder.parts)
-            self._keeping.be_of_child()
+            self._wait_for_writers(0)
+            self._forked_at = self._recorder, len(self._recorder.parts)
+            for keeping in filter(None, (self._keeping, self._before)):
+                keeping.be_of_child()
 
     def _ended(self, frame: Optional[FrameType]) -> Optional[int]:
         """How many events have ended, where one is under way; None, where all have."""
         recorder = self._recorder
+        if recorder.ended < len(recorder.events):
+            return recorder.ended
         if len(recorder.events) == len(recorder.begins) and not self._is_under_way(frame):
             return None
         return max(0, len(recorder.events) - 1)
 
     def _is_under_way(self, frame: Optional[FrameType]) -> bool:
+        """Whether an event is under way, or lines of one are told that isn't noted yet."""
         if frame is None:
             return False
         while frame is not None:
-            if frame.f_code in _NOTING:
+            if frame.f_code in _TELLING:
                 return True
             frame = frame.f_back
-        return self._recorder.frame is not self._recorder.top or self._recorder.quiet
+        return self._recorder.frame is not self._recorder.top or self._recorder.acting

@@ -10,6 +10,8 @@ import twisted
 
 from ...view.page import Page
 from ...view.phrases import several
+from ...view.places import SUFFIX as PLACES
+from ...view.places import read_places
 from ...view.run import run_of_journal
 from ...view.scripts import Script
 from ..programs import Program
@@ -47,16 +49,16 @@ class Keeping:
         self.place.be_of_this_process()
         self.messages.be_of_child()
 
-    def keep(self, said: Said, how: str) -> Status:
-        """Keeps a run that ended so. What can't be kept is told, with the reason."""
+    def keep(self, said: Said, how: str, earlier: int = 0) -> Status:
+        """Keeps a run that ended so, and before which so many events were, which aren't kept. What can't be kept is told."""
         refusals = [problem for problem in said.problems if problem not in said.too_large]
         if refusals or said.script is None:
             self._refuse(refusals)
             return Status.REFUSED
-        if not said.journal:
+        if said.is_empty:
             self._tell_nothing()
             return Status.NOTHING
-        return self._write(said, how)
+        return self._write(said, how, earlier)
 
     def _tell_nothing(self) -> None:
         if self.children:
@@ -73,7 +75,7 @@ class Keeping:
             plainly = f" (--plain {problem.kind} tells it as what it is made of)" if problem.kind else ""
             self.messages.say(f"a script can't say this: {problem.reason}{at}{plainly}")
 
-    def _write(self, said: Said, how: str) -> Status:
+    def _write(self, said: Said, how: str, earlier: int) -> Status:
         agreed = agreement(said, self._asked)
         files: Dict[str, str] = {}
         if agreed.is_wrong:
@@ -82,8 +84,11 @@ class Keeping:
             files.update({".json": said.text + "\n", ".journal": said.output})
             if not said.is_whole:
                 files[".whole.journal"] = said.whole_output
-        counts = self._add_page(files, said) if self._view else ""
-        written = self.place.write(files, self._facts(said, how, agreed))
+        places = None if agreed.is_wrong else said.places
+        if places is not None:
+            files[PLACES] = places
+        counts = self._add_page(files, said, places) if self._view else ""
+        written = self.place.write(files, self._facts(said, how, earlier, agreed))
         for failure in written.failures:
             self.messages.say(failure)
         if not written.is_any:
@@ -95,28 +100,35 @@ class Keeping:
             return Status.REFUSED
         return Status.NOT_WRITTEN if written.failures else Status.RECORDED
 
-    def _add_page(self, files: Dict[str, str], said: Said) -> str:
+    def _add_page(self, files: Dict[str, str], said: Said, places: Optional[str]) -> str:
         """Adds the page of the whole run, and gives how large that is."""
         run = run_of_journal(said.whole_output, self.place.name.name, Script(said.script), False, said.begins)
         if not said.is_whole:
             run.problems.append((_beginning(said),))
+        run.places = read_places(places) if places is not None else run.places
         files[".html"] = Page(run).html()
         return run.counts
 
-    def _facts(self, said: Said, how: str, agreed: Agreement) -> Dict[str, Any]:
+    def _facts(self, said: Said, how: str, earlier: int, agreed: Agreement) -> Dict[str, Any]:
         """What the list of the files says of the recording."""
         return {
             "twisted": str(twisted.__version__),
             "python": platform.python_version(),
             "ended": how,
+            "earlier events": earlier,
             "events": len(said.begins),
             "events of the script": said.events,
             "compared": agreed.text,
+            **({"tick": said.tick} if said.tick else {}),
         }
 
     def _tell(self, said: Said, name: str, agreed: Agreement) -> None:
         for entry in sorted({entry.value for _, entry in said.quirks}):
             self.messages.say(f"Twisted does here what docs/PROFILE.md says of {entry}")
+        if said.tick:
+            self.messages.say(f"1 tick = {said.tick}")
+        if said.elsewhere:
+            self.messages.say(f"left out: {several(said.elsewhere, 'Deferred', 'Deferreds')} of other threads")
         lines, deferreds = several(len(said.journal), "line", "lines"), several(len(said.records), "Deferred", "Deferreds")
         if agreed.is_wrong:
             self.messages.say(f"{name}.journal: {lines}, {deferreds}. No script is left: it would be wrong, since {agreed.text}")
@@ -129,6 +141,6 @@ class Keeping:
 
 
 def _beginning(said: Said) -> str:
-    """Of what the script is, where it isn't of the whole run, and why."""
+    """Which events the script has, where it isn't of the whole run, and why."""
     why = "; ".join(problem.reason for problem in said.too_large) or "an event was under way at the end"
     return f"the script is of the first {said.events} of {several(len(said.begins), 'event', 'events')}, since {why}"

@@ -8,12 +8,12 @@ from typing import Counter, Dict, List, NamedTuple, Optional
 
 from ..comparing import compared
 from ..programs import Answer, Program
-from .programs import LADDER, TestRun, record_test, tests_of
+from .case import TestRun, record_test
+from .programs import LADDER, tests_of
 from .saying import Said
 
 #: how a test went
 NOTHING = "uses no Deferreds"
-WAITS = "waits for a real reactor"
 SKIPPED = "is skipped"
 SAME = "the same"
 NAMED = "differs at an entry of the profile"
@@ -30,7 +30,8 @@ class Measured(NamedTuple):
     why: str
     #: whether all objects were told as such
     natively: bool
-    virtual: bool
+    #: whether times of the real reactor are told
+    with_times: bool
     passed: bool
 
 
@@ -70,23 +71,20 @@ def measure_test(cls: type[unittest.TestCase], method: str, ours: Program) -> Me
     """Records one test, as such or one level down, and compares it with ours."""
     name = f"{cls.__name__}.{method}"
     first = record_test(cls, method, LADDER[0], False)
-    virtual, passed = first.waits, first.passed
-    if virtual:
-        first = record_test(cls, method, LADDER[0], True)
-    simple = _simple(first, virtual)
-    if simple is not None:
-        return Measured(name, simple, "", True, virtual, passed)
+    passed = first.passed
     best = _attempt(first, ours)
+    if first.skipped or best.said.is_empty:
+        return Measured(name, SKIPPED if first.skipped else NOTHING, "", True, False, passed)
     natively = best.is_same
     for kinds in LADDER[1:]:
         if best.is_same or not _may_help(best, kinds):
             continue
-        attempt = _attempt(record_test(cls, method, kinds, virtual), ours)
+        attempt = _attempt(record_test(cls, method, kinds, False), ours)
         if attempt.is_same or (attempt.whole and not best.whole):
             best = attempt
     if best.is_same:
-        return Measured(name, SAME, "", natively, virtual, passed)
-    return _left(name, best, virtual, passed)
+        return Measured(name, SAME, "", natively, best.said.with_times, passed)
+    return _left(name, best, passed)
 
 
 def _may_help(attempt: Attempt, kinds: frozenset[str]) -> bool:
@@ -97,22 +95,13 @@ def _may_help(attempt: Attempt, kinds: frozenset[str]) -> bool:
     return None not in reasons and not any(kind in kinds for kind in reasons)
 
 
-def _simple(run: TestRun, virtual: bool) -> Optional[str]:
-    """What a test came to of which there is nothing to say. One that fails without sockets waits for a real reactor."""
-    if run.skipped:
-        return SKIPPED
-    if run.waits or (virtual and not run.passed):
-        return WAITS
-    return None if run.recorder.parts else NOTHING
-
-
-def _left(name: str, best: Attempt, virtual: bool, passed: bool) -> Measured:
+def _left(name: str, best: Attempt, passed: bool) -> Measured:
     if not best.whole:
         reasons = "; ".join(dict.fromkeys(problem.reason for problem in best.said.problems))
-        return Measured(name, CANNOT, reasons, False, virtual, passed)
+        return Measured(name, CANNOT, reasons, False, best.said.with_times, passed)
     if best.entry is not None:
-        return Measured(name, NAMED, best.entry, False, virtual, passed)
-    return Measured(name, DIFFERS, str(best.differs), False, virtual, passed)
+        return Measured(name, NAMED, best.entry, False, best.said.with_times, passed)
+    return Measured(name, DIFFERS, str(best.differs), False, best.said.with_times, passed)
 
 
 def measure(modules: List[str], ours: Program) -> Dict[str, List[Measured]]:

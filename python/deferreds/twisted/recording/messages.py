@@ -29,18 +29,18 @@ class Messages:
         """`who` stands before each line."""
         self._who = who
         self._descriptor = _duplicate()
-        self._file = _file_of(self._descriptor)
+        self._file = file_of(self._descriptor)
 
     def be_of_child(self) -> None:
         """From here on this is a forked child."""
         before, self._descriptor = self._descriptor, _STANDARD_ERROR
-        if before is not None and before != _STANDARD_ERROR and _file_of(before) == self._file:
+        if before is not None and before != _STANDARD_ERROR and file_of(before) == self._file:
             os.close(before)
 
     def say(self, text: str) -> None:
         """Writes a line. A standard error that can't be written is no error."""
         data = f"{self._who}: {text}\n".encode("utf-8", "backslashreplace")
-        if self._descriptor is None or _file_of(self._descriptor) != self._file:
+        if self._descriptor is None or file_of(self._descriptor) != self._file:
             return
         with contextlib.suppress(OSError):
             while data:
@@ -55,7 +55,7 @@ def _duplicate() -> Optional[int]:
     return None
 
 
-def _file_of(descriptor: Optional[int]) -> Optional[Tuple[int, int]]:
+def file_of(descriptor: Optional[int]) -> Optional[Tuple[int, int]]:
     """Which file a descriptor is of. Another one may have its number by now."""
     if descriptor is None:
         return None

@@ -2,18 +2,23 @@
 
 from __future__ import annotations
 
+import bisect
+import dis
 import functools
 import os
 import re
 import sys
-from types import FrameType
-from typing import Dict, Optional, Tuple
+import sysconfig
+from types import CodeType, FrameType
+from typing import Any, Dict, Iterable, Iterator, List, Optional, Tuple
 
+import twisted
 from twisted.internet import base, defer, task, threads
 from twisted.python import context, failure
 
-#: a function and a line, if there is one
-Spot = Tuple[str, Optional[int]]
+#: a function, and the code and the instruction of it, if it isn't Twisted's. What line that is is worked out where it is asked for,
+#: which takes Python longer than all else here
+Spot = Tuple[Any, ...]
 
 _LONGEST = 24
 
@@ -37,9 +42,122 @@ class _Files(Dict[str, bool]):
 _FILES = _Files()
 
 
+#: where Twisted and Python's own library are, whose code isn't the program's own
+_LIBRARIES = tuple(
+    {os.path.dirname(twisted.__file__) + os.sep, *(sysconfig.get_path(name) + os.sep for name in ("stdlib", "platstdlib"))}
+)
+#: what of these folders is a program's own after all: tests of Twisted, and packages that are installed
+_NOT_OF_LIBRARIES = (f"{os.sep}test{os.sep}", f"{os.sep}site-packages{os.sep}", f"{os.sep}dist-packages{os.sep}")
+
+
+def _is_own(file: str) -> bool:
+    """Whether a file is the program's own. That of the reactor counts as one: what is round it has only begun to run it."""
+    found = _OWN_FILES.get(file)
+    if found is None:
+        found = file == _REACTOR or (_FILES[file] and not file.startswith("<") and not _is_library(file))
+        _OWN_FILES[file] = found
+    return found
+
+
+def _is_library(file: str) -> bool:
+    for library in _LIBRARIES:
+        if file.startswith(library):
+            return not any(part in file[len(library) - 1 :] for part in _NOT_OF_LIBRARIES)
+    return False
+
+
+_REACTOR = str(base.__file__)
+_OWN_FILES: Dict[str, bool] = {}
+
+
+def _working_folder() -> str:
+    try:
+        return os.getcwd()
+    except OSError:  # it was removed
+        return ""
+
+
+#: by the words of actions, how many frames round that of `note` are known not to be the program's, where these aren't two
+_INSIDE = dict.fromkeys(("callback", "errback", "addCallback", "addErrback", "addBoth", "addCallbacks"), 4)
+
+
+_inside = _INSIDE.get
+_getframe = sys._getframe
+
+
+class Spots:
+    """Where in the program's own files actions are performed and Deferreds made: in no file of Twisted or of Python's library.
+
+    Little is done while the program runs: each call, and each frame that is looked at, counts.
+    """
+
+    def __init__(self) -> None:
+        #: three items for each: the action or the Deferred, the code, and the instruction
+        self._noted: List[Any] = []
+        self._note = self._noted.extend
+        #: the folder from which the program's files are called, before it goes to another
+        self._folder = _working_folder()
+
+    def note(self, action: Any) -> None:
+        """The caller performs an action, which isn't one that makes a Deferred: that is located."""
+        try:
+            frame = _getframe(_inside(action[0], 3))
+            code = frame.f_code
+            if _OWN_FILES[code.co_filename]:
+                self._note((action, code, frame.f_lasti))
+                return
+        except ValueError:  # Python itself calls, as at its end
+            return
+        except KeyError:
+            pass
+        self._look_round(action, frame)
+
+    def locate(self, record: object, maker: Optional[str], inside: int) -> Spot:
+        """A Deferred is made: where. The caller's frame and so many more around it are known not to be the program's."""
+        frame = program_frame(1 + inside)
+        if frame is None:
+            return maker or "made", None, 0
+        code = frame.f_code
+        if not _OWN_FILES.get(code.co_filename):
+            self._look_round(record, frame)
+        if code.co_name in _INNER:
+            return _spot_of(frame, maker)
+        return maker or code.co_name, code, frame.f_lasti
+
+    def _look_round(self, noted: object, frame: Optional[FrameType]) -> None:
+        while frame is not None and not _is_own(frame.f_code.co_filename):
+            frame = frame.f_back
+        if frame is not None:
+            self._note((noted, frame.f_code, frame.f_lasti))
+
+    def forget(self) -> None:
+        """Keeps nothing of what was noted."""
+        self._noted.clear()
+
+    def all(self, made: Iterable[Tuple[object, Optional[Spot]]]) -> Iterator[Tuple[Any, str, int]]:
+        """Each action or Deferred whose place is known, with the whole path of its file and the line.
+
+        `made` are the Deferreds, with what `locate` has given for them.
+        """
+        noted = self._noted
+        for at in range(0, len(noted), 3):
+            if noted[at + 1].co_filename != _REACTOR:
+                yield noted[at], self._path(noted[at + 1]), line_of(noted[at + 1], noted[at + 2])
+        for record, spot_ in made:
+            code = spot_[1] if spot_ is not None else None
+            if spot_ is not None and code is not None and _is_own(code.co_filename):
+                yield record, self._path(code), line_of(code, spot_[2])
+
+    def _path(self, code: CodeType) -> str:
+        return os.path.join(self._folder, code.co_filename)
+
+
 def program_frame(inside: int = 0) -> Optional[FrameType]:
     """The innermost frame of the program. The caller's own and so many more around it are known to be none."""
-    frame: Optional[FrameType] = sys._getframe(2 + inside)
+    try:
+        frame: Optional[FrameType] = _getframe(2 + inside)
+    except ValueError:  # Python itself calls, as at its end
+        return None
     while frame is not None and not _FILES[frame.f_code.co_filename]:
         frame = frame.f_back
     return frame
@@ -54,24 +172,44 @@ def place() -> str:
 
 
 def spot(maker: Optional[str] = None, inside: int = 0) -> Spot:
-    """Where something is made: the function, or its maker, and the line.
+    """Where something is made: the function, or its maker, and the instruction.
 
     The caller's frame and so many more around it are known not to be the program's.
     """
-    frame = program_frame(1 + inside)
+    return _spot_of(program_frame(1 + inside), maker)
+
+
+def _spot_of(frame: Optional[FrameType], maker: Optional[str]) -> Spot:
     if frame is None:
-        return maker or "made", None
-    line, name = frame.f_lineno, frame.f_code.co_name
+        return maker or "made", None, 0
+    code, instruction = frame.f_code, frame.f_lasti
+    name = code.co_name
     while name in _INNER and frame.f_back is not None:
         frame = frame.f_back
         name = frame.f_code.co_name
-    return maker or name, line
+    return maker or name, code, instruction
 
 
 def name_of_spot(made_at: Spot) -> str:
     """A name in the form of names for what was made there."""
-    function, line = made_at
-    return function if line is None else f"{_in_form(function)}_{line}"
+    function, code = made_at[:2]
+    return str(function) if code is None else f"{_in_form(function)}_{line_of(code, made_at[2])}"
+
+
+#: by the numbers of Python for codes, these, where their instructions of each line begin, and the lines. (To find a code by its
+#: value takes Python long.)
+_LINES: Dict[int, Tuple[CodeType, List[int], List[int]]] = {}
+
+
+def line_of(code: CodeType, instruction: int) -> int:
+    """The line of an instruction, by its place in the code."""
+    known = _LINES.get(id(code))
+    if known is None:
+        found = [(start, line) for start, line in dis.findlinestarts(code) if line is not None]
+        starts, lines = [start for start, _ in found], [line for _, line in found]
+        known = _LINES[id(code)] = code, starts or [0], lines or [code.co_firstlineno]
+    _, starts, lines = known
+    return lines[max(0, bisect.bisect_right(starts, instruction) - 1)]
 
 
 @functools.lru_cache(maxsize=4_096)

@@ -1,4 +1,4 @@
-"""Runs what is recorded: a program, a module, or one test."""
+"""Runs a program or a module that is recorded, and finds tests."""
 
 from __future__ import annotations
 
@@ -9,13 +9,11 @@ import runpy
 import signal
 import sys
 import unittest
-from types import ModuleType
-from typing import Any, Callable, Iterator, List, Optional, Tuple
-
-from twisted.internet.defer import Deferred
+from typing import Any, Callable, Iterator, List, Tuple
 
 from ..instruments import install
 from ..telling import KINDS, watched
+from .hiding import SECRETS
 from .reactor import VirtualReactor, in_place_of_the_real
 from .recorder import Recorder
 
@@ -28,6 +26,7 @@ LADDER: Tuple[frozenset[str], ...] = tuple(
         ("cooperator",),
         ("loop",),
         ("loop", "cooperator"),
+        ("thread",),
         ("inline",),
         ("list",),
         ("lock", "queue", "maybe"),
@@ -45,16 +44,19 @@ _RUNNERS = {__file__, runpy.run_path.__code__.co_filename, "<frozen runpy>"}
 
 
 @contextlib.contextmanager
-def printing_notes(recorder: Recorder) -> Iterator[None]:
+def printing_notes() -> Iterator[None]:
     """Has what the program prints be notes of the journal."""
     real = getattr(builtins, "print")
 
     def noting(*values: Any, **kwargs: Any) -> None:
-        real(*values, **kwargs)
-        if kwargs.get("file") is None and watched.observer is recorder and not recorder.quiet:
-            said = io.StringIO()
-            real(*values, file=said, sep=kwargs.get("sep", " "), end="")
-            recorder.note(said.getvalue())
+        recorder = watched.observer
+        if kwargs.get("file") is not None or not isinstance(recorder, Recorder) or recorder.acting:
+            real(*values, **kwargs)
+            return
+        said = io.StringIO()
+        real(*values, file=said, sep=kwargs.pop("sep", " "), end="")  # so that each value is asked for its text once
+        real(said.getvalue(), **kwargs)
+        recorder.note(said.getvalue())
 
     setattr(builtins, "print", noting)
     try:
@@ -72,7 +74,7 @@ def record_program(
     before, sys.argv = sys.argv, [target, *words]
     try:
         place = contextlib.nullcontext() if reactor is None else in_place_of_the_real(reactor)
-        with place, printing_notes(recorder):
+        with place, printing_notes():
             status = _run(recorder, target, is_module)
         return status
     finally:
@@ -113,70 +115,6 @@ def _show(error: BaseException) -> None:
     while trace is not None and trace.tb_frame.f_code.co_filename in _RUNNERS:
         trace = trace.tb_next
     sys.excepthook(type(error), error.with_traceback(trace), trace)
-
-
-class TestRun:
-    """How a test went under the recorder."""
-
-    def __init__(self) -> None:
-        self.recorder = Recorder()
-        self.passed = False
-        self.skipped = False
-        self.why = ""
-        #: whether it waits for a reactor
-        self.waits = False
-
-
-def record_test(
-    cls: type[unittest.TestCase], method: str, kinds: frozenset[str], virtual: bool
-) -> TestRun:
-    """Runs one test: its `setUp` and its method are the program."""
-    install()
-    run = TestRun()
-    run.recorder = Recorder(kinds)
-    reactor = VirtualReactor() if virtual else None
-    case = cls(method)
-    module = sys.modules[cls.__module__]
-    setattr(case, "setUp", _recorded(run, case.setUp, reactor, module))
-    setattr(case, "_recorded", _recorded(run, getattr(case, method), reactor, module))
-    setattr(case, "_testMethodName", "_recorded")
-    result = unittest.TestResult()
-    case.run(result)
-    bad = result.failures + result.errors
-    run.passed, run.skipped = not bad, bool(result.skipped)
-    run.why = bad[0][1].strip().splitlines()[-1][:200] if bad else ""
-    return run
-
-
-def _recorded(
-    run: TestRun,
-    call: Callable[[], Any],
-    reactor: Optional[VirtualReactor],
-    module: ModuleType,
-) -> Callable[[], Any]:
-    """A method of a test, which runs under the recorder."""
-
-    def perform() -> Any:
-        with run.recorder.watching():
-            result = call() if reactor is None else _driven(reactor, call, module)
-        waiting = isinstance(result, Deferred) and not result.called
-        run.waits = run.waits or waiting or hasattr(result, "send") and not isinstance(result, Deferred)
-        return result
-
-    perform.__name__ = str(getattr(call, "__name__", "test"))
-    perform.__dict__.update(getattr(call, "__dict__", {}))
-    return perform
-
-
-def _driven(reactor: VirtualReactor, call: Callable[[], Any], module: ModuleType) -> Any:
-    """Calls with a virtual reactor, and runs that until what it gives has fired."""
-    import twisted.internet.reactor  # noqa: F401  (the real one is put back afterwards)
-
-    with in_place_of_the_real(reactor, module):
-        result = call()
-        if isinstance(result, Deferred):
-            reactor.run_until(lambda: bool(result.called))
-        return result
 
 
 class NotLoaded(Exception):

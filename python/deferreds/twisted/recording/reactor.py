@@ -14,6 +14,10 @@ from zope.interface import implementer
 _MOST_ADVANCES = 100_000
 
 
+class NotVirtual(AttributeError):
+    """Something that a reactor has whose time is real."""
+
+
 @implementer(interfaces.IReactorTime)
 class VirtualReactor(task.Clock):
     """Time, delayed calls and triggers: what programs without sockets use of a reactor."""
@@ -22,6 +26,10 @@ class VirtualReactor(task.Clock):
         super().__init__()
         self.running = False
         self._triggers: List[Tuple[str, Callable[..., Any], Any, Any]] = []
+
+    def __getattr__(self, name: str) -> Any:
+        """Refuses what a virtual reactor hasn't."""
+        raise NotVirtual(f"a reactor whose time is virtual (--virtual) has no {name}")
 
     def callWhenRunning(self, f: Callable[..., Any], *args: Any, **kwargs: Any) -> None:
         """Calls when it runs."""
@@ -77,22 +85,32 @@ class VirtualReactor(task.Clock):
 
 
 @contextlib.contextmanager
-def in_place_of_the_real(reactor: VirtualReactor, *users: ModuleType) -> Iterator[None]:
-    """Has this reactor be the one of Twisted, and of modules that have imported it."""
+def in_place_of_the_real(reactor: VirtualReactor) -> Iterator[None]:
+    """Has this reactor be the one of Twisted, and of all modules that have imported the real one, by whatever name."""
     name = "twisted.internet.reactor"
     missing = object()
-    before = sys.modules.get(name), getattr(twisted.internet, "reactor", missing)
-    had = [(user, user.__dict__["reactor"]) for user in users if "reactor" in user.__dict__]
+    real = sys.modules.get(name)
+    before = real, getattr(twisted.internet, "reactor", missing)
+    places = [] if real is None else list(_places_of(real))
     sys.modules[name] = cast(ModuleType, reactor)
     setattr(twisted.internet, "reactor", reactor)
-    for user, _ in had:
-        setattr(user, "reactor", reactor)
+    for module, attribute in places:
+        setattr(module, attribute, reactor)
     try:
         yield
     finally:
         _put_back(name, *before, missing)
-        for user, real in had:
-            setattr(user, "reactor", real)
+        for module, attribute in places:
+            setattr(module, attribute, real)
+
+
+def _places_of(real: object) -> Iterator[Tuple[ModuleType, str]]:
+    """The attributes of modules that are the real reactor."""
+    for module in list(sys.modules.values()):
+        names = getattr(module, "__dict__", None)
+        if isinstance(module, ModuleType) and names is not None and module is not twisted.internet:
+            for attribute in [attribute for attribute, value in list(names.items()) if value is real]:
+                yield module, attribute
 
 
 def _put_back(name: str, module: Any, attribute: Any, missing: object) -> None:

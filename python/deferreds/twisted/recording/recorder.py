@@ -2,18 +2,21 @@
 
 from __future__ import annotations
 
-from threading import get_ident
-from typing import Any, Callable, List, NamedTuple, Optional, Tuple, Union
+import contextlib
+import sys
+from typing import Any, Callable, Iterator, List, NamedTuple, Optional, Tuple, Union
 
 from twisted.internet.defer import Deferred, FirstError
 from twisted.python.failure import Failure
 
-from ..classes import clean, message_of
 from ..profile import Entry
-from ..telling import KINDS, Action, Failed, Frame, Observer, Record, Thing, is_deferred
-from ..texts import NULL, Outcome, Text, compact, error_of, weight_of
+from ..telling import KINDS, Action, Advance, Failed, Frame, Observer, Record, Thing, is_deferred, switching, watched
+from ..texts import NULL, Outcome, Text, compact, weight_of
 from .bodies import Body, Run, Steps, Unsayable
-from .places import FreeNames, name_of_spot, place, spot
+from .hiding import SECRETS, Hiding
+from .inside import CALLED, FINALIZED, KIND_OF_ACTION, MEDDLED, Inside, entry, is_uncalled, worked_on
+from .places import FreeNames, Spots, name_of_spot, place, spot
+from .values import Values
 
 #: kinds of runs whose result is dropped
 _DROPPED = frozenset({"call", "canceller", "step"})
@@ -30,15 +33,62 @@ class Problem(NamedTuple):
     kind: Optional[str]
 
 
+#: how many times as many frames a program may have on Python's stack where it is recorded
+_ROOM = 3
+
+#: why a script can't say what the program does where it is asked for the text of an object
+ASKED = "the text of an object is worked out with more than Deferreds of its own"
+
+_DEFERREDS = frozenset(
+    {"deferred", "callback", "errback", "addCallback", "addErrback", "addBoth", "addCallbacks", "chain", "cancel", "pause", "unpause"}
+)
+
+
+class Aside(Observer):
+    """Watches where the recorder asks for the text of an object, which the program wouldn't do: nothing of that is told."""
+
+    def __init__(self, recorder: Recorder) -> None:
+        super().__init__()
+        self._recorder = recorder
+
+    def act(self, action: Action, call: Callable[..., Any], *args: Any) -> Any:
+        """Performs a call into Twisted, which has to be on a Deferred that only this knows."""
+        if action and action[0] not in _DEFERREDS:
+            self._recorder.problem(ASKED)
+        return super().act(action, call, *args)
+
+    def adopt(self, deferred: Deferred[Any]) -> Record:
+        """Notes that a Deferred is used which the recorder knows."""
+        known: Any = deferred
+        if known._dv_record is not None and known._dv_record[0] is self._recorder:
+            self._recorder.problem(ASKED)
+        return super().adopt(deferred)
+
+    def has_clock(self, clock: Any) -> bool:
+        """Every clock is of the run."""
+        return True
+
+    def forget(self) -> None:
+        """Forgets what was told."""
+        self.parts.clear()
+        self.records.clear()
+        self.quirks.clear()
+
+
 class Recorder(Observer):
-    """Records a run of a program. It is on where the program's code runs."""
+    """Records a run of a program. It is on where the program's code runs.
+
+    `redact` says what is hidden: `all`, `secrets` or `none`. Raises ValueError where it is none of these.
+    """
 
     #: the program itself, and the run of a body in which it is
     top: Run
     frame: Run
 
-    def __init__(self, kinds: frozenset[str] = KINDS) -> None:
-        super().__init__(kinds if "clock" in kinds else kinds - {"timer", "loop"})
+    def __init__(self, kinds: frozenset[str] = KINDS, redact: str = SECRETS) -> None:
+        super().__init__(kinds if "clock" in kinds else kinds - {"timer", "loop", "thread"})
+        self.texts: Values = Values(self.classes, self.ask, Hiding(redact))
+        self._aside = Aside(self)
         self.top = Run("event")
         self.frame = self.top
         #: the actions of the program itself, and how many parts of lines were told before each
@@ -47,12 +97,49 @@ class Recorder(Observer):
         #: the actions of bodies that have failed
         self.failed: List[Action] = []
         self.problems: List[Problem] = []
+        #: the action that Twisted performs, and what the program has done inside it, though that calls for nothing
+        self._performed: Optional[Action] = None
+        self._inside: Optional[Inside] = None
+        #: how many events come before those by which the runs of bodies count
+        self.preceding = 0
+        #: where actions were performed and Deferreds made
+        self.spots = Spots()
+        self._note_spot = self.spots.note
+        #: how many events have ended
+        self.ended = 0
         self._names = FreeNames()
-        self._thread = get_ident()
+
+    @contextlib.contextmanager
+    def watching(self) -> Iterator[Observer]:
+        """Has Twisted be watched by this observer. Python's stack has room for what that takes of it."""
+        limit = sys.getrecursionlimit()
+        raised = limit if self.is_on else _ROOM * limit
+        sys.setrecursionlimit(raised)
+        try:
+            with super().watching():
+                yield self
+        finally:
+            if sys.getrecursionlimit() == raised:
+                sys.setrecursionlimit(limit)
 
     def problem(self, reason: str, kind: Optional[str] = None) -> None:
         """Notes what a script can't say."""
         self.problems.append(Problem(reason, place(), kind))
+
+    def place(self) -> str:
+        """The place in the program."""
+        return place()
+
+    def ask(self, call: Callable[[], Any]) -> Any:
+        """What the program's code says of an object of its own. What it does beside that is told nowhere."""
+        if watched.observer is not self:
+            return call()
+        watched.observer = self._aside
+        try:
+            return call()
+        finally:
+            watched.observer = self
+            self._aside.forget()
 
     # names
 
@@ -62,10 +149,16 @@ class Recorder(Observer):
 
     def locate(self, record: Record) -> None:
         """Notes where a Deferred is made."""
-        record.made_at = spot(self.maker, _INSTRUMENTS)
+        record.made_at = self.spots.locate(record, self.maker, _INSTRUMENTS)
 
     def adopt(self, deferred: Deferred[Any]) -> Record:
         """A Deferred that was made before the recording began is made, and fired, where it is met first."""
+        if self.is_settled(deferred):
+            known: Any = deferred
+            self.problem("a failed Deferred that a coroutine has awaited is used again")
+            record: Record = known._dv_record[1]
+            self.keep(deferred, record)
+            return record
         state, value = deferred.__dict__, getattr(deferred, "result", None)
         if state.get("callbacks") or deferred.paused or state.get("_canceller"):
             self.problem("a Deferred from before the recording, which has pairs, pauses or a canceller")
@@ -73,6 +166,12 @@ class Recorder(Observer):
             self.problem("a Deferred from before the recording, which waits for another")
         if self.quiet:
             self.problem("a Deferred from before the recording, which Twisted meets first")
+        adopted: Record = self.own(self._adopt, deferred, value)
+        if self.frame is self.top and not self.acting:
+            self.ended = len(self.events)
+        return adopted
+
+    def _adopt(self, deferred: Deferred[Any], value: object) -> Record:
         before = len(self.parts)
         record = super().adopt(deferred)
         self._note(Action(["deferred", record]), before)
@@ -83,11 +182,18 @@ class Recorder(Observer):
 
     # actions and bodies
 
+    @switching
     def act(self, action: Action, call: Callable[..., Any], *args: Any) -> Any:
         """Performs a call of the program's into Twisted, and notes it as an action."""
-        if get_ident() != self._thread:
-            self.problem("Deferreds are used in another thread")
+        if self.acting:
+            return self._act_inside(action, call, *args)
         run = self.frame
+        if run is self.top and self.pace is not None and not isinstance(action, Advance):
+            self.pace.event(action[0] == "loop")
+        # Python's collector may run a finalizer anywhere, so that this is set before anything is noted
+        self.acting = True
+        performed, inside = self._performed, self._inside
+        self._performed, self._inside = action, None
         if run is self.top:
             self._told = None
             self.events.append(action)
@@ -96,14 +202,80 @@ class Recorder(Observer):
             run.note(action)
             if run.kind != "inline":
                 self.parts.append(action)
-        quiet, self.quiet = self.quiet, True
+        if action[0] != "deferred" and not isinstance(action, Advance):
+            self._note_spot(action)
         try:
             return call(*args)
         except BaseException as error:
             self._end_action(run, action, error)
             raise
         finally:
-            self.quiet = quiet
+            if self._inside is not None:
+                self._refuse_unless_last(self._inside, action.raised is not None)
+            self._performed, self._inside = performed, inside
+            self.acting = False
+            if run is self.top:
+                self.ended = len(self.events)
+
+    @switching
+    def own(self, call: Callable[..., Any], *args: Any) -> Any:
+        """Has Twisted's own code run, as a part of an action that is performed or of a body that runs."""
+        inside, self._inside = self._inside, None
+        try:
+            return super().own(call, *args)
+        finally:
+            if self._inside is not None:
+                self._refuse_unless_last(self._inside, False)
+            self._inside = inside
+
+    # what the program does inside Twisted's own code
+
+    def is_inside(self) -> bool:
+        """Whether the program calls though Twisted's own code performs an action."""
+        return entry() is not None
+
+    def _act_inside(self, action: Action, call: Callable[..., Any], *args: Any) -> Any:
+        """Performs an action of the program's which Twisted's own code, that performs another one, doesn't call for.
+
+        It is noted after that one, and is refused unless that one tells nothing more.
+        """
+        entered = entry(1)
+        if self._inside is not None:
+            self._refuse_unless_last(self._inside, False)
+        uncalled = entered is not None and is_uncalled(entered)
+        if not uncalled:
+            self.problem(CALLED, self._kind_performed())
+        busy = [] if entered is None else [self._known_as(one) for one in worked_on(entered)]
+        frame, before, ended = self.frame, len(self.parts), self.ended
+        kept = frame.expected, frame.anonymous, frame.passing, self._told, self.forwarded, self.turn, self.maker
+        frame.expected, frame.anonymous, frame.passing, self.forwarded, self.turn = (), False, None, None, None
+        self.acting = False
+        try:
+            return self.act(action, call, *args)
+        finally:
+            self.acting, self.ended = True, ended
+            frame.expected, frame.anonymous, frame.passing, self._told, self.forwarded, self.turn, self.maker = kept
+            if uncalled and any(part is one for part in self.parts[before:] if part is not None for one in busy):
+                self.problem(MEDDLED)
+            self._inside = Inside(len(self.parts), place(), uncalled)
+
+    def _known_as(self, thing: object) -> object:
+        """What lines name an object by, if any do."""
+        for name in ("_dv_record", "_dv_thing", "_dv_loop", "_dv_task"):
+            known = getattr(thing, "__dict__", {}).get(name)
+            if known is not None and known[0] is self:
+                named = known[1][0] if isinstance(known[1], tuple) else known[1]
+                return getattr(named, "thing", named)
+        return None
+
+    def _refuse_unless_last(self, inside: Inside, raised: bool) -> None:
+        """Refuses what was done inside Twisted's code, where that has gone on to tell something after it."""
+        if inside.is_uncalled and (raised or inside.told < len(self.parts)):
+            self.problems.append(Problem(FINALIZED, inside.place, None))
+
+    def _kind_performed(self) -> Optional[str]:
+        """The kind of objects to which what Twisted performs belongs."""
+        return None if self._performed is None else KIND_OF_ACTION.get(self._performed[0])
 
     def _note(self, action: Action, before: int) -> None:
         """Notes an action of the program, or of the body that runs, which was told after so many parts of lines."""
@@ -125,19 +297,26 @@ class Recorder(Observer):
             self.failed.append(action)
 
     def note(self, text: str) -> None:
-        """The program notes a text."""
-        said = clean(text)
+        """The program notes a text, unless that is inside Twisted's own code."""
+        if self.acting:
+            return
+        said = self.texts.note(text)
         self.act(Action(["note", said]), self.tell, "note ", Text(compact(said), weight_of(said)))
 
     def new_body(self, kind: str) -> Union[Body, Steps]:
         """A body that the program hands to Twisted."""
-        return Steps() if kind == "steps" else Body(kind)
+        depth = self.frame.depth + 1
+        return Steps(depth) if kind == "steps" else Body(kind, depth)
+
+    def depth_of(self, body: Any) -> int:
+        """In how many others a body lies."""
+        return int(body.depth)
 
     def begin_body(
         self, body: Any, kind: str, given: Optional[Tuple[object, Outcome]]
     ) -> Run:
         """A run of a body begins."""
-        run = Run(kind, None if given is None else given[1])
+        run = Run(kind, None if given is None else given[1], body.depth)
         run.began = len(self.events)
         body.runs.append(run)
         return run
@@ -175,13 +354,11 @@ class Recorder(Observer):
         """The END by which a body gave this result."""
         before = NULL if given is None else given[1]
         outcome = self.texts.outcome(result)
-        is_same = outcome.is_same(before)
+        is_same = outcome.is_same(before) or (type(before.value) is list and outcome.is_same(self._as_made(before)))
         if isinstance(result, Failure):
-            return None if is_same else self.raising(error_of(result))
+            return None if is_same else self.raising(self.texts.error_of(result))
         self.gave = before if is_same else outcome
         if is_same and (given is None or result is given[0]):
-            return None
-        if frame.kind == "turn":
             return None
         said = self.value(outcome)
         if isinstance(said, Unsayable):
@@ -192,7 +369,7 @@ class Recorder(Observer):
 
     def begin_step(self, steps: Any) -> Body:
         """A step of a task begins."""
-        body = Body("step")
+        body = Body("step", steps.depth)
         steps.bodies.append(body)
         return body
 
@@ -212,20 +389,20 @@ class Recorder(Observer):
     def end_await(self, awaited: Any, value: object, outcome: Outcome) -> None:
         """What it awaited has come, and is thrown where it is a failure."""
         if isinstance(value, Failure):
-            awaited.raised = self.texts.failure(error_of(value)).text
+            awaited.raised = self.texts.failure(self.texts.error_of(value)).text
 
     def end_inline(self, frame: Frame, result: object) -> None:
         """An inline body has ended."""
         assert isinstance(frame, Run)
-        error = error_of(result) if isinstance(result, Failure) else None
+        error = self.texts.error_of(result) if isinstance(result, Failure) else None
         raised = None if error is None else self.texts.failure(error).text
         if frame.settle_raised(raised):
             return
         if error is not None:
             frame.end = self.raising(error)
             return
-        said = self.value(self.texts.outcome(result))
-        present = frame.present
+        outcome, present = self.texts.outcome(result), frame.present
+        said = self.value(outcome)
         awaited = any(action[0] == "await" for action in frame.actions)
         if isinstance(said, Unsayable):
             passes = present is not None and present.text == said.outcome
@@ -235,26 +412,34 @@ class Recorder(Observer):
 
     # values
 
+    def _as_made(self, outcome: Outcome) -> Outcome:
+        """The same, as it is shown where the program makes it."""
+        return Outcome(self.texts.as_made(outcome.value))
+
     def firing(self, record: Record, result: object, outcome: Outcome) -> Action:
         """The action that fires a Deferred with this, which is shown so."""
         if isinstance(result, Failure):
-            return Action(["errback", record, self.raising(error_of(result))])
+            return Action(["errback", record, self.raising(self.texts.error_of(result))])
         return Action(["callback", record, self.value(outcome)])
 
     def value(self, outcome: Outcome) -> Any:
         """A VALUE, unless the language has none for it."""
         shown = outcome.value
         if isinstance(shown, (list, dict)) and _holds_failures(shown):
-            reason = "a value that holds a Failure is made by the program"
-            return Unsayable(reason, place(), outcome.text)
+            return Unsayable("a Failure is a value", place(), outcome.text)
         return shown
+
+    def raised(self, error: BaseException) -> Any:
+        """A failure, as the work of a job has it."""
+        raising = self.raising(error)
+        return raising if isinstance(raising, list) else ["value", raising]
 
     def raising(self, error: BaseException) -> Any:
         """The END that raises a failure."""
         if isinstance(error, FirstError) and hasattr(error, "subFailure"):
             outcome = f"fail {self.texts.failure(error).text}"
             return Unsayable("a FirstError is made or passed on by the program", place(), outcome)
-        return ["raise", self.classes.name_of(type(error)), message_of(error)]
+        return ["raise", self.classes.name_of(type(error)), self.texts.message(error)]
 
 
 def _is_waited_for(frame: Run, result: object) -> bool:

@@ -7,19 +7,20 @@ from __future__ import annotations
 
 import math
 from fractions import Fraction
-from itertools import accumulate
-from typing import Any, Dict, Iterator, List, Optional, Sequence, Set, Tuple
+from itertools import accumulate, compress
+from typing import Any, Dict, Iterator, List, Optional, Sequence, Set, Tuple, Union
 
 from .. import grammar
 from ..instruments.tasks import Cooperating
 from ..profile import Entry
 from ..script import depth, nodes
-from ..telling import Action, Failed, Part, Record, Thing, Time
+from ..telling import Action, Advance, Failed, Part, Record, Thing, Time
 from ..texts import Outcome, Text, compact
-from .bodies import Body, Run, Steps, Unsayable
+from .bodies import Body, Run, Steps, Unsayable, deepest, in_words
 from .outcomes import outcomes_of
 from .places import FreeNames, name_of_spot
 from .recorder import Problem, Recorder
+from .whereabouts import Acted, whereabouts_of
 
 _FINEST = 10**9
 _LARGEST_SCALE = 10**10
@@ -37,13 +38,18 @@ class Said:
         """`ended`: how many events of the program have ended; those after them aren't part of the script. None: all have."""
         self._recorder = recorder
         self._scale = 1
-        #: how many events the script has
-        self.events = self._ended = len(recorder.events) if ended is None else min(ended, len(recorder.events))
         self.problems: List[Problem] = list(recorder.problems)
         #: those of the problems that are of the size of the whole run alone: the script is of its beginning
         self.too_large: List[Problem] = []
+        self._ended = len(recorder.events) if ended is None else min(ended, len(recorder.events))
+        #: how many events the script has
+        self.events = self._settle()
+        #: the actions in each other that are being said
+        self._saying: List[Action] = []
         self.records: List[Record] = []
         self.rebinds = False
+        #: by the numbers of Python for the arrays of the script that are actions, these, and what was noted of them
+        self.acted: Acted = {}
         self._name()
         self._number()
         self._find_scale()
@@ -69,7 +75,27 @@ class Said:
     @property
     def is_whole(self) -> bool:
         """Whether the script is of the whole run."""
-        return self.events == len(self._recorder.events) and not self.too_large
+        return self.events == len(self.actions) and not self.too_large
+
+    @property
+    def elsewhere(self) -> int:
+        """How many Deferreds of other threads are left out."""
+        return self._recorder.elsewhere
+
+    @property
+    def is_empty(self) -> bool:
+        """Whether nothing has happened, but that time went on."""
+        return all(isinstance(action, Advance) for action in self.actions) and not self.records
+
+    @property
+    def with_times(self) -> bool:
+        """Whether times of a real reactor are told."""
+        return any(isinstance(action, Advance) for action in self.actions)
+
+    @property
+    def tick(self) -> str:
+        """What a unit of the clock is, or nothing, where no clock was used."""
+        return "" if self._recorder.clock is None else _second_part(self._scale)
 
     @property
     def output(self) -> str:
@@ -84,10 +110,32 @@ class Said:
         """The journal of the whole run, and the outcomes."""
         return "".join(line + "\n" for line in self.journal + self.outcomes)
 
+    @property
+    def places(self) -> Optional[str]:
+        """Where in the program's own files Deferreds were made and actions performed, as JSON; None where that isn't known."""
+        return whereabouts_of(self._recorder, self.records, self.script, self.acted)
+
     def _problem(self, reason: str, kind: Optional[str] = None, place: str = "") -> None:
         self.problems.append(Problem(reason, place, kind))
 
     # numbers and times
+
+    def _settle(self) -> int:
+        """Has the times of a real reactor be set, leaves out the advances that aren't told, and gives how many events have ended.
+
+        What an advance that isn't told runs is run by the one that is told before it, which ends with it.
+        """
+        recorder = self._recorder
+        conflict = None if recorder.pace is None else recorder.pace.settle()
+        if conflict is not None:
+            self._problem(conflict.reason, conflict.kind, conflict.place)
+        told = [not isinstance(action, Advance) or action.is_told for action in recorder.events]
+        #: the events of the whole run that are told
+        self.actions = list(compress(recorder.events, told))
+        self._begins = list(compress(recorder.begins, told))
+        while self._ended < len(told) and not told[self._ended]:
+            self._ended -= 1
+        return sum(told[: self._ended])
 
     def _name(self) -> None:
         """Names the Deferreds of the program by where they were made, in the order in which they were."""
@@ -121,13 +169,17 @@ class Said:
         if self._recorder.clock is None and self._recorder.cooperator is None:
             return
         times = [part.seconds for part in self._recorder.parts if isinstance(part, Time)]
-        times += _times(self._recorder.events, set())
+        times += [part.to.seconds for part in self._recorder.parts if isinstance(part, Advance) and part.is_told]
+        times += _times(self.actions)
         for seconds in times:
             denominator = _exact(seconds).denominator
             self._scale = self._scale * denominator // math.gcd(self._scale, denominator)
         if self._scale > _LARGEST_SCALE:
             self._problem("times that have no unit in common", "clock")
             self._scale = _FINEST
+        longest = max(_times([action for action in self.actions if action[0] != "advance"]), default=0)
+        if longest * self._scale > grammar.DELAYS[-1]:
+            self._problem(f"a delay of {float(longest):g} seconds, where the other times need ticks of {self.tick}", "clock")
 
     def _units(self, time: Time) -> int:
         return int(_exact(time.seconds) * self._scale)
@@ -141,7 +193,7 @@ class Said:
         self.journal = "".join(texts).split("\n")[:-1]
         before = [0, *accumulate(text.count("\n") for text in texts)]
         self.quirks = [(before[place], entry) for place, entry in self._recorder.quirks]
-        self.begins = [before[place] for place in self._recorder.begins]
+        self.begins = [before[place] for place in self._begins]
 
     def _part(self, part: Optional[Part]) -> str:
         """A part of a line, or its end."""
@@ -155,6 +207,8 @@ class Said:
             return str(_first(self._recorder.records[part]).name)
         if isinstance(part, Time):
             return str(self._units(part))
+        if isinstance(part, Advance):
+            return f"advance {self._units(part.to)}\n" if part.is_told else ""
         if isinstance(part, Action):
             helper = part.helper
             return "" if helper is None else f"new #{helper.number} {helper.name}\n"
@@ -168,14 +222,17 @@ class Said:
     def _script(self) -> Optional[Dict[str, Any]]:
         script: Dict[str, Any] = {"version": 1, "limit": _MOST_LIMIT}
         try:
-            events = [self._action(action) for action in self._recorder.events[: self.events]]
+            events = [self._action(action) for action in self.actions[: self.events]]
             if isinstance(self._recorder.cooperator, Cooperating):
                 script["cooperator"] = self._cooperator(self._recorder.cooperator)
         except CannotSay:
             return None
         except RecursionError:
-            self._problem("bodies are nested too deep", "clock")
+            self._refuse_depth()
             return None
+        if self._recorder.pools:
+            script["version"] = 2
+            script["pools"] = [[pool.thing.name, pool.workers] for pool in self._recorder.pools]
         if self._recorder.classes.declared:
             script["classes"] = [list(pair) for pair in self._recorder.classes.declared]
         script["events"] = events
@@ -186,6 +243,13 @@ class Said:
         return CannotSay(reason)
 
     def _action(self, said: Action) -> List[Any]:
+        self._saying.append(said)
+        words = self._words(said)
+        self._saying.pop()
+        self.acted[id(words)] = words, said
+        return words
+
+    def _words(self, said: Action) -> List[Any]:
         chained = self._as_chain(said)
         if chained is not None:
             return chained
@@ -246,7 +310,8 @@ class Said:
         for other in runs[1:]:
             if not self._same_run(first, other):
                 kind = "loop" if body.kind == "turn" else None
-                raise self._cannot(f"a {body.kind} ran more than once, and did something else", kind)
+                place = in_words(self._saying[-1]) if self._saying else ""
+                raise self._cannot(f"a {body.kind} ran more than once, and did something else", kind, place)
         said: Dict[str, Any] = {}
         actions = [self._helped(action) for action in first.actions]
         if actions:
@@ -280,14 +345,14 @@ class Said:
         """The runs of a body, but for those of an event that isn't part of the script."""
         if self._ended == len(self._recorder.events):
             return body.runs
-        return [run for run in body.runs if run.began <= self._ended]
+        return [run for run in body.runs if run.began + self._recorder.preceding <= self._ended]
 
     def _cooperator(self, cooperating: Cooperating) -> Dict[str, int]:
         full = {steps for steps, left in cooperating.ticks if left}
         units = full.pop() if full else grammar.UNITS[-1]
         if full or units not in grammar.UNITS or any(n > units for n, _ in cooperating.ticks):
             raise self._cannot("ticks of different numbers of steps", "cooperator")
-        delays = {_exact(delay) for delay in cooperating.delays} or {Fraction(1)}
+        delays = {_exact(delay.seconds) for delay in cooperating.delays} or {Fraction(1)}
         delay = int(delays.pop() * self._scale)
         if delays or delay < 1:
             raise self._cannot("ticks that are due after different times, or at once", "cooperator")
@@ -359,10 +424,15 @@ class Said:
         weight = len(lines) + len("".join(lines).encode())
         script["limit"] = min(_MOST_LIMIT, max(grammar.DEFAULT_LIMIT, weight))
 
+    def _refuse_depth(self) -> None:
+        """Bodies lie in each other too deep: names the deepest, and the kind of objects that would be told flat."""
+        found = deepest(self.actions)
+        self._problem("bodies are nested too deep", found and found.kind, found.of if found else "")
+
     def _refuse_size(self, script: Dict[str, Any]) -> None:
         """Notes what is larger than a script may be. Where that is the whole run, the script is cut to its beginning."""
         if depth(self.text) > grammar.DEEPEST:
-            self._problem("bodies are nested too deep", "clock")
+            self._refuse_depth()
         if len(script.get("classes", [])) > grammar.MOST_CLASSES:
             self._problem("the script has more classes than one may have")
         reasons = self._too_large(script)
@@ -374,7 +444,7 @@ class Said:
     def _too_large(self, script: Dict[str, Any]) -> List[str]:
         """In what the script is larger than one may be."""
         reasons: List[str] = []
-        if script["limit"] == _MOST_LIMIT and self._weights()[self.events] > _MOST_LIMIT:
+        if script["limit"] == _MOST_LIMIT and self._weights()[-1] > _MOST_LIMIT:
             reasons.append("the journal weighs more than a script's may")
         if len(self.text.encode()) > grammar.MOST_BYTES:
             reasons.append("the script is longer than one may be")
@@ -402,8 +472,8 @@ class Said:
     def _weights(self) -> List[int]:
         """What the lines before each event weigh, and before the end of the script."""
         before = list(accumulate(map(_weight, self._recorder.parts), initial=0))
-        begins = self._recorder.begins[: self._ended + 1]
-        return [before[place] for place in begins] + ([before[-1]] if len(begins) <= self._ended else [])
+        begins = [*self._begins, len(self._recorder.parts)]
+        return [before[place] for place in begins[: self.events + 1]]
 
 
 def _weight(part: Optional[Part]) -> int:
@@ -412,6 +482,8 @@ def _weight(part: Optional[Part]) -> int:
         return 1
     if isinstance(part, (Text, Outcome)):
         return part.weight
+    if isinstance(part, Advance):
+        return 1 if part.is_told else 0
     if isinstance(part, Action):
         return 0 if part.helper is None else 1
     if isinstance(part, Failed):
@@ -419,7 +491,15 @@ def _weight(part: Optional[Part]) -> int:
     return 0
 
 
-def _exact(seconds: float) -> Fraction:
+def _second_part(count: int) -> str:
+    """How long one of so many parts of a second is."""
+    for unit, factor in (("s", 1), ("ms", 1_000), ("µs", 1_000_000), ("ns", 1_000_000_000)):
+        if factor % count == 0:
+            return f"{factor // count} {unit}"
+    return f"1/{count} s"
+
+
+def _exact(seconds: Union[float, Fraction]) -> Fraction:
     return Fraction(seconds).limit_denominator(_FINEST)
 
 
@@ -430,17 +510,20 @@ def _first(record: Record) -> Record:
     return record
 
 
-def _times(part: Any, seen: Set[int]) -> Iterator[float]:
-    """The times that a part of an action has, but for those of runs that were seen before."""
-    if isinstance(part, Time):
-        yield part.seconds
-    elif isinstance(part, (list, tuple)):
-        for item in part:
-            yield from _times(item, seen)
-    elif isinstance(part, Body):
-        yield from _times(part.runs, seen)
-    elif isinstance(part, Steps):
-        yield from _times(part.bodies, seen)
-    elif isinstance(part, Run) and id(part) not in seen:
-        seen.add(id(part))
-        yield from _times(part.actions, seen)
+def _times(part: Any) -> Iterator[Union[float, Fraction]]:
+    """The times that a part of an action has, each run of a body once. However deep these lie, this takes no room on the stack."""
+    seen: Set[int] = set()
+    left = [part]
+    while left:
+        part = left.pop()
+        if isinstance(part, Time):
+            yield part.seconds
+        elif isinstance(part, (list, tuple)):
+            left += part
+        elif isinstance(part, Body):
+            left += part.runs
+        elif isinstance(part, Steps):
+            left += part.bodies
+        elif isinstance(part, Run) and id(part) not in seen:
+            seen.add(id(part))
+            left += part.actions

@@ -15,7 +15,8 @@ from ...loops import make_and_chain, make_and_fire
 from ..instruments import install
 from ..running import be_quiet
 from ..telling import KINDS
-from .programs import record_test, tests_of
+from .case import record_test
+from .programs import tests_of
 from .recorder import Recorder
 from .saying import Said
 

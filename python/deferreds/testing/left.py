@@ -1,0 +1,100 @@
+"""What a test has left behind, and its recording as files."""
+
+from __future__ import annotations
+
+from bisect import bisect_right
+from typing import Dict, List, NamedTuple, Optional
+
+from ..twisted.recording.recorder import Recorder
+from ..twisted.recording.saying import Said
+from ..twisted.telling import Advance, Record, Thing
+from ..view.page import Page
+from ..view.places import SUFFIX as PLACES
+from ..view.places import read_places
+from ..view.report import Finding, Kind, Severity
+from ..view.run import Run, run_of_journal
+from ..view.scripts import Script
+from ..view.terminal import Terminal
+
+_MOST_SHOWN = 3
+
+
+def has_left_nothing(recorder: Recorder) -> bool:
+    """Whether it is known without a closer look that nothing is left: each Deferred is settled, and there is nothing else."""
+    parts = recorder.parts
+    others = any(isinstance(part, Thing) or part == "unhandled " for part in parts if type(part) in (str, Thing))
+    return not others and all(map(_is_settled, recorder.records))
+
+
+def _is_settled(record: Record) -> bool:
+    if not record.fired or record.waits_for is not None or record.pauses > 0:
+        return False
+    return not isinstance(record.outcome.value, dict)  # which a failure is
+
+
+class Recording(NamedTuple):
+    """A test's recording: what it has left behind, why it isn't a script if it isn't, and its files by their suffixes."""
+
+    left: List[str]
+    problem: Optional[str]
+    files: Dict[str, str]
+
+    def told(self, failed: bool) -> str:
+        """What is told of the test, in a few words."""
+        parts = ["failed"] if failed else []
+        if self.left:
+            more = len(self.left) - _MOST_SHOWN
+            shown = self.left[:_MOST_SHOWN] + ([f"and {more} more"] if more > 0 else [])
+            parts.append(f"left behind: {', '.join(shown)}")
+        if self.problem is not None:
+            parts.append(f"a script can't say this: {self.problem}")
+        return "; ".join(parts)
+
+
+def recording_of(recorder: Recorder, title: str) -> Recording:
+    """The recording of a test that has ended. A run that a script can't say has a journal and a page alone."""
+    said = Said(recorder)
+    problem = _problem(said)
+    script = Script(said.script if problem is None else None)
+    journal = said.whole_output
+    run = run_of_journal(journal, title, script, False, said.begins)
+    if problem is not None:
+        run.problems.append((f"a script can't say this: {problem}. What is shown may lack it",))
+    places = said.places
+    run.places = read_places(places) if places is not None else run.places
+    files = {".journal": journal, ".html": Page(run).html()}
+    if places is not None:
+        files[PLACES] = places
+    if problem is None:
+        files[".json"] = f"{said.text}\n"
+    return Recording(_left(run, said), problem, files)
+
+
+def _problem(said: Said) -> Optional[str]:
+    """Why a script can't say the run; None where it can."""
+    if not said.problems:
+        return None if said.script is not None else "bodies that the language has no words for"
+    first = said.problems[0]
+    more = len(dict.fromkeys(said.problems)) - 1
+    at = f", at {first.place}" if first.place else ""
+    return f"{first.reason}{at}{f', and {more} more' if more else ''}"
+
+
+def _left(run: Run, said: Said) -> List[str]:
+    terminal = Terminal(run, False)
+    return [
+        terminal.said(finding.said)
+        for finding in run.report.findings
+        if finding.severity is not Severity.NOTE and not _came_to_the_program(finding, said)
+    ]
+
+
+def _came_to_the_program(finding: Finding, said: Said) -> bool:
+    """Whether it is an error that the test got from what it called, so that it is the test's own."""
+    if finding.kind is not Kind.UNHANDLED or finding.row is None:
+        return False
+    place = bisect_right(said.begins, finding.row) - 1
+    if place < 0:
+        return False
+    event = said.actions[place]
+    return event.raised is not None and not isinstance(event, Advance)  # what a reactor runs is logged by that

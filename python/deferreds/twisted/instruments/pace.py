@@ -1,0 +1,221 @@
+"""The pace of a run on a real reactor: notes in what order calls are scheduled, run and cancelled, and when something else happens.
+
+The times of lines and actions are set when the run is said (`settle`). Until then nothing but this order is known of them.
+"""
+
+from __future__ import annotations
+
+from fractions import Fraction
+from typing import Any, Callable, Dict, List, NamedTuple, Optional
+
+from twisted.internet import base
+
+from ..telling import Advance, Observer, Time
+from .settling import MILLISECOND, UNITS, Conflict, Entry, Loop, Step, settle
+
+#: how far apart loops may start in a body, and be told to start at one time
+_APART = 5 * MILLISECOND
+#: how long a loop is told to start before a turn that is due
+_BEFORE = 50
+#: what a turn is put off by, in seconds, for each other one that is due at its time
+_BEHIND = 5e-7
+#: how far a turn may be moved, in seconds
+_MOST_MOVED = 0.01
+
+
+class Waiting(NamedTuple):
+    """Something that waits for the reactor's time: when it is told as due, and after what delay."""
+
+    entry: Entry
+    due: Time
+    delay: Time
+
+
+class Pace:
+    """The told time of a run on a real reactor."""
+
+    def __init__(self, watcher: Observer, reactor: Any) -> None:
+        self._watcher = watcher
+        self._reactor = reactor
+        self._base: float = reactor.seconds()
+        self._steps = [Step(None, 0)]
+        self._advances: Dict[Step, Advance] = {}
+        self._waiting: List[Waiting] = []
+        #: how many more turns are due when one is
+        self._turns: Dict[int, int] = {}
+        #: when the reactor has looked what is due, and whether it has run that since something came from elsewhere
+        self._turn: Optional[int] = None
+        self._fresh = False
+
+    def _real(self) -> int:
+        """The reactor's time, in whole units since the run began."""
+        return max(0, int((self._reactor.seconds() - self._base) * UNITS))
+
+    # the reactor's turns
+
+    def begin_turn(self) -> None:
+        """The reactor is about to run what other threads have posted, and what is due."""
+        self._turn = None
+
+    def look(self) -> None:
+        """The reactor is about to look what is due."""
+        self._turn = self._real()
+
+    def end_turn(self) -> None:
+        """The reactor has run what was due: what comes next comes from elsewhere."""
+        self._turn, self._fresh = None, True
+
+    # what is scheduled
+
+    def later(self, delay: float) -> Waiting:
+        """A call is scheduled, so many seconds from now."""
+        return self._make(Entry(len(self._waiting), round(delay * UNITS)))
+
+    def job(self) -> Waiting:
+        """A result will come, at a time that isn't known."""
+        return self._make(Entry(len(self._waiting)))
+
+    def tick(self) -> Waiting:
+        """A tick is scheduled."""
+        return self._make(Entry(len(self._waiting), is_tick=True))
+
+    def _make(self, entry: Entry) -> Waiting:
+        waiting = Waiting(entry, Time(0), Time(0))
+        self._waiting.append(waiting)
+        self._steps[-1].make(entry)
+        return waiting
+
+    def start_loop(self, interval: float) -> Loop:
+        """A loop is about to start.
+
+        It is told to start at the next whole millisecond of the reactor's, or before a turn that is due by then, or with another that
+        the same body has just started.
+        """
+        step = self._steps[-1]
+        at = self._first_start() if step is self._steps[0] and not step.starts else self._next_start()
+        if step.starts and at - step.starts[0].at < _APART:
+            at = step.starts[0].at
+        loop = Loop(max(1, round(interval * UNITS)), at, self._watcher.place())
+        step.starts.append(loop)
+        return loop
+
+    def _first_start(self) -> int:
+        """All that was scheduled until now is told to be at the beginning, which is the next millisecond."""
+        self._base = self._reactor.seconds() + 1 / 1000
+        return 0
+
+    def _next_start(self) -> int:
+        real = self._real()
+        at = -(-real // MILLISECOND) * MILLISECOND
+        waiting = min(self._turns, default=at + 1)
+        return at if waiting > at else min(real, waiting - _BEFORE)
+
+    def turn(self, loop: Loop, looping: Any, delay: float) -> Waiting:
+        """The next turn of a loop is scheduled, so many seconds from now."""
+        since = self._reactor.seconds() + delay - looping.starttime
+        number = max(1, round(since / looping.interval) - loop.missed)
+        if number > 1 and len(self._steps) == 1 and self._steps[0].starts == [loop]:
+            # its first turn has blocked: the beginning is told to be after that
+            loop.missed, number = number - 1, 1
+            self._base += loop.missed * loop.interval / UNITS
+        return self._make(Entry(len(self._waiting), loop=loop, turn=number))
+
+    def align(self, waiting: Waiting, call: Any) -> None:
+        """Has a turn be due as a whole number of intervals after its loop is told to start.
+
+        Twisted asks the clock twice, so that turns which fall together would run in an order that nothing but chance gives.
+        """
+        entry = waiting.entry
+        loop = entry.loop
+        if loop is None:
+            return
+        due = _due_turn(entry, loop)
+        others = self._turns[due] = self._turns.get(due, -1) + 1
+        time = self._base + due / UNITS + others * _BEHIND
+        if 0 < time - call.time < _MOST_MOVED:
+            call.time = time
+
+    # what happens
+
+    def event(self, starts_loop: bool) -> None:
+        """The program does something of its own: time goes on to that, once in a turn of the reactor's, and where a loop starts."""
+        step = self._steps[-1]
+        step.closed = True
+        if not self._fresh and (not starts_loop or (step is self._steps[0] and not step.starts)):
+            return
+        self._fresh = False
+        advance = self._begin(None, self._real())
+        self._watcher.act(advance, self._watcher.parts.append, advance)
+
+    def run(self, waiting: Waiting, happen: Callable[[], Any]) -> Any:
+        """The reactor runs what has waited."""
+        watcher = self._watcher
+        if watcher.acting or watcher.frame is not watcher.top:
+            watcher.problem("the reactor runs inside a body", "clock")
+            return happen()
+        self._forget_turn(waiting.entry)
+        if self._turn is None:
+            self._turn = self._real()
+        advance = self._begin(waiting.entry, self._turn)
+        self._fresh = False
+
+        def perform() -> Any:
+            watcher.parts.append(advance)
+            return happen()
+
+        return watcher.act(advance, perform)
+
+    def end(self, waiting: Waiting) -> None:
+        """What waits is cancelled."""
+        self._forget_turn(waiting.entry)
+        self._steps[-1].end(waiting.entry)
+
+    def _forget_turn(self, entry: Entry) -> None:
+        if entry.loop is not None:
+            self._turns.pop(_due_turn(entry, entry.loop), None)
+
+    def _begin(self, entry: Optional[Entry], real: int) -> Advance:
+        step = Step(entry, real)
+        self._steps.append(step)
+        advance = self._advances[step] = Advance()
+        return advance
+
+    # times
+
+    def settle(self) -> Optional[Conflict]:
+        """Sets the times of all lines and actions: why there are none, where no times give what happened."""
+        conflict: Optional[Conflict] = None
+        try:
+            settle(self._steps)
+        except Conflict as why:
+            conflict = why
+        for step, advance in self._advances.items():
+            advance.is_told = step.advances
+            advance.to.seconds, advance.by.seconds = seconds_of(step.time), seconds_of(step.by)
+        for entry, due, delay in self._waiting:
+            due.seconds, delay.seconds = seconds_of(entry.due), seconds_of(max(0, entry.due - entry.at))
+        return conflict
+
+
+def _due_turn(entry: Entry, loop: Loop) -> int:
+    """When a turn is due on the reactor."""
+    return loop.at + entry.turn * loop.interval
+
+
+def seconds_of(units: int) -> Fraction:
+    """A number of units, in seconds, exactly."""
+    return Fraction(units, UNITS)
+
+
+def is_real(clock: object) -> bool:
+    """Whether it is a real reactor."""
+    return isinstance(clock, base.ReactorBase)
+
+
+def has_clock(watcher: Observer, clock: Any) -> bool:
+    """Whether this Clock, or real reactor, is the clock of the run. The first that is used is."""
+    if not is_real(clock):
+        return watcher.has_clock(clock)
+    if watcher.clock is None:
+        watcher.clock, watcher.pace = clock, Pace(watcher, clock)
+    return watcher.pace is not None and watcher.clock is clock

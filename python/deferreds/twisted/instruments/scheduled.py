@@ -1,0 +1,45 @@
+"""What a delayed call says of its function: Twisted calls one that tells of it, and whoever else asks is given the program's."""
+
+from __future__ import annotations
+
+import sys
+from types import FunctionType
+from typing import Any, Callable, Optional
+
+from twisted.internet import base, task
+
+_STANDS_FOR = "_dv_stands_for"
+
+#: the code objects of the functions of Twisted that call what is due
+_CALLERS = frozenset((task.Clock.advance.__code__, base.ReactorBase.runUntilCurrent.__code__))
+
+
+def stand_for(telling: Callable[..., Any], function: Callable[..., Any]) -> None:
+    """Has a delayed call with this function, which tells of it, say that it has the program's."""
+    telling.__dict__[_STANDS_FOR] = function
+
+
+class _Function:
+    """The attribute `func` of delayed calls."""
+
+    def __get__(self, call: Any, owner: Optional[type] = None) -> Any:
+        if call is None:
+            return self
+        function = call.__dict__.get("func", self)
+        if function is self:
+            raise AttributeError(f"{type(call).__name__!r} object has no attribute 'func'")
+        if type(function) is not FunctionType or sys._getframe(1).f_code in _CALLERS:
+            return function
+        return function.__dict__.get(_STANDS_FOR, function)
+
+    def __set__(self, call: Any, function: Any) -> None:
+        call.__dict__["func"] = function
+
+    def __delete__(self, call: Any) -> None:
+        if call.__dict__.pop("func", self) is self:
+            raise AttributeError("func")
+
+
+def install() -> None:
+    """Puts the instrument into DelayedCall."""
+    setattr(base.DelayedCall, "func", _Function())

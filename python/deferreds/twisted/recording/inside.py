@@ -1,0 +1,131 @@
+"""The program's code inside Twisted's own: what runs there though no action of the program's calls for it.
+
+A finalizer runs where the last reference to something is dropped, which may be in the midst of Twisted's code. What it does
+can be told only where that code tells nothing more: then it follows the action.
+"""
+
+from __future__ import annotations
+
+import inspect
+import os
+import sys
+import weakref
+from types import FrameType
+from typing import Any, Dict, Iterator, NamedTuple, Optional
+
+from twisted import logger
+from twisted.internet import base, defer, task, threads
+from twisted.python import context, failure, log
+
+from ..telling import is_dead_reference, switches
+
+#: the files of Twisted's code that performs actions
+_ACTING = {module.__file__ for module in (base, defer, task, threads, context, failure)}
+_MODULES = {module.__name__ for module in (base, defer, task)}
+#: the folders of what watches Twisted, and of Twisted's logger
+_WATCHING = os.path.dirname(os.path.dirname(__file__)) + os.sep
+_LOGGER = os.path.dirname(logger.__file__) + os.sep
+
+_GENERATORS = inspect.CO_GENERATOR | inspect.CO_COROUTINE | inspect.CO_ASYNC_GENERATOR
+
+#: why a script can't say what the program does inside Twisted's code
+CALLED = "Twisted's own code calls the program's, which uses Deferreds there"
+FINALIZED = "a finalizer or a log observer uses Deferreds inside Twisted's own code, which goes on after it"
+MEDDLED = "a finalizer or a log observer uses what Twisted's own code works on"
+
+#: which kind may be told as what it is made of, by the action that Twisted performs
+KIND_OF_ACTION: Dict[str, str] = {
+    "maybe": "maybe",
+    "list": "list",
+    "gather": "list",
+    "lock": "lock",
+    "semaphore": "lock",
+    "acquire": "lock",
+    "release": "lock",
+    "runWith": "lock",
+    "queue": "queue",
+    "put": "queue",
+    "get": "queue",
+    "later": "clock",
+    "cancelCall": "clock",
+    "advance": "clock",
+    "addTimeout": "timer",
+    "loop": "loop",
+    "stopLoop": "loop",
+    "inline": "inline",
+    "cooperate": "cooperator",
+    "pauseTask": "cooperator",
+    "resumeTask": "cooperator",
+    "stopTask": "cooperator",
+    "whenDone": "cooperator",
+    "thread": "thread",
+    "threadIn": "thread",
+}
+
+
+class Inside(NamedTuple):
+    """Where the program acted last inside an action: how many parts of lines were told then, the place, and whether it may."""
+
+    told: int
+    place: str
+    is_uncalled: bool
+
+
+class _Files(Dict[str, bool]):
+    """Whether the code of a file is neither Twisted's that acts nor what watches it, by its name."""
+
+    def __missing__(self, file: str) -> bool:
+        found = self[file] = file not in _ACTING and not file.startswith((_WATCHING, "<frozen"))
+        return found
+
+
+_FILES = _Files()
+
+
+def entry(called: int = 0) -> Optional[FrameType]:
+    """Where the program's code was entered from inside Twisted's, while that performs an action; None, where it wasn't.
+
+    The caller's frame, and so many more around it, are known to be neither.
+    """
+    frame: Optional[FrameType] = sys._getframe(2 + called)
+    found = None
+    while frame is not None and id(frame.f_code) not in switches:
+        if _FILES[frame.f_code.co_filename]:
+            found = frame
+        frame = frame.f_back
+    return found
+
+
+def worked_on(entered: FrameType) -> Iterator[Any]:
+    """What Twisted's functions work on that are under way around the frame in which the program's code was entered."""
+    frame = entered.f_back
+    while frame is not None and id(frame.f_code) not in switches:
+        if frame.f_code.co_filename in _ACTING:
+            for value in list(frame.f_locals.values()):
+                yield from filter(_is_twisteds, value if type(value) is list else [value])
+        frame = frame.f_back
+
+
+def _is_twisteds(value: object) -> bool:
+    """Whether it is an object of a class of Twisted's, or of one below that."""
+    return any(base.__module__ in _MODULES for base in type(value).__mro__)
+
+
+def is_uncalled(frame: FrameType) -> bool:
+    """Whether this is code that no action calls: a finalizer, a handler of a signal, an observer of Twisted's log."""
+    code = frame.f_code
+    if code.co_name == "__del__" or code.co_flags & _GENERATORS:
+        return True
+    if code.co_filename in (weakref.__file__, log.__file__) or code.co_filename.startswith(_LOGGER):
+        return True
+    return any(is_dead_reference(given) or isinstance(given, FrameType) for given in _arguments(frame))
+
+
+def _arguments(frame: FrameType) -> Iterator[Any]:
+    code = frame.f_code
+    names, values = code.co_varnames, frame.f_locals
+    for name in names[: code.co_argcount]:
+        yield values.get(name)
+    if code.co_flags & inspect.CO_VARARGS:
+        given = values.get(names[code.co_argcount + code.co_kwonlyargcount], ())
+        yield from given if type(given) is tuple else ()

@@ -1,0 +1,292 @@
+"""The values of programs as a recording shows them: each in bounded room, and with what is to be hidden left out.
+
+A program is asked for the text of one of its objects at most once, and what its code does with Deferreds meanwhile isn't
+told, since it wouldn't have been asked by itself.
+"""
+
+from __future__ import annotations
+
+import zlib
+from types import FunctionType
+from typing import Any, Callable, Dict, List, TypeVar
+
+from twisted.python.failure import Failure
+
+from ..classes import Classes, clean, own_message
+from ..texts import Shown, Texts, compact
+from .hiding import Hiding
+
+#: the most characters, bytes or digits of a text that are shown in full, and how many are shown of a longer one
+LONGEST, SHOWN = 200, 100
+#: the most values of which one is shown in full, how deep, and how many items are shown of each list of a larger one
+MOST, DEEPEST, FIRST = 200, 20, 10
+
+_LEAST_INTEGER, _MOST_INTEGER = -(2**63), 2**63 - 1
+_MOST_BITS = 600
+
+_Given = TypeVar("_Given")
+_Leaf = Callable[[Any], Shown]
+
+#: the name of a class, though a class of it may say something else
+_name_of: Callable[[type], str] = vars(type)["__name__"].__get__
+
+
+class _TooLarge(Exception):
+    """A value isn't shown in full."""
+
+
+class Values(Texts):
+    """Says the values of a program's run.
+
+    `ask` calls what may be code of the program's. Raises what that raises.
+    """
+
+    def __init__(self, classes: Classes, ask: Callable[[Callable[[], Any]], Any], hiding: Hiding) -> None:
+        super().__init__(classes)
+        self._ask = ask
+        self._hiding = hiding
+        self._whole: Dict[type, _Leaf] = {}
+        self._ways: Dict[type, _Leaf] = {}
+
+    def ask_by(self, ask: Callable[[Callable[[], Any]], Any]) -> None:
+        """From here on this calls what may be code of the program's."""
+        self._ask = ask
+
+    def ask(self, call: Callable[[], _Given]) -> _Given:
+        """What code of the program's says of an object, where that uses Deferreds of its own alone."""
+        given: _Given = self._ask(call)
+        return given
+
+    # whole values
+
+    def shown(self, value: Any, depth: int = 0) -> Shown:
+        """A value in the language."""
+        kind = type(value)
+        way = self._whole.get(kind)
+        if way is None:
+            way = self._whole[kind] = self._way_of_whole(kind)
+        return way(value)
+
+    def _way_of_whole(self, kind: type) -> _Leaf:
+        """How values of this class are shown that are part of no other."""
+        if _is_list(kind):
+            return self._list
+        if Failure in kind.__mro__:
+            return self._failed
+        return self._pretender if _pretends(kind) else self._leaf
+
+    def _list(self, value: Any) -> Shown:
+        return self._bounded(value, self._leaf)
+
+    def _failed(self, value: Failure) -> Shown:
+        return self.error(self.error_of(value))
+
+    def _pretender(self, value: Any) -> Shown:
+        """What may say that it is of another class: Twisted asks by `isinstance` whether it is a Failure."""
+        return self._failed(value) if self.ask(lambda: isinstance(value, Failure)) else self._leaf(value)
+
+    def as_made(self, shown: Shown) -> Shown:
+        """How a value that Twisted has made of others, which are shown so, is shown where the program makes the same."""
+        return self._bounded(shown, _leaf_as_made) if type(shown) is list else shown
+
+    def _bounded(self, value: Any, leaf: _Leaf) -> Shown:
+        try:
+            return _Full(leaf, self._hiding).of_list(value, 0)
+        except _TooLarge:
+            return _Brief(leaf, self._hiding).of_list(value, 0)
+
+    # values without parts
+
+    def _leaf(self, value: Any) -> Shown:
+        """A value that is no list."""
+        kind = type(value)
+        way = self._ways.get(kind)
+        if way is None:
+            way = self._ways[kind] = self._way(kind)
+        return way(value)
+
+    def _way(self, kind: type) -> _Leaf:
+        """How values of this class are shown."""
+        if kind is bool or kind is type(None):
+            return _itself
+        ways: Dict[type, _Leaf] = {
+            int: self._integer,
+            str: self._string,
+            bytes: self._bytes,
+            float: self._number,
+            complex: self._number,
+            Failure: self._failure,
+        }
+        return next((ways[base] for base in kind.__mro__ if base in ways), self.named)
+
+    def _integer(self, value: int) -> Shown:
+        plain = int.__int__(value)
+        if self._hiding.hides_all:
+            return self._hiding.value(plain)
+        if _LEAST_INTEGER <= plain <= _MOST_INTEGER:
+            return plain
+        bits = plain.bit_length()
+        if bits <= _MOST_BITS:
+            return f"<int {plain}>"
+        return f"<int of {bits:,} bits, {_digest(plain.to_bytes(bits // 8 + 1, 'big', signed=True))}>"
+
+    def _string(self, value: str) -> str:
+        plain = str.__str__(value)
+        return self._hiding.value(plain) if self._hiding.hides_all else self.text(plain)
+
+    def _bytes(self, value: bytes) -> str:
+        plain = bytes.__getitem__(value, slice(None))
+        if self._hiding.hides_all:
+            return self._hiding.value(plain)
+        if len(plain) <= LONGEST:
+            return self._hiding.text(f"<bytes {bytes.__repr__(plain)}>")
+        begin = self._hiding.text(bytes.__repr__(plain[: 2 * SHOWN]))[: SHOWN + 2]
+        return f"<bytes {begin}'.. of {len(plain):,}, {_digest(plain)}>"
+
+    def _number(self, value: Any) -> str:
+        plain = float.__repr__(value) if float in type(value).__mro__ else complex.__repr__(value)
+        return self._hiding.value(plain) if self._hiding.hides_all else f"<{_name_of(type(value))} {plain}>"
+
+    def _failure(self, value: Failure) -> str:
+        return _as_text(self.error(self.error_of(value)))
+
+    def text(self, text: str) -> str:
+        """A text of the program's, in bounded room and without its secrets."""
+        plain = clean(text)
+        if len(plain) <= LONGEST:
+            return self._hiding.text(plain)
+        begin = self._hiding.text(plain[: 2 * SHOWN])[:SHOWN]
+        return f"{begin}.. <{len(plain):,} characters, {_digest(plain.encode('utf-8'))}>"
+
+    def note(self, text: str) -> str:
+        """What the program prints."""
+        return self._hiding.value(text) if self._hiding.hides_all and text else self.text(text)
+
+    def _asked_message(self, error: BaseException) -> str:
+        message = super()._asked_message(error)
+        is_twisteds = not message and own_message(error) is not None
+        return message if is_twisteds else self.note(message)
+
+    # objects
+
+    def named(self, thing: object) -> Any:
+        """An object, by its type and a number; one of which no weak reference can be had, by its type and what it holds."""
+        known = self._named.get(id(thing))
+        if known is not None:
+            return known[1]
+        kind = clean(_name_of(type(thing)))[:LONGEST]
+        if not _can_be_referred_to(thing):
+            return f"<{kind}{self._contents(thing)}>"
+        number = self._counts[kind] = self._counts.get(kind, 0) + 1
+        self.bind(thing, f"<{kind} {number}>")
+        return self._named[id(thing)][1]
+
+    def _contents(self, thing: object) -> str:
+        """How much something holds; of a dict a digest, too, that is the same for equal ones."""
+        if isinstance(thing, dict):
+            pairs = [list(pair) for pair in list(dict.items(thing))]
+            return f" of {dict.__len__(thing):,}, {_digest(compact(self._bounded(pairs, self._unnamed)).encode())}"
+        if isinstance(thing, (set, frozenset)):
+            length = set.__len__(thing) if isinstance(thing, set) else frozenset.__len__(thing)
+            return f" of {length:,}"
+        return ""
+
+    def _unnamed(self, value: object) -> Shown:
+        """A value that is no list, an object by its type alone."""
+        kind = type(value)
+        is_plain = kind in (bool, type(None)) or issubclass(kind, (int, str, bytes, float, complex))
+        return self._leaf(value) if is_plain else _name_of(kind)
+
+
+def _itself(value: Any) -> Shown:
+    return value
+
+
+def _leaf_as_made(shown: Shown) -> Shown:
+    return _as_text(shown) if type(shown) is dict else shown
+
+
+def _as_text(failure: Dict[str, Any]) -> str:
+    """A failure as a value: its class, and its message where it has one."""
+    message = failure["message"]
+    below = f" at {failure['index']} of {_as_text(failure['sub'])}" if "sub" in failure else ""
+    return f"<{failure['fail']}{': ' if message else ''}{message}{below}>"
+
+
+def _digest(data: bytes) -> str:
+    """Eight digits that are the same for what is equal."""
+    return f"{zlib.crc32(data):08x}"
+
+
+def _pretends(kind: type) -> bool:
+    """Whether objects of a class may say that they are of another one."""
+    return any(
+        "__class__" in base.__dict__ or type(base.__dict__.get("__getattribute__")) is FunctionType
+        for base in kind.__mro__
+        if base is not object
+    )
+
+
+def _can_be_referred_to(thing: object) -> bool:
+    """Whether a weak reference to it can be had."""
+    return getattr(type(thing), "__weakrefoffset__", 0) != 0
+
+
+class _Full:
+    """Shows a list in full. Raises _TooLarge where that isn't done."""
+
+    def __init__(self, leaf: _Leaf, hiding: Hiding) -> None:
+        self.leaf = leaf
+        self.hiding = hiding
+        self.left = MOST
+
+    def of_list(self, value: Any, depth: int) -> Shown:
+        """A list or a tuple."""
+        base = _base_of(value)
+        self.left -= base.__len__(value)
+        if self.left < 0 or depth >= DEEPEST:
+            raise _TooLarge
+        return self.items(base.__getitem__(value, slice(None)), depth)
+
+    def items(self, items: Any, depth: int) -> List[Shown]:
+        """Items of a list, of two of which the first may say that the second is a secret."""
+        if len(items) == 2 and type(items[0]) is str and self.hiding.names_secret(items[0]):
+            secret = items[1] if type(items[1]) is str else compact(self.item(items[1], depth))
+            return [self.item(items[0], depth), self.hiding.secret(secret)]
+        return [self.item(item, depth) for item in items]
+
+    def item(self, item: Any, depth: int) -> Shown:
+        """An item of a list."""
+        return self.of_list(item, depth + 1) if _is_list(type(item)) else self.leaf(item)
+
+
+class _Brief(_Full):
+    """Shows the first items of lists, and a list that comes again by the number that it has among those of the value."""
+
+    def __init__(self, leaf: _Leaf, hiding: Hiding) -> None:
+        super().__init__(leaf, hiding)
+        self.met: Dict[int, int] = {}
+
+    def of_list(self, value: Any, depth: int) -> Shown:
+        """A list or a tuple."""
+        base = _base_of(value)
+        length = base.__len__(value)
+        again = self.met.get(id(value))
+        if again is not None:
+            return f"<list {again} again>"
+        if length:
+            self.met[id(value)] = len(self.met) + 1
+        if depth >= DEEPEST or (depth and self.left <= 0):
+            return f"<list of {length:,}>"
+        first = base.__getitem__(value, slice(FIRST))
+        self.left -= len(first)
+        told = self.items(first, depth)
+        return told if length <= FIRST else [*told, f"<{length - FIRST:,} more>"]
+
+
+def _is_list(kind: type) -> bool:
+    return list in kind.__mro__ or tuple in kind.__mro__
+
+
+def _base_of(value: Any) -> Any:
+    return list if issubclass(type(value), list) else tuple

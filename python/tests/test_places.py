@@ -1,0 +1,171 @@
+"""Where in a program's own files Deferreds were made and actions performed."""
+
+from __future__ import annotations
+
+import json
+import os
+import subprocess
+import sys
+import tempfile
+import textwrap
+import unittest
+from pathlib import Path
+from typing import Any, Dict, List
+
+from deferreds.twisted.commands import record
+from deferreds.twisted.recording.places import line_of
+
+_PROGRAM = """
+    from maker import made
+    from twisted.internet import defer, task
+    from twisted.internet.defer import Deferred
+
+    d = Deferred()
+    d.addCallback(
+        lambda value: made().callback(value)
+    )
+    d.addCallbacks(str, repr)
+    d.addCallbacks(str)
+    d.callback(1)
+    lock = defer.DeferredLock()
+    token = lock.acquire()
+    token.addBoth(str)
+    token.pause()
+    clock = task.Clock()
+    clock.callLater(1, Deferred)
+    clock.advance(1)
+    children = [Deferred() for _ in range(2)]
+    defer.gatherResults(children)
+
+    @defer.inlineCallbacks
+    def body():
+        made()
+        yield d
+        token.unpause()
+
+    body()
+    defer.succeed(1).chainDeferred(Deferred())
+"""
+
+_MAKER = """
+    from twisted.internet.defer import Deferred
+
+    def made():
+        return Deferred()
+"""
+
+
+class PlacesTest(unittest.TestCase):
+    """A recorded program, and the file of its places."""
+
+    folder: Path
+    script: Dict[str, Any]
+    places: Dict[str, Any]
+
+    @classmethod
+    def setUpClass(cls) -> None:
+        room = tempfile.TemporaryDirectory()
+        cls.addClassCleanup(room.cleanup)
+        cls.folder = Path(room.name).resolve()
+        for name, text in (("program.py", _PROGRAM), ("maker.py", _MAKER)):
+            (cls.folder / name).write_text(textwrap.dedent(text), encoding="utf-8")
+        ran = subprocess.run(
+            [sys.executable, "-m", "deferreds.twisted", "record", "-o", "run", "program.py"],
+            cwd=cls.folder,
+            env={**os.environ, "PYTHONPATH": os.pathsep.join(map(os.path.abspath, filter(None, sys.path)))},
+            stdout=subprocess.DEVNULL,
+            stderr=subprocess.PIPE,
+            text=True,
+            check=False,
+        )
+        if ran.returncode != 0:
+            raise AssertionError(ran.stderr)
+        cls.script = json.loads((cls.folder / "run.json").read_text(encoding="utf-8"))
+        cls.places = json.loads((cls.folder / "run.places.json").read_text(encoding="utf-8"))
+
+    def line(self, place: List[int], file: str = "program.py") -> str:
+        """The line of the program at a place, which is in this file."""
+        number, line = place
+        self.assertEqual(self.places["files"][number], str(self.folder / file))
+        return textwrap.dedent(_PROGRAM if file == "program.py" else _MAKER).splitlines()[line - 1].strip()
+
+    def at(self, *action: object) -> List[str]:
+        """The lines of the events that begin with these words."""
+        found: List[str] = []
+        for number, event in enumerate(self.script["events"]):
+            if event[: len(action)] == list(action):
+                found.append(self.line(self.places["actions"][f"/events/{number}"]))
+        return found
+
+    def test_each_event_has_the_line_that_performs_it(self) -> None:
+        self.assertEqual(len([key for key in self.places["actions"] if key.count("/") == 2]), len(self.script["events"]))
+        self.assertEqual(self.at("addCallback")[:2], ["d.addCallback(", "d.addCallbacks(str)"])
+        self.assertEqual(self.at("addCallbacks"), ["d.addCallbacks(str, repr)"])
+        self.assertEqual(self.at("callback")[:1], ["d.callback(1)"])
+        self.assertEqual(self.at("lock"), ["token = lock.acquire()"])  # a lock is told where it is used first
+        self.assertEqual(self.at("acquire"), ["token = lock.acquire()"])
+        self.assertEqual(self.at("addBoth"), ["token.addBoth(str)"])
+        self.assertEqual(self.at("pause"), ["token.pause()"])
+        self.assertEqual(self.at("later"), ["clock.callLater(1, Deferred)"])
+        self.assertEqual(self.at("advance"), ["clock.advance(1)"])
+        self.assertEqual(self.at("gather"), ["defer.gatherResults(children)"])
+        self.assertEqual(self.at("inline"), ["body()"])
+        self.assertEqual(self.at("chain"), ["defer.succeed(1).chainDeferred(Deferred())"])
+
+    def test_each_action_of_a_body_has_its_line(self) -> None:
+        inside = [self.any_line(place) for action, place in self.places["actions"].items() if action.count("/") > 2]
+        made_and_fired = ["return Deferred()", "lambda value: made().callback(value)"]
+        self.assertEqual(sorted(inside), sorted([*made_and_fired, "clock.advance(1)", "return Deferred()", "token.unpause()"]))
+
+    def any_line(self, place: List[int]) -> str:
+        """The line at a place, in whichever file."""
+        return self.line(place, os.path.basename(self.places["files"][place[0]]))
+
+    def test_each_deferred_has_the_line_that_makes_it(self) -> None:
+        deferreds = self.places["deferreds"]
+        first = self.script["events"][0][1]
+        self.assertEqual(self.line(deferreds[first]), "d = Deferred()")
+        acquired = next(event[1] for event in self.script["events"] if event[0] == "acquire")
+        self.assertEqual(self.line(deferreds[acquired]), "token = lock.acquire()")
+        made = [name for name, (number, _) in deferreds.items() if self.places["files"][number].endswith("maker.py")]
+        self.assertEqual([self.line(deferreds[name], "maker.py") for name in made], ["return Deferred()"] * 2)
+
+    def test_a_file_is_named_once_and_none_is_twisteds(self) -> None:
+        self.assertEqual(sorted(self.places["files"]), [str(self.folder / name) for name in ("maker.py", "program.py")])
+
+
+class LineTest(unittest.TestCase):
+    """The line of an instruction, which is worked out when the run is over."""
+
+    def test_it_is_the_one_that_python_tells(self) -> None:
+        text = "import sys\n\n\ndef f(a):\n    return [\n        a(),\n\n        a(),\n    ]\n"
+        names: Dict[str, Any] = {}
+        exec(compile(text, "<text>", "exec"), names)  # pylint: disable=exec-used
+        told: List[List[int]] = []
+
+        def note() -> None:
+            frame = sys._getframe(1)
+            told.append([frame.f_lineno, line_of(frame.f_code, frame.f_lasti)])
+
+        names["f"](note)
+        self.assertEqual(told, [[6, 6], [8, 8]])
+
+
+class RecordTest(unittest.TestCase):
+    """The command writes the places, and a page that links them."""
+
+    def test_the_page_links_the_files(self) -> None:
+        with tempfile.TemporaryDirectory() as room:
+            program = Path(room, "a b.py")
+            program.write_text("from twisted.internet.defer import Deferred\nDeferred().callback(1)\n", encoding="utf-8")
+            name = str(Path(room, "out"))
+            self.assertEqual(record.main(["-o", name, "--view", str(program)]), 0)
+            page = Path(f"{name}.html").read_text(encoding="utf-8")
+            address = program.as_uri()
+            link = f'<a class=at href="{address}" title="{program}:2"><bdi>a b.py:2</bdi></a>'
+            self.assertEqual(page.count(link), 3)  # at the outcome, and at two events
+            self.assertIn("%20", address)
+
+
+if __name__ == "__main__":
+    unittest.main()

@@ -1,0 +1,352 @@
+"""Times that are told of a run on a real reactor, chosen for steps that are given."""
+
+from __future__ import annotations
+
+import random
+import unittest
+from typing import Any, Dict, List, Optional, Tuple
+
+from twisted.internet import task
+
+from deferreds.twisted.instruments.settling import MILLISECOND, Conflict, Entry, Loop, Step, settle
+
+
+class History:
+    """What happens on a reactor, at times in milliseconds."""
+
+    def __init__(self) -> None:
+        self.steps = [Step(None, 0)]
+        self._made = 0
+
+    def later(self, delay: float) -> Entry:
+        """A call is scheduled."""
+        return self._make(Entry(self._made, round(delay * MILLISECOND)))
+
+    def job(self) -> Entry:
+        """A job is submitted."""
+        return self._make(Entry(self._made))
+
+    def tick(self) -> Entry:
+        """A tick is scheduled."""
+        return self._make(Entry(self._made, is_tick=True))
+
+    def loop(self, interval: float, at: float) -> Loop:
+        """A loop starts."""
+        loop = Loop(round(interval * MILLISECOND), round(at * MILLISECOND), "program.py:3 in main")
+        self.steps[-1].starts.append(loop)
+        return loop
+
+    def turn(self, loop: Loop, number: int) -> Entry:
+        """A turn of it is scheduled."""
+        return self._make(Entry(self._made, loop=loop, turn=number))
+
+    def _make(self, entry: Entry) -> Entry:
+        self._made += 1
+        self.steps[-1].make(entry)
+        return entry
+
+    def run(self, entry: Entry, at: float) -> Step:
+        """The reactor runs it."""
+        return self._begin(entry, at)
+
+    def elsewhere(self, at: float) -> Step:
+        """Something comes from elsewhere."""
+        return self._begin(None, at)
+
+    def _begin(self, entry: Optional[Entry], at: float) -> Step:
+        self.steps[-1].closed = self.steps[-1].closed or entry is None
+        step = Step(entry, round(at * MILLISECOND))
+        self.steps.append(step)
+        return step
+
+    def end(self, entry: Entry) -> None:
+        """It is cancelled."""
+        self.steps[-1].end(entry)
+
+    def settled(self) -> List[Tuple[bool, float]]:
+        """Of each step whether time goes on with it, and the time, in milliseconds."""
+        settle(self.steps)
+        return [(step.advances, step.time / MILLISECOND) for step in self.steps[1:]]
+
+
+class Asked(unittest.TestCase):
+    """Calls that were asked for."""
+
+    def setUp(self) -> None:
+        self.history = History()
+
+    def test_a_call_is_due_after_the_delay_that_was_asked_for(self) -> None:
+        first, second = self.history.later(100), self.history.later(250.5)
+        self.history.run(first, 100.4)
+        self.history.run(second, 251.3)
+        self.assertEqual(self.history.settled(), [(True, 100), (True, 250.5)])
+
+    def test_its_delay_counts_from_the_time_that_is_told(self) -> None:
+        self.history.run(self.history.later(100), 100.9)
+        again = self.history.later(100)
+        self.history.run(again, 201.8)
+        self.assertEqual(self.history.settled(), [(True, 100), (True, 200)])
+        self.assertEqual((again.at, again.due), (100_000, 200_000))
+
+    def test_one_advance_runs_what_is_due_at_one_time(self) -> None:
+        first, second = self.history.later(10), self.history.later(10)
+        self.history.run(first, 10.1)
+        self.history.run(second, 10.1)
+        self.assertEqual(self.history.settled(), [(True, 10), (False, 10)])
+
+    def test_a_call_that_ran_late_is_told_as_late_and_others_run_with_it(self) -> None:
+        first, second = self.history.later(10), self.history.later(12)
+        self.history.run(first, 60)
+        self.history.run(second, 60)
+        self.assertEqual(self.history.settled(), [(True, 60), (False, 60)])
+        self.assertEqual((first.due, second.due), (10_000, 12_000))
+
+    def test_calls_that_ran_in_another_order_than_asked_for_are_told_in_the_order_in_which_they_ran(self) -> None:
+        first, second = self.history.later(10.2), self.history.later(10)
+        self.history.run(first, 10.6)
+        self.history.run(second, 10.7)
+        self.history.settled()
+        self.assertLess(first.key, second.key)
+        self.assertEqual(first.due, 10_200)
+
+    def test_a_call_at_once_runs_in_an_advance_of_its_own_where_something_came_between(self) -> None:
+        self.history.elsewhere(3)
+        at_once = self.history.later(0)
+        self.history.run(at_once, 3.1)
+        self.assertEqual(self.history.settled(), [(True, 3), (True, 3)])
+
+    def test_what_comes_from_elsewhere_comes_before_what_is_due_then(self) -> None:
+        waits = self.history.later(10)
+        self.history.elsewhere(10.4)
+        self.history.run(waits, 10.5)
+        self.assertEqual(self.history.settled(), [(True, 9), (True, 10)])
+
+    def test_what_was_cancelled_is_due_after_all_that_ran_meanwhile(self) -> None:
+        never, runs = self.history.later(10), self.history.later(20)
+        self.history.run(runs, 20)
+        self.history.end(never)
+        self.history.settled()
+        self.assertGreater(never.due, runs.due)
+
+    def test_what_still_waits_at_the_end_is_due_after_it(self) -> None:
+        never, runs = self.history.later(10), self.history.later(20)
+        self.history.run(runs, 20)
+        self.history.settled()
+        self.assertGreater(never.due, runs.due)
+
+    def test_a_result_is_due_when_it_came(self) -> None:
+        job, call = self.history.job(), self.history.later(50)
+        self.history.run(job, 31.7)
+        self.history.run(call, 50.1)
+        self.assertEqual(self.history.settled(), [(True, 31), (True, 50)])
+        self.assertEqual(job.due, 31_000)
+
+    def test_all_times_can_be_chosen_once_more(self) -> None:
+        self.history.run(self.history.later(10), 10.2)
+        before = self.history.settled()
+        self.history.elsewhere(15)
+        self.assertEqual(self.history.settled(), [*before, (True, 15)])
+
+
+class Fixed(unittest.TestCase):
+    """Turns of loops, and ticks, which the language works out."""
+
+    def setUp(self) -> None:
+        self.history = History()
+
+    def test_turns_are_due_at_whole_numbers_of_intervals(self) -> None:
+        loop = self.history.loop(20, 0)
+        turn = self.history.turn(loop, 1)
+        for number in (1, 2):
+            self.history.run(turn, 20 * number + 0.3)
+            turn = self.history.turn(loop, number + 1)
+        self.assertEqual(self.history.settled(), [(True, 20), (True, 40)])
+
+    def test_turns_that_fall_together_run_in_the_order_in_which_they_were_scheduled(self) -> None:
+        slow = self.history.turn(self.history.loop(20, 0), 1)
+        fast = self.history.loop(10, 0)
+        first = self.history.turn(fast, 1)
+        self.history.run(first, 10)
+        second = self.history.turn(fast, 2)
+        self.history.run(slow, 20)
+        self.history.run(second, 20)
+        self.assertEqual(self.history.settled(), [(True, 10), (True, 20), (False, 20)])
+
+    def test_a_turn_that_blocked_puts_time_on_so_that_turns_are_missed(self) -> None:
+        loop = self.history.loop(20, 0)
+        turn = self.history.turn(loop, 1)
+        self.history.run(turn, 20)
+        after = self.history.turn(loop, 5)
+        self.history.run(after, 100)
+        self.assertEqual(self.history.settled(), [(True, 80), (True, 100)])
+        self.assertEqual(after.due, 100_000)
+
+    def test_a_call_that_ran_before_a_turn_is_due_before_it(self) -> None:
+        call = self.history.later(20.1)
+        turn = self.history.turn(self.history.loop(20, 0), 1)
+        self.history.run(call, 20.4)
+        self.history.run(turn, 20.4)
+        self.history.settled()
+        self.assertLess(call.key, turn.key)
+        self.assertEqual(turn.due, 20_000)
+
+    def test_turns_in_another_order_than_they_are_due_in_are_refused(self) -> None:
+        early = self.history.turn(self.history.loop(10, 0), 1)
+        late = self.history.turn(self.history.loop(20, 0), 1)
+        self.history.run(late, 20)
+        self.history.run(early, 20)
+        with self.assertRaises(Conflict) as raised:
+            self.history.settled()
+        self.assertEqual((raised.exception.place, raised.exception.kind), ("program.py:3 in main", "loop"))
+
+    def test_something_from_elsewhere_between_turns_that_are_due_at_one_time_is_refused(self) -> None:
+        first = self.history.turn(self.history.loop(20, 0), 1)
+        second = self.history.turn(self.history.loop(20, 0), 1)
+        self.history.run(first, 20)
+        self.history.elsewhere(20.1)
+        self.history.run(second, 20.2)
+        with self.assertRaises(Conflict):
+            self.history.settled()
+
+    def test_no_call_is_due_before_it_is_scheduled(self) -> None:
+        early = self.history.turn(self.history.loop(10, 0), 1)
+        late = self.history.turn(self.history.loop(18, 0), 1)
+        self.history.run(early, 30)
+        at_once = self.history.later(0)
+        self.history.run(at_once, 30)
+        self.history.run(late, 30)
+        with self.assertRaises(Conflict):
+            self.history.settled()
+
+    def test_ticks_are_due_after_one_time(self) -> None:
+        tick = self.history.tick()
+        for number in range(3):
+            self.history.run(tick, 0.1 * number)
+            tick = self.history.tick()
+        self.assertEqual(self.history.settled(), [(True, 1), (True, 2), (True, 3)])
+
+    def test_ticks_are_made_shorter_where_calls_are_due_meanwhile(self) -> None:
+        call, tick = self.history.later(2.5), self.history.tick()
+        for number in range(9):
+            self.history.run(tick, 0.1 * number)
+            tick = self.history.tick()
+        self.history.end(tick)
+        self.history.run(call, 2.6)
+        self.history.settled()
+        self.assertEqual(call.due, 2_500)
+
+
+class Simulated:
+    """A reactor that runs what is due late, by a seed: calls, loops, cancels, and what comes from elsewhere.
+
+    `blocks`: how many milliseconds a body may block.
+    """
+
+    def __init__(self, seed: int, blocks: float) -> None:
+        self._random = random.Random(seed)
+        self.blocks = blocks
+        self.history = History()
+        self._now = 0.0
+        #: what waits, by when it is due on the reactor
+        self._waiting: List[Tuple[float, int, Entry]] = []
+        for interval in self._random.sample([5, 10, 20, 25], self._random.randrange(4)):
+            self._schedule_turn(self.history.loop(interval, 0), 1)
+        for _ in range(4):
+            self._schedule()
+
+    def run(self) -> None:
+        """Some turns of the reactor."""
+        for _ in range(25):
+            self._take_turn()
+
+    def _take_turn(self) -> None:
+        chance = self._random
+        if not self._waiting or chance.random() < 0.3:
+            self._now += chance.random() * 3
+            self.history.elsewhere(self._now)
+            self._schedule()
+            return
+        self._now = max(self._now, min(self._waiting)[0]) + chance.random() * chance.choice([0.3, 0.3, 12])
+        looked = self._now
+        for each in sorted(each for each in self._waiting if each[0] <= looked):
+            if each in self._waiting:
+                self._waiting.remove(each)
+                self._run(each[2], looked)
+
+    def _run(self, entry: Entry, looked: float) -> None:
+        self.history.run(entry, looked)
+        self._now += self._random.random() * self._random.choice([0.1, 0.1, 0.1, 0.1, self.blocks])
+        if entry.loop is not None:
+            self._schedule_turn(entry.loop, int(self._now * MILLISECOND) // entry.loop.interval + 1)
+        if self._random.random() < 0.6:
+            self._schedule()
+        calls = [each for each in self._waiting if each[2].loop is None]
+        if calls and self._random.random() < 0.2:
+            ended = self._random.choice(calls)
+            self._waiting.remove(ended)
+            self.history.end(ended[2])
+
+    def _schedule(self) -> None:
+        delay = self._random.choice([0, 1, 10, self._random.random() * 30])
+        entry = self.history.later(delay)
+        self._waiting.append((self._now + delay + 0.001, entry.order, entry))
+
+    def _schedule_turn(self, loop: Loop, number: int) -> None:
+        entry = self.history.turn(loop, number)
+        self._waiting.append((number * loop.interval / MILLISECOND, entry.order, entry))
+
+
+class OnClock(unittest.TestCase):
+    """What is told, run on Twisted's Clock."""
+
+    def replayed(self, steps: List[Step]) -> List[Entry]:
+        """What the Clock runs, in order, where calls are scheduled with the delays that are told."""
+        clock = task.Clock()
+        ran: List[Entry] = []
+        calls: Dict[Entry, Any] = {}
+        places = iter([step for step in steps if step.entry is not None])
+
+        def run(entry: Entry) -> None:
+            ran.append(entry)
+            happens(next(places))
+
+        def happens(step: Step, inside: bool = True) -> None:
+            for entry in step.made:
+                if entry.inside == inside:
+                    calls[entry] = clock.callLater(entry.due - entry.at, run, entry)
+            for entry, is_inside in step.ended:
+                if is_inside == inside and entry in calls:
+                    calls[entry].cancel()
+
+        for step in steps:
+            if step.advances:
+                clock.advance(step.by)
+            if step.entry is None:
+                happens(step, False)
+        return ran
+
+    def settled(self, blocks: float) -> int:
+        """How many of 300 runs are told, each of which the Clock runs in the same order."""
+        settled = 0
+        for seed in range(300):
+            simulated = Simulated(seed, blocks)
+            simulated.run()
+            steps = simulated.history.steps
+            try:
+                settle(steps)
+            except Conflict:
+                continue
+            settled += 1
+            with self.subTest(seed=seed, blocks=blocks):
+                self.assertEqual(self.replayed(steps), [step.entry for step in steps if step.entry is not None])
+        return settled
+
+    def test_it_runs_in_the_order_of_the_reactor(self) -> None:
+        self.assertGreater(self.settled(0.1), 285)
+
+    def test_so_it_does_where_bodies_block(self) -> None:
+        self.assertGreater(self.settled(30), 100)
+
+
+if __name__ == "__main__":
+    unittest.main()
