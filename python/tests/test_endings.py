@@ -165,7 +165,9 @@ class Statuses(RecordingCase):
             "from twisted.internet import defer\ndefer.succeed(1).result = 2\n", encoding="utf-8"
         )
         ended = self.record("by_hand.py")
-        self.assertEqual((ended.status, self.files()), (65, ["by_hand.py"]), ended.said)
+        files = ["by_hand.journal", "by_hand.places.json", "by_hand.py", "by_hand.recording"]
+        self.assertEqual((ended.status, self.files()), (65, files), ended.said)
+        self.assertIn("There is no script", ended.said)
 
     def test_of_a_test_that_has_failed(self) -> None:
         self.copied("failing_test.py", "failing.py")

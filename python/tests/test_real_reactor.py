@@ -71,9 +71,10 @@ class RealReactor(unittest.TestCase):
         return recording
 
     def refused(self, name: str) -> str:
-        """It is refused: why."""
+        """It is refused, and has a journal alone: why."""
         recording = Recording(name)
-        self.assertEqual((recording.status, recording.script, recording.journal), (65, "", ""), recording.said)
+        self.assertEqual((recording.status, recording.script), (65, ""), recording.said)
+        self.assertTrue(recording.journal, recording.said)
         return recording.said
 
     def assert_in_order(self, lines: List[str], *expected: str) -> None:

@@ -7,7 +7,7 @@ Times are those of the real reactor, unless `--virtual` puts another in its plac
 NAME.json is the script. NAME.journal is the journal and the outcomes as real Twisted gave them. NAME.places.json says where in the
 program it happened. `--view` writes NAME.html, a page of the run, too. NAME.recording lists these files. Without -o, NAME is what PROGRAM or MODULE is called, in the folder
 where the command is given. A file of another origin is only overwritten with -f. What a script can't say is refused
-with the reason and the place in the program, and nothing is written.
+with the reason and the place in the program, and only the journal and the page are written.
 
 The run is kept where the program ends by Ctrl-C, by a signal that it doesn't handle, or by os._exit, too. SIGUSR1 has the run so far
 written, and the program goes on. A forked child writes files of its own, NAME.PID.json and so on. Where a run is too long for a

@@ -54,11 +54,32 @@ class Keeping:
         refusals = [problem for problem in said.problems if problem not in said.too_large]
         if refusals or said.script is None:
             self._refuse(refusals)
-            return Status.REFUSED
+            return self._write_refused(said, how, earlier, refusals)
         if said.is_empty:
             self._tell_nothing()
             return Status.NOTHING
         return self._write(said, how, earlier)
+
+    def _write_refused(self, said: Said, how: str, earlier: int, refusals: "list[Problem]") -> Status:
+        """Writes the journal, and if it is wanted the page, of a run that a script can't say."""
+        why = "; ".join(dict.fromkeys(problem.reason for problem in refusals)) or "it has no words for it"
+        files: Dict[str, str] = {".journal": said.whole_output}
+        places = said.places
+        if places is not None:
+            files[PLACES] = places
+        if self._view:
+            run = run_of_journal(said.whole_output, self.place.name.name, Script(None), False, said.begins)
+            run.problems.append((f"a script can't say this: {why}. What is shown may lack it",))
+            run.places = read_places(places) if places is not None else run.places
+            files[".html"] = Page(run).html()
+        written = self.place.write(files, self._facts(said, how, earlier, f"no script: {why}"))
+        for failure in written.failures:
+            self.messages.say(failure)
+        if written.is_any:
+            page = f" and {written.name}.html" if self._view else ""
+            lines = several(len(said.journal), "line", "lines")
+            self.messages.say(f"{written.name}.journal{page}: {lines}. There is no script, and the journal may lack what is refused")
+        return Status.REFUSED
 
     def _tell_nothing(self) -> None:
         if self.children:
@@ -88,7 +109,7 @@ class Keeping:
         if places is not None:
             files[PLACES] = places
         counts = self._add_page(files, said, places) if self._view else ""
-        written = self.place.write(files, self._facts(said, how, earlier, agreed))
+        written = self.place.write(files, self._facts(said, how, earlier, agreed.text))
         for failure in written.failures:
             self.messages.say(failure)
         if not written.is_any:
@@ -109,7 +130,7 @@ class Keeping:
         files[".html"] = Page(run).html()
         return run.counts
 
-    def _facts(self, said: Said, how: str, earlier: int, agreed: Agreement) -> Dict[str, Any]:
+    def _facts(self, said: Said, how: str, earlier: int, compared: str) -> Dict[str, Any]:
         """What the list of the files says of the recording."""
         return {
             "twisted": str(twisted.__version__),
@@ -118,7 +139,7 @@ class Keeping:
             "earlier events": earlier,
             "events": len(said.begins),
             "events of the script": said.events,
-            "compared": agreed.text,
+            "compared": compared,
             **({"tick": said.tick} if said.tick else {}),
         }
 
