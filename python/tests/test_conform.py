@@ -277,7 +277,8 @@ class WaitingTest(ConformTest):
 
     def test_ctrl_c_ends_the_command_too(self) -> None:
         number = self.folder / "number"
-        command = self.shell(f"echo $$ >{number}.new; mv {number}.new {number}; exec sleep {_LONG}")
+        # it is asked before it says its number, so that it has been started by then
+        command = self.shell(f"head -c 1 >/dev/null; echo $$ >{number}.new; mv {number}.new {number}; exec sleep {_LONG}")
         words = ["--random", "1", "--timeout", str(_LONG), "--ours", "true", "--", command]
         process = subprocess.Popen(
             [sys.executable, "-m", "deferreds.twisted", "conform", *words],
@@ -295,10 +296,7 @@ class WaitingTest(ConformTest):
             errors = process.stderr.read()
             self.assertEqual(process.wait(_LONG / 2), -signal.SIGINT)
         self.assertNotIn(b"Traceback", errors)
-        child = int(number.read_text(encoding="utf-8"))
-        while is_running(child) and time.monotonic() < deadline:
-            time.sleep(0.01)
-        self.assert_ends(child)
+        self.assert_ends(int(number.read_text(encoding="utf-8")))
 
 
 class ManyTest(ConformTest):
