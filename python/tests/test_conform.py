@@ -79,6 +79,13 @@ def is_running(process: int) -> bool:
 class ConformTest(unittest.TestCase):
     """Tests that compare small commands on a few rows."""
 
+    def assert_ends(self, process: int) -> None:
+        """A process that was killed runs no more, or not for long: it ends when it is its turn."""
+        until = time.monotonic() + _LONG / 2
+        while is_running(process) and time.monotonic() < until:
+            time.sleep(0.02)
+        self.assertFalse(is_running(process))
+
     def setUp(self) -> None:
         room = tempfile.TemporaryDirectory()
         self.addCleanup(room.cleanup)
@@ -242,11 +249,7 @@ class WaitingTest(ConformTest):
             '  command:   (no answer within 5 seconds)\n  {"version":1,"events":[["note","a"],["note","b"]]}\n',
             ran.output,
         )
-        last = int(number.read_text(encoding="utf-8"))
-        until = time.monotonic() + _LONG / 2
-        while is_running(last) and time.monotonic() < until:  # a killed process ends when it is its turn
-            time.sleep(0.02)
-        self.assertFalse(is_running(last))
+        self.assert_ends(int(number.read_text(encoding="utf-8")))
 
     def test_after_some_in_a_row_no_more_are_asked(self) -> None:
         ran = conforming("--rows", "--timeout", "0.2", "--", self.shell(f"exec sleep {_LONG}"))
@@ -274,7 +277,8 @@ class WaitingTest(ConformTest):
 
     def test_ctrl_c_ends_the_command_too(self) -> None:
         number = self.folder / "number"
-        command = self.shell(f"echo $$ >{number}.new; mv {number}.new {number}; exec sleep {_LONG}")
+        # it is asked before it says its number, so that it has been started by then
+        command = self.shell(f"head -c 1 >/dev/null; echo $$ >{number}.new; mv {number}.new {number}; exec sleep {_LONG}")
         words = ["--random", "1", "--timeout", str(_LONG), "--ours", "true", "--", command]
         process = subprocess.Popen(
             [sys.executable, "-m", "deferreds.twisted", "conform", *words],
@@ -292,10 +296,7 @@ class WaitingTest(ConformTest):
             errors = process.stderr.read()
             self.assertEqual(process.wait(_LONG / 2), -signal.SIGINT)
         self.assertNotIn(b"Traceback", errors)
-        child = int(number.read_text(encoding="utf-8"))
-        while is_running(child) and time.monotonic() < deadline:
-            time.sleep(0.01)
-        self.assertFalse(is_running(child))
+        self.assert_ends(int(number.read_text(encoding="utf-8")))
 
 
 class ManyTest(ConformTest):
