@@ -59,7 +59,7 @@ happens_end occurrence w =
 happens_one : (occurrence : Occurrence) (w u v : World) → Happens occurrence w u → Happens occurrence w v → u ≡ v
 happens_one occurrence w u v r s = (gives_one r.1 s.1).1
 
-runs_end : (all : List Occurrence) (w : World) → (u : World) × Runs all w u
+pub runs_end : (all : List Occurrence) (w : World) → (u : World) × Runs all w u
 runs_end [] w = (w, refl)
 runs_end (occurrence ∷ rest) w =
     let first = happens_end occurrence w in

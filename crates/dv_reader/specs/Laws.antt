@@ -15,6 +15,10 @@ SaysOneAtMost = (bytes : List ℕ) (s t : Script) → Says bytes s → Says byte
 abbrev pub RefusedSaysNone : Type 0
 RefusedSaysNone = (bytes : List ℕ) (fault : ScriptFault) (s : Script) → fault ≢ OutOfMemory → Refuses fault bytes → Says bytes s → ⊥
 
+-- bytes are refused for one reason, want of memory aside
+abbrev pub RefusedForOneReason : Type 0
+RefusedForOneReason = (bytes : List ℕ) (a b : ScriptFault) → a ≢ OutOfMemory → b ≢ OutOfMemory → Refuses a bytes → Refuses b bytes → a ≡ b
+
 -- a document is refused for a reason other than memory
 abbrev pub IsRefused : List ℕ → Type 0
 IsRefused bytes = (fault : ScriptFault) × (fault ≢ OutOfMemory) × Refuses fault bytes

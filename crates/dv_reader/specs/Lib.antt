@@ -4,3 +4,4 @@ pub mod Limits
 pub mod Refusal
 pub mod Laws
 pub mod Passes
+pub mod Texts

@@ -1,12 +1,14 @@
 //! Laws of what documents say, each a function with an empty body whose clauses are the laws.
 
-ghost use Rattle.dv_reader.specs.Laws.{SaysOneAtMost, RefusedSaysNone, SaysOrIsRefused, ParentsOfScriptsStandBefore, PathsOfScriptsGoUp};
+ghost use Rattle.dv_reader.specs.Laws.{SaysOneAtMost, RefusedForOneReason, RefusedSaysNone, SaysOrIsRefused, ParentsOfScriptsStandBefore, PathsOfScriptsGoUp};
 
-/// A document says a script or is refused, one of the two, and says no other script.
+/// A document says a script or is refused, one of the two, and says no other script. What is refused, a document or not, is so for one
+/// reason, want of memory aside.
 pub fn documents_say_one_script_or_are_refused()
     ensures one { SaysOneAtMost }
     ensures either { SaysOrIsRefused }
     ensures never_both { RefusedSaysNone }
+    ensures reason { RefusedForOneReason }
 {}
 
 /// In the table of a script each class's parent stands before it, so that the path of a class is the class and then the
