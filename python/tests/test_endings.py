@@ -161,13 +161,16 @@ class Statuses(RecordingCase):
         self.assertEqual(self.facts("os_exit")["ended"], "os._exit")
 
     def test_what_a_script_cant_say(self) -> None:
-        (self.folder / "by_hand.py").write_text(
-            "from twisted.internet import defer\ndefer.succeed(1).result = 2\n", encoding="utf-8"
-        )
-        ended = self.record("by_hand.py")
-        files = ["by_hand.journal", "by_hand.places.json", "by_hand.py", "by_hand.recording"]
+        program = self.folder / "by_hand.py"
+        program.write_text("from twisted.internet import defer\ndefer.succeed(1)\n", encoding="utf-8")
+        self.assertEqual(self.record("by_hand.py").status, 0)
+        self.assertIn("by_hand.json", self.files())
+        program.write_text("from twisted.internet import defer\ndefer.succeed(1).result = 2\n", encoding="utf-8")
+        ended = self.record("--view", "by_hand.py")
+        files = ["by_hand.html", "by_hand.journal", "by_hand.places.json", "by_hand.py", "by_hand.recording"]
         self.assertEqual((ended.status, self.files()), (65, files), ended.said)
         self.assertIn("There is no script", ended.said)
+        self.assertIn("the result of a Deferred is set by hand", (self.folder / "by_hand.html").read_text(encoding="utf-8"))
 
     def test_of_a_test_that_has_failed(self) -> None:
         self.copied("failing_test.py", "failing.py")

@@ -16,7 +16,7 @@ from ...view.run import run_of_journal
 from ...view.scripts import Script
 from ..programs import Program
 from .agreeing import Agreement, agreement
-from .files import Place
+from .files import Place, Written
 from .messages import Messages
 from .recorder import Problem
 from .saying import Said
@@ -64,21 +64,11 @@ class Keeping:
         """Writes the journal, and if it is wanted the page, of a run that a script can't say."""
         why = "; ".join(dict.fromkeys(problem.reason for problem in refusals)) or "it has no words for it"
         files: Dict[str, str] = {".journal": said.whole_output}
-        places = said.places
-        if places is not None:
-            files[PLACES] = places
-        if self._view:
-            run = run_of_journal(said.whole_output, self.place.name.name, Script(None), False, said.begins)
-            run.problems.append((f"a script can't say this: {why}. What is shown may lack it",))
-            run.places = read_places(places) if places is not None else run.places
-            files[".html"] = Page(run).html()
-        written = self.place.write(files, self._facts(said, how, earlier, f"no script: {why}"))
-        for failure in written.failures:
-            self.messages.say(failure)
+        counts = self._add_places_and_page(files, said, said.places, why)
+        written = self._write_files(files, self._facts(said, how, earlier, f"no script: {why}"), counts)
         if written.is_any:
-            page = f" and {written.name}.html" if self._view else ""
             lines = several(len(said.journal), "line", "lines")
-            self.messages.say(f"{written.name}.journal{page}: {lines}. There is no script, and the journal may lack what is refused")
+            self.messages.say(f"{written.name}.journal: {lines}. There is no script, and the journal may lack what is refused")
         return Status.REFUSED
 
     def _tell_nothing(self) -> None:
@@ -105,30 +95,41 @@ class Keeping:
             files.update({".json": said.text + "\n", ".journal": said.output})
             if not said.is_whole:
                 files[".whole.journal"] = said.whole_output
-        places = None if agreed.is_wrong else said.places
-        if places is not None:
-            files[PLACES] = places
-        counts = self._add_page(files, said, places) if self._view else ""
-        written = self.place.write(files, self._facts(said, how, earlier, agreed.text))
-        for failure in written.failures:
-            self.messages.say(failure)
+        counts = self._add_places_and_page(files, said, None if agreed.is_wrong else said.places)
+        written = self._write_files(files, self._facts(said, how, earlier, agreed.text), counts)
         if not written.is_any:
             return Status.NOT_WRITTEN
-        if counts:
-            self.messages.say(f"{written.name}.html: {counts}")
         self._tell(said, written.name, agreed)
         if agreed.is_wrong:
             return Status.REFUSED
         return Status.NOT_WRITTEN if written.failures else Status.RECORDED
 
-    def _add_page(self, files: Dict[str, str], said: Said, places: Optional[str]) -> str:
-        """Adds the page of the whole run, and gives how large that is."""
-        run = run_of_journal(said.whole_output, self.place.name.name, Script(said.script), False, said.begins)
-        if not said.is_whole:
+    def _add_places_and_page(self, files: Dict[str, str], said: Said, places: Optional[str], refused: str = "") -> str:
+        """Adds the places, and if it is wanted the page of the whole run. Gives how large that is, or nothing where there is none.
+
+        `refused`: why there is no script, where there is none."""
+        if places is not None:
+            files[PLACES] = places
+        if not self._view:
+            return ""
+        script = Script(None if refused else said.script)
+        run = run_of_journal(said.whole_output, self.place.name.name, script, False, said.begins)
+        if refused:
+            run.problems.append((f"a script can't say this: {refused}. What is shown may lack it",))
+        elif not said.is_whole:
             run.problems.append((_beginning(said),))
         run.places = read_places(places) if places is not None else run.places
         files[".html"] = Page(run).html()
         return run.counts
+
+    def _write_files(self, files: Dict[str, str], facts: Dict[str, Any], counts: str) -> Written:
+        """Writes the files and their list, and says what couldn't be written, and how large the page is, where there is one."""
+        written = self.place.write(files, facts)
+        for failure in written.failures:
+            self.messages.say(failure)
+        if written.is_any and counts:
+            self.messages.say(f"{written.name}.html: {counts}")
+        return written
 
     def _facts(self, said: Said, how: str, earlier: int, compared: str) -> Dict[str, Any]:
         """What the list of the files says of the recording."""
