@@ -1,6 +1,7 @@
-//! What inline bodies lead to, and the jobs that a run submits.
+//! What inline bodies lead to, the Deferreds that bodies become, and the jobs that a run submits.
 #![tactic(auto)]
 
 pub mod inlining;
+pub mod maybe;
 pub mod submissions;
 pub mod threading;

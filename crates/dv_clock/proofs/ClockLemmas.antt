@@ -13,7 +13,7 @@ use Rattle.dv_clock.specs.declared.call.Call.{Call}
 use Rattle.dv_clock.specs.declared.call.CallState.{CallState}
 use Rattle.dv_clock.specs.declared.call.CallState.TheVariants.{Waiting, Called, Cancelled, Dropped}
 use Rattle.dv_clock.specs.declared.due.Due.{Due}
-use Rattle.dv_clock.specs.declared.error.CancelFault.TheVariants as fault
+use Rattle.dv_journal.specs.declared.error.Fault.TheVariants as fault
 use Rattle.dv_clock.specs.Due.{scheduling, coming_due}
 use Rattle.dv_clock.proofs.CallsLemmas.{placed_there, others_stay}
 use Rattle.dv_clock.specs.declared.due.Due.TheVariants as kind

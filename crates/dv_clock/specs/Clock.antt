@@ -17,8 +17,10 @@ use Rattle.dv_clock.specs.declared.call.CallState.{CallState}
 use Rattle.dv_clock.specs.declared.call.CallState.TheVariants.{Waiting, Called, Cancelled, Dropped}
 use Rattle.dv_clock.specs.declared.due.Due.{Due}
 use Rattle.dv_clock.specs.declared.due.Due.TheVariants as kind
-use Rattle.dv_clock.specs.declared.error.CancelFault.{CancelFault}
-use Rattle.dv_clock.specs.declared.error.CancelFault.TheVariants.{AlreadyCalled, AlreadyCancelled, Limit, OutOfMemory}
+use Rattle.dv_clock.specs.declared.error.Over.{Over}
+use Rattle.dv_clock.specs.declared.error.Over.TheVariants as over
+use Rattle.dv_journal.specs.declared.error.Fault.{Fault}
+use Rattle.dv_journal.specs.declared.error.Fault.TheVariants as fault
 
 -- the time, and all calls that were scheduled, in order of number
 pub record Clock : Type 0 where
@@ -128,14 +130,14 @@ due s = due_found (next_call s.0) s
 
 -- what a cancelling answers, and what it leaves
 abbrev pub Cancelling : Type 0
-Cancelling = Result Unit CancelFault × State Clock
+Cancelling = Result Unit (Fault Over) × State Clock
 
 -- the entry is written and then the call waits no longer, or the entry doesn't fit and nothing changes
 abbrev pub uncall : ℕ → List ℕ → State Clock → Cancelling
 uncall number name s =
     if fits s.1 (entry.Uncall name)
     then (Ok tt, (ended number Cancelled s.0, with_entry s.1 (entry.Uncall name)))
-    else (Err Limit, s)
+    else (Err fault.Limit, s)
 
 -- a call of the script that waits is cancelled; what else waits is left alone
 abbrev pub cancel_waiting : ℕ → Due → State Clock → Cancelling
@@ -148,9 +150,9 @@ cancel_waiting number (kind.Timeout d) s = (Ok tt, s)
 -- a call that waits no longer isn't cancelled
 abbrev pub cancel_in : ℕ → CallState → State Clock → Cancelling
 cancel_in number (Waiting what) s = cancel_waiting number what s
-cancel_in number Called s = (Err AlreadyCalled, s)
-cancel_in number Cancelled s = (Err AlreadyCancelled, s)
-cancel_in number Dropped s = (Err AlreadyCancelled, s)
+cancel_in number Called s = (Err (fault.Refused over.Called), s)
+cancel_in number Cancelled s = (Err (fault.Refused over.Cancelled), s)
+cancel_in number Dropped s = (Err (fault.Refused over.Cancelled), s)
 
 -- a call is cancelled; a number of no call changes nothing
 abbrev pub cancel_found : ℕ → Option Call → State Clock → Cancelling
@@ -160,18 +162,12 @@ cancel_found number (Some call) s = cancel_in number call.state s
 abbrev pub cancel : ℕ → State Clock → Cancelling
 cancel number s = cancel_found number (slice_get s.0.calls number) s
 
--- the journal's reason to stop, as one of a cancelling
-abbrev pub cancel_fault : Stop → CancelFault
-cancel_fault stop.Limit = Limit
-cancel_fault stop.OutOfMemory = OutOfMemory
-
 -- a cancelling did what the rule says, or memory was refused where the rule has no other reason to refuse it, and nothing changed
-abbrev pub CancelsUnlessMemory : Result Unit CancelFault → State Clock → State Clock → Cancelling → Type 0
+abbrev pub CancelsUnlessMemory : Result Unit (Fault Over) → State Clock → State Clock → Cancelling → Type 0
 CancelsUnlessMemory (Ok done) before after rule = (Ok done, after) ≡ rule
-CancelsUnlessMemory (Err AlreadyCalled) before after rule = (Err AlreadyCalled, after) ≡ rule
-CancelsUnlessMemory (Err AlreadyCancelled) before after rule = (Err AlreadyCancelled, after) ≡ rule
-CancelsUnlessMemory (Err Limit) before after rule = (Err Limit, after) ≡ rule
-CancelsUnlessMemory (Err OutOfMemory) before after rule = (rule.0 ≢ Err AlreadyCalled) × (rule.0 ≢ Err AlreadyCancelled) × (rule.0 ≢ Err Limit) × (after ≡ before)
+CancelsUnlessMemory (Err (fault.Refused reason)) before after rule = (Err (fault.Refused reason), after) ≡ rule
+CancelsUnlessMemory (Err fault.Limit) before after rule = (Err fault.Limit, after) ≡ rule
+CancelsUnlessMemory (Err fault.OutOfMemory) before after rule = ((reason : Over) → rule.0 ≢ Err (fault.Refused reason)) × (rule.0 ≢ Err fault.Limit) × (after ≡ before)
 
 -- what the call of a number is, where it waits
 abbrev pub what_of : ℕ → List Call → Option Due

@@ -4,12 +4,12 @@ ghost use Rattle.std.specs.Option.{option_map, option_copied};
 use crate::call::{Call, CallState};
 use crate::call_id::CallId;
 use crate::due::Due;
-use crate::error::CancelFault;
+use crate::error::{CancelFault, Over};
 use crate::interval::Interval;
 use crate::limits::{MOST_DELAY, MOST_TICKS};
 use crate::looping_call::loop_next;
 use dv_journal::entry::Entry;
-use dv_journal::error::Stop;
+use dv_journal::error::{Fault, Stop};
 use dv_journal::journal::Journal;
 use std::alloc::{AllocError, Global};
 use std::collections::BTreeSet;
@@ -144,11 +144,13 @@ impl Clock {
             CallState::Waiting(
                 Due::Turn(_, _) | Due::Tick | Due::Delivery(_, _) | Due::Timeout(_),
             ) => return Ok(()),
-            CallState::Called => return Err(CancelFault::AlreadyCalled),
-            CallState::Cancelled | CallState::Dropped => return Err(CancelFault::AlreadyCancelled),
+            CallState::Called => return Err(Fault::Refused(Over::Called)),
+            CallState::Cancelled | CallState::Dropped => return Err(Fault::Refused(
+                Over::Cancelled,
+            )),
         };
         if !journal.fits_plain() {
-            return Err(CancelFault::Limit);
+            return Err(Fault::Limit);
         }
         let shown = name.copy(self.alloc)?;
         journal.write(Entry::Uncall(shown))?;

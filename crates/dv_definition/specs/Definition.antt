@@ -2,12 +2,18 @@
 -- there is no list of what is still to be done. `a and_then λ x. b` is read "a, and with its result x, b"; `found o none λ x. some` is read
 -- "with what o has, some; where it has nothing, none"; `w` is the world before, and after each `λ (p, w)` or `λ w` the world since then.
 -- Words that begin with `world.` are single steps, each of which writes its entry and then makes its change (`dv_world`).
-use Rattle.std.specs.Prelude.{ℕ, zero, suc, ◌≡◌, ◌+◌, ◌-◌, nat_eq, Bool, true, false, not, if◌then◌else◌, List, [], ◌∷◌, length}
-use Rattle.std.specs.Prelude.{Option, None, Some, is_some, slice_get, codes}
+use Rattle.std.specs.Prelude.{ℕ, zero, suc, ◌≡◌, ◌+◌, ◌-◌, ◌*◌, ◌/◌, min, pos, nat_eq, nat_lt, Bool, true, false, not, ◌&&◌, ◌||◌, if◌then◌else◌, List, [], ◌∷◌, length}
+use Rattle.std.specs.Prelude.{Option, None, Some, is_none, is_some, option_and_then, slice_get, slice_set, codes}
 use Rattle.std.specs.Option.{option_map, option_map_or}
+use Rattle.std.specs.Ordering.{is_gt, nat_cmp, ordering_then}
+use Rattle.dv_clock.specs.Clock.{Clock, Upcoming, upcoming}
+use Rattle.dv_clock.specs.Turns.{Turns}
+use Rattle.dv_clock.specs.declared.call.Call.{Call}
 use Rattle.dv_clock.specs.declared.due.Due.{Due}
 use Rattle.dv_clock.specs.declared.due.Due.TheVariants as what
 use Rattle.dv_inline.specs.Position.{Position, started, answered, come, want_at}
+use Rattle.dv_inline.specs.declared.open.Catch.{Catch}
+use Rattle.dv_inline.specs.declared.open.Open.{Open}
 use Rattle.dv_inline.specs.declared.want.Want.{Want}
 use Rattle.dv_inline.specs.declared.want.Want.TheVariants.{Do, Await}
 use Rattle.dv_jobs.specs.Works.{value_of as work_value}
@@ -22,8 +28,10 @@ use Rattle.dv_objects.specs.Performed.{failed_with}
 use Rattle.dv_objects.specs.Refusals.{cancelled, unbound, not_held, overflow, underflow, not_gathered}
 use Rattle.dv_objects.specs.Timed.{timed}
 use Rattle.dv_objects.specs.Works.{is_full}
+use Rattle.dv_objects.specs.declared.canceller.Canceller.{Canceller}
 use Rattle.dv_objects.specs.declared.canceller.Canceller.TheVariants as canceller
 use Rattle.dv_objects.specs.declared.inline_id.Inline.{Inline}
+use Rattle.dv_objects.specs.declared.looping_call.LoopingCall.{LoopingCall}
 use Rattle.dv_objects.specs.declared.pair.Child.{Child}
 use Rattle.dv_objects.specs.Pair.{Pair}
 use Rattle.dv_objects.specs.declared.pair.Side.{Side}
@@ -36,7 +44,7 @@ use Rattle.dv_objects.specs.declared.task.TaskEnd.{TaskEnd}
 use Rattle.dv_objects.specs.declared.task.TaskEnd.TheVariants.{Finished, Stopped, Failed}
 use Rattle.dv_posts.specs.Batches.{Batch, Callers, body_of}
 use Rattle.dv_posts.specs.declared.posted.Posted.{Posted}
-use Rattle.dv_prims.specs.DeferredList.{seconds_of}
+use Rattle.dv_prims.specs.DeferredList.{Gather, count_missing, first_failure, seconds_of}
 use Rattle.dv_prims.specs.Queue.{may_put, may_get}
 use Rattle.dv_prims.specs.Tokens.{has_free, is_unheld, first_waiting}
 use Rattle.dv_prims.specs.declared.gather.Flags.{Flags}
@@ -53,10 +61,13 @@ use Rattle.dv_script.specs.declared.event.Event.{Event}
 use Rattle.dv_script.specs.declared.event.Event.TheVariants as event
 use Rattle.dv_script.specs.declared.script.Script.{Script}
 use Rattle.dv_script.specs.declared.work.Work.{Work}
+use Rattle.dv_store.specs.declared.record.Record.{Record}
 use Rattle.dv_store.specs.declared.store.Step.{Step}
 use Rattle.dv_store.specs.declared.store.Step.TheVariants.{Nothing, Passed, Run, Handed}
 use Rattle.dv_value.specs.Builtin.{name_error, assertion_error, already_called_error}
-use Rattle.dv_value.specs.Failure.{fault, plain_failure, is_fault, failure_in}
+use Rattle.dv_value.specs.Classes.{check}
+use Rattle.dv_value.specs.Failure.{class_of, fault, plain_failure, is_fault, failure_in}
+use Rattle.dv_value.specs.declared.classes.Class.{Class}
 use Rattle.dv_value.specs.declared.failure.Failure.{Failure}
 use Rattle.dv_value.specs.declared.value.Value.{Value, Null, Fault, Text}
 use Rattle.dv_value.specs.declared.value.Value.TheVariants as value
@@ -173,7 +184,7 @@ fire inside d v w =
 abbrev pub is_unpaused : ℕ → World → Bool
 is_unpaused d w = option_map_or (λ r. nat_eq r.pauses 0) (slice_get w.records d) false
 
--- d is paused once less, and is settled; one that isn't paused raises AssertionError (Twisted: `Deferred.unpause`)
+-- d is paused once less, and is settled; one that isn't paused raises AssertionError (Twisted: `Deferred.unpause`, but `unpause-at-zero`)
 abbrev pub unpause : Inside → ℕ → World → Answer
 unpause inside d w =
     let after = (world.unpause d w).1 in
@@ -194,9 +205,37 @@ canceller_came_to inside d p w =
     found (failed_with p) (if is_unfired d w then fire inside d cancelled w else finished w) λ failure.
     raise failure w
 
+-- the Deferred that d waits for
+abbrev pub waited_for : ℕ → World → Option ℕ
+waited_for d w = option_and_then (λ r. r.waits_for) (slice_get w.records d)
+
+-- the first that waits for none, from d along those that are waited for; nobody where that goes in a circle, since there are no more
+-- Deferreds to pass than there are
+unfoldable pub end_of_waiting : ℕ → ℕ → World → Option ℕ
+end_of_waiting zero d w = None
+end_of_waiting (suc most) d w = found (waited_for d w) (Some d) λ e. end_of_waiting most e w
+
+-- whom a cancel reaches that comes to an unfired Deferred, by its canceller
+abbrev pub reached_by : ℕ → Option Canceller → Reached
+reached_by d None = reached.Fire d
+reached_by d (Some (canceller.Body body)) = reached.Run d body
+reached_by d (Some (canceller.Token l)) = reached.ForToken d l
+reached_by d (Some (canceller.Item k)) = reached.ForItem d k
+reached_by d (Some (canceller.Children children)) = reached.Children children
+reached_by d (Some (canceller.Inline i)) = reached.Inline i
+
+-- whom a cancel of d reaches: the one at the end of the waiting, unless it is fired; nobody in a circle. `world.cancel` answers this
+-- (Twisted: `Deferred.cancel`, but `circle-of-waits`, `cancel-of-a-fired-list`)
+abbrev pub whom_reaches : ℕ → World → Reached
+whom_reaches d w =
+    found (end_of_waiting (length w.records + 1) d w) reached.Nothing λ e.
+    found (slice_get w.records e) reached.Nothing λ r.
+    if r.fired then reached.Nothing else reached_by e r.canceller
+
 -- by whom a cancel reaches. Nobody: nothing happens. One without a canceller: it is fired, and its next firing is swallowed. One with a
 -- canceller of the script: that is performed. One that waits for a token, or for a value of a queue: it waits no longer, and is fired. A
--- list: its children are cancelled. An inline body: what it awaits is cancelled
+-- list: its children are cancelled. An inline body: what it awaits is cancelled (Twisted: `Deferred.cancel`, but `cancelled-inline`,
+-- `cancelled-running-inline`)
 abbrev pub cancel_reached : Inside → Reached → World → Answer
 cancel_reached inside reached.Nothing w = finished w
 cancel_reached inside (reached.Fire d) w = inside.settle d (world.fire_guarded d w) and_then finished
@@ -334,6 +373,21 @@ gather inside name children flags w =
     list inside name children flags w and_then λ (p, w).
     add inside d results w and_then finished
 
+-- what a list is fired with once all of its children have come: what was kept of each, in order
+abbrev pub all_came : List Value → Option Value
+all_came places = if nat_eq (count_missing places) 0 then Some (value.List places) else None
+
+-- what a list is fired with when child i comes with v, if it is. A list that is fired fires nothing more. Under `fireOnOneCallback` a
+-- success fires it, with its place; under `fireOnOneErrback` a failure does, in a FirstError; else the last child does. Of a child is
+-- kept whether it succeeded, and with what it came. `world.came_to` answers this
+abbrev pub list_fires_with : ℕ → Value → Gather → Option Value
+list_fires_with i v g =
+    if g.fired then None else
+    if g.flags.fire_on_one_callback && not (is_fault v) then Some (value.List (v ∷ value.Int (pos i) ∷ [])) else
+    found (if g.flags.fire_on_one_errback then failure_in v else None)
+    (all_came (slice_set g.places i (value.List (value.Bool (not (is_fault v)) ∷ v ∷ [])))) λ failure.
+    Some (first_failure i failure)
+
 -- a child comes to its list, which is fired with what is then due, unless somebody has fired it; and the child goes on with what the list
 -- leaves it
 abbrev pub come_to : Inside → Child → Value → World → Answer
@@ -354,6 +408,11 @@ add_timeout inside d delay w =
 
 -- 13. Loops (Twisted: `LoopingCall`).
 
+-- when the next turn of a loop is due: at the first time after now that is a whole number of intervals after its start.
+-- `world.schedule_turn` schedules it then
+abbrev pub next_turn_at : LoopingCall → Clock → ℕ
+next_turn_at x c = let start = min x.start c.time in start + ((c.time - start) / x.interval + 1) * x.interval
+
 -- a turn: the body is performed, and the loop goes on or ends once the Deferred of what it came to is fired
 abbrev pub turn : Inside → ℕ → Body → World → Option World
 turn inside l body w =
@@ -370,7 +429,8 @@ loop inside name of interval at_once body w =
     let begun = aside (entry.Loop name d) (with_new_loop name d interval body) made in
     if at_once then turn inside l body (tell (entry.Turn name) begun) and_then finished else finished (world.schedule_turn l begun)
 
--- a turn has ended: the next is scheduled, or the Deferred of the loop is fired with its name
+-- a turn has ended: the next is scheduled, or the Deferred of the loop is fired with its name (Twisted: `LoopingCall`, but
+-- `loop-fired-by-hand`)
 abbrev pub end_turn : Inside → ℕ → World → Answer
 end_turn inside l w =
     found (slice_get w.objects.loops l) (finished w) λ x.
@@ -400,7 +460,7 @@ notify inside d t w =
     found x.end (finished w) λ end.
     fire inside d (result_of x.name end) w
 
--- all that wait for the end of a task are fired in order, and a refusal is told
+-- all that wait for the end of a task are fired in order, and a refusal is told (Twisted: `CooperativeTask`, but `refused-when-done`)
 abbrev pub notify_all : Inside → ℕ → List ℕ → World → Option World
 notify_all inside t [] w = Some w
 notify_all inside t (d ∷ ds) w = notify inside d t w and_then λ (p, w). notify_all inside t ds (told p w)
@@ -439,7 +499,7 @@ resume_task t w =
 abbrev pub is_over : ℕ → World → Bool
 is_over t w = option_map_or (λ x. is_some x.end) (slice_get w.objects.cooperator.tasks t) true
 
--- what a task waited for has come to a value: it is resumed, unless it has ended
+-- what a task waited for has come to a value: it is resumed, unless it has ended (Twisted: `CooperativeTask`, but `hold-on-an-ended-task`)
 abbrev pub end_hold : ℕ → World → Answer
 end_hold t w = if is_over t w then finished w else resume_task t w
 
@@ -454,18 +514,24 @@ step_came_to inside t (Gave v) w = fail_task inside t (failure_in v) w
 step_came_to inside t (Raised failure) w = end_task inside t (Failed failure) w
 step_came_to inside t (Awaits e) w = add inside e (resuming t) (world.keep_tick (world.hold_task t e w))
 
+-- whose turn it is: that of the task at the position, among those that take turns in order of joining; and of the first, where the position
+-- is past the last. `world.take_step` takes it (Twisted: `Cooperator`, but `skipped-turn`)
+abbrev pub task_in_turn : Turns → Option ℕ
+task_in_turn t = slice_get t.tasks (if nat_lt t.position (length t.tasks) then t.position else 0)
+
 -- a task takes a step: its next body is performed, or it ends; what the body came to counts, unless the task has ended meanwhile
+-- (Twisted: `CooperativeTask`, but `task-ended-twice`)
 abbrev pub take_step : Inside → ℕ → Option Body → World → Option World
 take_step inside t next w =
     found next (end_task inside t Finished w) λ body.
     perform inside None body Null w and_then λ (p, w).
     if is_over t w then Some w else step_came_to inside t p w
 
--- a tick is over, and the next is scheduled, where somebody takes turns
+-- a tick is over, and the next is scheduled, where somebody takes turns (Twisted: `Cooperator`, but `tick-scheduled-in-a-tick`)
 abbrev pub tick_ended : World → World
 tick_ended w = world.keep_tick (world.end_tick w)
 
--- so many steps are taken, and no more where nobody takes turns
+-- so many steps are taken, and no more where nobody takes turns (Twisted: `Cooperator`, but `ticks-by-the-clock`)
 abbrev pub tick : Inside → ℕ → World → Option World
 tick inside units w =
     let taken = world.take_step w in
@@ -481,6 +547,19 @@ inline inside name statements w =
     let id = length w.objects.inlines in
     let made = make (Some name) (Some (canceller.Inline id)) (world.add_inline w) in
     inside.go_on (record { id = id; of = length w.records }) (started statements) made
+
+-- what follows where a `try` catches a failure: its second statements
+abbrev pub caught_by : List Class → Failure → Option Catch → Option (List Statement)
+caught_by classes failure None = None
+caught_by classes failure (Some catch) = option_map (λ class. catch.second) (check classes (class_of failure) catch.classes)
+
+-- how a body goes on where a failure is thrown: in the innermost `try` that catches it, with its second statements, on null; where none
+-- does, the body is over with the failure. `answered` goes by this
+abbrev pub thrown : List Class → Failure → List Open → Position → Position
+thrown classes failure [] p = record p { tries = []; value = Null; result = Some (Fault failure) }
+thrown classes failure (around ∷ tries) p =
+    found (caught_by classes failure around.catch) (thrown classes failure tries p) λ second.
+    record p { statements = second; tries = record { catch = None; rest = around.rest } ∷ tries; value = Null }
 
 -- a body goes on with an answer
 abbrev pub go_with : Inside → Inline → Value → Position → World → Answer
@@ -509,7 +588,7 @@ answer_of (Gave v) = Null
 answer_of (Raised failure) = Fault failure
 answer_of (Awaits e) = Null
 
--- 16. Jobs of threads (Twisted: `deferToThread`, `deferToThreadPool`).
+-- 16. Jobs of threads (Twisted: `deferToThread`, `deferToThreadPool`, but `results-at-their-times`).
 
 -- a Deferred is made, and a job submitted for it to a pool, whose result is delivered so many ticks later; one more than a run has is refused
 abbrev pub thread : List ℕ → Option (List ℕ) → ℕ → Work → World → Answer
@@ -524,6 +603,16 @@ abbrev pub deliver : Inside → ℕ → ℕ → World → Answer
 deliver inside job d w = found (slice_get w.works job) (finished w) λ work. fire inside d (work_value work) w
 
 -- 17. Settling: the pairs of a Deferred are used in order, each on what the one before left (Twisted: `Deferred._runCallbacks`).
+
+-- whether the next item of a Deferred may be used: it was fired, none of its sides runs, it isn't paused, and it waits for no other.
+-- `world.step` uses one then (Twisted: `Deferred._runCallbacks`, but `pause-in-own-side`, `paused-receiver`)
+abbrev pub may_be_used : Record Pair Canceller → Bool
+may_be_used r = r.fired && not r.running && nat_eq r.pauses 0 && is_none r.waits_for
+
+-- whether d waits for e, which a side of d gave: e is d itself, is unfired or paused, or waits itself. Else d takes the value of e at once.
+-- `world.put_deferred` goes by this
+abbrev pub has_to_wait : ℕ → ℕ → Record Pair Canceller → Bool
+has_to_wait d e r = nat_eq d e || not r.fired || not (nat_eq r.pauses 0) || is_some r.waits_for
 
 -- a side of d on its input; a missing one gives it on
 abbrev pub run_side : Inside → ℕ → Option Side → Value → World → Answer
@@ -642,8 +731,23 @@ go_on inside i p w =
     found now.result (do_wanted inside i (want_at now) now w) λ result.
     fire inside i.of result w
 
+-- which of two calls comes first: the one that is due earlier; and of two that are due at one time, the one that was scheduled earlier
+abbrev pub earlier : Upcoming → Upcoming → Upcoming
+earlier a b = if is_gt (ordering_then (nat_cmp a.due b.due) (nat_cmp a.number b.number)) then b else a
+
+-- the first of the calls that wait, from a number on
+abbrev pub first_call : ℕ → List Call → Option Upcoming
+first_call number [] = None
+first_call number (call ∷ calls) =
+    let after = first_call (number + 1) calls in
+    found (upcoming number call) after λ a. found after (Some a) λ b. Some (earlier a b)
+
+-- which call comes next: the first of those that wait, where its time isn't later than now. `world.come_due` takes it
+abbrev pub next_due : World → Option Upcoming
+next_due w = found (first_call 0 w.objects.clock.calls) None λ call. if nat_lt w.objects.clock.time call.due then None else Some call
+
 -- what is due next is run, and then what is due after it; a failure that leaves a call, a delivery or a time-out is told
--- (Twisted: `Clock.advance`)
+-- (Twisted: `Clock.advance`, but `error-leaves-advance`)
 abbrev pub run_next : Inside → Option Due → World → Option World
 run_next inside None w = Some w
 run_next inside (Some (what.Call name key)) w =
@@ -686,7 +790,7 @@ pub record ComesTo {A : Type 0} (something : Inside → Option A) (a : A) : Type
   pub depth : ℕ
   pub ends : something (within depth) ≡ Some a
 
--- 22. Callers and their posts (Twisted: `reactor.callFromThread`).
+-- 22. Callers and their posts (Twisted: `reactor.callFromThread`, but `posts-at-drains`).
 
 -- a post comes with its body, where there is such a post, and a failure that leaves it is told
 abbrev pub post_comes : Inside → Callers → Posted → World → Option World

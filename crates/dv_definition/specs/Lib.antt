@@ -1,1 +1,2 @@
 pub mod Definition
+pub mod Conditions

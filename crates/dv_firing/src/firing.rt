@@ -9,7 +9,7 @@ ghost use Rattle.dv_objects.specs.declared.performed.Performed.TheVariants.{Done
 ghost use Rattle.dv_objects.specs.declared.canceller.Canceller.TheVariants.{Body as CancellerBody};
 ghost use Rattle.dv_world.specs.World.{fire};
 
-use dv_frames::cancelling::cancel;
+use crate::cancelling::cancel;
 use dv_frames::following::{add_and_settle, fire_and_settle, settle_next};
 use dv_frames::frame::{Frame, Purpose};
 use dv_frames::frames::Frames;

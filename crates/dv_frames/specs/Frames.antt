@@ -39,3 +39,19 @@ frames_of (kind.Tick left ∷ kinds) rests larges = frame.Tick left ∷ frames_o
 frames_of (kind.Tell ∷ kinds) rests larges = frame.Tell ∷ frames_of kinds rests larges
 frames_of (kind.Due ∷ kinds) rests larges = frame.Due ∷ frames_of kinds rests larges
 frames_of (kind.Large ∷ kinds) rests larges = large_over larges (λ larges. frames_of kinds rests larges)
+
+-- what the kinds say lies aside is there, each in its turn
+unfoldable pub AreThere : List Kind → List Rest → List Large → Type 0
+AreThere [] rests larges = Unit
+AreThere (kind.Settle d ∷ kinds) rests larges = AreThere kinds rests larges
+AreThere (kind.Place d ∷ kinds) rests larges = AreThere kinds rests larges
+AreThere (kind.Rest ∷ kinds) [] larges = ⊥
+AreThere (kind.Rest ∷ kinds) (rest ∷ rests) larges = AreThere kinds rests larges
+AreThere (kind.Canceller d ∷ kinds) rests larges = AreThere kinds rests larges
+AreThere (kind.Cancel d ∷ kinds) rests larges = AreThere kinds rests larges
+AreThere (kind.Stepped task ∷ kinds) rests larges = AreThere kinds rests larges
+AreThere (kind.Tick left ∷ kinds) rests larges = AreThere kinds rests larges
+AreThere (kind.Tell ∷ kinds) rests larges = AreThere kinds rests larges
+AreThere (kind.Due ∷ kinds) rests larges = AreThere kinds rests larges
+AreThere (kind.Large ∷ kinds) rests [] = ⊥
+AreThere (kind.Large ∷ kinds) rests (large ∷ larges) = AreThere kinds rests larges

@@ -1,7 +1,6 @@
 pub mod Turn
 pub mod Naming
 pub mod Maybe
-pub mod Cancelling
 pub mod Bounds
 pub mod Raising
 pub mod Frames

@@ -1,4 +1,5 @@
-ghost use Rattle.std.specs.Prelude.{◌≡◌, [], ◌∷◌, OnOk, MatchOption, None};
+ghost use Rattle.std.specs.Prelude.{◌≡◌, [], ◌∷◌, OnOk, OnErr, MatchOption};
+ghost use Rattle.dv_frames.specs.declared.frame.Frame.TheVariants as Seen;
 ghost use Rattle.dv_frames.specs.Frames.{frame_of};
 
 use crate::frame::{Frame, Inlining, Purpose, Rest};
@@ -48,7 +49,7 @@ pub struct Frames<'s> {
 
 impl<'s> Model for Frames<'s> {
     ghost use Rattle.std.specs.Prelude.{List};
-    ghost use Rattle.dv_frames.specs.Frames.{frames_of};
+    ghost use Rattle.dv_frames.specs.Frames.{frames_of, AreThere};
     ghost use Rattle.dv_frames.specs.declared.frame.Frame.{Frame as Seen};
     ghost use Rattle.dv_script.specs.contracts.action.Action as action_contract;
     ghost use Rattle.dv_script.specs.contracts.body.Body as body_contract;
@@ -62,11 +63,13 @@ impl<'s> Model for Frames<'s> {
     ghost coded = { Prim.hlevel (codes, action_contract.the_row.coded, body_contract.the_row.coded, statement_contract.the_row.coded, failure_contract.the_row.coded, value_contract.the_row.coded) };
 
     ghost view = { λ f. frames_of f.kinds f.rests f.larges };
+
+    ghost invariant = { λ f. AreThere f.kinds f.rests f.larges };
 }
 
 impl<'s> Frames<'s> {
     /// No frames. They take no memory before the first is pushed.
-    #[tactic(auto, unfolding(crate::specs::Frames::frames_of))]
+    #[tactic(auto, unfolding(crate::specs::Frames::frames_of, crate::specs::Frames::AreThere))]
     pub fn new(alloc: Global) -> Frames<'s>
         ensures { result ≡ [] }
     {
@@ -79,7 +82,7 @@ impl<'s> Frames<'s> {
 
     /// Takes the frame that was pushed last.
     #[inline(always)]
-    #[tactic(auto, unfolding(crate::specs::Frames::frames_of))]
+    #[tactic(auto, unfolding(crate::specs::Frames::frames_of, crate::specs::Frames::AreThere))]
     pub fn pop(&mut self) -> Option<Frame<'s>>
         ensures { MatchOption result ((self.old ≡ []) × (self.new ≡ [])) (λ frame. self.old ≡ frame ∷ self.new) }
     {
@@ -88,7 +91,7 @@ impl<'s> Frames<'s> {
             Kind::Place(id) => Some(Frame::Place(id)),
             Kind::Rest => match self.rests.pop() {
                 Some(rest) => Some(Frame::Rest(rest)),
-                None => self.none(),
+                None => unreachable!(),
             },
             Kind::Canceller(id) => Some(Frame::Canceller(id)),
             Kind::Cancel(id) => Some(Frame::Cancel(id)),
@@ -98,22 +101,13 @@ impl<'s> Frames<'s> {
             Kind::Due => Some(Frame::Due),
             Kind::Large => match self.larges.pop() {
                 Some(large) => Some(frame_of(large)),
-                None => self.none(),
+                None => unreachable!(),
             },
         }
     }
 
-    /// Drops all frames, where one isn't there that ought to lie aside. There always is.
-    fn none(&mut self) -> Option<Frame<'s>>
-        ensures given { result ≡ None }
-        ensures cleared { self.new ≡ [] }
-    {
-        self.clear();
-        None
-    }
-
     /// Drops all frames, and keeps the room for as many.
-    #[tactic(auto, unfolding(crate::specs::Frames::frames_of))]
+    #[tactic(auto, unfolding(crate::specs::Frames::frames_of, crate::specs::Frames::AreThere))]
     pub fn clear(&mut self)
         ensures { self.new ≡ [] }
     {
@@ -122,19 +116,17 @@ impl<'s> Frames<'s> {
         self.larges.clear();
     }
 
-    /// Adds a frame on top. Where memory is refused, a part of it may be left, and the frames are good for nothing but `clear`.
+    /// Adds a frame on top. Where memory is refused, the frame is dropped.
     #[inline(always)]
-    #[tactic(auto, unfolding(crate::specs::Frames::frames_of))]
+    #[tactic(auto, unfolding(crate::specs::Frames::frames_of, crate::specs::Frames::AreThere))]
     pub fn push(&mut self, frame: Frame<'s>) -> Result<(), AllocError>
-        ensures { OnOk result (self.new ≡ frame.entry ∷ self.old) }
+        ensures added { OnOk result (self.new ≡ frame.entry ∷ self.old) }
+        ensures kept { OnErr result (self.new ≡ self.old) }
     {
         match frame {
             Frame::Settle(id) => self.kinds.push(Kind::Settle(id)),
             Frame::Place(id) => self.kinds.push(Kind::Place(id)),
-            Frame::Rest(rest) => {
-                self.rests.push(rest)?;
-                self.kinds.push(Kind::Rest)
-            }
+            Frame::Rest(rest) => self.push_rest(rest),
             Frame::Canceller(id) => self.kinds.push(Kind::Canceller(id)),
             Frame::Maybe(purpose) => self.push_large(Large::Maybe(purpose)),
             Frame::Add(id, pair) => self.push_large(Large::Add(id, pair)),
@@ -149,14 +141,34 @@ impl<'s> Frames<'s> {
         }
     }
 
+    /// Adds the rest of a body on top.
+    #[inline(always)]
+    #[tactic(auto, unfolding(crate::specs::Frames::frames_of, crate::specs::Frames::AreThere))]
+    fn push_rest(&mut self, rest: Rest<'s>) -> Result<(), AllocError>
+        ensures added { OnOk result (self.new ≡ Seen.Rest rest.entry ∷ self.old) }
+        ensures kept { OnErr result (self.new ≡ self.old) }
+    {
+        self.rests.push(rest)?;
+        let pushed = self.kinds.push(Kind::Rest);
+        if pushed.is_err() {
+            let _ = self.rests.pop();
+        }
+        pushed
+    }
+
     /// Adds a large frame on top.
     #[inline(always)]
-    #[tactic(auto, unfolding(crate::specs::Frames::frames_of))]
+    #[tactic(auto, unfolding(crate::specs::Frames::frames_of, crate::specs::Frames::AreThere))]
     fn push_large(&mut self, large: Large<'s>) -> Result<(), AllocError>
-        ensures { OnOk result (self.new ≡ frame_of large.entry ∷ self.old) }
+        ensures added { OnOk result (self.new ≡ frame_of large.entry ∷ self.old) }
+        ensures kept { OnErr result (self.new ≡ self.old) }
     {
         self.larges.push(large)?;
-        self.kinds.push(Kind::Large)
+        let pushed = self.kinds.push(Kind::Large);
+        if pushed.is_err() {
+            let _ = self.larges.pop();
+        }
+        pushed
     }
 }
 

@@ -1,7 +1,6 @@
-//! The frames, and what follows from a firing, a cancel, and a body whose result is made a Deferred.
+//! The frames, and what follows from a firing and from what is raised.
 #![tactic(auto)]
 
-pub mod cancelling;
 pub mod following;
 pub mod frame;
 pub mod frames;

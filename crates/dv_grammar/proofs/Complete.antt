@@ -18,7 +18,7 @@ use Rattle.dv_script.specs.declared.action.Action.{Action}
 use Rattle.dv_script.specs.declared.event.Event.{Event}
 use Rattle.dv_script.specs.declared.script.Cooperator.{Cooperator}
 use Rattle.dv_script.specs.declared.script.NamedPool.{NamedPool}
-use Rattle.dv_script.specs.declared.limits.TheConstants.{MOST_LIMIT, MOST_PLACES, MOST_SUM, MOST_WORKERS, USUAL_LIMIT}
+use Rattle.dv_script.specs.declared.limits.TheConstants.{MOST_DRAINED, MOST_LIMIT, MOST_PLACES, MOST_SUM, MOST_UNITS, MOST_WORKERS, USUAL_LIMIT}
 use Rattle.dv_clock.specs.declared.limits.TheConstants.{MOST_DELAY, MOST_TICKS}
 use Rattle.dv_forms.specs.declared.declaration.Declaration.{Declaration}
 use Rattle.dv_grammar.specs.declared.draft.Draft.{Draft}
@@ -201,7 +201,7 @@ complete_event : (table : List Class) (d : Data) (e : Event) → depth d ≤ max
 unfolding event_at event_of other_event action_by call_at none first one sole
 complete_event table d _ h (acts _ a g) = rw (complete_action table max_depth g h) refl
 complete_event table _ _ h (advances d n g) = rw (complete_number 0 MOST_TICKS d n g) refl
-complete_event table _ _ h (drains d n g) = rw (complete_number 0 2048 d n g) refl
+complete_event table _ _ h (drains d n g) = rw (complete_number 0 MOST_DRAINED d n g) refl
 
 complete_each_deep : {X : Type 0} (Is : Data → X → Type 0) (at : Data → Option X) → ((d : Data) (x : X) → depth d ≤ max_depth → Is d x → at d ≡ Some x)
     → (ds : Items) (xs : List X) → items_depth ds ≤ max_depth → Each Is ds xs → each at ds ≡ Some xs
@@ -232,7 +232,7 @@ complete_cooperator : (d : Data) (c : Cooperator) → IsCooperator d c → coope
 unfolding cooperator_at fields_at
 complete_cooperator d c h =
     rw h.whole (rw h.only (rw (
-      complete_key c.units (IsNumber 1 1000) (number_at 1 1000) (complete_number 1 1000) (get_member (codes "units") h.members) h.units,
+      complete_key c.units (IsNumber 1 MOST_UNITS) (number_at 1 MOST_UNITS) (complete_number 1 MOST_UNITS) (get_member (codes "units") h.members) h.units,
       complete_key c.delay (IsNumber 1 MOST_DELAY) (number_at 1 MOST_DELAY) (complete_number 1 MOST_DELAY) (get_member (codes "delay") h.members) h.delay,
     ) refl))
 

@@ -23,7 +23,7 @@ use Rattle.dv_script.specs.declared.event.Event.{Event}
 use Rattle.dv_script.specs.declared.event.Event.TheVariants as happens
 use Rattle.dv_script.specs.declared.script.Cooperator.{Cooperator}
 use Rattle.dv_script.specs.declared.script.NamedPool.{NamedPool}
-use Rattle.dv_script.specs.declared.limits.TheConstants.{MOST_LIMIT, MOST_PLACES, MOST_SUM, MOST_WORKERS, USUAL_LIMIT}
+use Rattle.dv_script.specs.declared.limits.TheConstants.{MOST_DRAINED, MOST_LIMIT, MOST_PLACES, MOST_SUM, MOST_UNITS, MOST_WORKERS, USUAL_LIMIT}
 use Rattle.dv_clock.specs.declared.limits.TheConstants.{MOST_DELAY, MOST_TICKS}
 use Rattle.dv_forms.specs.declared.declaration.Declaration.{Declaration}
 use Rattle.dv_grammar.specs.declared.draft.Draft.{Draft}
@@ -570,7 +570,7 @@ unfolding event_of
 sound_event_of table event_words.Advance ds x e =
     one_read (number_at 0 MOST_TICKS) happens.Advance ds x e (λ d n ds_is n_is made. rw (ds_is, ← made) (advances d n (number_is 0 MOST_TICKS d n n_is)))
 sound_event_of table event_words.Drain ds x e =
-    one_read (number_at 0 2048) happens.Drain ds x e (λ d n ds_is n_is made. rw (ds_is, ← made) (drains d n (number_is 0 2048 d n n_is)))
+    one_read (number_at 0 MOST_DRAINED) happens.Drain ds x e (λ d n ds_is n_is made. rw (ds_is, ← made) (drains d n (number_is 0 MOST_DRAINED d n n_is)))
 
 sound_other : (table : List Class) (d : Data) (x : Event) → other_event d ≡ Some x → IsEvent table d x
 unfolding other_event
@@ -601,13 +601,13 @@ sound_cooperator : (d : Data) (x : Cooperator) → cooperator_at d ≡ Some x �
 unfolding cooperator_at fields_at
 sound_cooperator (object ms) x e =
     bind (fields_at cooperator_keys (object ms)) _ x e (λ t t_is t_then.
-    bind (option_and_then (number_at 1 1000) (get_member (codes "units") ms)) _ x t_then (λ u u_is u_then.
+    bind (option_and_then (number_at 1 MOST_UNITS) (get_member (codes "units") ms)) _ x t_then (λ u u_is u_then.
     bind (option_and_then (number_at 1 MOST_DELAY) (get_member (codes "delay") ms)) _ x u_then (λ v v_is v_then.
     rw (← some_injective v_then) (record {
       members = ms;
       whole = refl;
       only = fields_is cooperator_keys ms t t_is;
-      units = sound_key u (IsNumber 1 1000) (number_at 1 1000) (number_is 1 1000) (get_member (codes "units") ms) u_is;
+      units = sound_key u (IsNumber 1 MOST_UNITS) (number_at 1 MOST_UNITS) (number_is 1 MOST_UNITS) (get_member (codes "units") ms) u_is;
       delay = sound_key v (IsNumber 1 MOST_DELAY) (number_at 1 MOST_DELAY) (number_is 1 MOST_DELAY) (get_member (codes "delay") ms) v_is;
     }))))
 sound_cooperator _ x e = cc

@@ -19,7 +19,7 @@ use Rattle.dv_script.specs.declared.event.Event.{Event}
 use Rattle.dv_script.specs.declared.event.Event.TheVariants as event
 use Rattle.dv_script.specs.declared.script.Cooperator.{Cooperator}
 use Rattle.dv_script.specs.declared.script.NamedPool.{NamedPool}
-use Rattle.dv_script.specs.declared.limits.TheConstants.{MOST_LIMIT, MOST_PLACES, MOST_SUM, MOST_WORKERS, USUAL_LIMIT}
+use Rattle.dv_script.specs.declared.limits.TheConstants.{MOST_DRAINED, MOST_LIMIT, MOST_PLACES, MOST_SUM, MOST_UNITS, MOST_WORKERS, USUAL_LIMIT}
 use Rattle.dv_clock.specs.declared.limits.TheConstants.{MOST_DELAY, MOST_TICKS}
 use Rattle.dv_forms.specs.declared.declaration.Declaration.{Declaration}
 use Rattle.dv_grammar.specs.declared.draft.Draft.{Draft}
@@ -236,7 +236,7 @@ pub data IsEvent (table : List Class) : Data → Event → Type 0 where
   -- ["advance",N]
   advances : (d : Data) (n : ℕ) → IsNumber 0 MOST_TICKS d n → IsEvent table (call (codes "advance") (d ∷ [])) (event.Advance n)
   -- ["drain",N]
-  drains : (d : Data) (n : ℕ) → IsNumber 0 2048 d n → IsEvent table (call (codes "drain") (d ∷ [])) (event.Drain n)
+  drains : (d : Data) (n : ℕ) → IsNumber 0 MOST_DRAINED d n → IsEvent table (call (codes "drain") (d ∷ [])) (event.Drain n)
 
 -- a class that is declared: [NAME,PARENT]
 pub data IsDeclaration : Data → Declaration → Type 0 where
@@ -252,7 +252,7 @@ pub record IsCooperator (d : Data) (c : Cooperator) : Type 0 where
   pub members : Members
   pub whole : d ≡ object members
   pub only : has_only cooperator_keys members ≡ true
-  pub units : Key (IsNumber 1 1000) (get_member (codes "units") members) c.units
+  pub units : Key (IsNumber 1 MOST_UNITS) (get_member (codes "units") members) c.units
   pub delay : Key (IsNumber 1 MOST_DELAY) (get_member (codes "delay") members) c.delay
 
 -- one step a tick, a tick of the cooperator each tick of the clock

@@ -16,7 +16,7 @@ use Rattle.dv_script.specs.declared.event.Event.{Event}
 use Rattle.dv_script.specs.declared.event.Event.TheVariants as happens
 use Rattle.dv_script.specs.declared.script.Cooperator.{Cooperator}
 use Rattle.dv_script.specs.declared.script.NamedPool.{NamedPool}
-use Rattle.dv_script.specs.declared.limits.TheConstants.{MOST_LIMIT, MOST_PLACES, MOST_SUM, MOST_WORKERS, USUAL_LIMIT}
+use Rattle.dv_script.specs.declared.limits.TheConstants.{MOST_DRAINED, MOST_LIMIT, MOST_PLACES, MOST_SUM, MOST_UNITS, MOST_WORKERS, USUAL_LIMIT}
 use Rattle.dv_clock.specs.declared.limits.TheConstants.{MOST_DELAY, MOST_TICKS}
 use Rattle.dv_grammar.specs.declared.draft.Draft.{Draft}
 use Rattle.dv_grammar.specs.declared.words.NameWord.{NameWord}
@@ -230,7 +230,7 @@ action_at table levels = action_with table (readers table levels)
 -- an event that is no action, by its word
 unfoldable pub event_of : EventWord → Items → Option Event
 event_of event.Advance ds = one_of (number_at 0 MOST_TICKS) happens.Advance ds
-event_of event.Drain ds = one_of (number_at 0 2048) happens.Drain ds
+event_of event.Drain ds = one_of (number_at 0 MOST_DRAINED) happens.Drain ds
 
 -- an event that is no action
 unfoldable pub other_event : Data → Option Event
@@ -252,7 +252,7 @@ event_at table d = event_by (action_at table max_depth d) (other_event d)
 unfoldable pub cooperator_at : Data → Option Cooperator
 cooperator_at d = do
   _ ← fields_at cooperator_keys d
-  units ← get (codes "units") d >>= number_at 1 1000
+  units ← get (codes "units") d >>= number_at 1 MOST_UNITS
   delay ← get (codes "delay") d >>= number_at 1 MOST_DELAY
   Some (record { units = units; delay = delay })
 

@@ -2,6 +2,7 @@ pub mod Entry
 pub mod Told
 pub mod Journal
 pub mod Telling
+pub mod Faults
 pub mod Line
 pub mod Sink
 pub mod MemorySink

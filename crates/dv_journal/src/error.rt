@@ -24,6 +24,42 @@ impl From<AllocError> for Stop {
     }
 }
 
+/// Why a step isn't made. All is then as it was.
+#[derive(Clone, Copy, Debug, PartialEq, Eq)]
+pub enum Fault<Reason> {
+    /// The step is refused, for a reason of its own.
+    Refused(Reason),
+    /// What the journal would tell of it would pass the journal's limit.
+    Limit,
+    /// Memory was refused.
+    OutOfMemory,
+}
+
+impl<Reason> From<Stop> for Fault<Reason> {
+    ghost use Rattle.std.specs.Prelude.{◌≡◌};
+    ghost use Rattle.dv_journal.specs.Faults.{fault_of};
+
+    ghost from_gives = { λ stop fault. fault ≡ fault_of stop };
+
+    fn from(stop: Stop) -> Fault<Reason> {
+        match stop {
+            Stop::Limit => Fault::Limit,
+            Stop::OutOfMemory => Fault::OutOfMemory,
+        }
+    }
+}
+
+impl<Reason> From<AllocError> for Fault<Reason> {
+    ghost use Rattle.std.specs.Prelude.{◌≡◌};
+    ghost use Rattle.dv_journal.specs.declared.error.Fault.TheVariants.{OutOfMemory};
+
+    ghost from_gives = { λ _ fault. fault ≡ OutOfMemory };
+
+    fn from(_error: AllocError) -> Fault<Reason> {
+        Fault::OutOfMemory
+    }
+}
+
 /// Why a print gave up. What was written by then is a prefix of the text.
 #[derive(Clone, Copy, Debug, PartialEq, Eq, Drop, Error)]
 pub enum PrintFault {

@@ -43,7 +43,7 @@ use Rattle.dv_objects.specs.Pair.{side_for}
 use Rattle.dv_objects.specs.declared.performed.Performed.{Performed}
 use Rattle.dv_objects.specs.declared.performed.Performed.TheVariants.{Done, Gave, Raised, Awaits}
 use Rattle.dv_posts.specs.Batches.{Batch}
-use Rattle.dv_frames.specs.Turn.{Turned, ◌over◌}
+use Rattle.dv_frames.specs.Turn.{Turned, ◌over◌, settling}
 use Rattle.dv_frames.specs.declared.frame.Frame.{Frame}
 use Rattle.dv_frames.specs.declared.frame.Frame.TheVariants as frame
 use Rattle.dv_performing.specs.Turning.{turned}
@@ -287,6 +287,13 @@ is_itself d = grind (arith, nat_tests)
 own_place : (d : ℕ) → place_of d (frame.Place d) ≡ 1
 own_place d = ap {B = ℕ} (λ b. cond b 1 0) (is_itself d)
 
+-- what a side came to is put in place, and its Deferred is to be settled
+place_runs : (d : ℕ) (o : Performed) (w : World) → turned (frame.Place d) o w ≡ settling d (place d o w)
+place_runs d Done w = refl
+place_runs d (Gave value) w = refl
+place_runs d (Raised failure) w = refl
+place_runs d (Awaits e) w = refl
+
 -- each side that is to be put in place runs
 record Standing (fs : List Frame) (w : World) : Type 0 where
   each : (n : ℕ) → places n fs ≤ running_at n w
@@ -342,11 +349,14 @@ module _ (R : World → World → Type 0) (k : Settles R) where
   below_stands : (f : Frame) (below : List Frame) (w : World) → Standing (f ∷ below) w → Standing below w
   below_stands f below w s = record { each = λ n. omega (arith, sum_by-cons (place_of n) f below, s.each n) }
 
-  place_leaves : (below : List Frame) (d : ℕ) (o : Performed) (w : World) → Standing (frame.Place d ∷ below) w → Leaves R below w (turned (frame.Place d) o w)
-  place_leaves below d o w s = record {
+  placed_leaves : (below : List Frame) (d : ℕ) (o : Performed) (w : World) → Standing (frame.Place d ∷ below) w → Leaves R below w (settling d (place d o w))
+  placed_leaves below d o w s = record {
     goes = place_goes d o w (omega (arith, sum_by-cons (place_of d) (frame.Place d) below, s.each d, own_place d));
     standing = record { each = λ n. omega (arith, sum_by-cons (place_of n) (frame.Place d) below, sum_by-cons (place_of n) (frame.Settle d) below, s.each n, place_ends n d o w) };
   }
+
+  place_leaves : (below : List Frame) (d : ℕ) (o : Performed) (w : World) → Standing (frame.Place d ∷ below) w → Leaves R below w (turned (frame.Place d) o w)
+  place_leaves below d o w s = subst (λ (t : Turned). Leaves R below w t) (sym (place_runs d o w)) (placed_leaves below d o w s)
 
   settle_leaves : (below : List Frame) (d : ℕ) (o : Performed) (w : World) → Standing below w → Leaves R below w (turned (frame.Settle d) o w)
   settle_leaves below d o w s = settled_leaves below d (step d w).0 w (step d w).1 (step_goes d w) (λ n. step_runs n d w) s

@@ -17,9 +17,9 @@ use Rattle.dv_store.specs.Record as records
 use Rattle.dv_store.specs.Record.{with_item, new_record, changing}
 use Rattle.dv_journal.specs.Telling.{telling}
 use Rattle.dv_store.specs.State.{Told}
-use Rattle.dv_store.specs.declared.error.StoreFault.{StoreFault}
-use Rattle.dv_store.specs.declared.error.StoreFault.TheVariants as firing_fault
-use Rattle.dv_store.specs.declared.error.UnpauseFault.TheVariants as unpause_fault
+use Rattle.dv_store.specs.declared.error.AlreadyCalled.{AlreadyCalled}
+use Rattle.dv_journal.specs.declared.error.Fault.{Fault}
+use Rattle.dv_journal.specs.declared.error.Fault.TheVariants as fault
 use Rattle.dv_store.specs.declared.record.Item.{Item}
 use Rattle.dv_store.specs.declared.record.Item.TheVariants as item
 use Rattle.dv_store.specs.declared.store.Fired.{Fired}
@@ -164,13 +164,13 @@ module _ (w : World) (P : World → Type 0) (stays : P w) (stops : P (with_stop 
   unfolding cancel
   cancel_cases d h = unless_and w.stopped reached.Nothing _ (cancel_told_cases d _ refl h)
 
-  less_cases : (d : ℕ) (b : Bool) (u : Both) → (b ≡ true → P (with_state u w)) → (let t = cond {A = pausing.Unpaused Pair Canceller} b (Ok tt, u) (Err unpause_fault.Limit, state_of w) in P (unpaused t.0 t.1 w).1)
+  less_cases : (d : ℕ) (b : Bool) (u : Both) → (b ≡ true → P (with_state u w)) → (let t = cond {A = pausing.Unpaused Pair Canceller} b (Ok tt, u) (Err fault.Limit, state_of w) in P (unpaused t.0 t.1 w).1)
   less_cases d true u h = h refl
   less_cases d false u h = stops
 
   unpaused_cases : (d : ℕ) (r : Kind) (b : Bool) → nat_eq r.pauses 0 ≡ b
       → (fits w.journal (entry.Unpause d) ≡ true → nat_eq r.pauses 0 ≡ false → P (telling_in (entry.Unpause d) (slice_set w.records d (with_pauses (r.pauses - 1) r)) w))
-      → (let t = cond {A = pausing.Unpaused Pair Canceller} b (Err unpause_fault.NotPaused, state_of w) (pausing.less_paused d r (state_of w)) in P (unpaused t.0 t.1 w).1)
+      → (let t = cond {A = pausing.Unpaused Pair Canceller} b (Err (fault.Refused (record {})), state_of w) (pausing.less_paused d r (state_of w)) in P (unpaused t.0 t.1 w).1)
   unpaused_cases d r true p h = stays
   unpaused_cases d r false p h = less_cases d (fits w.journal (entry.Unpause d)) _ (λ x. h x p)
 
@@ -187,21 +187,21 @@ module _ (w : World) (P : World → Type 0) (stays : P w) (stops : P (with_stop 
   unpause_cases d h = unless_and w.stopped follow.Nothing _ (unpause_found_cases d _ refl h)
 
 -- a firing is told, swallowed, refused, or doesn't fit
-module _ (w : World) (P : Result Fired StoreFault → Both → Type 0) (limit : P (Err firing_fault.Limit) (state_of w)) where
-  firing_cases : (b : Bool) (answer : Result Fired StoreFault) (u : Both) → (b ≡ true → P answer u) → (let t = cond {A = firing.Firing Pair Canceller} b (answer, u) (Err firing_fault.Limit, state_of w) in P t.0 t.1)
+module _ (w : World) (P : Result Fired (Fault AlreadyCalled) → Both → Type 0) (limit : P (Err fault.Limit) (state_of w)) where
+  firing_cases : (b : Bool) (answer : Result Fired (Fault AlreadyCalled)) (u : Both) → (b ≡ true → P answer u) → (let t = cond {A = firing.Firing Pair Canceller} b (answer, u) (Err fault.Limit, state_of w) in P t.0 t.1)
   firing_cases true answer u h = h refl
   firing_cases false answer u h = limit
 
   again_cases : (d : ℕ) (r : Kind) (b : Bool) → r.swallows ≡ b
       → (fits w.journal (entry.Swallow d) ≡ true → r.swallows ≡ true → P (Ok Swallowed) (telling_of (entry.Swallow d) (slice_set w.records d (firing.with_guard false r)) (state_of w)))
-      → (fits w.journal (entry.Refuse d) ≡ true → r.swallows ≡ false → P (Err firing_fault.AlreadyCalled) (telling_of (entry.Refuse d) w.records (state_of w)))
-      → (let t = cond {A = firing.Firing Pair Canceller} b (firing.telling_firing (entry.Swallow d) (Ok Swallowed) (slice_set w.records d (firing.with_guard false r)) (state_of w)) (firing.telling_firing (entry.Refuse d) (Err firing_fault.AlreadyCalled) w.records (state_of w)) in P t.0 t.1)
+      → (fits w.journal (entry.Refuse d) ≡ true → r.swallows ≡ false → P (Err (fault.Refused (record {}))) (telling_of (entry.Refuse d) w.records (state_of w)))
+      → (let t = cond {A = firing.Firing Pair Canceller} b (firing.telling_firing (entry.Swallow d) (Ok Swallowed) (slice_set w.records d (firing.with_guard false r)) (state_of w)) (firing.telling_firing (entry.Refuse d) (Err (fault.Refused (record {}))) w.records (state_of w)) in P t.0 t.1)
   again_cases d r true q h k = firing_cases (fits w.journal (entry.Swallow d)) (Ok Swallowed) _ (λ x. h x q)
-  again_cases d r false q h k = firing_cases (fits w.journal (entry.Refuse d)) (Err firing_fault.AlreadyCalled) _ (λ x. k x q)
+  again_cases d r false q h k = firing_cases (fits w.journal (entry.Refuse d)) (Err (fault.Refused (record {}))) _ (λ x. k x q)
 
   fired_cases : (d : ℕ) (value : Value) (r : Kind) (b : Bool) → r.fired ≡ b
       → (fits w.journal (entry.Swallow d) ≡ true → r.swallows ≡ true → P (Ok Swallowed) (telling_of (entry.Swallow d) (slice_set w.records d (firing.with_guard false r)) (state_of w)))
-      → (fits w.journal (entry.Refuse d) ≡ true → r.fired ≡ true → r.swallows ≡ false → P (Err firing_fault.AlreadyCalled) (telling_of (entry.Refuse d) w.records (state_of w)))
+      → (fits w.journal (entry.Refuse d) ≡ true → r.fired ≡ true → r.swallows ≡ false → P (Err (fault.Refused (record {}))) (telling_of (entry.Refuse d) w.records (state_of w)))
       → (fits w.journal (entry.Fire d value) ≡ true → r.fired ≡ false → P (Ok Set) (telling_of (entry.Fire d value) (slice_set w.records d (firing.with_firing value r)) (state_of w)))
       → (let t = cond {A = firing.Firing Pair Canceller} b (firing.fire_again d r (state_of w)) (firing.telling_firing (entry.Fire d value) (Ok Set) (slice_set w.records d (firing.with_firing value r)) (state_of w)) in P t.0 t.1)
   fired_cases d value r true p h k l = again_cases d r _ refl h (λ x q. k x p q)
@@ -210,7 +210,7 @@ module _ (w : World) (P : Result Fired StoreFault → Both → Type 0) (limit : 
   pub fire_cases : (d : ℕ) (value : Value) (o : Option Kind) → slice_get w.records d ≡ o
       → (slice_get w.records d ≡ None → P (Ok Set) (state_of w))
       → ((r : Kind) → fits w.journal (entry.Swallow d) ≡ true → slice_get w.records d ≡ Some r → r.swallows ≡ true → P (Ok Swallowed) (telling_of (entry.Swallow d) (slice_set w.records d (firing.with_guard false r)) (state_of w)))
-      → ((r : Kind) → fits w.journal (entry.Refuse d) ≡ true → slice_get w.records d ≡ Some r → r.fired ≡ true → r.swallows ≡ false → P (Err firing_fault.AlreadyCalled) (telling_of (entry.Refuse d) w.records (state_of w)))
+      → ((r : Kind) → fits w.journal (entry.Refuse d) ≡ true → slice_get w.records d ≡ Some r → r.fired ≡ true → r.swallows ≡ false → P (Err (fault.Refused (record {}))) (telling_of (entry.Refuse d) w.records (state_of w)))
       → ((r : Kind) → fits w.journal (entry.Fire d value) ≡ true → slice_get w.records d ≡ Some r → r.fired ≡ false → P (Ok Set) (telling_of (entry.Fire d value) (slice_set w.records d (firing.with_firing value r)) (state_of w)))
       → (let t = firing.fire_found d value o (state_of w) in P t.0 t.1)
   fire_cases d value None g n h k l = n g

@@ -1,8 +1,7 @@
 -- How a program tells how its run ended: its exit status, and what it writes to standard error.
 use Rattle.std.specs.Prelude.{ℕ, if◌then◌else◌, List, [], Result, Ok, Err, codes}
 use Rattle.dv_engine.specs.declared.report.Report.{Report}
-use Rattle.dv_reader.specs.declared.error.ScriptFault.{ScriptFault}
-use Rattle.dv_reader.specs.declared.error.ScriptFault.TheVariants as script
+use Rattle.dv_reader.specs.Texts.{refusal_text}
 use Rattle.dv_output.specs.declared.error.RunFault.{RunFault}
 use Rattle.dv_output.specs.declared.error.RunFault.TheVariants.{ScriptRefused, OutOfMemory, ReadFault, WriteFault}
 
@@ -17,18 +16,6 @@ fault_status WriteFault = 4
 abbrev pub status : Result Report RunFault → ℕ
 status (Ok report) = if report.stopped then 1 else 0
 status (Err fault) = fault_status fault
-
--- each refusal by its number and its name
-abbrev pub refusal_text : ScriptFault → List ℕ
-refusal_text script.TooLong = codes "script refused: 1 TooLong"
-refusal_text script.NotJson = codes "script refused: 2 NotJson"
-refusal_text script.BadVersion = codes "script refused: 3 BadVersion"
-refusal_text script.BadShape = codes "script refused: 4 BadShape"
-refusal_text script.TooMany = codes "script refused: 5 TooMany"
-refusal_text script.BadName = codes "script refused: 6 BadName"
-refusal_text script.BadClass = codes "script refused: 7 BadClass"
-refusal_text script.OutOfMemory = codes "script refused: 8 OutOfMemory"
-refusal_text script.BadPool = codes "script refused: 9 BadPool"
 
 -- what each fault is called; a refused script is said to be, with its reason
 abbrev pub fault_text : RunFault → List ℕ

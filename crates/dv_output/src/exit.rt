@@ -1,9 +1,9 @@
 ghost use Rattle.std.specs.Prelude.{◌≡◌, if◌then◌else◌};
-ghost use Rattle.dv_output.specs.Exit.{status, fault_status, error_text, fault_text, refusal_text};
+ghost use Rattle.dv_output.specs.Exit.{status, fault_status, error_text, fault_text};
 
 use crate::error::RunFault;
 use dv_engine::report::Report;
-use dv_reader::error::ScriptFault;
+use dv_reader::error::refusal_text;
 
 /// The exit status of a run, and what goes to standard error: a line of this text, or nothing where it is empty.
 ///
@@ -46,21 +46,5 @@ pub fn fault_text(fault: RunFault) -> &'static str
         RunFault::OutOfMemory => "out of memory",
         RunFault::ReadFault => "read failed",
         RunFault::WriteFault => "write failed",
-    }
-}
-
-fn refusal_text(refusal: ScriptFault) -> &'static str
-    ensures { result.now ≡ refusal_text refusal }
-{
-    match refusal {
-        ScriptFault::TooLong => "script refused: 1 TooLong",
-        ScriptFault::NotJson => "script refused: 2 NotJson",
-        ScriptFault::BadVersion => "script refused: 3 BadVersion",
-        ScriptFault::BadShape => "script refused: 4 BadShape",
-        ScriptFault::TooMany => "script refused: 5 TooMany",
-        ScriptFault::BadName => "script refused: 6 BadName",
-        ScriptFault::BadClass => "script refused: 7 BadClass",
-        ScriptFault::OutOfMemory => "script refused: 8 OutOfMemory",
-        ScriptFault::BadPool => "script refused: 9 BadPool",
     }
 }

@@ -22,7 +22,8 @@ use Rattle.dv_performing.specs.Meaning.{through, meaning}
 use Rattle.dv_script.specs.declared.action.Action.{Action}
 use Rattle.dv_script.specs.declared.body.End.{End}
 use Rattle.dv_performing.proofs.Chained.{chained_through}
-use Rattle.dv_performing.proofs.Said.{said, ruled, made_for, inline_said, occurs, turned_said, happening_said}
+use Rattle.dv_performing.proofs.Said.{occurs, turned_said, happening_said}
+use Rattle.dv_rules.specs.Saying.{said, ruled, made_for, inline_said}
 use Rattle.dv_definition.specs.Definition as rule
 use Rattle.dv_definition.specs.Definition.{Answer, ◌and_then◌, Inside, within, finished, raise, found, unless_raised, told, is_fired}
 use Rattle.dv_performing.specs.Turning.{turned}

@@ -5,14 +5,14 @@ use Rattle.dv_journal.specs.declared.entry.Entry.TheVariants as entry
 use Rattle.dv_journal.specs.declared.error.Stop.{Stop}
 use Rattle.dv_script.specs.declared.work.Work.{Work}
 use Rattle.dv_store.specs.State.{State}
-use Rattle.dv_store.specs.declared.error.StoreFault.{StoreFault}
-use Rattle.dv_store.specs.declared.error.StoreFault.TheVariants as firing_fault
-use Rattle.dv_store.specs.declared.error.UnpauseFault.{UnpauseFault}
-use Rattle.dv_store.specs.declared.error.UnpauseFault.TheVariants as unpause_fault
+use Rattle.dv_store.specs.declared.error.AlreadyCalled.{AlreadyCalled}
+use Rattle.dv_journal.specs.declared.error.Fault.{Fault}
+use Rattle.dv_journal.specs.declared.error.Fault.TheVariants as fault
+use Rattle.dv_store.specs.declared.error.NotPaused.{NotPaused}
 use Rattle.dv_store.specs.declared.store.Fired.{Fired}
 use Rattle.dv_store.specs.declared.store.Fired.TheVariants.{Set, Swallowed}
 use Rattle.dv_store.specs.declared.store.Step.{Step}
-use Rattle.dv_performing.proofs.Fair.{happening_comes, turned_fair}
+use Rattle.dv_performing.proofs.FairTurns.{happening_comes, turned_fair}
 use Rattle.dv_performing.proofs.Lasting.{Lasting}
 use Rattle.dv_performing.specs.Turning.{turned}
 use Rattle.dv_performing.specs.Beginning.{happening, Occurrence}
@@ -72,25 +72,25 @@ named_same : (name : Option (List ℕ)) (r : Result ℕ Stop) (s : State Pair Ca
 named_same name (Ok d) s w = refl
 named_same name (Err stop) s w = refl
 
-fired_same : (r : Result Fired StoreFault) (s : State Pair Canceller) (w : World) → (fired r s w).1.works ≡ w.works
+fired_same : (r : Result Fired (Fault AlreadyCalled)) (s : State Pair Canceller) (w : World) → (fired r s w).1.works ≡ w.works
 fired_same (Ok Set) s w = refl
 fired_same (Ok Swallowed) s w = refl
-fired_same (Err firing_fault.AlreadyCalled) s w = refl
-fired_same (Err firing_fault.Limit) s w = refl
-fired_same (Err firing_fault.OutOfMemory) s w = refl
+fired_same (Err (fault.Refused already)) s w = refl
+fired_same (Err fault.Limit) s w = refl
+fired_same (Err fault.OutOfMemory) s w = refl
 
-guarded_same : (d : ℕ) (r : Result Fired StoreFault) (s : State Pair Canceller) (w : World) → (guarded d r s w).works ≡ w.works
+guarded_same : (d : ℕ) (r : Result Fired (Fault AlreadyCalled)) (s : State Pair Canceller) (w : World) → (guarded d r s w).works ≡ w.works
 guarded_same d (Ok Set) s w = refl
 guarded_same d (Ok Swallowed) s w = refl
-guarded_same d (Err firing_fault.AlreadyCalled) s w = refl
-guarded_same d (Err firing_fault.Limit) s w = refl
-guarded_same d (Err firing_fault.OutOfMemory) s w = refl
+guarded_same d (Err (fault.Refused already)) s w = refl
+guarded_same d (Err fault.Limit) s w = refl
+guarded_same d (Err fault.OutOfMemory) s w = refl
 
-unpaused_same : (r : Result Unit UnpauseFault) (s : State Pair Canceller) (w : World) → (unpaused r s w).1.works ≡ w.works
+unpaused_same : (r : Result Unit (Fault NotPaused)) (s : State Pair Canceller) (w : World) → (unpaused r s w).1.works ≡ w.works
 unpaused_same (Ok x) s w = refl
-unpaused_same (Err unpause_fault.NotPaused) s w = refl
-unpaused_same (Err unpause_fault.Limit) s w = refl
-unpaused_same (Err unpause_fault.OutOfMemory) s w = refl
+unpaused_same (Err (fault.Refused already)) s w = refl
+unpaused_same (Err fault.Limit) s w = refl
+unpaused_same (Err fault.OutOfMemory) s w = refl
 
 one_and_same : {A : Type 0} (b : Bool) (t u : A × World) (w : World) → t.1.works ≡ w.works → u.1.works ≡ w.works → (cond {A = A × World} b t u).1.works ≡ w.works
 one_and_same true t u w e f = e

@@ -18,10 +18,10 @@ use Rattle.dv_store.specs.Record as records
 use Rattle.dv_store.specs.Record.{with_item, new_record, changing}
 use Rattle.dv_journal.specs.Telling.{telling}
 use Rattle.dv_store.specs.State.{State, Told}
-use Rattle.dv_store.specs.declared.error.StoreFault.{StoreFault}
-use Rattle.dv_store.specs.declared.error.StoreFault.TheVariants as firing_fault
-use Rattle.dv_store.specs.declared.error.UnpauseFault.{UnpauseFault}
-use Rattle.dv_store.specs.declared.error.UnpauseFault.TheVariants as unpause_fault
+use Rattle.dv_store.specs.declared.error.AlreadyCalled.{AlreadyCalled}
+use Rattle.dv_journal.specs.declared.error.Fault.{Fault}
+use Rattle.dv_journal.specs.declared.error.Fault.TheVariants as fault
+use Rattle.dv_store.specs.declared.error.NotPaused.{NotPaused}
 use Rattle.dv_store.specs.declared.record.Item.{Item}
 use Rattle.dv_store.specs.declared.record.Item.TheVariants as item
 use Rattle.dv_store.specs.declared.record.Record.{Record}
@@ -136,14 +136,14 @@ module _ (R : Both → Both → Type 0) (k : Kept R) where
   append_keeps d pair (Some r) s g = room (fits s.1 (entry.Add d)) (Ok tt) (Err stop.Limit) s _ (λ x. k.adds d pair r s x g)
 
   again_keeps : (d : ℕ) (r : Kind) (s : Both) (b : Bool) → r.swallows ≡ b → r.fired ≡ true → slice_get s.0 d ≡ Some r
-      → R s (cond {A = firing.Firing Pair Canceller} b (firing.telling_firing (entry.Swallow d) (Ok Swallowed) (slice_set s.0 d (firing.with_guard false r)) s) (firing.telling_firing (entry.Refuse d) (Err firing_fault.AlreadyCalled) s.0 s)).1
-  again_keeps d r s true q p g = room (fits s.1 (entry.Swallow d)) (Ok Swallowed) (Err firing_fault.Limit) s _ (λ x. k.swallows d r s x g q)
-  again_keeps d r s false q p g = room (fits s.1 (entry.Refuse d)) (Err firing_fault.AlreadyCalled) (Err firing_fault.Limit) s _ (λ x. k.refuses d r s x g p)
+      → R s (cond {A = firing.Firing Pair Canceller} b (firing.telling_firing (entry.Swallow d) (Ok Swallowed) (slice_set s.0 d (firing.with_guard false r)) s) (firing.telling_firing (entry.Refuse d) (Err (fault.Refused (record {}))) s.0 s)).1
+  again_keeps d r s true q p g = room (fits s.1 (entry.Swallow d)) (Ok Swallowed) (Err fault.Limit) s _ (λ x. k.swallows d r s x g q)
+  again_keeps d r s false q p g = room (fits s.1 (entry.Refuse d)) (Err (fault.Refused (record {}))) (Err fault.Limit) s _ (λ x. k.refuses d r s x g p)
 
   fired_keeps : (d : ℕ) (value : Value) (r : Kind) (s : Both) (b : Bool) → r.fired ≡ b → slice_get s.0 d ≡ Some r
       → R s (cond {A = firing.Firing Pair Canceller} b (firing.fire_again d r s) (firing.telling_firing (entry.Fire d value) (Ok Set) (slice_set s.0 d (firing.with_firing value r)) s)).1
   fired_keeps d value r s true p g = again_keeps d r s _ refl p g
-  fired_keeps d value r s false p g = room (fits s.1 (entry.Fire d value)) (Ok Set) (Err firing_fault.Limit) s _ (λ x. k.fires d value r s x g p)
+  fired_keeps d value r s false p g = room (fits s.1 (entry.Fire d value)) (Ok Set) (Err fault.Limit) s _ (λ x. k.fires d value r s x g p)
 
   fire_keeps : (d : ℕ) (value : Value) (o : Option Kind) (s : Both) → slice_get s.0 d ≡ o → R s (firing.fire_found d value o s).1
   fire_keeps d value None s g = k.stays s
@@ -154,9 +154,9 @@ module _ (R : Both → Both → Type 0) (k : Kept R) where
   pause_keeps d (Some r) s g = room (fits s.1 (entry.Pause d)) (Ok tt) (Err stop.Limit) s _ (λ x. k.pauses d r s x g)
 
   unpaused_keeps : (d : ℕ) (r : Kind) (s : Both) (b : Bool) → nat_eq r.pauses 0 ≡ b → slice_get s.0 d ≡ Some r
-      → R s (cond {A = pausing.Unpaused Pair Canceller} b (Err unpause_fault.NotPaused, s) (pausing.less_paused d r s)).1
+      → R s (cond {A = pausing.Unpaused Pair Canceller} b (Err (fault.Refused (record {})), s) (pausing.less_paused d r s)).1
   unpaused_keeps d r s true p g = k.stays s
-  unpaused_keeps d r s false p g = room (fits s.1 (entry.Unpause d)) (Ok tt) (Err unpause_fault.Limit) s _ (λ x. k.unpauses d r s x g p)
+  unpaused_keeps d r s false p g = room (fits s.1 (entry.Unpause d)) (Ok tt) (Err fault.Limit) s _ (λ x. k.unpauses d r s x g p)
 
   unpause_keeps : (d : ℕ) (o : Option Kind) (s : Both) → slice_get s.0 d ≡ o → R s (pausing.unpause_found d o s).1
   unpause_keeps d None s g = k.stays s
@@ -178,40 +178,40 @@ module _ (R : Both → Both → Type 0) (k : Kept R) where
   named_keeps name (Ok d) s w h = h
   named_keeps name (Err reason) s w h = h
 
-  world_fired_keeps : (answer : Result Fired StoreFault) (s : Both) (w : World) → R (state_of w) s → Keeps w (fired answer s w).1
+  world_fired_keeps : (answer : Result Fired (Fault AlreadyCalled)) (s : Both) (w : World) → R (state_of w) s → Keeps w (fired answer s w).1
   world_fired_keeps (Ok Set) s w h = h
   world_fired_keeps (Ok Swallowed) s w h = h
-  world_fired_keeps (Err firing_fault.AlreadyCalled) s w h = h
-  world_fired_keeps (Err firing_fault.Limit) s w h = h
-  world_fired_keeps (Err firing_fault.OutOfMemory) s w h = h
+  world_fired_keeps (Err (fault.Refused already)) s w h = h
+  world_fired_keeps (Err fault.Limit) s w h = h
+  world_fired_keeps (Err fault.OutOfMemory) s w h = h
 
-  world_unpaused_keeps : (answer : Result Unit UnpauseFault) (s : Both) (w : World) → R (state_of w) s → Keeps w (unpaused answer s w).1
+  world_unpaused_keeps : (answer : Result Unit (Fault NotPaused)) (s : Both) (w : World) → R (state_of w) s → Keeps w (unpaused answer s w).1
   world_unpaused_keeps (Ok done) s w h = h
-  world_unpaused_keeps (Err unpause_fault.NotPaused) s w h = h
-  world_unpaused_keeps (Err unpause_fault.Limit) s w h = h
-  world_unpaused_keeps (Err unpause_fault.OutOfMemory) s w h = h
+  world_unpaused_keeps (Err (fault.Refused already)) s w h = h
+  world_unpaused_keeps (Err fault.Limit) s w h = h
+  world_unpaused_keeps (Err fault.OutOfMemory) s w h = h
 
   -- a firing that a cancel asks for, with the guard
   guarded_keeps : (d : ℕ) (w : World) (told : firing.Firing Pair Canceller) → (told.0 ≡ Ok Set → R (state_of w) (guard d told.1.0, told.1.1)) → R (state_of w) told.1 → Keeps w (guarded d told.0 told.1 w)
   guarded_keeps d w (Ok Set, s) h g = h refl
   guarded_keeps d w (Ok Swallowed, s) h g = g
-  guarded_keeps d w (Err firing_fault.AlreadyCalled, s) h g = g
-  guarded_keeps d w (Err firing_fault.Limit, s) h g = g
-  guarded_keeps d w (Err firing_fault.OutOfMemory, s) h g = g
+  guarded_keeps d w (Err (fault.Refused already), s) h g = g
+  guarded_keeps d w (Err fault.Limit, s) h g = g
+  guarded_keeps d w (Err fault.OutOfMemory, s) h g = g
 
   -- no firing of a fired Deferred sets its value
-  never : (b : Bool) (answer : Result Fired StoreFault) (s u : Both) → (answer ≡ Ok Set → ⊥) → (cond {A = firing.Firing Pair Canceller} b (answer, u) (Err firing_fault.Limit, s)).0 ≡ Ok Set → ⊥
+  never : (b : Bool) (answer : Result Fired (Fault AlreadyCalled)) (s u : Both) → (answer ≡ Ok Set → ⊥) → (cond {A = firing.Firing Pair Canceller} b (answer, u) (Err fault.Limit, s)).0 ≡ Ok Set → ⊥
   never true answer s u h e = h e
   never false answer s u h e = absurd cc
 
   never_again : (d : ℕ) (r : Kind) (s : Both) (b : Bool)
-      → (cond {A = firing.Firing Pair Canceller} b (firing.telling_firing (entry.Swallow d) (Ok Swallowed) (slice_set s.0 d (firing.with_guard false r)) s) (firing.telling_firing (entry.Refuse d) (Err firing_fault.AlreadyCalled) s.0 s)).0 ≡ Ok Set → ⊥
+      → (cond {A = firing.Firing Pair Canceller} b (firing.telling_firing (entry.Swallow d) (Ok Swallowed) (slice_set s.0 d (firing.with_guard false r)) s) (firing.telling_firing (entry.Refuse d) (Err (fault.Refused (record {}))) s.0 s)).0 ≡ Ok Set → ⊥
   never_again d r s true e = never (fits s.1 (entry.Swallow d)) (Ok Swallowed) s _ (λ h. absurd cc) e
-  never_again d r s false e = never (fits s.1 (entry.Refuse d)) (Err firing_fault.AlreadyCalled) s _ (λ h. absurd cc) e
+  never_again d r s false e = never (fits s.1 (entry.Refuse d)) (Err (fault.Refused (record {}))) s _ (λ h. absurd cc) e
 
   -- where it is set, the Deferred is guarded
   set_told : (d : ℕ) (r : Kind) (s : Both) (b : Bool) → fits s.1 (entry.Fire d cancelled) ≡ b → slice_get s.0 d ≡ Some r → r.fired ≡ false
-      → (let t = cond {A = firing.Firing Pair Canceller} b (Ok Set, (slice_set s.0 d (firing.with_firing cancelled r), with_entry s.1 (entry.Fire d cancelled))) (Err firing_fault.Limit, s) in
+      → (let t = cond {A = firing.Firing Pair Canceller} b (Ok Set, (slice_set s.0 d (firing.with_firing cancelled r), with_entry s.1 (entry.Fire d cancelled))) (Err fault.Limit, s) in
       t.0 ≡ Ok Set → R s (guard d t.1.0, t.1.1))
   set_told d r s true x g p h = k.guards d r s x g p
   set_told d r s false x g p h = absurd cc

@@ -8,7 +8,12 @@ pub mod InlineSizes
 pub mod Tally
 pub mod Budget
 pub mod BoundsKept
+pub mod StepsCome
+pub mod RuleComes
+pub mod DueRuns
 pub mod Fair
+pub mod Fairly
+pub mod FairTurns
 pub mod RunComes
 pub mod Halts
 pub mod Total
@@ -16,7 +21,6 @@ pub mod Stopped
 pub mod Turns
 pub mod JobsKept
 pub mod Chained
-pub mod Fires
 pub mod Said
 pub mod Deeper
 pub mod ScriptsSaid

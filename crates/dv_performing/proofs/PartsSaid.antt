@@ -10,8 +10,10 @@ use Rattle.dv_performing.proofs.Total.{frames_end}
 use Rattle.dv_performing.specs.Meaning.{Gives}
 use Rattle.dv_script.specs.declared.action.Action.{out-Action}
 use Rattle.dv_performing.proofs.Deeper.{meaning_said, said_right, said_left, came_finished, came_done}
-use Rattle.dv_performing.proofs.Chained.{here, chained_through}
-use Rattle.dv_performing.proofs.Said.{said, begun_said}
+use Rattle.dv_performing.proofs.Chained.{chained_through}
+use Rattle.dv_performing.proofs.Said.{begun_said}
+use Rattle.dv_rules.proofs.Chained.{here}
+use Rattle.dv_rules.specs.Saying.{said}
 use Rattle.dv_performing.specs.Defined.{ActionsMeanWhatIsDefined, BodiesMeanWhatIsDefined, CancelsMeanWhatIsDefined, SettlingMeansWhatIsDefined}
 use Rattle.dv_definition.specs.Definition.{Inside, within, ComesTo, act, finished, ◌and_then◌}
 use Rattle.dv_world.specs.World.{World}

@@ -4,7 +4,7 @@ use Rattle.dv_performing.specs.Turning.{turned}
 use Rattle.dv_frames.specs.Turn.{◌over◌}
 use Rattle.dv_frames.specs.declared.frame.Frame.{Frame}
 use Rattle.dv_performing.proofs.Extends.{Ended}
-use Rattle.dv_performing.proofs.Fair.{turned_fair}
+use Rattle.dv_performing.proofs.FairTurns.{turned_fair}
 use Rattle.dv_performing.proofs.Lasting.{Comes}
 use Rattle.dv_performing.proofs.Runs.{run}
 use Rattle.dv_world.specs.World.{World}

@@ -4,8 +4,8 @@ use Rattle.dv_performing.specs.Beginning.{Occurrence, Occurs, Comes}
 use Rattle.dv_journal.specs.declared.entry.Entry.TheVariants as entry
 use Rattle.dv_posts.specs.Batches.{Batch, Callers, body_of}
 use Rattle.dv_posts.specs.declared.posted.Posted.{Posted}
-use Rattle.dv_performing.proofs.Total.{every_script_ends, each_script_has_one_meaning}
-use Rattle.dv_performing.specs.Meaning.{Runs, Means}
+use Rattle.dv_performing.proofs.Total.{every_script_ends, each_script_has_one_meaning, runs_end}
+use Rattle.dv_performing.specs.Meaning.{Happens, Runs, Means}
 use Rattle.dv_performing.specs.Occurrences.{occurrences, coming_with, comings}
 use Rattle.dv_performing.specs.Occurrences as occurring
 use Rattle.dv_script.specs.declared.body.Body.{Body}
@@ -13,10 +13,10 @@ use Rattle.dv_script.specs.declared.event.Event.{Event}
 use Rattle.dv_script.specs.declared.event.Event.TheVariants as event
 use Rattle.dv_script.specs.declared.script.Script.{Script}
 use Rattle.dv_performing.proofs.Deeper.{all_occur, happens_occurs, occurs_right, all_left, all_right}
-use Rattle.dv_performing.proofs.Chained.{last, then_same, then_then}
+use Rattle.dv_rules.proofs.Chained.{last, then_same, then_then}
 use Rattle.dv_performing.proofs.Said.{occurs}
-use Rattle.dv_performing.specs.Defined.{ScriptsMeanWhatIsDefined, EveryScriptLeads, EachScriptLeadsToOneWorld}
-use Rattle.dv_definition.specs.Definition.{◌and_then◌, found, Inside, Leads, within, told}
+use Rattle.dv_performing.specs.Defined.{ScriptsMeanWhatIsDefined, EveryScriptLeads, EachScriptLeadsToOneWorld, EventsMeanWhatIsDefined, PostsMeanWhatIsDefined, BatchesMeanWhatIsDefined, DrainsMeanWhatIsDefined, event_comes}
+use Rattle.dv_definition.specs.Definition.{◌and_then◌, found, ComesTo, Inside, Leads, within, told}
 use Rattle.dv_definition.specs.Definition as rule
 use Rattle.dv_value.specs.declared.value.Value.{Null}
 use Rattle.dv_world.specs.World.{World, first_world, tell}
@@ -115,3 +115,55 @@ every_script_leads script batches = let end = every_script_ends script batches i
 
 pub each_script_leads_to_one_world : EachScriptLeadsToOneWorld
 each_script_leads_to_one_world script batches u v h k = each_script_has_one_meaning script batches u v (leads_means script batches u h) (leads_means script batches v k)
+
+-- what happens one after the other is what is said of it
+runs_said : (all : List Occurrence) (say : Inside → Option World) (w after : World) → ((inside : Inside) → all_occur inside all w ≡ say inside) → Runs all w after → ComesTo say after
+runs_said all say w after same h =
+    let lead = runs_lead all w after h in
+    record { depth = lead.depth; ends = sym (same (within lead.depth)) ∙ lead.ends }
+
+said_runs : (all : List Occurrence) (say : Inside → Option World) (w after : World) → ((inside : Inside) → all_occur inside all w ≡ say inside) → ComesTo say after → Runs all w after
+said_runs all say w after same h =
+    let end = runs_end all w in
+    let lead = runs_lead all w end.0 end.1 in
+    subst (λ u. Runs all w u) (lead_one all w end.0 after lead.depth h.depth lead.ends (same (within h.depth) ∙ h.ends)) end.1
+
+-- one thing that happens happens alone
+alone : (occurrence : Occurrence) (w after : World) → Runs (occurrence ∷ []) w after → Happens occurrence w after
+alone occurrence w after h = subst (λ u. Happens occurrence w u) (sym h.2) h.1
+
+event_said : (inside : Inside) (happened : Event) (w : World) → all_occur inside (Occurs happened ∷ []) w ≡ event_comes inside happened w
+event_said inside (event.Action action) w = sym (last (occurs inside (Occurs (event.Action action)) w))
+event_said inside (event.Advance ticks) w = sym (last (occurs inside (Occurs (event.Advance ticks)) w))
+event_said inside (event.Drain most) w = sym (last (occurs inside (Occurs (event.Drain most)) w))
+
+pub events_mean : EventsMeanWhatIsDefined
+events_mean happened w after = (
+  λ h. runs_said (Occurs happened ∷ []) (λ inside. event_comes inside happened w) w after (λ inside. event_said inside happened w) (after, h, refl),
+  λ h. alone (Occurs happened) w after (said_runs (Occurs happened ∷ []) (λ inside. event_comes inside happened w) w after (λ inside. event_said inside happened w) h),
+)
+
+post_said : (inside : Inside) (callers : Callers) (posted : Posted) (body : Body) (w : World) → body_of callers posted ≡ Some body
+    → all_occur inside (Comes posted body ∷ []) w ≡ rule.post_comes inside callers posted w
+post_said inside callers posted body w is =
+    coming inside posted (Some body) w
+    ∙ ap (λ o. found o (Some w) (λ b. rule.perform inside None b Null (tell (entry.Post posted.caller posted.index) w) and_then λ (p, u). Some (told p u))) (sym is)
+
+pub posts_mean : PostsMeanWhatIsDefined
+posts_mean callers posted body w after is = (
+  λ h. runs_said (Comes posted body ∷ []) (λ inside. rule.post_comes inside callers posted w) w after (λ inside. post_said inside callers posted body w is) (after, h, refl),
+  λ h. alone (Comes posted body) w after (said_runs (Comes posted body ∷ []) (λ inside. rule.post_comes inside callers posted w) w after (λ inside. post_said inside callers posted body w is) h),
+)
+
+pub batches_mean : BatchesMeanWhatIsDefined
+batches_mean callers posts w after = (
+  runs_said (comings callers posts) (λ inside. rule.batch_comes inside callers posts w) w after (λ inside. batch inside callers posts w),
+  said_runs (comings callers posts) (λ inside. rule.batch_comes inside callers posts w) w after (λ inside. batch inside callers posts w),
+)
+
+pub drains_mean : DrainsMeanWhatIsDefined
+drains_mean callers most posts w after =
+    let all = Occurs (event.Drain most) ∷ comings callers posts in (
+      runs_said all (λ inside. rule.batch_comes inside callers posts (tell entry.Drain w)) w after (λ inside. batch inside callers posts (tell entry.Drain w)),
+      said_runs all (λ inside. rule.batch_comes inside callers posts (tell entry.Drain w)) w after (λ inside. batch inside callers posts (tell entry.Drain w)),
+    )

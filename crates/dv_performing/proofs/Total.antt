@@ -11,7 +11,7 @@ use Rattle.dv_performing.specs.Occurrences.{occurrences}
 use Rattle.dv_frames.specs.declared.frame.Frame.{Frame}
 use Rattle.dv_performing.proofs.Extends.{gives_one}
 use Rattle.dv_performing.proofs.Halts.{finishes}
-use Rattle.dv_performing.proofs.Fair.{begun_comes, happening_comes}
+use Rattle.dv_performing.proofs.FairTurns.{begun_comes, happening_comes}
 use Rattle.dv_performing.proofs.Lasting.{Lasting}
 use Rattle.dv_performing.proofs.RunComes.{run_comes}
 use Rattle.dv_performing.proofs.Runs.{runs_lead}
@@ -59,7 +59,7 @@ happens_end occurrence w =
 happens_one : (occurrence : Occurrence) (w u v : World) → Happens occurrence w u → Happens occurrence w v → u ≡ v
 happens_one occurrence w u v r s = (gives_one r.1 s.1).1
 
-runs_end : (all : List Occurrence) (w : World) → (u : World) × Runs all w u
+pub runs_end : (all : List Occurrence) (w : World) → (u : World) × Runs all w u
 runs_end [] w = (w, refl)
 runs_end (occurrence ∷ rest) w =
     let first = happens_end occurrence w in

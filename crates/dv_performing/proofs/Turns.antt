@@ -2,7 +2,7 @@
 use Rattle.std.proofs.Common.{◌≡◌, ◌<◌, List, ◌∷◌, sym, subst}
 use Rattle.dv_performing.proofs.BoundsKept.{StaysBounded, stays_bounded}
 use Rattle.dv_performing.proofs.Halts.{turns_of, turns_fall}
-use Rattle.dv_performing.proofs.Fair.{happening_comes, turned_fair}
+use Rattle.dv_performing.proofs.FairTurns.{happening_comes, turned_fair}
 use Rattle.dv_performing.proofs.Runs.{turned_leads}
 use Rattle.dv_frames.specs.Bounds.{Bounded}
 use Rattle.dv_performing.specs.Turning.{turned}

@@ -1,7 +1,7 @@
 //! Laws of the meaning, each a function with an empty body whose clauses are the laws.
 
 ghost use Rattle.dv_performing.specs.Laws.{FramesEnd, FramesHaveOneResult, StoppedWorldsStay, StoppedActionsStay, EveryScriptEnds, EachScriptHasOneMeaning};
-ghost use Rattle.dv_performing.specs.Defined.{ScriptsMeanWhatIsDefined, ActionsMeanWhatIsDefined, BodiesMeanWhatIsDefined, CancelsMeanWhatIsDefined, SettlingMeansWhatIsDefined, EveryScriptLeads, EachScriptLeadsToOneWorld};
+ghost use Rattle.dv_performing.specs.Defined.{ScriptsMeanWhatIsDefined, ActionsMeanWhatIsDefined, BodiesMeanWhatIsDefined, CancelsMeanWhatIsDefined, SettlingMeansWhatIsDefined, EventsMeanWhatIsDefined, PostsMeanWhatIsDefined, BatchesMeanWhatIsDefined, DrainsMeanWhatIsDefined, EveryScriptLeads, EachScriptLeadsToOneWorld};
 
 /// Frames end, and in one way; in a world that has stopped neither they nor an action change anything.
 pub fn frames_end()
@@ -31,4 +31,12 @@ pub fn parts_mean_what_is_defined()
     ensures bodies { BodiesMeanWhatIsDefined }
     ensures cancels { CancelsMeanWhatIsDefined }
     ensures settling { SettlingMeansWhatIsDefined }
+{}
+
+/// Nor in what an engine makes of an event, a post, the batch of a drain and the last batch.
+pub fn calls_mean_what_is_defined()
+    ensures events { EventsMeanWhatIsDefined }
+    ensures posts { PostsMeanWhatIsDefined }
+    ensures drains { DrainsMeanWhatIsDefined }
+    ensures batches { BatchesMeanWhatIsDefined }
 {}

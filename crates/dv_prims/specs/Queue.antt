@@ -7,8 +7,9 @@ use Rattle.dv_journal.specs.declared.error.Stop.{Stop}
 use Rattle.dv_journal.specs.declared.error.Stop.TheVariants as stop
 use Rattle.dv_journal.specs.Telling.{State, Told, telling, making}
 use Rattle.dv_prims.specs.Tokens.{without}
-use Rattle.dv_prims.specs.declared.error.PutFault.{PutFault}
-use Rattle.dv_prims.specs.declared.error.PutFault.TheVariants.{Overflow, Limit, OutOfMemory}
+use Rattle.dv_prims.specs.declared.error.Overflow.{Overflow}
+use Rattle.dv_journal.specs.declared.error.Fault.{Fault}
+use Rattle.dv_journal.specs.declared.error.Fault.TheVariants as fault
 
 -- its name, how many values it stores at most and how many wait at most, none where there is no bound; the values that are stored, from the one that was put first; and who waits for one, in order of asking
 pub record Queue : Type 0 where
@@ -72,27 +73,22 @@ withdrawn d q = record q { waiting = without d q.waiting }
 
 -- what a putting answers, and what it leaves
 abbrev pub Put : Type 0
-Put = Result (Option (ℕ × Value)) PutFault × State Queue
+Put = Result (Option (ℕ × Value)) (Fault Overflow) × State Queue
 
 -- a value that may be put is, and whoever gets it is answered
 abbrev pub put_in : Value → State Queue → Put
 put_in value s =
     if fits s.1 (entry.Put s.0.name value)
     then (Ok (receiver s.0.waiting value), (put_to s.0.waiting value s.0, with_entry s.1 (entry.Put s.0.name value)))
-    else (Err Limit, s)
+    else (Err fault.Limit, s)
 
 -- a value is put, where it may be
 abbrev pub put : Value → State Queue → Put
-put value s = if may_put s.0 then put_in value s else (Err Overflow, s)
-
--- the journal's reason to stop, as one of a putting
-abbrev pub put_fault : Stop → PutFault
-put_fault stop.Limit = Limit
-put_fault stop.OutOfMemory = OutOfMemory
+put value s = if may_put s.0 then put_in value s else (Err (fault.Refused (record {})), s)
 
 -- a putting did what the rule says, or memory was refused where the rule has no other reason to refuse it, and nothing changed
-abbrev pub PutsUnlessMemory : Result (Option (ℕ × Value)) PutFault → State Queue → State Queue → Put → Type 0
+abbrev pub PutsUnlessMemory : Result (Option (ℕ × Value)) (Fault Overflow) → State Queue → State Queue → Put → Type 0
 PutsUnlessMemory (Ok answer) before after rule = (Ok answer, after) ≡ rule
-PutsUnlessMemory (Err Overflow) before after rule = (Err Overflow, after) ≡ rule
-PutsUnlessMemory (Err Limit) before after rule = (Err Limit, after) ≡ rule
-PutsUnlessMemory (Err OutOfMemory) before after rule = (rule.0 ≢ Err Overflow) × (rule.0 ≢ Err Limit) × (after ≡ before)
+PutsUnlessMemory (Err (fault.Refused reason)) before after rule = (Err (fault.Refused reason), after) ≡ rule
+PutsUnlessMemory (Err fault.Limit) before after rule = (Err fault.Limit, after) ≡ rule
+PutsUnlessMemory (Err fault.OutOfMemory) before after rule = ((reason : Overflow) → rule.0 ≢ Err (fault.Refused reason)) × (rule.0 ≢ Err fault.Limit) × (after ≡ before)

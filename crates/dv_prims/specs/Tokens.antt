@@ -7,8 +7,9 @@ use Rattle.dv_journal.specs.declared.entry.Entry.TheVariants as entry
 use Rattle.dv_journal.specs.declared.error.Stop.{Stop}
 use Rattle.dv_journal.specs.declared.error.Stop.TheVariants as stop
 use Rattle.dv_journal.specs.Telling.{State, Told, telling, making}
-use Rattle.dv_prims.specs.declared.error.ReleaseFault.{ReleaseFault}
-use Rattle.dv_prims.specs.declared.error.ReleaseFault.TheVariants.{NotHeld, Limit, OutOfMemory}
+use Rattle.dv_prims.specs.declared.error.NotHeld.{NotHeld}
+use Rattle.dv_journal.specs.declared.error.Fault.{Fault}
+use Rattle.dv_journal.specs.declared.error.Fault.TheVariants as fault
 use Rattle.dv_prims.specs.declared.semaphore.Grant.{Grant}
 use Rattle.dv_prims.specs.declared.semaphore.Grant.TheVariants.{Now, Waits}
 
@@ -78,24 +79,19 @@ acquire d s = telling (entry.Acquire s.0.name d) (grant_of s.0) (asked d s.0) s
 
 -- what a giving back answers, and what it leaves
 abbrev pub Released : Type 0
-Released = Result (Option ℕ) ReleaseFault × State Semaphore
+Released = Result (Option ℕ) (Fault NotHeld) × State Semaphore
 
 -- a token that is given is given back, and whoever gets it is answered
 abbrev pub release_held : State Semaphore → Released
-release_held s = if fits s.1 (entry.Release s.0.name) then (Ok (first_waiting s.0), (released s.0, with_entry s.1 (entry.Release s.0.name))) else (Err Limit, s)
+release_held s = if fits s.1 (entry.Release s.0.name) then (Ok (first_waiting s.0), (released s.0, with_entry s.1 (entry.Release s.0.name))) else (Err fault.Limit, s)
 
 -- a token is given back, where one is given
 abbrev pub release : State Semaphore → Released
-release s = if is_unheld s.0 then (Err NotHeld, s) else release_held s
-
--- the journal's reason to stop, as one of a giving back
-abbrev pub release_fault : Stop → ReleaseFault
-release_fault stop.Limit = Limit
-release_fault stop.OutOfMemory = OutOfMemory
+release s = if is_unheld s.0 then (Err (fault.Refused (record {})), s) else release_held s
 
 -- a giving back did what the rule says, or memory was refused where the rule has no other reason to refuse it, and nothing changed
-abbrev pub ReleasesUnlessMemory : Result (Option ℕ) ReleaseFault → State Semaphore → State Semaphore → Released → Type 0
+abbrev pub ReleasesUnlessMemory : Result (Option ℕ) (Fault NotHeld) → State Semaphore → State Semaphore → Released → Type 0
 ReleasesUnlessMemory (Ok answer) before after rule = (Ok answer, after) ≡ rule
-ReleasesUnlessMemory (Err NotHeld) before after rule = (Err NotHeld, after) ≡ rule
-ReleasesUnlessMemory (Err Limit) before after rule = (Err Limit, after) ≡ rule
-ReleasesUnlessMemory (Err OutOfMemory) before after rule = (rule.0 ≢ Err NotHeld) × (rule.0 ≢ Err Limit) × (after ≡ before)
+ReleasesUnlessMemory (Err (fault.Refused reason)) before after rule = (Err (fault.Refused reason), after) ≡ rule
+ReleasesUnlessMemory (Err fault.Limit) before after rule = (Err fault.Limit, after) ≡ rule
+ReleasesUnlessMemory (Err fault.OutOfMemory) before after rule = ((reason : NotHeld) → rule.0 ≢ Err (fault.Refused reason)) × (rule.0 ≢ Err fault.Limit) × (after ≡ before)

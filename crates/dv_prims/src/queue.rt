@@ -1,10 +1,10 @@
 ghost use Rattle.std.specs.Prelude.{◌≡◌, IfOk};
 
-use crate::error::PutFault;
+use crate::error::{Overflow, PutFault};
 use crate::waiting_list::{WaitingList, join};
 use dv_journal::deferred_id::DeferredId;
 use dv_journal::entry::Entry;
-use dv_journal::error::Stop;
+use dv_journal::error::{Fault, Stop};
 use dv_journal::journal::Journal;
 use dv_value::boxed::Boxed;
 use dv_value::deque::Deque;
@@ -117,15 +117,15 @@ impl Queue {
     {
         if !self.may_put() {
             drop(value);
-            return Err(PutFault::Overflow);
+            return Err(Fault::Refused(Overflow));
         }
         if !journal.fits_value(&value) {
             drop(value);
-            return Err(PutFault::Limit);
+            return Err(Fault::Limit);
         }
         let Ok(entry) = self.putting(&value) else {
             drop(value);
-            return Err(PutFault::OutOfMemory);
+            return Err(Fault::OutOfMemory);
         };
         if self.waiting.is_empty() {
             store(journal, entry, &mut self.stored, value)?;

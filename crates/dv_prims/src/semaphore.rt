@@ -1,10 +1,10 @@
 ghost use Rattle.std.specs.Prelude.{◌≡◌, IfOk};
 
-use crate::error::ReleaseFault;
+use crate::error::{NotHeld, ReleaseFault};
 use crate::waiting_list::{WaitingList, join};
 use dv_journal::deferred_id::DeferredId;
 use dv_journal::entry::Entry;
-use dv_journal::error::Stop;
+use dv_journal::error::{Fault, Stop};
 use dv_journal::journal::Journal;
 use dv_value::items::Items;
 use dv_value::text::Text;
@@ -153,10 +153,10 @@ impl Semaphore {
         ensures { ReleasesUnlessMemory result (self.old, journal.old) (self.new, journal.new) (release (self.old, journal.old)) }
     {
         if self.given == 0 {
-            return Err(ReleaseFault::NotHeld);
+            return Err(Fault::Refused(NotHeld));
         }
         if !journal.fits_plain() {
-            return Err(ReleaseFault::Limit);
+            return Err(Fault::Limit);
         }
         let shown = self.name.copy(self.alloc)?;
         journal.write(Entry::Release(shown))?;

@@ -16,14 +16,14 @@ use Rattle.dv_reader.proofs.Version.{version_is, no_version}
 use Rattle.dv_reader.proofs.Answers.{shape_found, shaped, misshapen}
 
 -- bytes are the text of one value
-same_value : (bytes : List ℕ) (d e : Data) → IsDocument bytes d → IsDocument bytes e → d ≡ e
+pub same_value : (bytes : List ℕ) (d e : Data) → IsDocument bytes d → IsDocument bytes e → d ≡ e
 same_value bytes d e a b = some_injective (sym a.is ∙ b.is)
 
 -- what has the shape of a script is read as that
 read_as : (bytes : List ℕ) (d : Data) (draft : Draft) → HasShape bytes d draft → shape_at d ≡ Some draft
 read_as bytes d draft h = shape_found d draft (complete_script d draft (depth-read bytes d h.document.is) h.shape) h.plain
 
-same_draft : (bytes : List ℕ) (d e : Data) (a b : Draft) → HasShape bytes d a → HasShape bytes e b → a ≡ b
+pub same_draft : (bytes : List ℕ) (d e : Data) (a b : Draft) → HasShape bytes d a → HasShape bytes e b → a ≡ b
 same_draft bytes d e a b h k =
     let same : d ≡ e = same_value bytes d e h.document k.document in
     some_injective (sym (read_as bytes d a h) ∙ ap shape_at same ∙ read_as bytes e b k)
@@ -63,7 +63,7 @@ refused_says_none bytes BadPool s other h a =
     let bad : are_pooled h.1 ≡ false = h.6 in
     cc
 
-tested : (b : Bool) → (b ≡ true) ⊎ (b ≡ false)
+pub tested : (b : Bool) → (b ≡ true) ⊎ (b ≡ false)
 tested true = inl refl
 tested false = inr refl
 

@@ -6,6 +6,7 @@ use Rattle.dv_script.specs.declared.script.Script.{Script}
 use Rattle.dv_reader.specs.declared.error.ScriptFault.{ScriptFault}
 use Rattle.dv_reader.specs.declared.error.ScriptFault.TheVariants.{OutOfMemory}
 use Rattle.dv_reader.specs.Refusal.{IsDocument, Says, Refuses}
+use Rattle.dv_reader.specs.Times.{KeepsTimes}
 
 -- a document says one script at most
 abbrev pub SaysOneAtMost : Type 0
@@ -14,6 +15,10 @@ SaysOneAtMost = (bytes : List ℕ) (s t : Script) → Says bytes s → Says byte
 -- what is refused says no script
 abbrev pub RefusedSaysNone : Type 0
 RefusedSaysNone = (bytes : List ℕ) (fault : ScriptFault) (s : Script) → fault ≢ OutOfMemory → Refuses fault bytes → Says bytes s → ⊥
+
+-- bytes are refused for one reason, want of memory aside
+abbrev pub RefusedForOneReason : Type 0
+RefusedForOneReason = (bytes : List ℕ) (a b : ScriptFault) → a ≢ OutOfMemory → b ≢ OutOfMemory → Refuses a bytes → Refuses b bytes → a ≡ b
 
 -- a document is refused for a reason other than memory
 abbrev pub IsRefused : List ℕ → Type 0
@@ -30,3 +35,7 @@ ParentsOfScriptsStandBefore = (bytes : List ℕ) (s : Script) → Says bytes s �
 -- and the path of each class is the class, then the path of its parent
 abbrev pub PathsOfScriptsGoUp : Type 0
 PathsOfScriptsGoUp = (bytes : List ℕ) (s : Script) → Says bytes s → PathsGoUp s.classes
+
+-- no time of a script that is read is cut
+abbrev pub TimesAreKept : Type 0
+TimesAreKept = (bytes : List ℕ) (s : Script) → Says bytes s → KeepsTimes s

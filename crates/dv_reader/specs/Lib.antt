@@ -4,3 +4,5 @@ pub mod Limits
 pub mod Refusal
 pub mod Laws
 pub mod Passes
+pub mod Texts
+pub mod Times

@@ -1,3 +1,6 @@
+ghost use Rattle.std.specs.Prelude.{◌≡◌};
+ghost use Rattle.dv_reader.specs.Texts.{refusal_text};
+
 use dv_forms::stop::Stop;
 use thiserror::Error;
 
@@ -46,5 +49,22 @@ impl From<Stop> for ScriptFault {
             Stop::BadShape => ScriptFault::BadShape,
             Stop::OutOfMemory => ScriptFault::OutOfMemory,
         }
+    }
+}
+
+/// What goes to standard error where a script is refused: a line of this text.
+pub fn refusal_text(refusal: ScriptFault) -> &'static str
+    ensures { result.now ≡ refusal_text refusal }
+{
+    match refusal {
+        ScriptFault::TooLong => "script refused: 1 TooLong",
+        ScriptFault::NotJson => "script refused: 2 NotJson",
+        ScriptFault::BadVersion => "script refused: 3 BadVersion",
+        ScriptFault::BadShape => "script refused: 4 BadShape",
+        ScriptFault::TooMany => "script refused: 5 TooMany",
+        ScriptFault::BadName => "script refused: 6 BadName",
+        ScriptFault::BadClass => "script refused: 7 BadClass",
+        ScriptFault::OutOfMemory => "script refused: 8 OutOfMemory",
+        ScriptFault::BadPool => "script refused: 9 BadPool",
     }
 }

@@ -1,6 +1,6 @@
 //! The passes of the reader, in the order of the refusals that they find.
 
-ghost use Rattle.std.specs.Prelude.{◌≡◌, ◌≤◌, length, IfOk, IfErr};
+ghost use Rattle.std.specs.Prelude.{◌≡◌, ◌≤◌, length, true, IfOk, IfErr};
 ghost use Rattle.std.specs.List.{list_all};
 ghost use Rattle.serde_json.specs.View.{view};
 ghost use Rattle.dv_forms.specs.Answer.{Reads};
@@ -90,10 +90,16 @@ fn uses_only(pools: &[NamedPool], script: &Script) -> bool
     suits_script(&Wanted::Pools(PoolsRef::new(pools)), script)
 }
 
+/// Whether no pool is named twice, and each that the script uses is declared. A script of version 1, which declares none, was asked that with
+/// its version.
 fn are_pooled(draft: &Draft) -> bool
+    requires plain { keeps_version draft.now ≡ true }
     ensures { result ≡ are_pooled draft.now }
 {
     let pools = draft.script.pools.as_slice();
+    if draft.version == 1 && pools.is_empty() {
+        return true;
+    }
     are_distinct(pools) && uses_only(pools, &draft.script)
 }
 
@@ -109,6 +115,7 @@ fn keeps_version(draft: &Draft) -> bool
 
 /// Whether a draft of this JSON value is small enough, named well and knows its classes and pools, or the least refusal.
 fn accept(json: &Json, draft: &Draft) -> Result<(), ScriptFault>
+    requires plain { keeps_version draft.now ≡ true }
     ensures { Accepts (view json.now) draft.now result }
 {
     if !is_small(json, draft) {
@@ -128,7 +135,8 @@ fn accept(json: &Json, draft: &Draft) -> Result<(), ScriptFault>
 
 /// The draft that a JSON value is, where it keeps to its version.
 fn shape_of(alloc: Global, json: &Json) -> Result<Draft, Stop>
-    ensures { Reads result (shape_at (view json.now)) }
+    ensures read { Reads result (shape_at (view json.now)) }
+    ensures plain { IfOk result (λ draft. keeps_version draft ≡ true) }
 {
     let draft = shape(alloc, json)?;
     if keeps_version(&draft) {

@@ -1,4 +1,4 @@
-ghost use Rattle.std.specs.Prelude.{◌≡◌, ◌<◌, ◌≤◌, ◌^◌, ◌-◌, [], length, map, min, All, IfOk};
+ghost use Rattle.std.specs.Prelude.{◌≡◌, ◌<◌, ◌≤◌, ◌^◌, ◌-◌, [], length, IfOk};
 ghost use Rattle.dv_posts.specs.Callers.{AllServe, AreFew, TookBatches};
 ghost use Rattle.dv_script.specs.declared.limits.TheConstants.{MOST_POOLS, MOST_WORKERS};
 
@@ -10,29 +10,16 @@ use dv_jobs::one_thread::OneThread;
 use dv_jobs::source::JobSource;
 use dv_posts::callers::{Caller, start_all};
 use dv_posts::inbox::Inbox;
-use dv_script::limits::{MOST_POSTS, MOST_WORKERS};
-use dv_script::script::{NamedPool, Script};
+use dv_script::limits::MOST_POSTS;
+use dv_script::script::Script;
 use dv_threads::pools::Pools;
+use dv_workers::pool_sizes::workers_of_pools;
 use std::alloc::{AllocError, AllocGlobal, Global};
 use std::hash::RandomState;
 use std::random::RandomSource;
 use std::sync::Wait;
 use std::thread;
 use std::thread::Threads;
-
-/// How many workers each of these pools is given: as many as it has, but `MOST_WORKERS` at most, which no pool of a script that is read
-/// passes.
-fn workers_of_pools(alloc: Global, pools: &[NamedPool]) -> Result<Vec<u32>, AllocError>
-    ensures each { IfOk result (λ named. named.items ≡ map (λ pool. min pool.workers MOST_WORKERS) pools.now) }
-    ensures len { IfOk result (λ named. length named.items ≡ length pools.now) }
-    ensures few { IfOk result (λ named. All (λ n. n ≤ MOST_WORKERS) named.items) }
-{
-    let mut named = Vec::with_capacity(alloc, pools.len())?;
-    for pool in pools {
-        named.push_reserved(pool.workers.min(MOST_WORKERS));
-    }
-    Ok(named)
-}
 
 /// Performs a script, with a thread for each caller, so many for the jobs of the default pool, and as many as the script says for those
 /// of each other pool. Where there is no worker and no pool is named, no thread is started for jobs. A poller for

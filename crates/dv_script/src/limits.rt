@@ -31,6 +31,12 @@ pub const MOST_CALLERS: u32 = 8;
 /// The most posts of a caller.
 pub const MOST_POSTS: u32 = 256;
 
+/// The most posts that a drain takes: all that the callers of a script may have.
+pub const MOST_DRAINED: u32 = 2_048;
+
+/// The most steps that a tick of the Cooperator has.
+pub const MOST_UNITS: u32 = 1_000;
+
 /// The most tokens of a semaphore, and the most that a queue's size or backlog may be.
 pub const MOST_PLACES: u32 = 65_536;
 

@@ -8,23 +8,19 @@ use Rattle.dv_journal.specs.declared.error.Stop.{Stop}
 use Rattle.dv_journal.specs.declared.error.Stop.TheVariants as stop
 use Rattle.dv_store.specs.State.{State}
 use Rattle.dv_store.specs.declared.record.Record.{Record}
-use Rattle.dv_store.specs.declared.error.StoreFault.{StoreFault}
-use Rattle.dv_store.specs.declared.error.StoreFault.TheVariants.{AlreadyCalled, Limit, OutOfMemory}
+use Rattle.dv_store.specs.declared.error.AlreadyCalled.{AlreadyCalled}
+use Rattle.dv_journal.specs.declared.error.Fault.{Fault}
+use Rattle.dv_journal.specs.declared.error.Fault.TheVariants as fault
 use Rattle.dv_store.specs.declared.store.Fired.{Fired}
 use Rattle.dv_store.specs.declared.store.Fired.TheVariants.{Set, Swallowed}
 
--- the journal's reason to stop, as one of a firing
-abbrev pub fire_fault_of : Stop → StoreFault
-fire_fault_of stop.Limit = Limit
-fire_fault_of stop.OutOfMemory = OutOfMemory
-
 -- what a firing answers, and what it leaves
 abbrev pub Firing : Type 0 → Type 0 → Type 0
-Firing P K = Result Fired StoreFault × State P K
+Firing P K = Result Fired (Fault AlreadyCalled) × State P K
 
 -- the entry is written and then the change is made, or the entry doesn't fit and nothing changes
-abbrev pub telling_firing : {P K : Type 0} → Entry → Result Fired StoreFault → List (Record P K) → State P K → Firing P K
-telling_firing entry answer changed s = if fits s.1 entry then (answer, (changed, with_entry s.1 entry)) else (Err Limit, s)
+abbrev pub telling_firing : {P K : Type 0} → Entry → Result Fired (Fault AlreadyCalled) → List (Record P K) → State P K → Firing P K
+telling_firing entry answer changed s = if fits s.1 entry then (answer, (changed, with_entry s.1 entry)) else (Err fault.Limit, s)
 
 -- a fired record has the value that it was fired with
 abbrev pub with_firing : {P K : Type 0} → Value → Record P K → Record P K
@@ -39,7 +35,7 @@ abbrev pub fire_again : {P K : Type 0} → ℕ → Record P K → State P K → 
 fire_again id r s =
     if r.swallows
     then telling_firing (entry.Swallow id) (Ok Swallowed) (slice_set s.0 id (with_guard false r)) s
-    else telling_firing (entry.Refuse id) (Err AlreadyCalled) s.0 s
+    else telling_firing (entry.Refuse id) (Err (fault.Refused (record {}))) s.0 s
 
 -- the Deferred that is found is fired already; an id of no record changes nothing
 abbrev pub fire_again_found : {P K : Type 0} → ℕ → Option (Record P K) → State P K → Firing P K
@@ -57,8 +53,8 @@ abbrev pub fire : {P K : Type 0} → ℕ → Value → State P K → Firing P K
 fire id value s = fire_found id value (slice_get s.0 id) s
 
 -- a firing did what the rule says, or memory was refused where the rule's entry fits, and nothing changed
-abbrev pub FiresUnlessMemory : {P K : Type 0} → Result Fired StoreFault → State P K → State P K → Firing P K → Type 0
+abbrev pub FiresUnlessMemory : {P K : Type 0} → Result Fired (Fault AlreadyCalled) → State P K → State P K → Firing P K → Type 0
 FiresUnlessMemory (Ok fired) before after rule = (Ok fired, after) ≡ rule
-FiresUnlessMemory (Err AlreadyCalled) before after rule = (Err AlreadyCalled, after) ≡ rule
-FiresUnlessMemory (Err Limit) before after rule = (Err Limit, after) ≡ rule
-FiresUnlessMemory (Err OutOfMemory) before after rule = (rule.0 ≢ Err Limit) × (after ≡ before)
+FiresUnlessMemory (Err (fault.Refused reason)) before after rule = (Err (fault.Refused reason), after) ≡ rule
+FiresUnlessMemory (Err fault.Limit) before after rule = (Err fault.Limit, after) ≡ rule
+FiresUnlessMemory (Err fault.OutOfMemory) before after rule = (rule.0 ≢ Err fault.Limit) × (after ≡ before)

@@ -10,16 +10,17 @@ use Rattle.dv_store.specs.Callbacks.{step}
 use Rattle.dv_store.specs.Record.{changing}
 use Rattle.dv_store.specs.State.{State}
 use Rattle.dv_store.specs.declared.record.Record.{Record}
-use Rattle.dv_store.specs.declared.error.StoreFault.{StoreFault}
-use Rattle.dv_store.specs.declared.error.StoreFault.TheVariants.{AlreadyCalled, Limit}
+use Rattle.dv_store.specs.declared.error.AlreadyCalled.{AlreadyCalled}
+use Rattle.dv_journal.specs.declared.error.Fault.{Fault}
+use Rattle.dv_journal.specs.declared.error.Fault.TheVariants as fault
 use Rattle.dv_store.specs.declared.store.Fired.{Fired}
 use Rattle.dv_store.specs.declared.store.Fired.TheVariants.{Set, Swallowed}
 use Rattle.dv_store.specs.declared.store.Step.{Step}
 use Rattle.dv_store.specs.declared.store.Step.TheVariants.{Nothing, Passed, Run, Handed}
 
 -- the refusal of a second firing, or the limit where there is no room to tell of it
-abbrev pub second_answer : {P K : Type 0} → ℕ → State P K → Result Fired StoreFault
-second_answer id s = if fits s.1 (Refuse id) then Err AlreadyCalled else Err Limit
+abbrev pub second_answer : {P K : Type 0} → ℕ → State P K → Result Fired (Fault AlreadyCalled)
+second_answer id s = if fits s.1 (Refuse id) then Err (fault.Refused (record {})) else Err fault.Limit
 
 -- whether a further firing of a Deferred is swallowed
 abbrev pub is_guarded : {P K : Type 0} → ℕ → List (Record P K) → Bool

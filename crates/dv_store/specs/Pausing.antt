@@ -8,13 +8,9 @@ use Rattle.dv_journal.specs.declared.error.Stop.TheVariants as stop
 use Rattle.dv_journal.specs.Telling.{untold, telling}
 use Rattle.dv_store.specs.State.{State, Told}
 use Rattle.dv_store.specs.declared.record.Record.{Record}
-use Rattle.dv_store.specs.declared.error.UnpauseFault.{UnpauseFault}
-use Rattle.dv_store.specs.declared.error.UnpauseFault.TheVariants.{NotPaused, Limit, OutOfMemory}
-
--- the journal's reason to stop, as one of an unpausing
-abbrev pub unpause_fault_of : Stop → UnpauseFault
-unpause_fault_of stop.Limit = Limit
-unpause_fault_of stop.OutOfMemory = OutOfMemory
+use Rattle.dv_store.specs.declared.error.NotPaused.{NotPaused}
+use Rattle.dv_journal.specs.declared.error.Fault.{Fault}
+use Rattle.dv_journal.specs.declared.error.Fault.TheVariants as fault
 
 -- how often a Deferred is paused; never where there is none
 abbrev pub pauses_of : {P K : Type 0} → ℕ → List (Record P K) → ℕ
@@ -35,27 +31,27 @@ pause id s = pause_found id (slice_get s.0 id) s
 
 -- what an unpausing answers, and what it leaves
 abbrev pub Unpaused : Type 0 → Type 0 → Type 0
-Unpaused P K = Result Unit UnpauseFault × State P K
+Unpaused P K = Result Unit (Fault NotPaused) × State P K
 
 -- the entry is written and the count goes down, or the entry doesn't fit and nothing changes
 abbrev pub less_paused : {P K : Type 0} → ℕ → Record P K → State P K → Unpaused P K
 less_paused id r s =
     if fits s.1 (entry.Unpause id)
     then (Ok tt, (slice_set s.0 id (with_pauses (r.pauses - 1) r), with_entry s.1 (entry.Unpause id)))
-    else (Err Limit, s)
+    else (Err fault.Limit, s)
 
 -- the Deferred that is found is paused once less, where it is paused; an id of no record changes nothing
 abbrev pub unpause_found : {P K : Type 0} → ℕ → Option (Record P K) → State P K → Unpaused P K
 unpause_found id None s = (Ok tt, s)
-unpause_found id (Some r) s = if nat_eq r.pauses 0 then (Err NotPaused, s) else less_paused id r s
+unpause_found id (Some r) s = if nat_eq r.pauses 0 then (Err (fault.Refused (record {})), s) else less_paused id r s
 
 -- a Deferred is paused once less
 abbrev pub unpause : {P K : Type 0} → ℕ → State P K → Unpaused P K
 unpause id s = unpause_found id (slice_get s.0 id) s
 
 -- an unpausing did what the rule says, or memory was refused where the rule has no other reason to refuse it, and nothing changed
-abbrev pub UnpausesUnlessMemory : {P K : Type 0} → Result Unit UnpauseFault → State P K → State P K → Unpaused P K → Type 0
+abbrev pub UnpausesUnlessMemory : {P K : Type 0} → Result Unit (Fault NotPaused) → State P K → State P K → Unpaused P K → Type 0
 UnpausesUnlessMemory (Ok done) before after rule = (Ok done, after) ≡ rule
-UnpausesUnlessMemory (Err NotPaused) before after rule = (Err NotPaused, after) ≡ rule
-UnpausesUnlessMemory (Err Limit) before after rule = (Err Limit, after) ≡ rule
-UnpausesUnlessMemory (Err OutOfMemory) before after rule = (rule.0 ≢ Err NotPaused) × (rule.0 ≢ Err Limit) × (after ≡ before)
+UnpausesUnlessMemory (Err (fault.Refused reason)) before after rule = (Err (fault.Refused reason), after) ≡ rule
+UnpausesUnlessMemory (Err fault.Limit) before after rule = (Err fault.Limit, after) ≡ rule
+UnpausesUnlessMemory (Err fault.OutOfMemory) before after rule = ((reason : NotPaused) → rule.0 ≢ Err (fault.Refused reason)) × (rule.0 ≢ Err fault.Limit) × (after ≡ before)

@@ -6,13 +6,13 @@ ghost use Rattle.dv_store.specs.Chaining.{is_pending};
 ghost use Rattle.dv_journal.specs.declared.entry.Entry.TheVariants.{New};
 
 use crate::boxed_deque::BoxedDeque;
-use crate::error::{StoreFault, UnpauseFault};
+use crate::error::{AlreadyCalled, FireFault, NotPaused, UnpauseFault};
 use crate::record::{Item, Record};
 use crate::sides::Sides;
 use crate::telling::{tell_fire, tell_hand, tell_set, tell_take};
 use dv_journal::deferred_id::DeferredId;
 use dv_journal::entry::Entry;
-use dv_journal::error::Stop;
+use dv_journal::error::{Fault, Stop};
 use dv_journal::journal::Journal;
 use dv_value::text::Text;
 use dv_value::value::Value;
@@ -196,7 +196,7 @@ impl<P: Sides + Drop, K: Drop> Store<P, K> {
         journal: &mut Journal,
         id: DeferredId,
         value: Value,
-    ) -> Result<Fired, StoreFault>
+    ) -> Result<Fired, FireFault>
         ensures { FiresUnlessMemory result (self.old, journal.old) (self.new, journal.new) (fire id value (self.old, journal.old)) }
     {
         let Some(record) = self.record(id) else {
@@ -216,14 +216,14 @@ impl<P: Sides + Drop, K: Drop> Store<P, K> {
     }
 
     /// Fires a Deferred that is fired already: the firing is swallowed, and the next one isn't, or it is refused.
-    fn fire_again(&mut self, journal: &mut Journal, id: DeferredId) -> Result<Fired, StoreFault>
+    fn fire_again(&mut self, journal: &mut Journal, id: DeferredId) -> Result<Fired, FireFault>
         requires within { id < length self.old }
         ensures { FiresUnlessMemory result (self.old, journal.old) (self.new, journal.new) (fire_again_found id (slice_get self.old id) (self.old, journal.old)) }
     {
         let record = &self.records[id.number() as usize];
         if !record.swallows {
             journal.write(Entry::Refuse(id))?;
-            return Err(StoreFault::AlreadyCalled);
+            return Err(Fault::Refused(AlreadyCalled));
         }
         journal.write(Entry::Swallow(id))?;
         self.set_guard(id, false);
@@ -509,7 +509,7 @@ impl<P: Sides + Drop, K: Drop> Store<P, K> {
         };
         let pauses = record.pauses;
         if pauses == 0 {
-            return Err(UnpauseFault::NotPaused);
+            return Err(Fault::Refused(NotPaused));
         }
         journal.write(Entry::Unpause(id))?;
         self.set_pauses(id, pauses - 1);

@@ -84,7 +84,7 @@ pub fn take_turn<'s>(
     stack: &mut Frames<'s>,
     looping: LoopId,
 ) -> Result<(), AllocError>
-    ensures { OnOk result (stack.new ≡ turn_taken looping (slice_get world.now.objects.loops looping) ++ stack.old) }
+    ensures { OnOk result (stack.new ≡ turn_taken looping (slice_get world.now.objects.loops looping) world.now ++ stack.old) }
 {
     match world.looping(looping) {
         None => Ok(()),

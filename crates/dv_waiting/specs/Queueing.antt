@@ -1,46 +1,32 @@
--- Values of queues (Twisted: `DeferredQueue`).
-use Rattle.std.specs.Prelude.{ℕ, if◌then◌else◌, List, length, Option, None, Some, slice_get}
+-- Values of queues: the page's terms, run.
+use Rattle.std.specs.Prelude.{ℕ, List, length, Option, None, Some}
 use Rattle.dv_value.specs.declared.value.Value.{Value}
 use Rattle.dv_prims.specs.Queue.{Queue, may_put, may_get}
-use Rattle.dv_frames.specs.Naming.{with_object}
-use Rattle.dv_frames.specs.Turn.{Turned, done, raised, settle_next}
-use Rattle.dv_objects.specs.Names.{number_of}
-use Rattle.dv_world.specs.World.{World, make, fire, put_into, get_from}
+use Rattle.dv_frames.specs.Turn.{Turned}
 use Rattle.dv_objects.specs.Refusals.{overflow, underflow}
 use Rattle.dv_objects.specs.declared.canceller.Canceller.TheVariants.{Item}
+use Rattle.dv_rules.specs.Page as page
+use Rattle.dv_rules.specs.Rule.{run, By, If, Finds, Asks, Fires, ◌next◌}
+use Rattle.dv_rules.specs.Steps.{Make, PutInto, GetFrom}
+use Rattle.dv_world.specs.World.{World}
 
--- whoever gets a value is fired with it; a refusal is raised
 abbrev pub handed_out : Option (ℕ × Value) → World → Turned
-handed_out None w = done w
-handed_out (Some given) w = settle_next given.0 (fire given.0 given.1 w).0 (fire given.0 given.1 w).1
+handed_out who w = run (Finds who page.finished λ given. Fires given.0 given.1) w
 
--- a value is put into the queue that is found, where it may be, and the first that waits gets it
 abbrev pub put_of : ℕ → Value → Option Queue → World → Turned
-put_of k value None w = done w
-put_of k value (Some q) w = if may_put q then handed_out (put_into k value w).0 (put_into k value w).1 else raised overflow w
+put_of k v o w = run (Finds o page.finished λ q. If (may_put q) (Asks (PutInto k v) λ who. Finds who page.finished λ given. Fires given.0 given.1) (page.raise overflow)) w
 
--- d gets the value, where there is one
 abbrev pub got : ℕ → Option Value → World → Turned
-got d None w = done w
-got d (Some value) w = settle_next d (fire d value w).0 (fire d value w).1
+got d o w = run (Finds o page.finished λ v. Fires d v) w
 
--- d asks a queue for a value, and gets the first that is stored; else it waits
 abbrev pub asked_for : ℕ → ℕ → World → Turned
-asked_for k d w = got d (get_from k d w).0 (get_from k d w).1
+asked_for k d w = run (Asks (GetFrom k d) λ got. Finds got page.finished λ v. Fires d v) w
 
--- a Deferred is made that asks the queue that is found for a value, where it may
 abbrev pub get_of : List ℕ → ℕ → Option Queue → World → Turned
-get_of name k None w = done w
-get_of name k (Some q) w = if may_get q then asked_for k (length w.records) (make (Some name) (Some (Item k)) w) else raised underflow w
+get_of name k o w = run (Finds o page.finished λ q. By λ w. If (may_get q) (Make (Some name) (Some (Item k)) next Asks (GetFrom k (length w.records)) λ got. Finds got page.finished λ v. Fires (length w.records) v) (page.raise underflow)) w
 
--- what is done with the queue of a name, which is to be bound
-abbrev pub with_queue : List ℕ → World → (ℕ → Turned) → Turned
-with_queue name w next = with_object (number_of name w.objects.queue_names) name w next
-
--- a value is put into the queue of a name
 abbrev pub put_named : List ℕ → Value → World → Turned
-put_named queue value w = with_queue queue w (λ k. put_of k value (slice_get w.objects.queues k) w)
+put_named queue v w = run (page.on_queue queue λ k. page.put_in k v) w
 
--- a Deferred is made that asks the queue of a name for a value
 abbrev pub get_named : List ℕ → List ℕ → World → Turned
-get_named name queue w = with_queue queue w (λ k. get_of name k (slice_get w.objects.queues k) w)
+get_named name queue w = run (page.on_queue queue λ k. page.get_out name k) w

@@ -20,7 +20,7 @@ use Rattle.dv_script.specs.declared.event.Event.{Event}
 use Rattle.dv_script.specs.declared.event.Event.TheVariants as happens
 use Rattle.dv_script.specs.declared.script.Cooperator.{Cooperator}
 use Rattle.dv_script.specs.declared.script.NamedPool.{NamedPool}
-use Rattle.dv_script.specs.declared.limits.TheConstants.{MOST_LIMIT, MOST_PLACES, MOST_SUM, MOST_WORKERS, USUAL_LIMIT}
+use Rattle.dv_script.specs.declared.limits.TheConstants.{MOST_DRAINED, MOST_LIMIT, MOST_PLACES, MOST_SUM, MOST_UNITS, MOST_WORKERS, USUAL_LIMIT}
 use Rattle.dv_clock.specs.declared.limits.TheConstants.{MOST_DELAY, MOST_TICKS}
 use Rattle.dv_forms.specs.declared.declaration.Declaration.{Declaration}
 use Rattle.dv_forms.specs.Forms.{call, IsList, Field, Key, has_only, IsNumber, IsText, IsClass, place_of}
@@ -548,8 +548,8 @@ event_of v n table event.Advance ds h =
     let k = number_fine v n 0 MOST_TICKS a.a a.fine in
     rw (a.items) (happens.Advance k.0, advances a.a k.0 k.1)
 event_of v n table event.Drain ds h =
-    let a = one_arg v n (want.Leaf (leaf.Number 0 2048)) ds h in
-    let k = number_fine v n 0 2048 a.a a.fine in
+    let a = one_arg v n (want.Leaf (leaf.Number 0 MOST_DRAINED)) ds h in
+    let k = number_fine v n 0 MOST_DRAINED a.a a.fine in
     rw (a.items) (happens.Drain k.0, drains a.a k.0 k.1)
 
 event_by : (v n : ℕ) (table : List Class) (word : List ℕ) (ds : Items) (wants : List Want) (o : Option EventWord) → event_word word ≡ o → or_else (option_map event_wants o) (action_form word (count ds)) ≡ Some wants → AreFine v n wants ds
@@ -599,7 +599,7 @@ number_field v n default low high (Some d) h = number_fine v n low high d (h d r
 cooperator_fine : (v n : ℕ) (d : Data) → IsFine v n (want.Keyed keyed.Cooperator) d → (c : Cooperator) × IsCooperator d c
 cooperator_fine v n (object ms) h =
     let keys = and_parts (is_some (get_member (codes "units") ms)) (is_some (get_member (codes "delay") ms)) (fits_fine h) in
-    let units = number_key v n 1 1000 (get_member (codes "units") ms) keys.0 (λ e is. value_fine (codes "units") h refl is) in
+    let units = number_key v n 1 MOST_UNITS (get_member (codes "units") ms) keys.0 (λ e is. value_fine (codes "units") h refl is) in
     let delay = number_key v n 1 MOST_DELAY (get_member (codes "delay") ms) keys.1 (λ e is. value_fine (codes "delay") h refl is) in
     (record { units = units.0; delay = delay.0 }, record { members = ms; whole = refl; only = cooperator_only v ms h.suit; units = units.1; delay = delay.1 })
 cooperator_fine v n d h = let fit : fits v (want.Keyed keyed.Cooperator) d ≡ true = fits_fine h in cc

@@ -5,7 +5,7 @@ use Rattle.dv_source.specs.Source.{IsFrontOf}
 use Rattle.dv_source.specs.declared.source.ReadError.{ReadError}
 use Rattle.dv_source.specs.declared.source.ReadError.TheVariants as read
 use Rattle.dv_reader.specs.declared.error.ScriptFault.{ScriptFault}
-use Rattle.dv_reader.specs.declared.error.ScriptFault.TheVariants as script
+use Rattle.dv_reader.specs.Texts.{refusal_text}
 use Rattle.dv_why.specs.declared.explaining.WhyFault.{WhyFault}
 use Rattle.dv_why.specs.declared.explaining.WhyFault.TheVariants.{OutOfMemory, ReadFault, WriteFault}
 use Rattle.dv_why.specs.Why.{Answers}
@@ -32,18 +32,6 @@ abbrev pub fault_text : WhyFault → List ℕ
 fault_text OutOfMemory = codes "out of memory"
 fault_text ReadFault = codes "read failed"
 fault_text WriteFault = codes "write failed"
-
--- each refusal by its number and its name
-abbrev pub refusal_text : ScriptFault → List ℕ
-refusal_text script.TooLong = codes "script refused: 1 TooLong"
-refusal_text script.NotJson = codes "script refused: 2 NotJson"
-refusal_text script.BadVersion = codes "script refused: 3 BadVersion"
-refusal_text script.BadShape = codes "script refused: 4 BadShape"
-refusal_text script.TooMany = codes "script refused: 5 TooMany"
-refusal_text script.BadName = codes "script refused: 6 BadName"
-refusal_text script.BadClass = codes "script refused: 7 BadClass"
-refusal_text script.OutOfMemory = codes "script refused: 8 OutOfMemory"
-refusal_text script.BadPool = codes "script refused: 9 BadPool"
 
 -- the exit status: 0 where the script is accepted, 2 where it is refused, and otherwise that of the fault
 abbrev pub ended_status : Result (Option ScriptFault) WhyFault → ℕ

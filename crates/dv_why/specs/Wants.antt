@@ -33,7 +33,7 @@ use Rattle.dv_why.specs.declared.want.Item.TheVariants as item
 use Rattle.dv_why.specs.declared.want.Want.{Want}
 use Rattle.dv_why.specs.declared.want.Want.TheVariants as want
 use Rattle.dv_clock.specs.declared.limits.TheConstants.{MOST_DELAY, MOST_TICKS}
-use Rattle.dv_script.specs.declared.limits.TheConstants.{MOST_LIMIT, MOST_PLACES, MOST_SUM, MOST_WORKERS}
+use Rattle.dv_script.specs.declared.limits.TheConstants.{MOST_DRAINED, MOST_LIMIT, MOST_PLACES, MOST_SUM, MOST_UNITS, MOST_WORKERS}
 
 -- the name of an object
 abbrev pub a_name : Want
@@ -93,7 +93,7 @@ script_want version key =
 -- what the value of a cooperator's key is
 abbrev pub cooperator_want : List ℕ → Want
 cooperator_want key =
-    if bytes_eq key (codes "units") then want.Leaf (leaf.Number 1 1000) else
+    if bytes_eq key (codes "units") then want.Leaf (leaf.Number 1 MOST_UNITS) else
     if bytes_eq key (codes "delay") then want.Leaf (leaf.Number 1 MOST_DELAY) else want.Other keyed.Cooperator
 
 -- what the value of a body's key is
@@ -182,7 +182,7 @@ action_wants (Nesting word) given = nesting_wants word given
 -- the argument of an event that is no action
 abbrev pub event_wants : EventWord → List Want
 event_wants event.Advance = want.Leaf (leaf.Number 0 MOST_TICKS) ∷ []
-event_wants event.Drain = want.Leaf (leaf.Number 0 2048) ∷ []
+event_wants event.Drain = want.Leaf (leaf.Number 0 MOST_DRAINED) ∷ []
 
 -- the arguments of a statement
 abbrev pub statement_wants : StatementWord → List Want

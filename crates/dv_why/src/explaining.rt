@@ -2,11 +2,11 @@
 
 ghost use Rattle.std.specs.Prelude.{◌≡◌, OnOk, IfOk, IsErrOf};
 ghost use Rattle.dv_journal.specs.Sink.{HasFailed};
-ghost use Rattle.dv_why.specs.Explaining.{Explains, fault_status, fault_text, refusal_text, ended_status, ended_text};
+ghost use Rattle.dv_why.specs.Explaining.{Explains, fault_status, fault_text, ended_status, ended_text};
 
 use crate::why::tell;
 use dv_journal::sink::{Sink, SinkFault, write_all};
-use dv_reader::error::ScriptFault;
+use dv_reader::error::{ScriptFault, refusal_text};
 use dv_script::limits::MOST_BYTES;
 use dv_source::source::{ReadError, Source, read_up_to};
 use std::alloc::{AllocError, Global};
@@ -105,21 +105,5 @@ fn fault_text(fault: WhyFault) -> &'static str
         WhyFault::OutOfMemory => "out of memory",
         WhyFault::ReadFault => "read failed",
         WhyFault::WriteFault => "write failed",
-    }
-}
-
-fn refusal_text(refusal: ScriptFault) -> &'static str
-    ensures { result.now ≡ refusal_text refusal }
-{
-    match refusal {
-        ScriptFault::TooLong => "script refused: 1 TooLong",
-        ScriptFault::NotJson => "script refused: 2 NotJson",
-        ScriptFault::BadVersion => "script refused: 3 BadVersion",
-        ScriptFault::BadShape => "script refused: 4 BadShape",
-        ScriptFault::TooMany => "script refused: 5 TooMany",
-        ScriptFault::BadName => "script refused: 6 BadName",
-        ScriptFault::BadClass => "script refused: 7 BadClass",
-        ScriptFault::OutOfMemory => "script refused: 8 OutOfMemory",
-        ScriptFault::BadPool => "script refused: 9 BadPool",
     }
 }

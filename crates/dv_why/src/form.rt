@@ -9,7 +9,7 @@ use dv_grammar::words::{
     ActionWord, BodyWord, EndWord, EventWord, NameWord, NamesWord, NestingWord, PlainWord,
     StatementWord, WorkWord,
 };
-use dv_script::limits::{MOST_PLACES, MOST_SUM, MOST_WORKERS};
+use dv_script::limits::{MOST_DRAINED, MOST_PLACES, MOST_SUM, MOST_WORKERS};
 
 /// How a word and its arguments stand.
 #[derive(Clone, Copy, Drop)]
@@ -263,7 +263,7 @@ fn of_event(word: EventWord) -> Form
         },
         EventWord::Drain => Form {
             shown: "[\"drain\",N]",
-            wants: &[Want::Leaf(Leaf::Number(0, 2_048))],
+            wants: &[Want::Leaf(Leaf::Number(0, MOST_DRAINED as u64))],
         },
     }
 }

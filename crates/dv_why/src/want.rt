@@ -4,7 +4,7 @@ ghost use Rattle.std.specs.Prelude.{◌≡◌, map};
 ghost use Rattle.dv_why.specs.Wants.{item_want, key_want, keys_in, script_want, cooperator_want, body_want};
 
 use dv_clock::limits::MOST_DELAY;
-use dv_script::limits::MOST_LIMIT;
+use dv_script::limits::{MOST_LIMIT, MOST_UNITS};
 
 /// What stands at a place, where nothing is looked for in it.
 #[derive(Clone, Copy, Drop)]
@@ -135,7 +135,7 @@ fn cooperator_want(key: &str) -> Want
     ensures { result ≡ cooperator_want key.now }
 {
     match key {
-        "units" => Want::Leaf(Leaf::Number(1, 1_000)),
+        "units" => Want::Leaf(Leaf::Number(1, u64::from(MOST_UNITS))),
         "delay" => Want::Leaf(Leaf::Number(1, MOST_DELAY)),
         _ => Want::Other(Keyed::Cooperator),
     }

@@ -3,5 +3,6 @@
 
 pub mod answer_queue;
 pub mod job_deque;
+pub mod pool_sizes;
 pub mod rule;
 pub mod worker;

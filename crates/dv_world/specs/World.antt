@@ -33,10 +33,10 @@ use Rattle.dv_store.specs.Fire as firing
 use Rattle.dv_store.specs.Pausing as pausing
 use Rattle.dv_store.specs.Record as records
 use Rattle.dv_store.specs.State.{State}
-use Rattle.dv_store.specs.declared.error.StoreFault.{StoreFault}
-use Rattle.dv_store.specs.declared.error.StoreFault.TheVariants as firing_fault
-use Rattle.dv_store.specs.declared.error.UnpauseFault.{UnpauseFault}
-use Rattle.dv_store.specs.declared.error.UnpauseFault.TheVariants as unpause_fault
+use Rattle.dv_store.specs.declared.error.AlreadyCalled.{AlreadyCalled}
+use Rattle.dv_store.specs.declared.error.NotPaused.{NotPaused}
+use Rattle.dv_journal.specs.declared.error.Fault.{Fault}
+use Rattle.dv_journal.specs.declared.error.Fault.TheVariants as fault
 use Rattle.dv_store.specs.declared.record.Record.{Record}
 use Rattle.dv_store.specs.declared.store.Fired.{Fired}
 use Rattle.dv_store.specs.declared.store.Fired.TheVariants.{Set, Swallowed}
@@ -158,12 +158,12 @@ make name canceller w =
     let told = records.make name canceller (state_of w) in named name told.0 told.1 w
 
 -- a further firing raises, unless it is swallowed; one that can't be told stops the run
-abbrev pub fired : Result Fired StoreFault → State Pair Canceller → World → Follow × World
+abbrev pub fired : Result Fired (Fault AlreadyCalled) → State Pair Canceller → World → Follow × World
 fired (Ok Set) s w = (follow.Settle, with_state s w)
 fired (Ok Swallowed) s w = (follow.Nothing, with_state s w)
-fired (Err firing_fault.AlreadyCalled) s w = (follow.Raise (plain_failure already_called_error []), with_state s w)
-fired (Err firing_fault.Limit) s w = (follow.Nothing, with_stop (with_state s w))
-fired (Err firing_fault.OutOfMemory) s w = (follow.Nothing, with_stop (with_state s w))
+fired (Err (fault.Refused already)) s w = (follow.Raise (plain_failure already_called_error []), with_state s w)
+fired (Err fault.Limit) s w = (follow.Nothing, with_stop (with_state s w))
+fired (Err fault.OutOfMemory) s w = (follow.Nothing, with_stop (with_state s w))
 
 -- d is fired, and not settled yet
 unfoldable pub fire : ℕ → Value → World → Follow × World
@@ -172,12 +172,12 @@ fire d value w =
     let told = firing.fire d value (state_of w) in fired told.0 told.1 w
 
 -- once its firing is told, the next one is swallowed; a firing that can't be told stops the run
-abbrev pub guarded : ℕ → Result Fired StoreFault → State Pair Canceller → World → World
+abbrev pub guarded : ℕ → Result Fired (Fault AlreadyCalled) → State Pair Canceller → World → World
 guarded d (Ok Set) s w = with_state (guard d s.0, s.1) w
 guarded d (Ok Swallowed) s w = with_state s w
-guarded d (Err firing_fault.AlreadyCalled) s w = with_state s w
-guarded d (Err firing_fault.Limit) s w = with_stop (with_state s w)
-guarded d (Err firing_fault.OutOfMemory) s w = with_stop (with_state s w)
+guarded d (Err (fault.Refused already)) s w = with_state s w
+guarded d (Err fault.Limit) s w = with_stop (with_state s w)
+guarded d (Err fault.OutOfMemory) s w = with_stop (with_state s w)
 
 -- d is fired since it is cancelled and has no canceller, and not settled yet
 unfoldable pub fire_guarded : ℕ → World → World
@@ -190,11 +190,11 @@ abbrev pub is_unfired : ℕ → World → Bool
 is_unfired d w = option_map_or (λ r. not r.fired) (slice_get w.records d) false
 
 -- an unpausing of what isn't paused raises; one that can't be told stops the run
-abbrev pub unpaused : Result Unit UnpauseFault → State Pair Canceller → World → Follow × World
+abbrev pub unpaused : Result Unit (Fault NotPaused) → State Pair Canceller → World → Follow × World
 unpaused (Ok done) s w = (follow.Settle, with_state s w)
-unpaused (Err unpause_fault.NotPaused) s w = (follow.Raise (plain_failure assertion_error (codes "not paused")), with_state s w)
-unpaused (Err unpause_fault.Limit) s w = (follow.Nothing, with_stop (with_state s w))
-unpaused (Err unpause_fault.OutOfMemory) s w = (follow.Nothing, with_stop (with_state s w))
+unpaused (Err (fault.Refused already)) s w = (follow.Raise (plain_failure assertion_error (codes "not paused")), with_state s w)
+unpaused (Err fault.Limit) s w = (follow.Nothing, with_stop (with_state s w))
+unpaused (Err fault.OutOfMemory) s w = (follow.Nothing, with_stop (with_state s w))
 
 -- d is paused once less, and not settled yet
 unfoldable pub unpause : ℕ → World → Follow × World

@@ -6,7 +6,7 @@ use dv_clock::clock::Clock;
 use dv_clock::loop_id::LoopId;
 use dv_journal::deferred_id::DeferredId;
 use dv_journal::entry::Entry;
-use dv_journal::error::Stop;
+use dv_journal::error::{Fault, Stop};
 use dv_journal::journal::Journal;
 use dv_objects::canceller::Canceller;
 use dv_objects::cooperator::Cooperator;
@@ -20,7 +20,7 @@ use dv_objects::refusals::{cancelled, refused};
 use dv_objects::stopping::stopped;
 use dv_objects::task::Task;
 use dv_objects::works::Works;
-use dv_prims::error::{PutFault, ReleaseFault};
+use dv_prims::error::{NotHeld, Overflow};
 use dv_prims::gather::{Came, Flags, Gather};
 use dv_prims::list_id::ListId;
 use dv_prims::lock_id::LockId;
@@ -29,7 +29,7 @@ use dv_prims::queue_id::QueueId;
 use dv_prims::semaphore::Semaphore;
 use dv_script::lent::{BodyRef, TextRef};
 use dv_script::script::Cooperator as Settings;
-use dv_store::error::{StoreFault, UnpauseFault};
+use dv_store::error::{AlreadyCalled, NotPaused};
 use dv_store::record::Record;
 use dv_store::store::{Fired, Step, Store};
 use dv_value::class_id::ClassId;
@@ -315,16 +315,16 @@ impl<'s> World<'s> {
         match self.store.fire(&mut self.journal, id, value) {
             Ok(Fired::Set) => Ok(Follow::Settle),
             Ok(Fired::Swallowed) => Ok(Follow::Nothing),
-            Err(StoreFault::AlreadyCalled) => refused(
+            Err(Fault::Refused(AlreadyCalled)) => refused(
                 self.alloc,
                 ClassId::ALREADY_CALLED_ERROR,
                 "",
             ),
-            Err(StoreFault::Limit) => {
+            Err(Fault::Limit) => {
                 self.stopped = true;
                 Ok(Follow::Nothing)
             }
-            Err(StoreFault::OutOfMemory) => Err(AllocError),
+            Err(Fault::OutOfMemory) => Err(AllocError),
         }
     }
 
@@ -343,12 +343,12 @@ impl<'s> World<'s> {
                 self.store.guard(id);
                 Ok(())
             }
-            Ok(Fired::Swallowed) | Err(StoreFault::AlreadyCalled) => Ok(()),
-            Err(StoreFault::Limit) => {
+            Ok(Fired::Swallowed) | Err(Fault::Refused(AlreadyCalled)) => Ok(()),
+            Err(Fault::Limit) => {
                 self.stopped = true;
                 Ok(())
             }
-            Err(StoreFault::OutOfMemory) => Err(AllocError),
+            Err(Fault::OutOfMemory) => Err(AllocError),
         }
     }
 
@@ -415,16 +415,16 @@ impl<'s> World<'s> {
         }
         match self.store.unpause(&mut self.journal, id) {
             Ok(()) => Ok(Follow::Settle),
-            Err(UnpauseFault::NotPaused) => refused(
+            Err(Fault::Refused(NotPaused)) => refused(
                 self.alloc,
                 ClassId::ASSERTION_ERROR,
                 "not paused",
             ),
-            Err(UnpauseFault::Limit) => {
+            Err(Fault::Limit) => {
                 self.stopped = true;
                 Ok(Follow::Nothing)
             }
-            Err(UnpauseFault::OutOfMemory) => Err(AllocError),
+            Err(Fault::OutOfMemory) => Err(AllocError),
         }
     }
 
@@ -552,9 +552,7 @@ impl<'s> World<'s> {
         match self.semaphores[place].release(&mut self.journal) {
             Ok(_) => Ok(()),
             // (a token is given and the entry fits, so it is memory that was refused)
-            Err(ReleaseFault::NotHeld | ReleaseFault::Limit | ReleaseFault::OutOfMemory) => {
-                Err(AllocError)
-            }
+            Err(Fault::Refused(NotHeld) | Fault::Limit | Fault::OutOfMemory) => { Err(AllocError) }
         }
     }
 
@@ -636,7 +634,7 @@ impl<'s> World<'s> {
         match self.queues[place].put(&mut self.journal, value) {
             Ok(given) => Ok(given),
             // (a value may be put and the entry fits, so it is memory that was refused)
-            Err(PutFault::Overflow | PutFault::Limit | PutFault::OutOfMemory) => Err(AllocError),
+            Err(Fault::Refused(Overflow) | Fault::Limit | Fault::OutOfMemory) => Err(AllocError),
         }
     }
 

@@ -5,10 +5,12 @@ ghost use Rattle.dv_forms.specs.Answer.{Reads};
 ghost use Rattle.dv_forms.specs.Parts.{number_at, field};
 ghost use Rattle.dv_grammar.specs.Shape.{cooperator_at};
 ghost use Rattle.dv_grammar.specs.Grammar.{plain_cooperator};
+ghost use Rattle.dv_script.specs.declared.limits.TheConstants.{MOST_UNITS};
 
 use dv_clock::limits::MOST_DELAY;
 use dv_forms::leaf::{fields, number, small};
 use dv_forms::stop::Stop;
+use dv_script::limits::MOST_UNITS;
 use dv_script::script::Cooperator;
 use serde_json::Value as Json;
 
@@ -33,11 +35,11 @@ fn cooperator(json: &Json) -> Result<Cooperator, Stop>
 }
 
 fn units(json: Option<&Json>) -> Result<u32, Stop>
-    ensures { Reads result (option_and_then (number_at 1 1000) (option_map (λ d. view d.now) json.entry)) }
+    ensures { Reads result (option_and_then (number_at 1 MOST_UNITS) (option_map (λ d. view d.now) json.entry)) }
 {
     match json {
         None => Err(Stop::BadShape),
-        Some(json) => small(json, 1, 1_000),
+        Some(json) => small(json, 1, MOST_UNITS),
     }
 }
 

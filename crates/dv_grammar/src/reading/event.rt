@@ -10,7 +10,7 @@ use dv_forms::arguments::{one_number, one_small};
 use dv_forms::leaf::call;
 use dv_forms::stop::Stop;
 use dv_script::event::Event;
-use dv_script::limits::MOST_LEVELS;
+use dv_script::limits::{MOST_DRAINED, MOST_LEVELS};
 use dv_value::classes::Classes;
 use dv_value::items::Items;
 use serde_json::Value as Json;
@@ -45,7 +45,7 @@ fn event_of(word: EventWord, arguments: &[Json]) -> Result<Event, Stop>
 {
     match word {
         EventWord::Advance => Ok(Event::Advance(one_number(arguments, 0, MOST_TICKS)?)),
-        EventWord::Drain => Ok(Event::Drain(one_small(arguments, 0, 2_048)?)),
+        EventWord::Drain => Ok(Event::Drain(one_small(arguments, 0, MOST_DRAINED)?)),
     }
 }
 

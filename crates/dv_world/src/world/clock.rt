@@ -6,9 +6,10 @@ ghost use Rattle.dv_objects.specs.declared.performed.Performed.TheVariants.{Rais
 use super::World;
 use dv_clock::call_id::CallId;
 use dv_clock::due::Due;
-use dv_clock::error::CancelFault;
+use dv_clock::error::Over;
 use dv_clock::limits::{MOST_DELAY, MOST_TICKS};
 use dv_journal::deferred_id::DeferredId;
+use dv_journal::error::Fault;
 use dv_objects::performed::Performed;
 use dv_script::lent::{BodyRef, TextRef};
 use dv_value::class_id::ClassId;
@@ -86,13 +87,13 @@ impl<'s> World<'s> {
         }
         match self.clock.cancel(&mut self.journal, call) {
             Ok(()) => Ok(Performed::Done),
-            Err(CancelFault::AlreadyCalled) => was_called(self.alloc),
-            Err(CancelFault::AlreadyCancelled) => was_cancelled(self.alloc),
-            Err(CancelFault::Limit) => {
+            Err(Fault::Refused(Over::Called)) => was_called(self.alloc),
+            Err(Fault::Refused(Over::Cancelled)) => was_cancelled(self.alloc),
+            Err(Fault::Limit) => {
                 self.stopped = true;
                 Ok(Performed::Done)
             }
-            Err(CancelFault::OutOfMemory) => Err(AllocError),
+            Err(Fault::OutOfMemory) => Err(AllocError),
         }
     }
 

@@ -2,13 +2,13 @@ ghost use Rattle.std.specs.Prelude.{◌≡◌, ◌++◌, OnOk};
 ghost use Rattle.dv_objects.specs.Performed.{failed_with};
 ghost use Rattle.dv_world.specs.World.{awaited_in, cancel, fire};
 ghost use Rattle.dv_objects.specs.Refusals.{cancelled};
-ghost use Rattle.dv_frames.specs.Cancelling.{awaited_cancelled, children_cancelled, cancel_begun, canceller_ended};
+ghost use Rattle.dv_firing.specs.Cancelling.{awaited_cancelled, children_cancelled, cancel_begun, canceller_ended};
 ghost use Rattle.dv_frames.specs.Turn.{◌over◌, settle_next};
 ghost use Rattle.dv_objects.specs.declared.performed.Performed.TheVariants.{Done};
 
-use crate::following::{fire_and_settle, settle_after, whole};
-use crate::frame::Frame;
-use crate::frames::Frames;
+use dv_frames::following::{fire_and_settle, settle_after, whole};
+use dv_frames::frame::Frame;
+use dv_frames::frames::Frames;
 use dv_journal::deferred_id::DeferredId;
 use dv_objects::inline_id::InlineId;
 use dv_objects::input::Input;

@@ -1,7 +1,7 @@
 use Rattle.std.proofs.Common.{◌≡◌, ◌≤◌, length, map, min, take, All}
 use Rattle.std.specs.Prelude.{vec_len, vec_capacity}
 use Rattle.dv_script.specs.declared.limits.TheConstants.{MOST_WORKERS}
-use Rattle.dv_run.proofs.performing.workers_of_pools.Given as goal
+use Rattle.dv_workers.proofs.pool_sizes.workers_of_pools.Given as goal
 
 -- a number stands for each pool that was passed, and there is room for the others
 abbrev pub invariant-loop-pool : goal.invariant-loop-pool

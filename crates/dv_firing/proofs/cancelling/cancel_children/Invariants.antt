@@ -1,6 +1,6 @@
 use Rattle.std.proofs.Common.{◌≡◌, ◌++◌, drop}
-use Rattle.dv_frames.specs.Cancelling.{children_cancelled}
-use Rattle.dv_frames.proofs.cancelling.cancel_children.Given as goal
+use Rattle.dv_firing.specs.Cancelling.{children_cancelled}
+use Rattle.dv_firing.proofs.cancelling.cancel_children.Given as goal
 
 -- the frames of the children from this place on are on the stack
 abbrev pub invariant-loop-place : goal.invariant-loop-place

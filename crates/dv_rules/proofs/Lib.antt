@@ -1,0 +1,4 @@
+pub mod Chained
+pub mod Fires
+pub mod Sayings
+pub mod Says

@@ -1,0 +1,6 @@
+pub mod Steps
+pub mod Rule
+pub mod Saying
+pub mod Flags
+pub mod Page
+pub mod Law
