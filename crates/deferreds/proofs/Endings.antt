@@ -16,7 +16,7 @@ pub runs : (ended : Result Report RunFault) (code : ℕ) (said : List ℕ) (inpu
     → code ≡ status ended → said ≡ error_text ended → Runs code said input old new
 runs ended code said input old new ok err is says = record { ended = ended; ok = ok; err = err; status = is; text = says }
 
-pub runs_as_json : (ended : Result Bool RunFault) (code : ℕ) (said : List ℕ) (input old new : Told) → IfOk ended (HasRun input) → IfErr ended (λ fault. GivesUpAsJson fault input old new)
+pub runs_as_json : (ended : Result Bool RunFault) (code : ℕ) (said : List ℕ) (input old new : Told) → IfOk ended (HasRun input old new) → IfErr ended (λ fault. GivesUpAsJson fault input old new)
     → code ≡ json_status ended → said ≡ json_text ended → RunsAsJson code said input old new
 runs_as_json ended code said input old new ok err is says = record { ended = ended; ok = ok; err = err; status = is; text = says }
 

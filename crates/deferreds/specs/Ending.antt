@@ -25,7 +25,7 @@ pub record Runs (code : ℕ) (said : List ℕ) (input old new : Told) : Type 0 w
 -- a run that is written as JSON Lines ended
 pub record RunsAsJson (code : ℕ) (said : List ℕ) (input old new : Told) : Type 0 where
   pub ended : Result Bool RunFault
-  pub ok : IfOk ended (HasRun input)
+  pub ok : IfOk ended (HasRun input old new)
   pub err : IfErr ended (λ fault. GivesUpAsJson fault input old new)
   pub status : code ≡ json_status ended
   pub text : said ≡ json_text ended

@@ -1,5 +1,8 @@
 //! What is left, as JSON, which is added at the end of a text.
 
+ghost use Rattle.std.specs.Prelude.{◌++◌, OnOk, string_bytes};
+ghost use Rattle.dv_facts.specs.Parts.{Adds};
+
 use crate::entries::Story;
 use crate::facts::Kind;
 use crate::members::{write_bool, write_comma, write_number, write_number_or_null, write_quoted};
@@ -36,7 +39,9 @@ fn stage_word(stage: Stage) -> &'static str {
 
 impl<'k, 'e> Known<'k, 'e> {
     /// Adds the line of what is left, without its end. The values of a queue are taken out of it.
-    pub fn write(&self, out: &mut String, left: &mut Left) -> Result<(), AllocError> {
+    pub fn write(&self, out: &mut String, left: &mut Left) -> Result<(), AllocError>
+        ensures { OnOk result (Adds (string_bytes out.old) (string_bytes out.new)) }
+    {
         match left {
             Left::Deferred(left) => self.write_deferred(out, left),
             Left::Failure(id) => self.write_failure(out, *id),
@@ -53,17 +58,26 @@ impl<'k, 'e> Known<'k, 'e> {
         }
     }
 
-    fn id(&self, out: &mut String, before: &str, id: DeferredId) -> Result<(), AllocError> {
+    #[tactic(auto, using(crate::proofs::Added::parts))]
+    fn id(&self, out: &mut String, before: &str, id: DeferredId) -> Result<(), AllocError>
+        ensures { OnOk result (Adds (string_bytes out.old ++ before.now) (string_bytes out.new)) }
+    {
         write_text(out, before)?;
         self.story.deferreds.write(self.alloc, out, id)
     }
 
-    fn ids(&self, out: &mut String, before: &str, ids: &[DeferredId]) -> Result<(), AllocError> {
+    #[tactic(auto, using(crate::proofs::Added::parts))]
+    fn ids(&self, out: &mut String, before: &str, ids: &[DeferredId]) -> Result<(), AllocError>
+        ensures { OnOk result (Adds (string_bytes out.old ++ before.now) (string_bytes out.new)) }
+    {
         write_text(out, before)?;
         self.story.deferreds.write_all(self.alloc, out, ids)
     }
 
-    fn object(&self, out: &mut String, before: &str, object: Object<'_>) -> Result<(), AllocError> {
+    #[tactic(auto, using(crate::proofs::Added::parts))]
+    fn object(&self, out: &mut String, before: &str, object: Object<'_>) -> Result<(), AllocError>
+        ensures { OnOk result (Adds (string_bytes out.old ++ before.now) (string_bytes out.new)) }
+    {
         write_text(out, before)?;
         write_object(self.alloc, out, object)
     }
@@ -72,7 +86,9 @@ impl<'k, 'e> Known<'k, 'e> {
         self.story.objects.at(kind, number)
     }
 
-    fn write_deferred(&self, out: &mut String, left: &LeftDeferred) -> Result<(), AllocError> {
+    fn write_deferred(&self, out: &mut String, left: &LeftDeferred) -> Result<(), AllocError>
+        ensures { OnOk result (Adds (string_bytes out.old) (string_bytes out.new)) }
+    {
         self.id(out, r#"{"deferred":"#, left.id)?;
         self.write_hangs(out, left.hangs.as_slice())?;
         write_number(
@@ -85,7 +101,10 @@ impl<'k, 'e> Known<'k, 'e> {
         write_text(out, r#","type":"left"}"#)
     }
 
-    fn write_hangs(&self, out: &mut String, hangs: &[Hang]) -> Result<(), AllocError> {
+    #[tactic(auto, using(crate::proofs::Added::parts))]
+    fn write_hangs(&self, out: &mut String, hangs: &[Hang]) -> Result<(), AllocError>
+        ensures { OnOk result (Adds (string_bytes out.old) (string_bytes out.new)) }
+    {
         write_text(out, r#","hangs":["#)?;
         for (place, hang) in hangs.iter().enumerate() {
             write_comma(out, place)?;
@@ -94,7 +113,10 @@ impl<'k, 'e> Known<'k, 'e> {
         write_text(out, "]")
     }
 
-    fn write_hang(&self, out: &mut String, hang: Hang) -> Result<(), AllocError> {
+    #[tactic(auto, using(crate::proofs::Added::parts))]
+    fn write_hang(&self, out: &mut String, hang: Hang) -> Result<(), AllocError>
+        ensures { OnOk result (Adds (string_bytes out.old) (string_bytes out.new)) }
+    {
         match hang {
             Hang::Waits(id) => self.write_at_deferred(out, r#"{"at":"deferred","deferred":"#, id),
             Hang::Child(id, place) => self.write_at_child(out, id, place),
@@ -109,34 +131,38 @@ impl<'k, 'e> Known<'k, 'e> {
         }
     }
 
-    fn write_at_child(
-        &self,
-        out: &mut String,
-        id: DeferredId,
-        place: u32,
-    ) -> Result<(), AllocError> {
+    fn write_at_child(&self, out: &mut String, id: DeferredId, place: u32) -> Result<(), AllocError>
+        ensures { OnOk result (Adds (string_bytes out.old) (string_bytes out.new)) }
+    {
         self.id(out, r#"{"at":"child","deferred":"#, id)?;
         write_number(out, r#","place":"#, u64::from(place))?;
         write_text(out, "}")
     }
 
+    #[tactic(auto, using(crate::proofs::Added::parts))]
     fn write_at_deferred(
         &self,
         out: &mut String,
         before: &str,
         id: DeferredId,
-    ) -> Result<(), AllocError> {
+    ) -> Result<(), AllocError>
+        ensures { OnOk result (Adds (string_bytes out.old ++ before.now) (string_bytes out.new)) }
+    {
         self.id(out, before, id)?;
         write_text(out, "}")
     }
 
-    fn write_at_object(&self, out: &mut String, object: Object<'_>) -> Result<(), AllocError> {
+    fn write_at_object(&self, out: &mut String, object: Object<'_>) -> Result<(), AllocError>
+        ensures { OnOk result (Adds (string_bytes out.old) (string_bytes out.new)) }
+    {
         write_quoted(self.alloc, out, r#"{"at":"#, object.kind)?;
         self.object(out, r#","object":"#, object)?;
         write_text(out, "}")
     }
 
-    fn write_failure(&self, out: &mut String, id: DeferredId) -> Result<(), AllocError> {
+    fn write_failure(&self, out: &mut String, id: DeferredId) -> Result<(), AllocError>
+        ensures { OnOk result (Adds (string_bytes out.old) (string_bytes out.new)) }
+    {
         self.id(out, r#"{"deferred":"#, id)?;
         write_text(out, r#","kind":"failure","type":"left","value":"#)?;
         self.write_value_of(out, id)?;
@@ -144,14 +170,19 @@ impl<'k, 'e> Known<'k, 'e> {
     }
 
     /// Adds the value of a Deferred at the end.
-    fn write_value_of(&self, out: &mut String, id: DeferredId) -> Result<(), AllocError> {
+    #[tactic(auto, using(crate::proofs::Added::parts))]
+    fn write_value_of(&self, out: &mut String, id: DeferredId) -> Result<(), AllocError>
+        ensures { OnOk result (Adds (string_bytes out.old) (string_bytes out.new)) }
+    {
         match self.outcomes.get(id.number() as usize) {
             None => write_text(out, "null"),
             Some(outcome) => write_value(self.alloc, self.classes, out, &outcome.state),
         }
     }
 
-    fn write_call(&self, out: &mut String, number: u32, due: u64) -> Result<(), AllocError> {
+    fn write_call(&self, out: &mut String, number: u32, due: u64) -> Result<(), AllocError>
+        ensures { OnOk result (Adds (string_bytes out.old) (string_bytes out.new)) }
+    {
         write_number(out, r#"{"due":"#, due)?;
         self.object(
             out,
@@ -167,20 +198,26 @@ impl<'k, 'e> Known<'k, 'e> {
         number: u32,
         id: DeferredId,
         due: u64,
-    ) -> Result<(), AllocError> {
+    ) -> Result<(), AllocError>
+        ensures { OnOk result (Adds (string_bytes out.old) (string_bytes out.new)) }
+    {
         self.id(out, r#"{"deferred":"#, id)?;
         write_number(out, r#","due":"#, due)?;
         self.object(out, r#","kind":"delivery","object":"#, job(number))?;
         write_text(out, r#","type":"left"}"#)
     }
 
-    fn write_timeout(&self, out: &mut String, id: DeferredId, due: u64) -> Result<(), AllocError> {
+    fn write_timeout(&self, out: &mut String, id: DeferredId, due: u64) -> Result<(), AllocError>
+        ensures { OnOk result (Adds (string_bytes out.old) (string_bytes out.new)) }
+    {
         self.id(out, r#"{"deferred":"#, id)?;
         write_number(out, r#","due":"#, due)?;
         write_text(out, r#","kind":"timeout","type":"left"}"#)
     }
 
-    fn write_loop(&self, out: &mut String, left: &LeftLoop) -> Result<(), AllocError> {
+    fn write_loop(&self, out: &mut String, left: &LeftLoop) -> Result<(), AllocError>
+        ensures { OnOk result (Adds (string_bytes out.old) (string_bytes out.new)) }
+    {
         self.id(out, r#"{"deferred":"#, left.of)?;
         write_number_or_null(out, r#","due":"#, left.due)?;
         self.object(
@@ -196,7 +233,9 @@ impl<'k, 'e> Known<'k, 'e> {
         write_text(out, "}")
     }
 
-    fn write_task(&self, out: &mut String, left: &LeftTask) -> Result<(), AllocError> {
+    fn write_task(&self, out: &mut String, left: &LeftTask) -> Result<(), AllocError>
+        ensures { OnOk result (Adds (string_bytes out.old) (string_bytes out.new)) }
+    {
         write_number(out, r#"{"bodies":"#, left.bodies as u64)?;
         self.object(
             out,
@@ -212,7 +251,9 @@ impl<'k, 'e> Known<'k, 'e> {
         write_text(out, "}")
     }
 
-    fn write_tokens(&self, out: &mut String, left: &LeftTokens) -> Result<(), AllocError> {
+    fn write_tokens(&self, out: &mut String, left: &LeftTokens) -> Result<(), AllocError>
+        ensures { OnOk result (Adds (string_bytes out.old) (string_bytes out.new)) }
+    {
         write_number(out, r#"{"given":"#, u64::from(left.given))?;
         self.object(
             out,
@@ -229,7 +270,9 @@ impl<'k, 'e> Known<'k, 'e> {
         out: &mut String,
         number: usize,
         waiting: &[DeferredId],
-    ) -> Result<(), AllocError> {
+    ) -> Result<(), AllocError>
+        ensures { OnOk result (Adds (string_bytes out.old) (string_bytes out.new)) }
+    {
         self.object(
             out,
             r#"{"kind":"getters","object":"#,
@@ -239,12 +282,15 @@ impl<'k, 'e> Known<'k, 'e> {
         write_text(out, "}")
     }
 
+    #[tactic(auto, using(crate::proofs::Added::parts))]
     fn write_values(
         &self,
         out: &mut String,
         number: usize,
         values: &mut Deque<Value>,
-    ) -> Result<(), AllocError> {
+    ) -> Result<(), AllocError>
+        ensures { OnOk result (Adds (string_bytes out.old) (string_bytes out.new)) }
+    {
         self.object(
             out,
             r#"{"kind":"values","object":"#,
@@ -259,14 +305,19 @@ impl<'k, 'e> Known<'k, 'e> {
     }
 
     /// Adds the first of these values, which is taken out of them.
-    fn write_first(&self, out: &mut String, values: &mut Deque<Value>) -> Result<(), AllocError> {
+    #[tactic(auto, using(crate::proofs::Added::parts))]
+    fn write_first(&self, out: &mut String, values: &mut Deque<Value>) -> Result<(), AllocError>
+        ensures { OnOk result (Adds (string_bytes out.old) (string_bytes out.new)) }
+    {
         match values.pop_front() {
             None => Ok(()),
             Some(value) => write_json(self.alloc, self.classes, out, &value),
         }
     }
 
-    fn write_unhandled(&self, out: &mut String, place: usize) -> Result<(), AllocError> {
+    fn write_unhandled(&self, out: &mut String, place: usize) -> Result<(), AllocError>
+        ensures { OnOk result (Adds (string_bytes out.old) (string_bytes out.new)) }
+    {
         write_number(out, r#"{"entry":"#, place as u64)?;
         write_text(out, r#","kind":"unhandled","type":"left","value":"#)?;
         self.write_failure_at(out, place)?;
@@ -274,7 +325,10 @@ impl<'k, 'e> Known<'k, 'e> {
     }
 
     /// Adds the failure that an entry tells as unhandled.
-    fn write_failure_at(&self, out: &mut String, place: usize) -> Result<(), AllocError> {
+    #[tactic(auto, using(crate::proofs::Added::parts))]
+    fn write_failure_at(&self, out: &mut String, place: usize) -> Result<(), AllocError>
+        ensures { OnOk result (Adds (string_bytes out.old) (string_bytes out.new)) }
+    {
         match self.entries.get(place) {
             Some(Entry::Unhandled(failure)) => write_failure_json(
                 self.alloc,
@@ -287,23 +341,32 @@ impl<'k, 'e> Known<'k, 'e> {
     }
 }
 
-fn write_at_timeout(out: &mut String, due: u64) -> Result<(), AllocError> {
+#[tactic(auto, using(crate::proofs::Added::parts))]
+fn write_at_timeout(out: &mut String, due: u64) -> Result<(), AllocError>
+    ensures { OnOk result (Adds (string_bytes out.old) (string_bytes out.new)) }
+{
     write_number(out, r#"{"at":"timeout","due":"#, due)?;
     write_text(out, "}")
 }
 
-fn write_tick(out: &mut String, due: u64) -> Result<(), AllocError> {
+#[tactic(auto, using(crate::proofs::Added::parts))]
+fn write_tick(out: &mut String, due: u64) -> Result<(), AllocError>
+    ensures { OnOk result (Adds (string_bytes out.old) (string_bytes out.new)) }
+{
     write_number(out, r#"{"due":"#, due)?;
     write_text(out, r#","kind":"tick","type":"left"}"#)
 }
 
 /// Adds the value of a state, or null where it has none.
+#[tactic(auto, using(crate::proofs::Added::parts))]
 pub fn write_value(
     alloc: Global,
     classes: &Classes,
     out: &mut String,
     state: &State,
-) -> Result<(), AllocError> {
+) -> Result<(), AllocError>
+    ensures { OnOk result (Adds (string_bytes out.old) (string_bytes out.new)) }
+{
     match state {
         State::Unfired | State::Waiting(_) => write_text(out, "null"),
         State::Fired(value) => write_json(alloc, classes, out, value),

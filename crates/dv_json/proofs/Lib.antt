@@ -1,2 +1,5 @@
-pub mod Writing
+pub mod Lines
+pub mod Parts
+pub mod Cuts
+pub mod Texts
 pub mod Ending

@@ -1,3 +1,5 @@
 pub mod Ended
+pub mod Text
+pub mod Gathered
 pub mod Lines
 pub mod Exit

@@ -1,7 +1,8 @@
 -- What a run reads and writes, where it writes JSON Lines.
-use Rattle.std.specs.Prelude.{◌≡◌, ℕ, Bool, List}
-use Rattle.std.specs.Io.KnownBytes.{Appends, Keeps}
+use Rattle.std.specs.Prelude.{◌≡◌, ◌⊎◌, Bool}
+use Rattle.std.specs.Io.KnownBytes.{Keeps}
 use Rattle.dv_json.specs.Ended.{Ends}
+use Rattle.dv_json.specs.Text.{IsText, Writes, WritesPrefix}
 use Rattle.dv_json.specs.declared.marked.Marked.{Marked}
 use Rattle.dv_output.specs.declared.error.RunFault.{RunFault}
 use Rattle.dv_output.specs.declared.error.RunFault.TheVariants.{ScriptRefused, OutOfMemory, ReadFault, WriteFault}
@@ -9,21 +10,26 @@ use Rattle.dv_run.specs.Headline.{Told}
 use Rattle.dv_run.specs.Run.{RefusesInput, SaysScript}
 use Rattle.dv_script.specs.declared.script.Script.{Script}
 
--- bytes were written, and none was taken back
-abbrev pub AppendsSome : Told → Told → Type 0
-AppendsSome old new = (bytes : List ℕ) × Appends old new bytes
-
--- the input says a script, which was run to its end, and whether that run stopped at the limit of its journal
-pub record HasRun (input : Told) (stopped : Bool) : Type 0 where
+-- the input says a script, which was run to its end, and whose text was written; and whether that run stopped at the limit of its journal
+pub record HasRun (input old new : Told) (stopped : Bool) : Type 0 where
   pub script : Script
   pub end : Marked
   pub says : SaysScript input script
   pub ends : Ends script end
   pub same : stopped ≡ end.remains.stopped
+  pub written : Writes (IsText script.classes end) old new
+
+-- the input says a script, which was run to its end, and a prefix of the text was written
+pub record WasCut (input old new : Told) : Type 0 where
+  pub script : Script
+  pub end : Marked
+  pub says : SaysScript input script
+  pub ends : Ends script end
+  pub written : WritesPrefix (IsText script.classes end) old new
 
 -- what was written before each fault: nothing where there is no script
 abbrev pub GivesUp : RunFault → Told → Told → Told → Type 0
 GivesUp (ScriptRefused fault) input old new = RefusesInput input old new fault
-GivesUp OutOfMemory input old new = AppendsSome old new
+GivesUp OutOfMemory input old new = Keeps old new ⊎ WasCut input old new
 GivesUp ReadFault input old new = Keeps old new
-GivesUp WriteFault input old new = AppendsSome old new
+GivesUp WriteFault input old new = WasCut input old new

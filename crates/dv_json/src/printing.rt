@@ -1,8 +1,13 @@
 //! The lines of a run.
 
-ghost use Rattle.std.specs.Prelude.{◌≡◌, IsErrOf, OnOk};
-ghost use Rattle.dv_journal.specs.Sink.{HasFailed};
-ghost use Rattle.dv_json.specs.Lines.{AppendsSome};
+ghost use Rattle.std.specs.Prelude.{◌≡◌, ◌++◌, [], ◌∷◌, IsErrOf, OnErr, OnOk, codes, length, string_bytes};
+ghost use Rattle.dv_facts.specs.Events.{event_at};
+ghost use Rattle.dv_facts.specs.Lines.{IsEntryLine};
+ghost use Rattle.dv_facts.specs.Parts.{Adds};
+ghost use Rattle.dv_journal.specs.Journal.{total_weight};
+ghost use Rattle.dv_journal.specs.Sink.{AppendsBut, AppendsPrefix, HasFailed};
+ghost use Rattle.dv_json.specs.Gathered.{AddsEnd, CutsLines, GathersLines, IsEnd};
+ghost use Rattle.dv_json.specs.Text.{AreSoMany, EachHasLine, HasLines, IsOutcomeLine, IsText, Writes, WritesPrefix, start_line, totals};
 
 use crate::marked::Marked;
 use crate::outcomes::write_outcome;
@@ -36,15 +41,16 @@ struct Run<'r> {
 }
 
 /// Writes a run, a line of JSON an object. WriteFault where the sink fails or takes no byte, OutOfMemory where memory is refused;
-/// what was written then is a prefix.
-#[tactic(auto, using(crate::proofs::Writing::pieces))]
+/// what was written then is a prefix of such a text.
+#[tactic(auto, using(crate::proofs::Cuts::pieces))]
 pub fn print_run<W: Sink>(
     alloc: Global,
     classes: &Classes,
     marked: Marked,
     sink: &mut W,
 ) -> Result<(), PrintFault>
-    ensures written { AppendsSome (W.taken sink.old) (W.taken sink.new) }
+    ensures ok { OnOk result (Writes (IsText classes.now marked) (W.taken sink.old) (W.taken sink.new)) }
+    ensures err { OnErr result (WritesPrefix (IsText classes.now marked) (W.taken sink.old) (W.taken sink.new)) }
     ensures kept { OnOk result (W.failures sink.new ≡ W.failures sink.old) }
     ensures cause { IsErrOf result PrintFault.WriteFault → HasFailed (W.failures sink.old) (W.failures sink.new) }
     ensures memory { IsErrOf result PrintFault.OutOfMemory → W.failures sink.new ≡ W.failures sink.old }
@@ -74,7 +80,7 @@ pub fn print_run<W: Sink>(
 }
 
 /// Writes a run and what is left of it.
-#[tactic(auto, using(crate::proofs::Writing::pieces))]
+#[tactic(auto, using(crate::proofs::Cuts::pieces))]
 fn print_borrowed<W: Sink>(
     alloc: Global,
     classes: &Classes,
@@ -82,7 +88,8 @@ fn print_borrowed<W: Sink>(
     left: &mut [Left],
     sink: &mut W,
 ) -> Result<(), PrintFault>
-    ensures written { AppendsSome (W.taken sink.old) (W.taken sink.new) }
+    ensures ok { OnOk result (Writes (HasLines classes.now run.entry.marks.now run.entry.journal.now run.entry.stopped run.entry.outcomes.now (length left.old)) (W.taken sink.old) (W.taken sink.new)) }
+    ensures err { OnErr result (WritesPrefix (HasLines classes.now run.entry.marks.now run.entry.journal.now run.entry.stopped run.entry.outcomes.now (length left.old)) (W.taken sink.old) (W.taken sink.new)) }
     ensures kept { OnOk result (W.failures sink.new ≡ W.failures sink.old) }
     ensures cause { IsErrOf result PrintFault.WriteFault → HasFailed (W.failures sink.old) (W.failures sink.new) }
     ensures memory { IsErrOf result PrintFault.OutOfMemory → W.failures sink.new ≡ W.failures sink.old }
@@ -93,7 +100,7 @@ fn print_borrowed<W: Sink>(
 }
 
 /// Writes all lines, some kilobytes at a time.
-#[tactic(auto, using(crate::proofs::Writing::pieces))]
+#[tactic(auto, using(crate::proofs::Cuts::pieces))]
 fn print_lines<'r, W: Sink>(
     alloc: Global,
     classes: &Classes,
@@ -103,13 +110,16 @@ fn print_lines<'r, W: Sink>(
     gathered: &mut String,
     sink: &mut W,
 ) -> Result<(), PrintFault>
-    ensures written { AppendsSome (W.taken sink.old) (W.taken sink.new) }
+    requires empty { string_bytes gathered.old ≡ [] }
+    requires unpassed { story.old.passed ≡ 0 }
+    requires marks { story.old.marks.now ≡ run.marks.now }
+    ensures ok { OnOk result (Writes (HasLines classes.now run.entry.marks.now run.entry.journal.now run.entry.stopped run.entry.outcomes.now (length left.old)) (W.taken sink.old) (W.taken sink.new)) }
+    ensures err { OnErr result (WritesPrefix (HasLines classes.now run.entry.marks.now run.entry.journal.now run.entry.stopped run.entry.outcomes.now (length left.old)) (W.taken sink.old) (W.taken sink.new)) }
     ensures kept { OnOk result (W.failures sink.new ≡ W.failures sink.old) }
     ensures cause { IsErrOf result PrintFault.WriteFault → HasFailed (W.failures sink.old) (W.failures sink.new) }
     ensures memory { IsErrOf result PrintFault.OutOfMemory → W.failures sink.new ≡ W.failures sink.old }
 {
-    write_text(gathered, r#"{"type":"start","version":1}"#)?;
-    end_line(gathered, sink)?;
+    print_start(gathered, sink)?;
     let entries = run.journal.entries();
     print_entries(alloc, classes, story, entries, gathered, sink)?;
     print_outcomes(alloc, classes, story, run.outcomes, gathered, sink)?;
@@ -121,16 +131,16 @@ fn print_lines<'r, W: Sink>(
         outcomes: run.outcomes,
     };
     print_left(known, left, gathered, sink)?;
-    write_end(alloc, classes, run, story.time, gathered)?;
-    end_line(gathered, sink)?;
+    print_end(alloc, classes, run, story.time, gathered, sink)?;
     write_all(sink, gathered.as_bytes())?;
     Ok(())
 }
 
 /// Ends a line, and writes what is gathered where it has come to a piece of some kilobytes.
-#[tactic(auto, using(crate::proofs::Writing::pieces))]
+#[tactic(auto, using(crate::proofs::Cuts::pieces))]
 fn end_line<W: Sink>(gathered: &mut String, sink: &mut W) -> Result<(), PrintFault>
-    ensures written { AppendsSome (W.taken sink.old) (W.taken sink.new) }
+    ensures ok { OnOk result (AppendsBut (W.taken sink.old) (W.taken sink.new) (string_bytes gathered.old ++ codes "\n") (string_bytes gathered.new)) }
+    ensures err { OnErr result (AppendsPrefix (W.taken sink.old) (W.taken sink.new) (string_bytes gathered.old ++ codes "\n")) }
     ensures kept { OnOk result (W.failures sink.new ≡ W.failures sink.old) }
     ensures cause { IsErrOf result PrintFault.WriteFault → HasFailed (W.failures sink.old) (W.failures sink.new) }
     ensures memory { IsErrOf result PrintFault.OutOfMemory → W.failures sink.new ≡ W.failures sink.old }
@@ -140,8 +150,21 @@ fn end_line<W: Sink>(gathered: &mut String, sink: &mut W) -> Result<(), PrintFau
     Ok(())
 }
 
+/// Writes the line that begins a run.
+#[tactic(auto, using(crate::proofs::Cuts::pieces))]
+fn print_start<W: Sink>(gathered: &mut String, sink: &mut W) -> Result<(), PrintFault>
+    ensures ok { OnOk result (GathersLines (λ lines. lines ≡ start_line ∷ []) (W.taken sink.old) (string_bytes gathered.old) (W.taken sink.new) (string_bytes gathered.new)) }
+    ensures err { OnErr result (CutsLines (λ lines. lines ≡ start_line ∷ []) (W.taken sink.old) (string_bytes gathered.old) (W.taken sink.new)) }
+    ensures kept { OnOk result (W.failures sink.new ≡ W.failures sink.old) }
+    ensures cause { IsErrOf result PrintFault.WriteFault → HasFailed (W.failures sink.old) (W.failures sink.new) }
+    ensures memory { IsErrOf result PrintFault.OutOfMemory → W.failures sink.new ≡ W.failures sink.old }
+{
+    write_text(gathered, r#"{"type":"start","version":1}"#)?;
+    end_line(gathered, sink)
+}
+
 /// Writes a line for each entry.
-#[tactic(auto, using(crate::proofs::Writing::pieces))]
+#[tactic(auto, using(crate::proofs::Cuts::pieces))]
 fn print_entries<'e, W: Sink>(
     alloc: Global,
     classes: &Classes,
@@ -150,20 +173,22 @@ fn print_entries<'e, W: Sink>(
     gathered: &mut String,
     sink: &mut W,
 ) -> Result<(), PrintFault>
-    ensures written { AppendsSome (W.taken sink.old) (W.taken sink.new) }
+    requires { story.old.passed ≡ 0 }
+    ensures ok { OnOk result (GathersLines (EachHasLine (λ number. IsEntryLine classes.now (event_at story.old.marks.now number) number) 0 entries.now) (W.taken sink.old) (string_bytes gathered.old) (W.taken sink.new) (string_bytes gathered.new)) }
+    ensures err { OnErr result (CutsLines (EachHasLine (λ number. IsEntryLine classes.now (event_at story.old.marks.now number) number) 0 entries.now) (W.taken sink.old) (string_bytes gathered.old) (W.taken sink.new)) }
     ensures kept { OnOk result (W.failures sink.new ≡ W.failures sink.old) }
     ensures cause { IsErrOf result PrintFault.WriteFault → HasFailed (W.failures sink.old) (W.failures sink.new) }
     ensures memory { IsErrOf result PrintFault.OutOfMemory → W.failures sink.new ≡ W.failures sink.old }
 {
-    for entry in entries {
-        story.write_next(alloc, classes, gathered, entry)?;
+    for (number, entry) in entries.iter().enumerate() {
+        story.write_next(alloc, classes, gathered, number, entry)?;
         end_line(gathered, sink)?;
     }
     Ok(())
 }
 
 /// Writes a line for each Deferred.
-#[tactic(auto, using(crate::proofs::Writing::pieces))]
+#[tactic(auto, using(crate::proofs::Cuts::pieces))]
 fn print_outcomes<W: Sink>(
     alloc: Global,
     classes: &Classes,
@@ -172,7 +197,8 @@ fn print_outcomes<W: Sink>(
     gathered: &mut String,
     sink: &mut W,
 ) -> Result<(), PrintFault>
-    ensures written { AppendsSome (W.taken sink.old) (W.taken sink.new) }
+    ensures ok { OnOk result (GathersLines (EachHasLine (IsOutcomeLine classes.now) 0 outcomes.now) (W.taken sink.old) (string_bytes gathered.old) (W.taken sink.new) (string_bytes gathered.new)) }
+    ensures err { OnErr result (CutsLines (EachHasLine (IsOutcomeLine classes.now) 0 outcomes.now) (W.taken sink.old) (string_bytes gathered.old) (W.taken sink.new)) }
     ensures kept { OnOk result (W.failures sink.new ≡ W.failures sink.old) }
     ensures cause { IsErrOf result PrintFault.WriteFault → HasFailed (W.failures sink.old) (W.failures sink.new) }
     ensures memory { IsErrOf result PrintFault.OutOfMemory → W.failures sink.new ≡ W.failures sink.old }
@@ -185,37 +211,80 @@ fn print_outcomes<W: Sink>(
 }
 
 /// Writes a line for each thing that is left.
-#[tactic(auto, using(crate::proofs::Writing::pieces))]
+#[tactic(auto, using(crate::proofs::Cuts::pieces))]
 fn print_left<W: Sink>(
     known: Known<'_, '_>,
     left: &mut [Left],
     gathered: &mut String,
     sink: &mut W,
 ) -> Result<(), PrintFault>
-    ensures written { AppendsSome (W.taken sink.old) (W.taken sink.new) }
+    ensures ok { OnOk result (GathersLines (AreSoMany (length left.old)) (W.taken sink.old) (string_bytes gathered.old) (W.taken sink.new) (string_bytes gathered.new)) }
+    ensures err { OnErr result (CutsLines (AreSoMany (length left.old)) (W.taken sink.old) (string_bytes gathered.old) (W.taken sink.new)) }
     ensures kept { OnOk result (W.failures sink.new ≡ W.failures sink.old) }
     ensures cause { IsErrOf result PrintFault.WriteFault → HasFailed (W.failures sink.old) (W.failures sink.new) }
     ensures memory { IsErrOf result PrintFault.OutOfMemory → W.failures sink.new ≡ W.failures sink.old }
 {
-    for left in left {
-        known.write(gathered, left)?;
+    for thing in left {
+        known.write(gathered, thing)?;
         end_line(gathered, sink)?;
     }
     Ok(())
 }
 
-/// Adds the last line, without its end.
+/// Writes the line that ends a run.
+#[tactic(auto, using(crate::proofs::Cuts::pieces))]
+fn print_end<W: Sink>(
+    alloc: Global,
+    classes: &Classes,
+    run: Run<'_>,
+    time: u64,
+    gathered: &mut String,
+    sink: &mut W,
+) -> Result<(), PrintFault>
+    ensures ok { OnOk result (GathersLines (IsEnd run.entry.journal.now run.entry.stopped) (W.taken sink.old) (string_bytes gathered.old) (W.taken sink.new) (string_bytes gathered.new)) }
+    ensures err { OnErr result (CutsLines (IsEnd run.entry.journal.now run.entry.stopped) (W.taken sink.old) (string_bytes gathered.old) (W.taken sink.new)) }
+    ensures kept { OnOk result (W.failures sink.new ≡ W.failures sink.old) }
+    ensures cause { IsErrOf result PrintFault.WriteFault → HasFailed (W.failures sink.old) (W.failures sink.new) }
+    ensures memory { IsErrOf result PrintFault.OutOfMemory → W.failures sink.new ≡ W.failures sink.old }
+{
+    write_end(alloc, classes, run, time, gathered)?;
+    end_line(gathered, sink)
+}
+
+/// Adds the line that ends a run, without its end.
 fn write_end(
     alloc: Global,
     classes: &Classes,
     run: Run<'_>,
     time: u64,
     out: &mut String,
-) -> Result<(), AllocError> {
+) -> Result<(), AllocError>
+    ensures { OnOk result (AddsEnd run.entry.journal.now run.entry.stopped (string_bytes out.old) (string_bytes out.new)) }
+{
+    write_work(alloc, classes, run, out)?;
+    write_totals(run, time, out)
+}
+
+/// Adds the batches and the jobs.
+#[tactic(auto, using(dv_facts::proofs::Added::parts))]
+fn write_work(
+    alloc: Global,
+    classes: &Classes,
+    run: Run<'_>,
+    out: &mut String,
+) -> Result<(), AllocError>
+    ensures { OnOk result (Adds (string_bytes out.old) (string_bytes out.new)) }
+{
     write_text(out, r#"{"batches":"#)?;
     write_batches(out, run.batches)?;
     write_text(out, r#","jobs":"#)?;
-    write_jobs(alloc, classes, out, run.dones)?;
+    write_jobs(alloc, classes, out, run.dones)
+}
+
+/// Adds what the journal came to, and the time.
+fn write_totals(run: Run<'_>, time: u64, out: &mut String) -> Result<(), AllocError>
+    ensures { let journal = run.entry.journal.now in OnOk result (string_bytes out.new ≡ string_bytes out.old ++ totals journal.limit run.entry.stopped time (total_weight journal.entries)) }
+{
     write_number(out, r#","limit":"#, run.journal.limit())?;
     write_bool(out, r#","stopped":"#, run.stopped)?;
     write_number(out, r#","time":"#, time)?;
@@ -223,7 +292,10 @@ fn write_end(
     write_text(out, "}")
 }
 
-fn write_batches(out: &mut String, batches: &[Items<Posted>]) -> Result<(), AllocError> {
+#[tactic(auto, using(dv_facts::proofs::Added::parts))]
+fn write_batches(out: &mut String, batches: &[Items<Posted>]) -> Result<(), AllocError>
+    ensures { OnOk result (Adds (string_bytes out.old) (string_bytes out.new)) }
+{
     write_text(out, "[")?;
     for (place, batch) in batches.iter().enumerate() {
         write_comma(out, place)?;
@@ -232,7 +304,10 @@ fn write_batches(out: &mut String, batches: &[Items<Posted>]) -> Result<(), Allo
     write_text(out, "]")
 }
 
-fn write_batch(out: &mut String, batch: &[Posted]) -> Result<(), AllocError> {
+#[tactic(auto, using(dv_facts::proofs::Added::parts))]
+fn write_batch(out: &mut String, batch: &[Posted]) -> Result<(), AllocError>
+    ensures { OnOk result (Adds (string_bytes out.old) (string_bytes out.new)) }
+{
     write_text(out, "[")?;
     for (place, posted) in batch.iter().enumerate() {
         write_comma(out, place)?;
@@ -241,25 +316,44 @@ fn write_batch(out: &mut String, batch: &[Posted]) -> Result<(), AllocError> {
     write_text(out, "]")
 }
 
-fn write_post(out: &mut String, posted: &Posted) -> Result<(), AllocError> {
+#[tactic(auto, using(dv_facts::proofs::Added::parts))]
+fn write_post(out: &mut String, posted: &Posted) -> Result<(), AllocError>
+    ensures { OnOk result (Adds (string_bytes out.old) (string_bytes out.new)) }
+{
     write_number(out, "[", u64::from(posted.caller))?;
     write_number(out, ",", u64::from(posted.index))?;
     write_text(out, "]")
 }
 
+#[tactic(auto, using(dv_facts::proofs::Added::parts))]
 fn write_jobs(
     alloc: Global,
     classes: &Classes,
     out: &mut String,
     dones: &[Done],
-) -> Result<(), AllocError> {
+) -> Result<(), AllocError>
+    ensures { OnOk result (Adds (string_bytes out.old) (string_bytes out.new)) }
+{
     write_text(out, "[")?;
     for (number, done) in dones.iter().enumerate() {
         write_comma(out, number)?;
-        write_number(out, r#"{"number":"#, number as u64)?;
-        write_text(out, r#","value":"#)?;
-        write_json(alloc, classes, out, done.outcome())?;
-        write_text(out, "}")?;
+        write_job(alloc, classes, out, number, done)?;
     }
     write_text(out, "]")
+}
+
+/// Adds a job: its number, and what it came to.
+fn write_job(
+    alloc: Global,
+    classes: &Classes,
+    out: &mut String,
+    number: usize,
+    done: &Done,
+) -> Result<(), AllocError>
+    ensures { OnOk result (Adds (string_bytes out.old) (string_bytes out.new)) }
+{
+    write_number(out, r#"{"number":"#, number as u64)?;
+    write_text(out, r#","value":"#)?;
+    write_json(alloc, classes, out, done.outcome())?;
+    write_text(out, "}")
 }

@@ -1,6 +1,6 @@
 ghost use Rattle.std.specs.Prelude.{◌≡◌, ◌≤◌, IfErr, IfOk};
 ghost use Rattle.dv_json.specs.Exit.{error_text, status};
-ghost use Rattle.dv_json.specs.Lines.{AppendsSome, GivesUp, HasRun};
+ghost use Rattle.dv_json.specs.Lines.{GivesUp, HasRun};
 ghost use Rattle.dv_run.specs.Run.{Leaves, ReaderFailed, WriterFailed};
 ghost use Rattle.dv_script.specs.declared.limits.TheConstants.{MOST_WORKERS};
 
@@ -38,8 +38,7 @@ where
     W: Sink,
     G: Gate + Sync,
     requires { workers ≤ MOST_WORKERS }
-    ensures ok { IfOk result (HasRun (R.left reader.old)) }
-    ensures written { IfOk result (λ _. AppendsSome (W.taken writer.old) (W.taken writer.new)) }
+    ensures ok { IfOk result (HasRun (R.left reader.old) (W.taken writer.old) (W.taken writer.new)) }
     ensures err { IfErr result (λ fault. GivesUp fault (R.left reader.old) (W.taken writer.old) (W.taken writer.new)) }
     ensures reader { ReaderFailed result (R.failures reader.old) (R.failures reader.new) }
     ensures writer { WriterFailed result (W.failures writer.old) (W.failures writer.new) }

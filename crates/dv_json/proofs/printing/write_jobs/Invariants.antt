@@ -1,0 +1,7 @@
+use Rattle.std.proofs.Common.{string_bytes}
+use Rattle.dv_facts.specs.Parts.{Adds}
+use Rattle.dv_json.proofs.printing.write_jobs.Given as goal
+
+-- what was added ends no line
+abbrev pub invariant-loop-number : goal.invariant-loop-number
+invariant-loop-number l = Adds (string_bytes l.initial.out) (string_bytes l.out)
