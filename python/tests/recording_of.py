@@ -5,8 +5,6 @@ from __future__ import annotations
 import json
 import os
 import shutil
-import subprocess
-import sys
 import tempfile
 import time
 import unittest
@@ -15,9 +13,11 @@ from typing import Any, Callable, Dict, List, NamedTuple
 
 from deferreds.twisted.running import be_quiet, run
 
+from .forked import Forked, environment
+
 PROGRAMS = Path(__file__).resolve().parents[1] / "data" / "programs"
 
-_COMMAND = [sys.executable, "-m", "deferreds.twisted", "record"]
+_COMMAND = ["-m", "deferreds.twisted", "record"]
 _SECONDS = 60.0
 
 
@@ -38,32 +38,17 @@ class RecordingCase(unittest.TestCase):
         be_quiet()
         self.folder = Path(room.name)
 
-    def environment(self) -> Dict[str, str]:
-        """The environment in which the package is found."""
-        return {**os.environ, "PYTHONPATH": os.pathsep.join(filter(None, sys.path)), "PYTHONDONTWRITEBYTECODE": "1"}
-
-    def start(self, *words: str) -> "subprocess.Popen[str]":
+    def start(self, *words: str) -> Forked:
         """Starts the command with these words. A program is named by its file."""
-        process = subprocess.Popen(
-            [*_COMMAND, *(str(PROGRAMS / word) if (PROGRAMS / word).is_file() else word for word in words)],
-            cwd=self.folder,
-            env=self.environment(),
-            stdin=subprocess.PIPE,
-            stdout=subprocess.PIPE,
-            stderr=subprocess.PIPE,
-            text=True,
-        )
-        for stream in (process.stdin, process.stdout, process.stderr):
-            assert stream is not None
-            self.addCleanup(stream.close)
-        self.addCleanup(process.wait)
-        self.addCleanup(process.kill)
+        named = (str(PROGRAMS / word) if (PROGRAMS / word).is_file() else word for word in words)
+        process = Forked([*_COMMAND, *named], self.folder, environment())
+        self.addCleanup(process.close)
         return process
 
-    def end(self, process: "subprocess.Popen[str]") -> Ended:
+    def end(self, process: Forked) -> Ended:
         """Waits for the end of the command."""
         printed, said = process.communicate(timeout=_SECONDS)
-        return Ended(process.returncode, said, printed)
+        return Ended(process.wait(), said, printed)
 
     def record(self, *words: str) -> Ended:
         """Runs the command to its end."""

@@ -18,6 +18,8 @@ from deferreds.twisted.comparing import Difference
 from deferreds.twisted.conforming import Progress, Tally
 from deferreds.twisted.programs import MOST_LATE, MOST_UNANSWERED, Lack
 
+from .forked import environment, run
+
 #: more than any of these tests takes
 _LONG = 120
 
@@ -410,14 +412,7 @@ class OnTwistedTest(unittest.TestCase):
         )
         for words, script in cases:
             with self.subTest(words=words, script=script):
-                ran = subprocess.run(
-                    [sys.executable, "-m", "deferreds.twisted", "on_twisted", *words],
-                    input=script,
-                    env={**os.environ, "PYTHONPATH": os.pathsep.join(filter(None, sys.path))},
-                    capture_output=True,
-                    text=True,
-                    check=False,
-                )
+                ran = run(["-m", "deferreds.twisted", "on_twisted", *words], os.curdir, environment(), given=script)
                 self.assertEqual(ran.returncode, 64, ran.stderr)
                 self.assertNotIn("Traceback", ran.stderr)
 

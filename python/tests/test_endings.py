@@ -6,7 +6,6 @@ import contextlib
 import os
 import re
 import signal
-import subprocess
 import unittest
 from pathlib import Path
 from typing import List, Optional
@@ -23,6 +22,7 @@ from deferreds.twisted.recording.recorder import Recorder
 from deferreds.twisted.recording.saying import Said
 from deferreds.twisted.rows import ANY_LINES, read_rows, row_files
 
+from .forked import Forked
 from .recording_of import RecordingCase
 
 
@@ -259,7 +259,6 @@ class Services(RecordingCase):
 
     def test_twist(self) -> None:
         process = self.start("twist.py", "web", "--listen", "tcp:0:interface=127.0.0.1")
-        assert process.stdout is not None
         while "Starting reactor" not in process.stdout.readline():
             self.assertIsNone(process.poll())
         process.send_signal(signal.SIGTERM)
@@ -291,7 +290,6 @@ class Asked(RecordingCase):
     def ask(self, *words: str) -> None:
         """Asks while the program waits, and once more; it goes on, and ends by itself."""
         process = self.start("asked.py", *words)
-        assert process.stdin is not None and process.stdout is not None
         if words:
             self.assertEqual(process.stdout.readline(), "True\n")
         for count in (1, 2, 3):
@@ -333,7 +331,7 @@ class InCalls(RecordingCase):
         super().setUp()
         self.begun, self.goes_on = self.folder / "begun", self.folder / "goes_on"
 
-    def wait_in_a_call(self) -> "subprocess.Popen[str]":
+    def wait_in_a_call(self) -> Forked:
         """Starts the program, and waits until it is in the second call of one advance."""
         process = self.start("waits_in_a_call.py", str(self.begun), str(self.goes_on))
         self.wait_for(self.begun.exists, "the call")

@@ -6,8 +6,6 @@ import json
 import math
 import os
 import re
-import subprocess
-import sys
 import tempfile
 import unittest
 from fractions import Fraction
@@ -17,6 +15,8 @@ from typing import Any, List
 from deferreds.checkout import TOP
 from deferreds.twisted.programs import ours
 
+from .forked import environment, run
+
 PROGRAMS = TOP / "python" / "data" / "programs"
 
 
@@ -24,17 +24,9 @@ class Recording:
     """What `./record` has written of a program, and said."""
 
     def __init__(self, name: str, *words: str) -> None:
-        command = [sys.executable, "-m", "deferreds.twisted", "record", *words]
         with tempfile.TemporaryDirectory() as folder:
-            ran = subprocess.run(
-                [*command, "-o", os.path.join(folder, "run"), os.fspath(PROGRAMS / f"{name}.py")],
-                cwd=folder,
-                env={**os.environ, "PYTHONPATH": os.pathsep.join(filter(None, sys.path))},
-                capture_output=True,
-                text=True,
-                timeout=120,
-                check=False,
-            )
+            command = ["-m", "deferreds.twisted", "record", *words, "-o", os.path.join(folder, "run"), os.fspath(PROGRAMS / f"{name}.py")]
+            ran = run(command, folder, environment())
             self.status, self.said = ran.returncode, ran.stderr
             self.script, self.journal = (_text(Path(folder, f"run.{kind}")) for kind in ("json", "journal"))
 

@@ -5,7 +5,6 @@ from __future__ import annotations
 import json
 import math
 import os
-import subprocess
 import sys
 import tempfile
 import unittest
@@ -22,6 +21,8 @@ from deferreds.twisted.recording.recorder import Recorder
 from deferreds.twisted.recording.saying import Said
 from deferreds.twisted.running import be_quiet, run
 from deferreds.twisted.telling import KINDS, is_deferred
+
+from . import forked
 
 
 def recorded(program: Callable[[], object], kinds: frozenset[str] = KINDS) -> Said:
@@ -262,15 +263,11 @@ class Shown(unittest.TestCase):
 
     def test_it_is_written_beside_the_script_and_the_journal(self) -> None:
         example = Path(__file__).resolve().parents[2] / "examples" / "python" / "workers.py"
-        command = [sys.executable, "-m", "deferreds.twisted", "record", "--virtual", "--view"]
+        command = ["-m", "deferreds.twisted", "record", "--virtual", "--view"]
         with tempfile.TemporaryDirectory() as folder:
             name = Path(folder, "workers")
-            subprocess.run(
-                [*command, "-o", str(name), str(example)],
-                env={**os.environ, "PYTHONPATH": os.pathsep.join(sys.path)},
-                capture_output=True,
-                check=True,
-            )
+            ran = forked.run([*command, "-o", str(name), str(example)], folder, forked.environment())
+            self.assertEqual(ran.returncode, 0, ran.stderr)
             page = Path(f"{name}.html").read_text(encoding="utf-8")
         self.assertIn("122 lines, 14 Deferreds, 15 events, time 0 to 6", page)
         self.assertIn("event 0  <b><bdi>inline worker_56 ", page)
@@ -282,14 +279,7 @@ class Command(unittest.TestCase):
     def run_record(self, *words: str, cwd: str) -> "tuple[int, str]":
         """Status and errors, where the command is installed: its own folder is the first of the path."""
         code = "import sys; sys.path.pop(0); from deferreds.commands import record; sys.exit(record())"
-        ran = subprocess.run(
-            [sys.executable, "-c", code, *words],
-            cwd=cwd,
-            env={**os.environ, "PYTHONPATH": os.pathsep.join(filter(None, sys.path))},
-            capture_output=True,
-            text=True,
-            check=False,
-        )
+        ran = forked.run(["-c", code, *words], cwd, forked.environment())
         return ran.returncode, ran.stderr
 
     def test_wrong_words_and_places(self) -> None:

@@ -22,7 +22,12 @@ from deferreds.view.places import SUFFIX as PLACES
 from deferreds.view.places import read_places
 from twisted.internet.defer import Deferred
 
+from . import forked
+
 _HAS_PYTEST = importlib.util.find_spec("pytest") is not None
+
+#: pytest with the plugin
+_PYTEST = ("-m", "pytest", "-p", "no:cacheprovider", "-p", "deferreds.testing.pytest_plugin", "--tb=no")
 
 _PLAIN = """
     import pytest
@@ -237,13 +242,22 @@ class TestingTest(unittest.TestCase):
         """Writes a module of tests."""
         (self.folder / name).write_text(textwrap.dedent(text), encoding="utf-8")
 
+    def environment(self) -> Dict[str, str]:
+        """The environment in which the package and the modules of tests are found."""
+        own = forked.environment()
+        return {**own, "PYTHONPATH": os.pathsep.join([own["PYTHONPATH"], str(self.folder)]), "PYTEST_DISABLE_PLUGIN_AUTOLOAD": "1"}
+
     def python(self, *words: object) -> Ran:
         """Runs Python with these words in the folder."""
-        path = os.pathsep.join([*map(os.path.abspath, filter(None, sys.path)), str(self.folder)])
+        ran = forked.run(list(map(str, words)), self.folder, self.environment(), merged=True)
+        return Ran(ran.returncode, ran.stdout)
+
+    def bare_python(self, *words: object) -> Ran:
+        """As `python`, in a process that has imported nothing."""
         ran = subprocess.run(
             [sys.executable, *map(str, words)],
             cwd=self.folder,
-            env={**os.environ, "PYTHONPATH": path, "PYTEST_DISABLE_PLUGIN_AUTOLOAD": "1"},
+            env=self.environment(),
             stdout=subprocess.PIPE,
             stderr=subprocess.STDOUT,
             text=True,
@@ -274,8 +288,7 @@ class PytestTest(TestingTest):
 
     def pytest(self, *words: object) -> Ran:
         """Runs pytest with the plugin."""
-        plugin = "deferreds.testing.pytest_plugin"
-        return self.python("-m", "pytest", "-p", "no:cacheprovider", "-p", plugin, "--tb=no", *words)
+        return self.python(*_PYTEST, *words)
 
     def results(self, ran: Ran) -> Dict[str, List[str]]:
         """The results of each test, one a phase, by its name."""
@@ -344,7 +357,7 @@ class PytestTest(TestingTest):
 
     def test_without_the_option_nothing_of_twisted_is_imported(self) -> None:
         self.write("test_a.py", "import sys\ndef test_a():\n    assert 'twisted' not in sys.modules\n")
-        self.assertEqual(self.pytest("test_a.py").status, 0)
+        self.assertEqual(self.bare_python(*_PYTEST, "test_a.py").status, 0)
 
     def test_what_stands_in_the_way_is_told_before_any_test(self) -> None:
         self.write("test_a.py", "def test_a():\n    open('ran', 'w').close()\n")
@@ -362,7 +375,7 @@ class PytestTest(TestingTest):
 
     def test_without_twisted_it_says_so(self) -> None:
         hidden = "import sys\nsys.modules['twisted'] = None\nimport pytest\nsys.exit(pytest.main(sys.argv[1:]))\n"
-        ran = self.python("-c", hidden, "-p", "deferreds.testing.pytest_plugin", "--deferreds-record", "out")
+        ran = self.bare_python("-c", hidden, "-p", "deferreds.testing.pytest_plugin", "--deferreds-record", "out")
         self.assertEqual(ran.status, 4, ran.output)
         self.assertIn("--deferreds-record needs Twisted, from 22.4 on", ran.output)
 
