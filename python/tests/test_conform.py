@@ -114,7 +114,7 @@ class ConformTest(unittest.TestCase):
         return self.command(_MANY.format(python=sys.executable, answer=answer))
 
 
-class OursTest(unittest.TestCase):
+class OursTest(ConformTest):
     """Random scripts are compared with our own program, which `./deferreds --program` names."""
 
     def test_without_a_program_of_ours_random_scripts_end_with_status_70(self) -> None:
@@ -209,7 +209,7 @@ class ShownTest(ConformTest):
     def test_a_difference_that_is_gone_at_the_next_run_is_shown_all_the_same(self) -> None:
         seen = self.folder / "seen"
         command = self.shell(f"cat >/dev/null; [ -e {seen} ] || {{ : >{seen}; echo once; }}")
-        ran = conforming("--random", "1", "--ours", "true", "--", command)
+        ran = conforming("--random", "1", "--trials", "5", "--ours", "true", "--", command)
         self.assertIn("random script 0 of seed 1", ran.output)
         self.assertIn("\n  command:   once\n", ran.output)
         self.assertEqual((ran.status, ran.output.splitlines()[-1]), (1, "0 passed, 1 failed"))
@@ -270,7 +270,8 @@ class WaitingTest(ConformTest):
         self.assertIn("\n  command:   (no answer within 0.2 seconds)\n", ran.output)
 
     def test_output_without_an_end_is_told(self) -> None:
-        ran = conforming("--random", "1", "--trials", "0", "--ours", "true", "--", self.shell("exec yes"))
+        with mock.patch("deferreds.twisted.children.MOST_BYTES", 1 << 20):
+            ran = conforming("--random", "1", "--trials", "0", "--ours", "true", "--", self.shell("exec yes"))
         self.assertIn("line 1 differs\n  deferreds: (the end)\n  command:   y\n", ran.output)
 
     def test_a_command_that_does_not_read_is_no_failure_of_its_own(self) -> None:

@@ -379,7 +379,7 @@ class Limits(RecordingCase):
 
     def test_the_script_is_of_the_longest_beginning(self) -> None:
         for words, reason, events in (
-            (("12000", "0", "0", "65"), "the script has more nodes than one may have", 18_723),
+            (("2200", "30", "1", "65"), "the script has more nodes than one may have", 3_543),
             (("12", "190", "200", "65"), "the journal weighs more than a script's may", 11),
             (("6", "190", "160", "1"), "the script is longer than one may be", 11),
         ):

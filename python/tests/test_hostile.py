@@ -60,7 +60,10 @@ class Hostile(unittest.TestCase):
     def test_each_is_recorded_as_it_ran_or_refused(self) -> None:
         be_quiet()
         install()
+        gc.collect()
+        gc.freeze()  # what is there already isn't looked through again
         self.addCleanup(gc.collect)  # finalizers that run in another test would be recorded there
+        self.addCleanup(gc.unfreeze)
         for level in ("core", "lists", "locks", "inline"):
             whole = 0
             for number in range(_SCRIPTS):

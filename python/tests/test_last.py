@@ -45,7 +45,7 @@ class Last(RecordingCase):
         ended = self.record("-o", "last", "--last", "300", "grows.py")
         self.assertEqual(ended.status, 0, ended.said)
         early, late = (int(line.split()[1]) for line in ended.printed.splitlines())
-        self.assertLess(late, 1.2 * early)
+        self.assertLess(late - early, 2_000, "3,000 requests leave less than an object each")
         self.assert_goes_together("last")
 
     def test_what_a_seed_says(self) -> None:

@@ -97,6 +97,12 @@ def ours() -> Optional[Once]:
 class Programs(unittest.TestCase):
     """Each program."""
 
+    @classmethod
+    def setUpClass(cls) -> None:
+        gc.collect()
+        gc.freeze()  # what is there already isn't looked through again
+        cls.addClassCleanup(gc.unfreeze)
+
     def assert_right(self, said: Said, entry: Optional[str] = None) -> None:
         """It is said whole, and both `deferreds` and real Twisted print its journal; or part from it after the entry."""
         self.assertEqual(said.problems, [])

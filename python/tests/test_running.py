@@ -200,9 +200,11 @@ class Printed(unittest.TestCase):
 
     def test_a_run_has_4096_jobs_of_all_pools_at_most(self) -> None:
         job: List[Any] = ["threadIn", "a", "io", 9, ["value", 0]]
-        events = [["thread", "a", 9, ["value", 0]], *[job] * 4_095]
-        run_ = ran(*events, job, version=2, pools=[["io", 1]], limit=20_000)
-        self.assertEqual(run_.journal[-2], "later job 4095 9")
+        events: List[Any] = [["thread", "a", 9, ["value", 0]], *[job] * 4_095]
+        for at in range(3_584, 0, -512):  # the results of all but the last 512 come: each one that is awaited costs the clock
+            events.insert(at, ["advance", 9])
+        run_ = ran(*events, job, version=2, pools=[["io", 1]], limit=50_000)
+        self.assertEqual(run_.journal[-2], "later job 4095 72")
         self.assertEqual(run_.journal[-1], 'unhandled RuntimeError "too many jobs"')
         self.assertEqual(len(run_.outcomes), 4_096)
 

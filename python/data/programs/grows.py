@@ -15,7 +15,7 @@ def worker(queue):
 
 queue = defer.DeferredQueue()
 worker(queue)
-for number in range(12_000):
+for number in range(4_000):
     deferred = defer.Deferred()
     deferred.addCallback(lambda value: {"a dict": value})
     deferred.callback(number)
@@ -23,6 +23,6 @@ for number in range(12_000):
     if number % 100 == 0:
         waiting.append(defer.Deferred())
         del waiting[:-3]
-    if number in (3_000, 11_999):
+    if number in (1_000, 3_999):
         gc.collect()
         print("objects", len(gc.get_objects()))
