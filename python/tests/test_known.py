@@ -4,10 +4,12 @@ from __future__ import annotations
 
 import contextlib
 import io
+import json
 import os
 import subprocess
 import sys
 import unittest
+from typing import Dict, NamedTuple, Sequence
 from unittest import mock
 
 import twisted
@@ -28,26 +30,38 @@ WORDS = {
     "trial": ["--deferreds-record", "/nowhere/run", __name__],
 }
 
-#: has a command be run where something is otherwise in Twisted
+#: has commands be run where something is otherwise in Twisted, and prints how each has ended
 WITH = """
-import sys, twisted
+import contextlib, io, json, sys, twisted
 from twisted.internet import defer
 {}
 from deferreds.twisted.__main__ import main
-sys.exit(main(sys.argv[1:]))
+for words in json.loads(sys.argv[1]):
+    with contextlib.redirect_stdout(io.StringIO()) as output, contextlib.redirect_stderr(io.StringIO()) as errors:
+        status = main(words)
+    print(json.dumps([status, output.getvalue(), errors.getvalue()]))
 """
 
 
-def ran(change: str, name: str) -> "subprocess.CompletedProcess[str]":
-    """A command, where this is changed in Twisted before it."""
-    return subprocess.run(
-        [sys.executable, "-c", WITH.format(change), name, *WORDS[name]],
+class Ran(NamedTuple):
+    """How a command has ended, and what it has written."""
+
+    status: int
+    output: str
+    errors: str
+
+
+def ran(change: str, names: Sequence[str]) -> Dict[str, Ran]:
+    """Commands, where this is changed in Twisted before them."""
+    child = subprocess.run(
+        [sys.executable, "-c", WITH.format(change), json.dumps([[name, *WORDS[name]] for name in names])],
         env={**os.environ, "PYTHONPATH": os.pathsep.join(sys.path)},
         stdin=subprocess.DEVNULL,
         capture_output=True,
         text=True,
-        check=False,
+        check=True,
     )
+    return {name: Ran(*json.loads(line)) for name, line in zip(names, child.stdout.splitlines())}
 
 
 class SelfTest(unittest.TestCase):
@@ -100,12 +114,11 @@ class SelfTest(unittest.TestCase):
             "from deferreds.twisted.instruments import inline\n"
             "inline.AWAITS = ()  # as where Twisted has another name for it"
         )
-        for name in COMMANDS:
+        for name, command in ran(change, COMMANDS).items():
             with self.subTest(name):
-                command = ran(change, name)
-                self.assertEqual((command.returncode, command.stdout), (70, ""))
-                self.assertIn(f"Twisted {twisted.__version__} isn't known: ", command.stderr)
-                self.assertEqual(len(command.stderr.splitlines()), 1, command.stderr)
+                self.assertEqual((command.status, command.output), (70, ""))
+                self.assertIn(f"Twisted {twisted.__version__} isn't known: ", command.errors)
+                self.assertEqual(len(command.errors.splitlines()), 1, command.errors)
 
 
 class Refused(unittest.TestCase):
@@ -120,16 +133,16 @@ class Refused(unittest.TestCase):
                 refuse_unusable()
 
     def test_a_command_names_the_older_version(self) -> None:
-        command = ran("twisted.__version__ = '21.7.0'", "on_twisted")
-        self.assertEqual((command.returncode, command.stdout), (70, ""))
-        self.assertRegex(command.stderr, r"^[^ ]*on_twisted: Twisted 21\.7\.0 isn't known")
-        self.assertEqual(len(command.stderr.splitlines()), 1, command.stderr)
+        command = ran("twisted.__version__ = '21.7.0'", ["on_twisted"])["on_twisted"]
+        self.assertEqual((command.status, command.output), (70, ""))
+        self.assertRegex(command.errors, r"^[^ ]*on_twisted: Twisted 21\.7\.0 isn't known")
+        self.assertEqual(len(command.errors.splitlines()), 1, command.errors)
 
     def test_a_command_names_the_version_in_which_a_name_is_missing(self) -> None:
-        command = ran("del defer._cancellableInlineCallbacks", "record")
-        self.assertEqual((command.returncode, command.stdout), (70, ""))
-        self.assertIn(f"record: Twisted {twisted.__version__} isn't known: ", command.stderr)
-        self.assertEqual(len(command.stderr.splitlines()), 1, command.stderr)
+        command = ran("del defer._cancellableInlineCallbacks", ["record"])["record"]
+        self.assertEqual((command.status, command.output), (70, ""))
+        self.assertIn(f"record: Twisted {twisted.__version__} isn't known: ", command.errors)
+        self.assertEqual(len(command.errors.splitlines()), 1, command.errors)
 
     def test_a_command_names_the_version_that_this_python_cant_import(self) -> None:
         change = (
@@ -140,11 +153,11 @@ class Refused(unittest.TestCase):
             "            raise TypeError('no such argument')\n"
             "sys.meta_path.insert(0, Fails())"
         )
-        for name in COMMANDS:
-            command = ran(change, name)
-            self.assertEqual((command.returncode, command.stdout), (70, ""))
-            self.assertIn("can't import it: no such argument; ", command.stderr)
-            self.assertEqual(len(command.stderr.splitlines()), 1, command.stderr)
+        for name, command in ran(change, COMMANDS).items():
+            with self.subTest(name):
+                self.assertEqual((command.status, command.output), (70, ""))
+                self.assertIn("can't import it: no such argument; ", command.errors)
+                self.assertEqual(len(command.errors.splitlines()), 1, command.errors)
 
     def test_a_command_that_isnt_there(self) -> None:
         for words in ([], ["nothing"]):
