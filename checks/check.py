@@ -79,7 +79,7 @@ STAGES = [
           variables={"CHROMIUM": ""}),
     Stage("packages", "the wheel and the Debian package install and run", [unittests("python/packaging_tests", "-t", "python")]),
     Stage("types", "the types of the Python package", [["python/check_types"]], no_mypy),
-    Stage("recorder", "the recorder, and scripts on real Twisted", [unittests("python/tests", "-t", "python")], no_twisted),
+    Stage("recorder", "the recorder, and scripts on real Twisted", [[_PYTHON, "python/tests/side_by_side.py"]], no_twisted),
     Stage("conform", "real Twisted agrees with all rows, and with random scripts", [
         ["./conform", "--rows", "--many", "--", "./on_twisted"],
         ["./conform", "--random", "500", "--seed", "1", "--many", "--", "./on_twisted"],
