@@ -53,6 +53,7 @@ class Cases(unittest.TestCase):
         self.assertEqual((run.passed, run.why), (True, ""))
         self.assertEqual(self.notes(said), ["set up", "ready", "answered", "cleaned", "tear down"])
         self.assertTrue(said.with_times)
+        self.assertEqual([line for line in said.journal if line.endswith(" ok []")], [], "the reactor starts with a list of its own")
 
     def test_what_fails_is_told_to_have_failed(self) -> None:
         run, said = self.recorded("WaitingCase.test_failure")
@@ -69,6 +70,11 @@ class Cases(unittest.TestCase):
         run, said = self.recorded("WaitingCase.test_at_once")
         self.assertTrue(run.passed)
         self.assertEqual(self.notes(said), ["set up", "ready", "1", "cleaned", "tear down"])
+
+    def test_a_generator_is_refused_as_trial_refuses_it(self) -> None:
+        run, said = self.recorded("WaitingCase.test_generator")
+        self.assertEqual((run.passed, self.notes(said)), (False, ["set up", "ready", "cleaned", "tear down"]))
+        self.assertIn("is a generator function", run.why)
 
     def test_virtual_time(self) -> None:
         run, said = self.recorded("VirtualCase.test_time", virtual=True)

@@ -61,6 +61,9 @@ class WaitingCase(unittest.TestCase):
     def test_at_once(self):
         return defer.succeed(1).addCallback(print)
 
+    def test_generator(self):
+        yield defer.succeed(1)
+
 
 class VirtualCase(unittest.TestCase):
     def test_time(self):

@@ -14,6 +14,7 @@ from twisted.python import usage
 from twisted.scripts import trial
 from twisted.trial.unittest import TestCase
 
+from ..twisted.recording.case import without_own_frames
 from . import cases
 from .folder import NotUsable
 from .recorded import RecordedTest, RecordedTests
@@ -82,7 +83,7 @@ def _recording(reporter: Any, tests: RecordedTests) -> Any:
             tests.end(test)
 
         def _failed(self, error: Any) -> None:
-            cases.without_own_frames(error)
+            without_own_frames(error)
             if self._recorded is not None:
                 self._recorded[0].failed = True
 

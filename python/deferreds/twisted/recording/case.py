@@ -1,18 +1,19 @@
-"""Records one test: its `setUp`, its method, its `tearDown` and its cleanups are the program, and trial runs it on the real reactor.
+"""Records a test case: its `setUp`, its method, its `tearDown` and its cleanups are the program, and trial or unittest runs them.
 
 The recorder is on where these run, and where the reactor runs while trial waits for one of them. Trial's own Deferreds, delayed
-calls and turns aren't the program's. What a part of the test gives back gets one pair more, which takes what has come: trial is told of
-that by a Deferred of its own, in the reactor's next turn.
+calls and turns aren't the program's. A Deferred that a part of the test gives back gets one pair more, which takes what has come:
+trial is given another Deferred in its place, and told of that by it.
 """
 
 from __future__ import annotations
 
 import contextlib
 import functools
+import inspect
 import unittest
-from typing import Any, Callable, Iterator, List, Optional
+from typing import Any, Callable, Dict, Iterator, Optional
 
-from twisted.internet import base, defer
+from twisted.internet import base
 from twisted.internet.defer import Deferred
 from twisted.python.failure import Failure
 from twisted.trial.unittest import TestCase
@@ -27,6 +28,8 @@ from .recorder import Recorder
 
 #: the methods of a test that are the program, beside its own
 _PARTS = ("setUp", "tearDown")
+
+_MISSING = object()
 
 
 class TestRun:
@@ -45,12 +48,9 @@ def record_test(cls: type[unittest.TestCase], method: str, kinds: frozenset[str]
     install()
     run = TestRun(Recorder(kinds, redact))
     case = cls(method)
-    recorded: _Recorded = (_OnVirtual if virtual else _Recorded)(run.recorder, isinstance(case, TestCase))
-    for name in (*_PARTS, method):
-        setattr(case, name, recorded.part(_method(case, name)))
-    setattr(case, "addCleanup", functools.partial(_add_cleanup, recorded, case.addCleanup))
+    recorded = (_OnVirtual if virtual else RecordedCase)(case, lambda: run.recorder, in_next_turn=True)
     result = unittest.TestResult()
-    with recorded.running(), printing_notes():
+    with recorded.prepared(), printing_notes():
         unittest.TestSuite([case]).run(result)
     bad = result.failures + result.errors
     run.passed, run.skipped = not bad, bool(result.skipped)
@@ -58,76 +58,123 @@ def record_test(cls: type[unittest.TestCase], method: str, kinds: frozenset[str]
     return run
 
 
-def _method(case: unittest.TestCase, name: str) -> Callable[[], Any]:
-    """A method of a test, in which it is the method of the class: tests ask for warnings of their own by it."""
-    method = getattr(case, name)
+class RecordedCase:
+    """A test case, parts of which run under a recorder."""
 
-    @functools.wraps(method)
-    def call() -> Any:
-        case.__dict__.pop(name, None)
-        return method()
+    def __init__(self, case: unittest.TestCase, recorder: Callable[[], Optional[Recorder]], in_next_turn: bool) -> None:
+        """`recorder` gives the recorder when a part begins; where it gives none, that part isn't recorded.
 
-    return call
-
-
-def _add_cleanup(recorded: "_Recorded", add: Callable[..., Any], f: Callable[..., Any], *args: Any, **kwargs: Any) -> Any:
-    return add(recorded.part(f), *args, **kwargs)
-
-
-class _Recorded:
-    """A test, parts of which run under the recorder."""
-
-    def __init__(self, recorder: Recorder, waits: bool) -> None:
+        With `in_next_turn` trial is told in the reactor's next turn of what a part has waited for: so each part begins as an event. Else it
+        is told at once, as it is without a recorder: so the next part is in the body of the pair that tells of it.
+        """
+        self._case = case
         self._recorder = recorder
+        self._in_next_turn = in_next_turn
         #: whether its runner waits for Deferreds
-        self._waits = waits
-
-    def part(self, call: Callable[..., Any]) -> Callable[..., Any]:
-        """A part of the test, as its runner calls it."""
-
-        def perform(*args: Any, **kwargs: Any) -> Any:
-            with self._recorder.watching():
-                result = self._perform(functools.partial(call, *args, **kwargs))
-                if not self._waits or not is_deferred(result):
-                    return result
-                given = _Given(self._recorder, result)
-                result.addBoth(given.take)
-            return given.handed_over()
-
-        perform.__name__ = str(getattr(call, "__name__", "test"))
-        perform.__dict__.update(getattr(call, "__dict__", {}))
-        return perform
-
-    def _perform(self, call: Callable[[], Any]) -> Any:
-        return making(call)() if self._waits else call()
+        self._waits = isinstance(case, TestCase)
+        #: what stood in the place of what was put into the case
+        self._before: Dict[str, object] = {}
+        #: whether trial waits for a Deferred of the test, and what has the recorder be on while the reactor runs
+        self._awaits_reactor = False
+        self._while_reactor_runs = contextlib.ExitStack()
 
     @contextlib.contextmanager
-    def running(self) -> Iterator[None]:
-        """Has the recorder be on while trial has the real reactor run, and be at rest where trial does anything else."""
-        from twisted.internet import reactor
-
-        real: Any = reactor
-        run = real.run
-
-        def recorded_run(*args: Any, **kwargs: Any) -> None:
-            with self._recorder.watching():
-                run(*args, **kwargs)
-
+    def prepared(self) -> Iterator[None]:
+        """Has the case call its functions under the recorder, which is at rest where its runner does anything else."""
+        case: Any = self._case
+        for name in (*_PARTS, case._testMethodName):
+            self._put_once(name)
+        self._put("addCleanup", functools.partial(self._add_cleanup, case.addCleanup))
+        if self._waits:
+            self._put("_cleanUp", functools.partial(self._clean_up, case._cleanUp))
         before = watched.observer, watched.is_resting
         watched.observer, watched.is_resting = None, True
-        real.run = recorded_run
         try:
             yield
         finally:
-            del real.run
+            self._while_reactor_runs.close()
             watched.observer, watched.is_resting = before
+            for name in list(self._before):
+                self._put_back(name)
+
+    def _put(self, name: str, function: Callable[..., Any]) -> None:
+        self._before[name] = self._case.__dict__.get(name, _MISSING)
+        setattr(self._case, name, function)
+
+    def _put_back(self, name: str) -> None:
+        before = self._before.pop(name, _MISSING)
+        if before is _MISSING:
+            self._case.__dict__.pop(name, None)
+        else:
+            setattr(self._case, name, before)
+
+    def _put_once(self, name: str) -> None:
+        """Puts a part in place until it is called: what the test finds there then is its own."""
+        method = getattr(self._case, name)
+        if inspect.isgeneratorfunction(method):  # trial refuses such a one, and has to see it
+            return
+        part = self._part(method)
+
+        @functools.wraps(method)
+        def once() -> Any:
+            __tracebackhide__ = True
+            self._put_back(name)
+            return part()
+
+        self._put(name, once)
+
+    def _add_cleanup(self, add: Callable[..., Any], f: Callable[..., Any], *args: Any, **kwargs: Any) -> Any:
+        return add(self._part(f), *args, **kwargs)
+
+    def _clean_up(self, clean_up: Callable[[Any], Any], result: Any) -> Any:
+        """All parts have run, and trial looks at what they have left."""
+        self._awaits_reactor = False
+        self._while_reactor_runs.close()
+        watched.observer = None
+        return clean_up(result)
+
+    def _part(self, call: Callable[..., Any]) -> Callable[..., Any]:
+        """A part of the test, as its runner calls it."""
+
+        def perform(*args: Any, **kwargs: Any) -> Any:
+            __tracebackhide__ = True
+            recorder = self._recorder()
+            if recorder is None:
+                return call(*args, **kwargs)
+            with recorder.watching():
+                result = self._perform(functools.partial(call, *args, **kwargs))
+                if not self._waits or not is_deferred(result):
+                    return result
+                given = _Given(recorder, result, self._in_next_turn)
+                result.addBoth(given.take)
+            return self._handed_over(given, recorder)
+
+        return perform
+
+    def _perform(self, call: Callable[[], Any]) -> Any:
+        __tracebackhide__ = True
+        return making(call)() if self._waits else call()
+
+    def _handed_over(self, given: "_Given", recorder: Recorder) -> Deferred[Any]:
+        """What trial is given. Where that hasn't been fired, trial has the reactor run next, and the recorder is on from then on."""
+        given.is_handed_over = True
+        if not given.handed.called and not self._awaits_reactor:
+            self._awaits_reactor = True
+
+            def start() -> None:
+                if self._awaits_reactor:
+                    self._while_reactor_runs.enter_context(recorder.watching())
+
+            with at_rest():
+                _call_first(start)
+        return given.handed
 
 
-class _OnVirtual(_Recorded):
+class _OnVirtual(RecordedCase):
     """A test on a reactor whose time is virtual, which runs until what its parts give has come."""
 
-    def __init__(self, recorder: Recorder, waits: bool) -> None:
-        super().__init__(recorder, waits)
+    def __init__(self, case: unittest.TestCase, recorder: Callable[[], Optional[Recorder]], in_next_turn: bool) -> None:
+        super().__init__(case, recorder, in_next_turn)
         self._reactor = VirtualReactor()
 
     def _perform(self, call: Callable[[], Any]) -> Any:
@@ -138,49 +185,75 @@ class _OnVirtual(_Recorded):
             return result
 
 
-class _Handed(Deferred[object]):
-    """What trial waits for in place of a Deferred of the test."""
+class _Handed(Deferred[Any]):
+    """What trial waits for in the place of a Deferred of the test."""
 
     def __init__(self, recorder: Recorder, own: Deferred[Any]) -> None:
-        super().__init__()
+        super().__init__(self._cancel_own)
         self._recorder = recorder
         self._own = own
+
+    def _cancel_own(self, handed: Deferred[Any]) -> None:
+        with self._recorder.watching():
+            self._own.cancel()
 
     def errback(self, fail: Any = None) -> None:
         """Trial's time for the test is over: the test's own Deferred is fired. Raises AlreadyCalledError where that was."""
         with self._recorder.watching():
             self._own.errback(fail)
 
+    def come(self, value: Any) -> None:
+        """The test's own Deferred has come to this. A Deferred that Twisted takes for a value can't be handed on."""
+        if isinstance(value, Failure):
+            super().errback(value)
+        else:
+            super().callback(None if isinstance(value, Deferred) else value)
+
 
 class _Given:
-    """What a part of a test gives back, as its runner waits for it."""
+    """What a part of a test gives back, and what its runner is told of that by."""
 
-    def __init__(self, recorder: Recorder, own: Deferred[Any]) -> None:
-        self._recorder = recorder
-        self._own = own
-        self._came: List[object] = []
-        self._waiting: Optional[Deferred[object]] = None
+    def __init__(self, recorder: Recorder, own: Deferred[Any], in_next_turn: bool) -> None:
+        self._in_next_turn = in_next_turn
+        self.is_handed_over = False
+        with at_rest():
+            self.handed: _Handed = _Handed(recorder, own)
 
     def take(self, value: object) -> None:
         """It has come, or has failed."""
-        self._came.append(value)
-        if self._waiting is not None:
-            from twisted.internet import reactor
+        if self._in_next_turn and self.is_handed_over:
+            from twisted.internet import reactor as installed
 
-            base.ReactorBase.callFromThread(reactor, self._fire)  # type: ignore[arg-type]
+            reactor: Any = installed
+            base.ReactorBase.callFromThread(reactor, self._tell, value)
+        else:
+            self._tell(value)
 
-    def _fire(self) -> None:
-        assert self._waiting is not None
+    def _tell(self, value: object) -> None:
         with at_rest():
-            self._waiting.callback(None if not isinstance(self._came[0], Failure) else self._came[0])
+            self.handed.come(value)
 
-    def handed_over(self) -> Deferred[object]:
-        """A Deferred of the runner's, which is fired in the reactor's next turn, or has been, where it had come already."""
-        if not self._came:
-            self._waiting = _Handed(self._recorder, self._own)
-            return self._waiting
-        value = self._came[0]
-        return defer.fail(value) if isinstance(value, Failure) else defer.succeed(None)
+
+def _call_first(call: Callable[[], None]) -> None:
+    """Has the reactor call this first when it runs: before what it was given by `callFromThread`, where that can be.
+
+    What it starts with is a Deferred of its own, whose callbacks have run by then.
+    """
+    from twisted.internet import reactor as installed
+
+    reactor: Any = installed
+    queue = getattr(reactor, "threadCallQueue", None)
+    if isinstance(queue, list):
+        queue.insert(0, (call, (), {}))
+        reactor.wakeUp()
+    else:
+        reactor.callFromThread(call)
+
+
+def without_own_frames(error: Any) -> None:
+    """Takes the frames of this module out of what a failure shows."""
+    if isinstance(error, Failure):
+        error.frames = [frame for frame in error.frames if frame[1] != __file__]
 
 
 @contextlib.contextmanager
