@@ -10,7 +10,7 @@ import tempfile
 import unittest
 from fractions import Fraction
 from pathlib import Path
-from typing import Any, List
+from typing import Any, List, Optional
 
 from deferreds.checkout import TOP
 from deferreds.twisted.programs import ours
@@ -55,9 +55,12 @@ def _text(path: Path) -> str:
 class RealReactor(unittest.TestCase):
     """A program that has its reactor run."""
 
-    def recorded(self, name: str) -> Recording:
-        """Its recording, which the program reproduces."""
+    def recorded(self, name: str, by_chance: Optional[str] = None) -> Recording:
+        """Its recording, which the program reproduces. Refused for this reason, by chance, it is recorded anew, twice at most."""
         recording = Recording(name)
+        for _ in range(2):
+            if by_chance is not None and by_chance in recording.said:
+                recording = Recording(name)
         self.assertEqual(recording.status, 0, recording.said)
         self.assertEqual(ours().answer(recording.script).output, recording.journal)
         return recording
@@ -117,7 +120,8 @@ class RealReactor(unittest.TestCase):
                 self.assertEqual(sum(line.startswith("call ") for line in recording.lines), calls)
 
     def test_loops_whose_turns_fall_together(self) -> None:
-        recording = self.recorded("loops_that_meet")
+        # on a loaded machine a turn may come when the next one is due
+        recording = self.recorded("loops_that_meet", "turns or ticks ran in another order than they are due in")
         self.assertEqual([event[3] * recording.tick for event in recording.events if event[0] == "loop"], [0.25, 0.5])
         self.assertIn('note "True"', recording.lines)
 
