@@ -23,7 +23,7 @@ from deferreds.twisted.instruments import install
 from deferreds.twisted.programs import Answer, Once
 from deferreds.twisted.recording.hiding import CHOICES, SECRETS
 from deferreds.twisted.recording.inside import CALLED, FINALIZED, MEDDLED
-from deferreds.twisted.recording.programs import printing_notes
+from deferreds.twisted.recording.programs import PrintingNotes
 from deferreds.twisted.recording.reactor import VirtualReactor, in_place_of_the_real
 from deferreds.twisted.recording.recorder import ASKED, Recorder
 from deferreds.twisted.recording.saying import Said
@@ -80,7 +80,7 @@ def record(name: str, kinds: frozenset[str] = KINDS, redact: str = SECRETS) -> R
     gc.collect()  # what other tests have left ends here, and not while this is recorded
     recorder = Recorder(kinds, redact)
     printed = io.StringIO()
-    with contextlib.redirect_stdout(printed), in_place_of_the_real(VirtualReactor()), printing_notes():
+    with contextlib.redirect_stdout(printed), in_place_of_the_real(VirtualReactor()), PrintingNotes():
         with recorder.watching():
             runpy.run_path(str(PROGRAMS / f"{name}.py"), run_name="__main__")
     return Ran(Said(recorder), printed.getvalue())

@@ -3,11 +3,11 @@
 from __future__ import annotations
 
 import functools
-from typing import Any, Callable, Optional
+from typing import Any, Callable, ContextManager, Optional
 
 from twisted.trial.unittest import TestCase
 
-from ..twisted.recording.case import RecordedCase, at_rest
+from ..twisted.recording.case import AtRest, RecordedCase
 from ..twisted.recording.recorder import Recorder
 from .recorded import running
 
@@ -18,21 +18,23 @@ def _recorder() -> Optional[Recorder]:
     return None if test is None else test.recorder
 
 
-def install() -> None:
-    """Has each of these cases run its own functions under the recorder. Done twice, it is done once.
+def _around(case: TestCase) -> ContextManager[None]:
+    """What is entered while a case runs. What a case does that a test runs isn't recorded."""
+    test = running()
+    if test is not None and test.case is not case:
+        return AtRest()
+    return RecordedCase(case, _recorder, in_next_turn=False)
 
-    What a case does that a test runs isn't recorded.
-    """
+
+def install() -> None:
+    """Has each of these cases run its own functions under the recorder. Done twice, it is done once."""
     run: Callable[..., Any] = TestCase.run
     if getattr(run, "_is_recorded", False):
         return
 
     @functools.wraps(run)
     def recorded_run(self: TestCase, result: Any) -> Any:
-        test = running()
-        is_inside = test is not None and test.case is not self
-        prepared = at_rest() if is_inside else RecordedCase(self, _recorder, in_next_turn=False).prepared()
-        with prepared:
+        with _around(self):
             return run(self, result)
 
     setattr(recorded_run, "_is_recorded", True)

@@ -6,6 +6,8 @@ refuses a Twisted that lacks a name, and `install` refuses one under which the s
 
 from __future__ import annotations
 
+from typing import Callable, Optional
+
 from ..known import UnknownTwisted, refuse_unusable, version
 
 refuse_unusable()
@@ -32,7 +34,8 @@ except ModuleNotFoundError:
 except (AttributeError, ImportError) as missing:
     raise UnknownTwisted(f"Twisted {version()} isn't known: {missing}") from missing
 
-_installed = False
+#: what tries the instruments, once they are put in
+_check: Optional[Callable[[], None]] = None
 
 
 def install() -> None:
@@ -40,13 +43,13 @@ def install() -> None:
 
     Raises UnknownTwisted where the self-test logs other lines than expected.
     """
-    global _installed
-    if not _installed:
-        _installed = True
+    global _check
+    if _check is None:
+        from ..self_test import check
+
+        _check = check
         for instrument in (deferreds, lists, maybe, locks, queues, clock, reactors, calls, jobs, timers, loops, inline, tasks):
             instrument.install()
         scheduled.install()
         tracebacks.install()
-    from ..self_test import check
-
-    check()
+    _check()

@@ -11,7 +11,7 @@ import contextlib
 import functools
 import inspect
 import unittest
-from typing import Any, Callable, Dict, Iterator, Optional
+from typing import Any, Callable, Dict, Optional
 
 from twisted.internet import base
 from twisted.internet.defer import Deferred
@@ -22,12 +22,12 @@ from ..instruments import install
 from ..instruments.maybe import making
 from ..telling import is_deferred, watched
 from .hiding import SECRETS
-from .programs import printing_notes
+from .programs import PrintingNotes
 from .reactor import VirtualReactor, in_place_of_the_real
 from .recorder import Recorder
 
-#: the methods of a test that are the program, beside its own
-_PARTS = ("setUp", "tearDown")
+#: the methods of a test that are the program, beside its own, and those in their place which do nothing
+_PARTS = {"setUp": unittest.TestCase.setUp, "tearDown": unittest.TestCase.tearDown}
 
 _MISSING = object()
 
@@ -50,7 +50,7 @@ def record_test(cls: type[unittest.TestCase], method: str, kinds: frozenset[str]
     case = cls(method)
     recorded = (_OnVirtual if virtual else RecordedCase)(case, lambda: run.recorder, in_next_turn=True)
     result = unittest.TestResult()
-    with recorded.prepared(), printing_notes():
+    with recorded, PrintingNotes():
         unittest.TestSuite([case]).run(result)
     bad = result.failures + result.errors
     run.passed, run.skipped = not bad, bool(result.skipped)
@@ -59,7 +59,7 @@ def record_test(cls: type[unittest.TestCase], method: str, kinds: frozenset[str]
 
 
 class RecordedCase:
-    """A test case, parts of which run under a recorder."""
+    """A test case, which calls its functions under a recorder while this is entered, once. What else its runner does isn't recorded."""
 
     def __init__(self, case: unittest.TestCase, recorder: Callable[[], Optional[Recorder]], in_next_turn: bool) -> None:
         """`recorder` gives the recorder when a part begins; where it gives none, that part isn't recorded.
@@ -78,24 +78,23 @@ class RecordedCase:
         self._awaits_reactor = False
         self._while_reactor_runs = contextlib.ExitStack()
 
-    @contextlib.contextmanager
-    def prepared(self) -> Iterator[None]:
-        """Has the case call its functions under the recorder, which is at rest where its runner does anything else."""
+    def __enter__(self) -> None:
         case: Any = self._case
-        for name in (*_PARTS, case._testMethodName):
-            self._put_once(name)
+        self._put_once(case._testMethodName)
+        for name, nothing in _PARTS.items():
+            if getattr(getattr(case, name), "__func__", None) is not nothing:
+                self._put_once(name)
         self._put("addCleanup", functools.partial(self._add_cleanup, case.addCleanup))
         if self._waits:
             self._put("_cleanUp", functools.partial(self._clean_up, case._cleanUp))
-        before = watched.observer, watched.is_resting
+        self._watched_before = watched.observer, watched.is_resting
         watched.observer, watched.is_resting = None, True
-        try:
-            yield
-        finally:
-            self._while_reactor_runs.close()
-            watched.observer, watched.is_resting = before
-            for name in list(self._before):
-                self._put_back(name)
+
+    def __exit__(self, *error: object) -> None:
+        self._while_reactor_runs.close()
+        watched.observer, watched.is_resting = self._watched_before
+        for name in list(self._before):
+            self._put_back(name)
 
     def _put(self, name: str, function: Callable[..., Any]) -> None:
         self._before[name] = self._case.__dict__.get(name, _MISSING)
@@ -113,15 +112,13 @@ class RecordedCase:
         method = getattr(self._case, name)
         if inspect.isgeneratorfunction(method):  # trial refuses such a one, and has to see it
             return
-        part = self._part(method)
 
-        @functools.wraps(method)
         def once() -> Any:
             __tracebackhide__ = True
             self._put_back(name)
-            return part()
+            return self._run(method)
 
-        self._put(name, once)
+        self._put(name, _named_as(once, method))
 
     def _add_cleanup(self, add: Callable[..., Any], f: Callable[..., Any], *args: Any, **kwargs: Any) -> Any:
         return add(self._part(f), *args, **kwargs)
@@ -138,18 +135,22 @@ class RecordedCase:
 
         def perform(*args: Any, **kwargs: Any) -> Any:
             __tracebackhide__ = True
-            recorder = self._recorder()
-            if recorder is None:
-                return call(*args, **kwargs)
-            with recorder.watching():
-                result = self._perform(functools.partial(call, *args, **kwargs))
-                if not self._waits or not is_deferred(result):
-                    return result
-                given = _Given(recorder, result, self._in_next_turn)
-                result.addBoth(given.take)
-            return self._handed_over(given, recorder)
+            return self._run(functools.partial(call, *args, **kwargs))
 
         return perform
+
+    def _run(self, call: Callable[[], Any]) -> Any:
+        __tracebackhide__ = True
+        recorder = self._recorder()
+        if recorder is None:
+            return call()
+        with recorder.watching():
+            result = self._perform(call)
+            if result is None or not self._waits or not is_deferred(result):
+                return result
+            given = _Given(recorder, result, self._in_next_turn)
+            result.addBoth(given.take)
+        return self._handed_over(given, recorder)
 
     def _perform(self, call: Callable[[], Any]) -> Any:
         __tracebackhide__ = True
@@ -165,7 +166,7 @@ class RecordedCase:
                 if self._awaits_reactor:
                     self._while_reactor_runs.enter_context(recorder.watching())
 
-            with at_rest():
+            with AtRest():
                 _call_first(start)
         return given.handed
 
@@ -216,7 +217,7 @@ class _Given:
     def __init__(self, recorder: Recorder, own: Deferred[Any], in_next_turn: bool) -> None:
         self._in_next_turn = in_next_turn
         self.is_handed_over = False
-        with at_rest():
+        with AtRest():
             self.handed: _Handed = _Handed(recorder, own)
 
     def take(self, value: object) -> None:
@@ -230,8 +231,17 @@ class _Given:
             self._tell(value)
 
     def _tell(self, value: object) -> None:
-        with at_rest():
+        with AtRest():
             self.handed.come(value)
+
+
+def _named_as(function: Callable[..., Any], method: Callable[..., Any]) -> Callable[..., Any]:
+    """The function, with the name of the method in whose place it is put, and with what is set on that."""
+    function.__name__ = str(getattr(method, "__name__", "test"))
+    attributes = getattr(method, "__dict__", None)
+    if attributes:
+        function.__dict__.update(attributes)
+    return function
 
 
 def _call_first(call: Callable[[], None]) -> None:
@@ -256,11 +266,13 @@ def without_own_frames(error: Any) -> None:
         error.frames = [frame for frame in error.frames if frame[1] != __file__]
 
 
-@contextlib.contextmanager
-def at_rest() -> Iterator[None]:
-    """Has no observer be on."""
-    before, watched.observer = watched.observer, None
-    try:
-        yield
-    finally:
-        watched.observer = before
+class AtRest:
+    """No observer is on while this is entered, once. (It is no generator, since tests that wait enter some.)"""
+
+    __slots__ = ("_before",)
+
+    def __enter__(self) -> None:
+        self._before, watched.observer = watched.observer, None
+
+    def __exit__(self, *error: object) -> None:
+        watched.observer = self._before

@@ -9,7 +9,7 @@ import runpy
 import signal
 import sys
 import unittest
-from typing import Any, Callable, Iterator, List, Tuple
+from typing import Any, Callable, List, Tuple
 
 from ..instruments import install
 from ..telling import KINDS, watched
@@ -43,26 +43,27 @@ LADDER: Tuple[frozenset[str], ...] = tuple(
 _RUNNERS = {__file__, runpy.run_path.__code__.co_filename, "<frozen runpy>"}
 
 
-@contextlib.contextmanager
-def printing_notes() -> Iterator[None]:
-    """Has what the program prints be notes of the journal."""
-    real = getattr(builtins, "print")
+class PrintingNotes:
+    """Has what the program prints be notes of the journal, while it is entered."""
 
-    def noting(*values: Any, **kwargs: Any) -> None:
+    __slots__ = ("_print",)
+
+    def __enter__(self) -> None:
+        self._print: Callable[..., None] = getattr(builtins, "print")
+        setattr(builtins, "print", self._note)
+
+    def __exit__(self, *error: object) -> None:
+        setattr(builtins, "print", self._print)
+
+    def _note(self, *values: Any, **kwargs: Any) -> None:
         recorder = watched.observer
         if kwargs.get("file") is not None or not isinstance(recorder, Recorder) or recorder.acting:
-            real(*values, **kwargs)
+            self._print(*values, **kwargs)
             return
         said = io.StringIO()
-        real(*values, file=said, sep=kwargs.pop("sep", " "), end="")  # so that each value is asked for its text once
-        real(said.getvalue(), **kwargs)
+        self._print(*values, file=said, sep=kwargs.pop("sep", " "), end="")  # so that each value is asked for its text once
+        self._print(said.getvalue(), **kwargs)
         recorder.note(said.getvalue())
-
-    setattr(builtins, "print", noting)
-    try:
-        yield
-    finally:
-        setattr(builtins, "print", real)
 
 
 def record_program(
@@ -74,7 +75,7 @@ def record_program(
     before, sys.argv = sys.argv, [target, *words]
     try:
         place = contextlib.nullcontext() if reactor is None else in_place_of_the_real(reactor)
-        with place, printing_notes():
+        with place, PrintingNotes():
             status = _run(recorder, target, is_module)
         return status
     finally:
