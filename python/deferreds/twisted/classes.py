@@ -2,6 +2,7 @@
 
 from __future__ import annotations
 
+import re
 from typing import Any, Callable, Dict, List, Optional, Tuple, Type
 
 from twisted.internet import defer, error, task
@@ -33,29 +34,40 @@ BUILT_IN: Dict[str, PyClass] = {
     "TimeoutError": defer.TimeoutError,
 }
 
+_NAMES: Dict[PyClass, str] = {cls: name for name, cls in BUILT_IN.items()}
+
 _LONGEST = 32
+#: what names of classes are not made of
+_OTHERS = re.compile("[^A-Za-z0-9_]")
 
 
 class Classes:
     """The classes that one run knows, by their names in a script and by their classes in Python."""
 
     def __init__(self) -> None:
-        self._by_name: Dict[str, PyClass] = dict(BUILT_IN)
-        self._names: Dict[PyClass, str] = {cls: name for name, cls in BUILT_IN.items()}
+        #: those that aren't built in
+        self._by_name: Dict[str, PyClass] = {}
+        self._names: Dict[PyClass, str] = {}
         #: the pairs of name and parent that a script has to declare, in order
         self.declared: List[Tuple[str, str]] = []
 
     def declare(self, name: str, parent: str) -> None:
         """Makes a class of this name below another."""
-        self._add(name, type(name, (self._by_name[parent],), {"__init__": Exception.__init__}), parent)
+        self._add(name, type(name, (self._named(parent),), {"__init__": Exception.__init__}), parent)
 
     def get(self, name: str) -> Optional[PyClass]:
         """The class that has this name."""
-        return self._by_name.get(name)
+        found = self._by_name.get(name)
+        return BUILT_IN.get(name) if found is None else found
+
+    def _named(self, name: str) -> PyClass:
+        """The class that has this name. Raises KeyError where there is none."""
+        found = self._by_name.get(name)
+        return BUILT_IN[name] if found is None else found
 
     def name_of(self, cls: PyClass) -> str:
         """The name of a class, which is declared below its nearest parent where it has none yet."""
-        known = self._names.get(cls)
+        known = _NAMES.get(cls) or self._names.get(cls)
         if known is not None:
             return known
         parent = self._parent_of(cls)
@@ -71,10 +83,9 @@ class Classes:
 
     def _free_name(self, wanted: str) -> str:
         """A name in the form of names that nothing has yet, as near to this one as can be."""
-        letters = [c if c.isascii() and (c.isalnum() or c == "_") else "_" for c in wanted]
-        name = "".join(letters)[: _LONGEST - 4] or "Error"
+        name = _OTHERS.sub("_", wanted)[: _LONGEST - 4] or "Error"
         free, number = name, 2
-        while free in self._by_name:
+        while free in self._by_name or free in BUILT_IN:
             free, number = f"{name}_{number}", number + 1
         return free
 
@@ -85,7 +96,7 @@ class Classes:
 
     def make(self, name: str, message: str) -> BaseException:
         """A failure of this class with this message, as a script says it."""
-        cls = self._by_name[name]
+        cls = self._named(name)
         make: Callable[..., BaseException] = cls.__new__
         failure = make(cls, message)
         failure.args = (message,)
@@ -111,6 +122,21 @@ def message_of(failure: BaseException, ask: Callable[[BaseException], str]) -> s
     if own is None:
         own = attributes[_MESSAGE] = ask(failure)
     return str(own)
+
+
+def plain_message(failure: BaseException) -> Optional[str]:
+    """The message of a failure, where nothing but Python itself makes it, of a text or of nothing; None for others."""
+    if type.__getattribute__(type(failure), "__str__") is not _str_of_error:
+        return None
+    args = _args_of(failure)
+    if not args:
+        return ""
+    return args[0] if len(args) == 1 and type(args[0]) is str else None
+
+
+#: the text of an error that has none of its own, and what that is made of
+_str_of_error = BaseException.__str__
+_args_of: Callable[[BaseException], Tuple[Any, ...]] = BaseException.__dict__["args"].__get__
 
 
 def own_message(failure: BaseException) -> Optional[str]:

@@ -58,18 +58,19 @@ class Teller(Observer):
     def __init__(self, limit: int) -> None:
         super().__init__()
         self.room = limit
+        self.tell_line = self._tell_line
         self.goes_on_after_errors = True
         self.outcomes: Optional[List[str]] = None
         self._names: List[str] = []
 
-    def tell(self, *parts: Part) -> None:
+    def _tell_line(self, parts: Sequence[Optional[Part]]) -> None:
         """Tells a line, or stops the run where it doesn't fit."""
         cost = weight(parts)
         if self.outcomes is not None or cost > self.room:
             self.end()
             raise Stopped
         self.room -= cost
-        super().tell(*parts)
+        self.parts.extend(parts)
 
     @property
     def stopped(self) -> bool:

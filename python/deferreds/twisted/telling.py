@@ -11,11 +11,12 @@ a finalizer of the program's calls meanwhile is one all the same, so whether the
 from __future__ import annotations
 
 import contextlib
-import sys
 import threading
 import weakref
 from fractions import Fraction
+from sys import getrecursionlimit, setrecursionlimit
 from threading import get_ident
+from types import CodeType
 from typing import (
     Any,
     Callable,
@@ -59,36 +60,35 @@ watched = _Twisted()
 
 
 #: the observers that are on, in any thread
-_on: List["Observer"] = []
-
-
-def _take_off(observer: "Observer") -> None:
-    """Has an observer, or the one that has taken over from it, be on no more."""
-    for other in [other for other in _on if other.lineage is observer.lineage]:
-        _on.remove(other)
-        other.is_on = False
+observers_on: List["Observer"] = []
 
 
 def count_elsewhere() -> None:
     """Counts a Deferred that is made where no observer is on, for those that are on in other threads."""
-    for observer in _on:
+    if not observers_on:
+        return
+    for observer in observers_on:
         if observer.thread != get_ident():
             observer.elsewhere += 1
 
 
 def refuse_elsewhere(deferred: Any) -> None:
     """A Deferred is used where no observer is on: one that is told must not be used in another thread."""
+    if not observers_on:
+        return
     known: Optional[Tuple[Union[Observer, Settled], Record]] = deferred._dv_record
     if known is None:
         return
     lineage = (known[0].observer if isinstance(known[0], Settled) else known[0]).lineage
-    for observer in _on:
+    for observer in observers_on:
         if observer.lineage is lineage and observer.thread != get_ident():
             observer.problem("a Deferred of the program is used in another thread")
 
 
 def observer_of(kind: str) -> Optional["Observer"]:
     """The observer that is on, if it tells objects of this kind as such."""
+    if not observers_on:
+        return None
     watcher = watched.observer
     return watcher if watcher is not None and kind in watcher.kinds else None
 
@@ -113,46 +113,51 @@ _Function = TypeVar("_Function", bound=Callable[..., Any])
 
 #: the code objects, by their ids, of the functions between which and what they call an observer may be quiet
 switches: Set[int] = set()
+#: their names, by which others are left out sooner
+switching_names: Set[str] = set()
 
 
 def switching(function: _Function) -> _Function:
     """The function, which sets whether Twisted's own code acts."""
-    switches.add(id(getattr(function, "__code__")))
+    code: CodeType = getattr(function, "__code__")
+    switches.add(id(code))
+    switching_names.add(code.co_name)
     return function
 
 
 class Record:
     """What is known of a Deferred. It doesn't keep that alive."""
 
-    number: Optional[int] = None
-    fired = False
-    #: whether it is being fired, and what with isn't in place yet
-    starts = False
-    outcome = NULL
     #: what it had before that was taken
     before = NULL
-    waits_for: Optional["Record"] = None
     pauses = 0
-    #: whether a side of its own has run whose result isn't in place yet, and what that is, where it is known
-    ran = False
-    same: Optional[Outcome] = None
     #: the body of the side that ran last
     side: Any = None
     kind = ""
     #: of a list: what its children came with, by their places
     came: Optional[Dict[int, Outcome]] = None
-    #: of a Deferred that Twisted makes for a cancelled inline body: the one that the program knows
-    hidden_of: Optional["Record"] = None
     #: of an inline body: its frame
     body: Optional["Frame"] = None
     made_in: Optional["Frame"] = None
-    #: where in the program it was made, by which it is named
-    made_at: Optional[Tuple[Any, ...]] = None
     alias: Optional["Record"] = None
     helper = False
 
-    def __init__(self, name: Optional[str] = None) -> None:
-        self.name = name
+    def __init__(self) -> None:
+        # what is asked for often is found sooner on the object than on its class
+        self.name: Optional[str] = None
+        self.number: Optional[int] = None
+        #: where in the program it was made, by which it is named
+        self.made_at: Optional[Tuple[Any, ...]] = None
+        self.fired = False
+        #: whether it is being fired, and what with isn't in place yet
+        self.starts = False
+        self.outcome = NULL
+        self.waits_for: Optional[Record] = None
+        #: whether a side of its own has run whose result isn't in place yet, and what that is, where it is known
+        self.ran = False
+        self.same: Optional[Outcome] = None
+        #: of a Deferred that Twisted makes for a cancelled inline body: the one that the program knows
+        self.hidden_of: Optional[Record] = None
 
     def child_came(self, place: int, outcome: Outcome) -> None:
         """The child of a list that has this place came with this."""
@@ -254,7 +259,7 @@ def lines_of(parts: Iterable[Optional[Part]]) -> Iterator[Tuple[int, Line]]:
             line = []
 
 
-def weight(line: Line) -> int:
+def weight(line: Iterable[Optional[Part]]) -> int:
     """What a line weighs."""
     return 1 + sum(part.weight for part in line if isinstance(part, (Text, Outcome)))
 
@@ -295,6 +300,47 @@ class Expected:
         self.made = made
 
 
+class Watching:
+    """Has Twisted be watched by an observer while this is entered, once. (It is no generator, since each test enters some.)"""
+
+    __slots__ = ("_observer", "_before", "_was_on", "_limit")
+
+    def __init__(self, observer: "Observer") -> None:
+        self._observer = observer
+
+    def __enter__(self) -> "Observer":
+        observer = self._observer
+        self._before, watched.observer = watched.observer, observer
+        if observer.is_on:
+            self._was_on = True
+            return observer
+        self._was_on, observer.is_on, observer.thread = False, True, get_ident()
+        observers_on.append(observer)
+        self._limit = limit = getrecursionlimit()
+        setrecursionlimit(limit * observer.stack_room)
+        return observer
+
+    def __exit__(self, *error: object) -> None:
+        watched.observer = self._before
+        if self._was_on:
+            return
+        observer = self._observer
+        if observer in observers_on:
+            observers_on.remove(observer)
+            observer.is_on = False
+        else:
+            _take_off(observer.lineage)
+        if getrecursionlimit() == self._limit * observer.stack_room:
+            setrecursionlimit(self._limit)
+
+
+def _take_off(lineage: object) -> None:
+    """Has the observer that has taken over from another be on no more."""
+    for observer in [observer for observer in observers_on if observer.lineage is lineage]:
+        observers_on.remove(observer)
+        observer.is_on = False
+
+
 class Settled(NamedTuple):
     """In place of the observer that knows a Deferred: that it is told as settled, though Twisted keeps its failure in it."""
 
@@ -302,21 +348,46 @@ class Settled(NamedTuple):
 
 
 _NOTHING = Expected()
-_NO_KEYWORDS: Mapping[str, Any] = {}
+NO_KEYWORDS: Mapping[str, Any] = {}
 
 
 class Observer:
     """Tells the lines of a run. A subclass may also note the actions and bodies of the program."""
 
-    def __init__(self, kinds: frozenset[str] = KINDS) -> None:
+    #: how many times as many frames there may be on Python's stack where it is on
+    stack_room = 1
+
+    # what is seldom set: an object with few attributes of its own is made and read sooner
+
+    #: what the instruments of a kind keep of this run
+    clock: Optional[Any] = None
+    clock_base = 0.0
+    cooperator: Optional[Any] = None
+    jobs = 0
+    pools: Sequence[Pool] = ()
+    #: whether it is on in its thread, and how many Deferreds were made in others meanwhile
+    is_on = False
+    elsewhere = 0
+    #: whether what is due is run after an error of a delayed call too, as under a reactor
+    goes_on_after_errors = False
+
+    def __init__(
+        self,
+        kinds: frozenset[str] = KINDS,
+        classes: Optional[Classes] = None,
+        texts: Optional[Texts] = None,
+        top: Optional[Frame] = None,
+    ) -> None:
         self.kinds = kinds
-        self.classes = Classes()
-        self.texts: Texts = Texts(self.classes)
+        self.classes = Classes() if classes is None else classes
+        self.texts: Texts = Texts(self.classes) if texts is None else texts
         #: the parts of all lines, each line followed by None. No line is an object of its own, since Python's collector
         #: of garbage goes over all objects again and again
         self.parts: List[Optional[Part]] = []
+        #: tells a line: its parts, followed by None
+        self.tell_line: Callable[[Sequence[Optional[Part]]], None] = self.parts.extend
         self.records: List[Record] = []
-        self.top = Frame("event")
+        self.top = Frame("event") if top is None else top
         self.frame = self.top
         #: whether Twisted's own code performs an action; where it doesn't, nobody has to ask whether this is `quiet`
         self.acting = False
@@ -329,67 +400,37 @@ class Observer:
         #: where Twisted did what an entry of docs/PROFILE.md names: how many parts were told before, and the entry
         self.quirks: List[Tuple[int, Entry]] = []
         self._told: Optional[int] = None
-        #: what the instruments of a kind keep of this run
-        self.clock: Optional[Any] = None
-        self.clock_base = 0.0
         #: the told time, where the clock is a real reactor
         self.pace: Any = None
-        self.cooperator: Optional[Any] = None
-        self.jobs = 0
-        self.pools: List[Pool] = []
         #: one object for all observers that take over from each other
         self.lineage: object = object()
-        #: whether it is on in its thread, and how many Deferreds were made in others meanwhile
-        self.is_on = False
         self.thread = get_ident()
-        self.elsewhere = 0
-        #: whether what is due is run after an error of a delayed call too, as under a reactor
-        self.goes_on_after_errors = False
         #: the function after which the next Deferred is named, where that isn't the one that makes it
         self.maker: Optional[str] = None
         #: the body of the turn that Twisted is about to perform
         self.turn: Any = None
 
-    @contextlib.contextmanager
-    def watching(self) -> Iterator["Observer"]:
-        """Has Twisted be watched by this observer, and by no other."""
-        before, watched.observer = watched.observer, self
-        was_on, self.is_on, self.thread = self.is_on, True, get_ident()
-        if not was_on:
-            _on.append(self)
-        try:
-            yield self
-        finally:
-            if not was_on:
-                _take_off(self)
-            watched.observer = before
+    def watching(self) -> "Watching":
+        """Has Twisted be watched by this observer, and by no other, while what this gives is entered."""
+        return Watching(self)
 
     def hand_over(self, following: "Observer") -> None:
         """Has another observer watch from here on, in the place of this one."""
         following.lineage, following.thread = self.lineage, self.thread
-        _on[_on.index(self)] = following
+        observers_on[observers_on.index(self)] = following
         self.is_on, following.is_on = False, True
         watched.observer = following
 
     @property
     def quiet(self) -> bool:
-        """Whether it is Twisted's own code that calls now, while it performs an action."""
-        return self.acting and not self.is_inside()
-
-    @quiet.setter
-    def quiet(self, quiet: bool) -> None:
-        self.acting = quiet
-        switches.add(id(sys._getframe(1).f_code))
-
-    def is_inside(self) -> bool:
-        """Whether the program calls though Twisted's own code performs an action."""
-        return False
+        """Whether it is Twisted's own code that calls the instrument which asks, while it performs an action."""
+        return self.acting
 
     # lines
 
     def tell(self, *parts: Part) -> None:
         """Tells a line."""
-        self.parts.extend((*parts, None))
+        self.tell_line((*parts, None))
 
     def quirk(self, entry: Entry, place: Optional[int] = None) -> None:
         """Notes that Twisted does here, or where so many parts are told, what an entry of the profile names."""
@@ -426,9 +467,7 @@ class Observer:
     def record(self, deferred: Any) -> Record:
         """What is known of a Deferred."""
         found: Optional[Tuple[Observer, Record]] = deferred._dv_record
-        if found is not None and found[0] is self:
-            return found[1]
-        return self.adopt(deferred)
+        return found[1] if found is not None and found[0] is self else self.adopt(deferred)
 
     def adopt(self, deferred: Deferred[Any]) -> Record:
         """Begins to know a Deferred that was made before this observer was on."""
@@ -466,20 +505,21 @@ class Observer:
     def made(self, deferred: Deferred[Any], record: Record, kind: str = "") -> None:
         """A Deferred was made: it gets its name, and is told."""
         frame = self.frame
-        expected = self._next_expected() if frame.expected else _NOTHING
+        expected = self._next_expected() if frame.expected else None
         if frame.anonymous:
             record.name = "-"
-        elif expected.name is not None:
+        elif expected is not None and expected.name is not None:
             record.name = expected.name
         elif record.made_at is None:
             self.locate(record)
         self.maker = None
         if kind:
             record.kind = kind
-        record.number = number = len(self.records)
-        self.tell("new ", record, " ", number)
-        self.records.append(record)
-        if expected.made is not None:
+        records = self.records
+        record.number = number = len(records)
+        self.tell_line(("new ", record, " ", number, None))
+        records.append(record)
+        if expected is not None and expected.made is not None:
             expected.made(deferred, record)
 
     def rename(self, deferred: Deferred[Any]) -> None:
@@ -550,7 +590,7 @@ class Observer:
         given: Optional[Tuple[object, Outcome]],
         call: Callable[..., Any],
         args: Sequence[Any] = (),
-        kwargs: Mapping[str, Any] = _NO_KEYWORDS,
+        kwargs: Mapping[str, Any] = NO_KEYWORDS,
     ) -> Any:
         """Has the program do what it was called back for: a run of the body, on what it is given."""
         frame = self.begin_body(body, kind, given)

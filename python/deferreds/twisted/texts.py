@@ -9,7 +9,7 @@ from typing import Any, Callable, Dict, Tuple, TypeVar, Union
 from twisted.internet.defer import FirstError
 from twisted.python.failure import Failure
 
-from .classes import Classes, clean, message_of, own_message
+from .classes import Classes, clean, message_of, own_message, plain_message
 
 _LEAST, _MOST = -(2**63), 2**63 - 1
 
@@ -182,6 +182,9 @@ class Texts:
         own = own_message(error)
         if own is not None:
             return own
+        plain = plain_message(error)
+        if plain is not None:
+            return clean(plain)
         try:
             return self.ask(lambda: clean(str(error)))
         except Exception:

@@ -6,7 +6,7 @@ from typing import Any, Callable, Optional
 
 from twisted.internet import base
 
-from ..telling import Action, Observer, Time, observer_of
+from ..telling import Action, Observer, Time, observer_of, observers_on
 from .clock import Delayed, delayed_of, is_time, refuse_timer
 from .reactors import move, waiting_of
 
@@ -14,16 +14,19 @@ _cancel = base.DelayedCall.cancel
 
 
 def _instrumented_cancel(self: base.DelayedCall) -> None:
-    watcher = observer_of("clock")
+    watcher = observer_of("clock") if observers_on else None
+    if watcher is None:
+        _cancel(self)
+        return
     refuse_timer(watcher, self, "cancel")
     waiting = waiting_of(watcher, self)
-    delayed = None if watcher is None else delayed_of(watcher, self)
+    delayed = delayed_of(watcher, self)
     is_active = bool(self.active())
-    if watcher is None or watcher.quiet or delayed is None:
+    if watcher.quiet or delayed is None:
         _cancel(self)
     else:
         watcher.act(Action(["cancelCall", delayed.thing]), _tell_cancelled, watcher, self, delayed)
-    if watcher is not None and waiting is not None and is_active:
+    if waiting is not None and is_active:
         watcher.pace.end(waiting)
 
 

@@ -32,6 +32,7 @@ from ..telling import (
     count_elsewhere,
     is_dead_reference,
     is_deferred,
+    observers_on,
     refuse_elsewhere,
     watched,
 )
@@ -41,7 +42,7 @@ from ..texts import NULL, Outcome
 DeferredList: Any = defer.DeferredList
 
 _init = Deferred.__init__
-_add_callbacks = Deferred.addCallbacks
+_add_callbacks: Callable[..., Any] = Deferred.addCallbacks
 _chain_deferred = Deferred.chainDeferred
 _start = Deferred._startRunCallbacks
 _run_callbacks = Deferred._runCallbacks
@@ -103,13 +104,25 @@ def result_of(deferred: Deferred[Any]) -> object:
 
 def _set_result(deferred: Any, value: object) -> None:
     """Sets the attribute `result` of a Deferred, and tells what has come about by that."""
+    if not observers_on:
+        deferred._dv_result = value
+        return
     watcher = watched.observer
     if watcher is None:
-        pass
-    elif not deferred.called and sys._getframe(1).f_code is _succeed_code:
+        deferred._dv_result = value
+        return
+    code = sys._getframe(1).f_code
+    if not deferred.called and code is _succeed_code:
         _tell_made_fired(watcher, deferred, value)
-    elif watcher.acting and sys._getframe(1).f_code.co_filename == _DEFER:
-        _tell_result(watcher, deferred, value)
+    elif watcher.acting and code.co_filename == _DEFER:
+        known = deferred._dv_record
+        record = known[1] if known is not None and known[0] is watcher else watcher.record(deferred)
+        if record.ran:
+            _tell_side_ended(watcher, record, value)
+        elif record.starts:
+            record.starts = False
+        else:
+            _tell_moved(watcher, deferred, record, result_of(deferred), value)
     else:
         watcher.problem("the result of a Deferred is set by hand")
     deferred._dv_result = value
@@ -133,19 +146,8 @@ def _tell_made_fired(watcher: Observer, deferred: Deferred[Any], value: object) 
 def _tell_fired(watcher: Observer, record: Record, result: object, outcome: Outcome) -> None:
     if is_deferred(result):
         watcher.problem("a Deferred is fired with a Deferred")  # earlier Twisteds refuse it
-    watcher.tell("fire ", record, " ", outcome)
+    watcher.tell_line(("fire ", record, " ", outcome, None))
     record.fired, record.outcome = True, outcome
-
-
-def _tell_result(watcher: Observer, deferred: Deferred[Any], value: object) -> None:
-    """Tells what has come about, where Twisted sets this result."""
-    record = watcher.record(deferred)
-    if record.ran:
-        _tell_side_ended(watcher, record, value)
-    elif record.starts:
-        record.starts = False
-    else:
-        _tell_moved(watcher, deferred, record, result_of(deferred), value)
 
 
 def _tell_moved(
@@ -169,9 +171,10 @@ def _tell_moved(
 
 def _tell_side_ended(watcher: Observer, record: Record, value: object) -> None:
     record.ran = False
-    same, record.same = record.same, None
+    same = record.same
     if same is not None:
-        watcher.tell("set ", record, " ", same)
+        record.same = None
+        watcher.tell_line(("set ", record, " ", same, None))
         record.outcome = same
     elif not is_deferred(value):
         _tell_set(watcher, record, value)
@@ -181,7 +184,7 @@ def _tell_set(watcher: Observer, record: Record, value: object) -> None:
     outcome = watcher.texts.outcome(value)
     if isinstance(value, Failure) and isinstance(value.value, RecursionError):
         watcher.quirk(Entry.PYTHON_STACK)
-    watcher.tell("set ", record, " ", outcome)
+    watcher.tell_line(("set ", record, " ", outcome, None))
     record.outcome = outcome
 
 
@@ -209,6 +212,9 @@ def _tell_taken(watcher: Observer, record: Record, giver: Record) -> None:
 
 
 def _instrumented_init(self: Deferred[Any], canceller: Optional[Canceller] = None) -> None:
+    if not observers_on:
+        _init(self, canceller)
+        return
     watcher = watched.observer
     if watcher is None:
         count_elsewhere()
@@ -237,7 +243,7 @@ def _act_deferred(
     watcher: Observer, deferred: Deferred[Any], record: Record, canceller: Optional[Canceller]
 ) -> None:
     """The program makes a Deferred."""
-    action = Action(["deferred", record])
+    action = Action(("deferred", record))
     if canceller is not None and callable(canceller):
         body = watcher.new_body("canceller")
         action.append(body)
@@ -287,44 +293,50 @@ def _instrumented_add(
     errbackArgs: Any = (),
     errbackKeywords: Any = _NO_KEYWORDS,
 ) -> Deferred[Any]:
-    errback = _failthru if errback is None else errback
-    arguments = callbackArgs, callbackKeywords, errbackArgs, errbackKeywords
-    watcher = watched.observer
+    watcher = watched.observer if observers_on else None
     if watcher is None:
-        refuse_elsewhere(self)
-    if watcher is None or not callable(callback) or not callable(errback):
-        _add_callbacks(self, callback, errback, *arguments)
-        if watcher is not None:
-            watcher.problem("a callback that can't be called")  # earlier Twisteds refuse it
+        if observers_on:
+            refuse_elsewhere(self)
+        _add_callbacks(self, callback, errback, callbackArgs, callbackKeywords, errbackArgs, errbackKeywords)
         return self
-    record = watcher.record(self)
-    if record.hidden_of is not None:
-        if not watcher.quiet:
-            watcher.problem("the hidden Deferred of a cancelled inline body is used", "inline")
-        return _add_callbacks(self, callback, errback, *arguments)
-    if errback is not _failthru:
-        special = special_pairs.get(qualified(errback))
-        if special is not None and special(watcher, self, record, callback, errback, arguments):
-            return self
-    if watcher.acting and watcher.quiet:
-        first, second = _own_side(watcher, record, callback), _own_side(watcher, record, errback)
-        _tell_pair(watcher, self, record, first, second, arguments)
-    else:
-        _act_pair(watcher, self, record, callback, errback, arguments)
+    errback = _failthru if errback is None else errback
+    _add(watcher, self, callback, errback, (callbackArgs, callbackKeywords, errbackArgs, errbackKeywords))
     return self
 
 
-def _act_pair(
+def _add(
     watcher: Observer,
-    deferred: Deferred[Any],
-    record: Record,
+    deferred: Any,
     callback: Callable[..., Any],
     errback: Callable[..., Any],
     arguments: PairArguments,
 ) -> None:
-    """A pair of the program's."""
-    action, first, second = _pair(watcher, record, callback, errback, arguments)
-    watcher.act(action, _tell_pair, watcher, deferred, record, first, second, arguments)
+    """A pair is added where an observer is on."""
+    if not callable(callback) or not callable(errback):
+        _add_callbacks(deferred, callback, errback, *arguments)
+        watcher.problem("a callback that can't be called")  # earlier Twisteds refuse it
+        return
+    known = deferred._dv_record
+    record = known[1] if known is not None and known[0] is watcher else watcher.record(deferred)
+    if record.hidden_of is not None:
+        if not watcher.quiet:
+            watcher.problem("the hidden Deferred of a cancelled inline body is used", "inline")
+        _add_callbacks(deferred, callback, errback, *arguments)
+        return
+    if errback is not _failthru:
+        special = special_pairs.get(qualified(errback))
+        if special is not None and special(watcher, deferred, record, callback, errback, arguments):
+            return
+    if watcher.acting and watcher.quiet:
+        first, second = _own_side(watcher, record, callback), _own_side(watcher, record, errback)
+        _tell_pair(watcher, deferred, record, first, second, arguments)
+    elif errback is _failthru:
+        body = watcher.new_body("callback")
+        first = _side(watcher, record, callback, body)
+        watcher.act(Action(("addCallback", record, body)), _tell_pair, watcher, deferred, record, first, errback, arguments)
+    else:
+        action, first, second = _pair(watcher, record, callback, errback, arguments)
+        watcher.act(action, _tell_pair, watcher, deferred, record, first, second, arguments)
 
 
 def _pair(
@@ -336,11 +348,11 @@ def _pair(
 ) -> Tuple[Action, Callable[..., Any], Callable[..., Any]]:
     """The action that adds a pair of the program's, and the two sides that Twisted is given for it."""
     body = watcher.new_body("callback")
-    action = Action(["addBoth", record, body])
-    first = _side(watcher, record, callback, body)
     if errback is _failthru:
-        action[0], second = "addCallback", errback
-    elif callback is _passthru:
+        return Action(("addCallback", record, body)), _side(watcher, record, callback, body), errback
+    action = Action(("addBoth", record, body))
+    first = _side(watcher, record, callback, body)
+    if callback is _passthru:
         action[0], second = "addErrback", _side(watcher, record, errback, body)
     elif not _is_same_function(callback, errback) or not _are_same(arguments):
         action[0], other = "addCallbacks", watcher.new_body("callback")
@@ -390,7 +402,7 @@ def _tell_pair(
     arguments: PairArguments,
 ) -> None:
     """Tells that a pair is added, and adds it."""
-    watcher.tell("add ", record)
+    watcher.tell_line(("add ", record, None))
     _add_callbacks(deferred, callback, errback, *arguments)
 
 
@@ -437,7 +449,7 @@ def _run_side(
 ) -> object:
     if watched.observer is not watcher:
         return call(*args, **kwargs)
-    watcher.tell("run ", record)
+    watcher.tell_line(("run ", record, None))
     record.side = body
     try:
         result = watcher.perform(body, "callback", (args[0], record.outcome), call, args, kwargs)
@@ -453,7 +465,7 @@ def _run_own_side(
     if watched.observer is not watcher:
         return call(*args, **kwargs)
     value = args[0]
-    watcher.tell("run ", record)
+    watcher.tell_line(("run ", record, None))
     given, frame = record.outcome, watcher.frame
     before, frame.passing = frame.passing, (value, given)
     if getattr(call, "__func__", None) is DeferredList._cbDeferred:
@@ -492,29 +504,62 @@ def named_as(call: Callable[..., Any], side: Callable[..., Any]) -> Callable[...
     return side
 
 
+#: what stands in the place of Twisted's function: where a Deferred has another, that one is called
+_own_add = _instrumented_add
+
+
 def _instrumented_add_callback(
     self: Deferred[Any], callback: Callable[..., Any], *args: Any, **kwargs: Any
 ) -> Deferred[Any]:
-    return self.addCallbacks(callback, callbackArgs=args, callbackKeywords=kwargs)
+    if getattr(self.addCallbacks, "__func__", None) is not _own_add:
+        return self.addCallbacks(callback, callbackArgs=args, callbackKeywords=kwargs)
+    watcher = watched.observer if observers_on else None
+    if watcher is None:
+        if observers_on:
+            refuse_elsewhere(self)
+        _add_callbacks(self, callback, None, args, kwargs)
+        return self
+    _add(watcher, self, callback, _failthru, (args, kwargs, (), _NO_KEYWORDS))
+    return self
 
 
 def _instrumented_add_errback(
     self: Deferred[Any], errback: Callable[..., Any], *args: Any, **kwargs: Any
 ) -> Deferred[Any]:
-    return self.addCallbacks(_passthru, errback, errbackArgs=args, errbackKeywords=kwargs)
+    if getattr(self.addCallbacks, "__func__", None) is not _own_add:
+        return self.addCallbacks(_passthru, errback, errbackArgs=args, errbackKeywords=kwargs)
+    watcher = watched.observer if observers_on else None
+    if watcher is None:
+        if observers_on:
+            refuse_elsewhere(self)
+        _add_callbacks(self, _passthru, errback, (), _NO_KEYWORDS, args, kwargs)
+        return self
+    given = _failthru if errback is None else errback
+    _add(watcher, self, _passthru, given, ((), _NO_KEYWORDS, args, kwargs))
+    return self
 
 
 def _instrumented_add_both(
     self: Deferred[Any], callback: Callable[..., Any], *args: Any, **kwargs: Any
 ) -> Deferred[Any]:
-    return self.addCallbacks(
-        callback,
-        callback,
-        callbackArgs=args,
-        errbackArgs=args,
-        callbackKeywords=kwargs,
-        errbackKeywords=kwargs,
-    )
+    if getattr(self.addCallbacks, "__func__", None) is not _own_add:
+        return self.addCallbacks(
+            callback,
+            callback,
+            callbackArgs=args,
+            errbackArgs=args,
+            callbackKeywords=kwargs,
+            errbackKeywords=kwargs,
+        )
+    watcher = watched.observer if observers_on else None
+    if watcher is None:
+        if observers_on:
+            refuse_elsewhere(self)
+        _add_callbacks(self, callback, callback, args, kwargs, args, kwargs)
+        return self
+    errback = _failthru if callback is None else callback
+    _add(watcher, self, callback, errback, (args, kwargs, args, kwargs))
+    return self
 
 
 def _instrumented_chain(self: Deferred[Any], other: Deferred[Any]) -> Any:
@@ -536,14 +581,18 @@ def _fires_as_twisted_does(other: object) -> bool:
 # firing
 
 
-def _instrumented_start(self: Deferred[Any], result: object) -> None:
+def _instrumented_start(self: Any, result: object) -> None:
+    if not observers_on:
+        _start(self, result)
+        return
     watcher = watched.observer
     if watcher is None:
         refuse_elsewhere(self)
         _start(self, result)
         return
-    record = watcher.record(self)
-    if "inline" in watcher.kinds and _is_internal(result):
+    known = self._dv_record
+    record = known[1] if known is not None and known[0] is watcher else watcher.record(self)
+    if _INTERNAL and "inline" in watcher.kinds and _is_internal(result):
         record.fired = record.starts = True
         _start(self, result)
     elif watcher.acting and watcher.quiet:
@@ -595,7 +644,10 @@ def _fire(
     if record.hidden_of is not None:
         _tell_hidden_firing(watcher, deferred, record, record.hidden_of, result)
     elif not deferred.called:
-        _tell_fired(watcher, record, result, outcome)
+        if is_deferred(result):
+            watcher.problem("a Deferred is fired with a Deferred")  # earlier Twisteds refuse it
+        watcher.tell_line(("fire ", record, " ", outcome, None))
+        record.fired, record.outcome = True, outcome
     elif deferred._suppressAlreadyCalled:
         watcher.tell("swallow ", record)
     else:
@@ -655,6 +707,9 @@ def _instrumented_continuation(self: Deferred[Any]) -> Any:
 
 
 def _instrumented_run(self: Deferred[Any]) -> None:
+    if not observers_on:
+        _run_callbacks(self)
+        return
     watcher = watched.observer
     if watcher is None or self._runningCallbacks:
         _run_callbacks(self)

@@ -93,7 +93,7 @@ def _thing_of(watcher: Observer, threadpool: Any) -> Thing:
         watcher.problem(f"more than {MOST_POOLS} pools of threads beside the reactor's", "thread")
     workers = getattr(threadpool, "max", 1)
     pool = Pool(threadpool, watcher.thing("pool"), min(max(workers, WORKERS[0]), WORKERS[-1]))
-    watcher.pools.append(pool)
+    watcher.pools = (*watcher.pools, pool)
     return pool.thing
 
 

@@ -8,7 +8,7 @@ from typing import Any, Callable, List
 from twisted.internet import defer, task
 from twisted.internet.defer import Deferred
 
-from ..telling import Action, Observer, Record, is_deferred, watched
+from ..telling import Action, Observer, Record, is_deferred, observers_on, watched
 
 _maybe = defer.maybeDeferred
 
@@ -39,7 +39,7 @@ def making(f: Callable[..., Any]) -> Callable[..., Any]:
 
 
 def _instrumented_maybe(f: Callable[..., Any], *args: Any, **kwargs: Any) -> Any:
-    watcher = watched.observer
+    watcher = watched.observer if observers_on else None
     if watcher is None:
         return _maybe(f, *args, **kwargs)
     if watcher.quiet:

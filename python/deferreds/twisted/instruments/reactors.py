@@ -17,7 +17,7 @@ from twisted.internet import base
 from twisted.logger import ILogObserver, globalLogPublisher
 from zope.interface import directlyProvides
 
-from ..telling import Observer, Time, observer_of, watched
+from ..telling import Observer, Time, observer_of, observers_on, watched
 from .clock import Delayed, Own, is_delay, own_call, run_delayed
 from .pace import Pace, Waiting, has_clock, is_real
 from .scheduled import stand_for
@@ -62,9 +62,9 @@ def waiting_of(watcher: Optional[Observer], call: Any) -> Optional[Waiting]:
 
 
 def _instrumented_later(self: Any, delay: float, f: Callable[..., Any], *args: Any, **kwargs: Any) -> Any:
-    watcher = observer_of("clock")
-    if watched.observer is None and watched.is_resting:
+    if watched.is_resting and watched.observer is None:
         return _later(self, delay, unwatched(f), *args, **kwargs)
+    watcher = observer_of("clock") if observers_on else None
     if watcher is None or not has_clock(watcher, self):
         return _later(self, delay, f, *args, **kwargs)
     if not is_delay(delay):
@@ -82,15 +82,27 @@ def _instrumented_later(self: Any, delay: float, f: Callable[..., Any], *args: A
 def unwatched(f: Callable[..., Any]) -> Callable[..., Any]:
     """The function, watched by nobody while it runs."""
 
-    @functools.wraps(f, updated=())
-    def call(*args: Any, **kwargs: Any) -> Any:
+    return _Unwatched(f)
+
+
+class _Unwatched:
+    """A function that is watched by nobody while it runs."""
+
+    __slots__ = ("_f",)
+
+    def __init__(self, f: Callable[..., Any]) -> None:
+        self._f = f
+
+    def __call__(self, *args: Any, **kwargs: Any) -> Any:
         before, watched.observer = watched.observer, None
         try:
-            return f(*args, **kwargs)
+            return self._f(*args, **kwargs)
         finally:
             watched.observer = before
 
-    return call
+    def __getattr__(self, name: str) -> Any:
+        """The names of the function, by which Twisted shows it, are its own."""
+        return getattr(self._f, name)
 
 
 def _schedule_own(watcher: Observer, reactor: Any, delay: float, own: Own, call: Callable[[], Any]) -> Any:
@@ -167,6 +179,8 @@ def _tell_error(watcher: Observer, pace: Pace, error: BaseException) -> None:
 
 def _observe(event: Any) -> None:
     """Something is logged: by a reactor, where a failure has left an event of a socket, or a call from a thread."""
+    if not observers_on:
+        return
     failure = event.get("log_failure") or event.get("failure")
     watcher = observer_of("clock")
     if failure is None or watcher is None or watcher.acting or watcher.frame is not watcher.top:
@@ -185,13 +199,13 @@ def _logs_of_reactor(frame: Optional[FrameType]) -> bool:
 
 
 def _instrumented_turn(self: Any) -> None:
-    watcher = observer_of("clock")
+    watcher = observer_of("clock") if observers_on else None
     if watcher is not None and has_clock(watcher, self):
         watcher.pace.begin_turn()
     try:
         _turn(self)
     finally:
-        after = observer_of("clock")  # one may have come on, or have taken over
+        after = observer_of("clock") if observers_on else None  # one may have come on, or have taken over
         if after is not None and after.clock is self:
             after.pace.end_turn()
 
@@ -199,7 +213,7 @@ def _instrumented_turn(self: Any) -> None:
 def _instrumented_insert(self: Any) -> None:
     """The reactor does this right before it looks what is due."""
     _insert(self)
-    watcher = observer_of("clock")
+    watcher = observer_of("clock") if observers_on else None
     if watcher is not None and watcher.clock is self:
         watcher.pace.look()
 

@@ -41,40 +41,46 @@ class Run(Frame):
 
     #: how it ended, or None, where its input was passed on
     end: Any = None
-    #: how many events of the program had begun when it did
-    began = 0
-    _actions: Optional[List[Action]] = None
 
-    def __init__(self, kind: str, given: Optional[Outcome] = None, depth: int = -1) -> None:
+    def __init__(self, kind: str, given: Optional[Outcome] = None, depth: int = -1, began: int = 0) -> None:
         self.kind = kind
         self.given = given
         #: that of its body
         self.depth = depth
+        #: how many events of the program had begun when it did
+        self.began = began
+        #: the actions, once there is one
+        self.noted: Optional[List[Action]] = None
+        # what is asked for often is found sooner on the object than on its class
+        self.expected = ()
+        self.anonymous = False
 
     @property
     def actions(self) -> Sequence[Action]:
         """The actions, in order."""
-        return self._actions or ()
+        return self.noted or ()
 
     def forget(self) -> None:
         """Keeps no action."""
-        self._actions = None
+        self.noted = None
 
     def note(self, action: Action) -> None:
         """Notes an action: the body has gone on after the failure of the last one, if that failed."""
-        if self._actions is None:
-            self._actions = []
-        elif self._actions[-1].raised is not None:
-            self._actions[-1].caught = True
-        self._actions.append(action)
+        noted = self.noted
+        if noted is None:
+            self.noted = [action]
+            return
+        if noted[-1].raised is not None:
+            noted[-1].caught = True
+        noted.append(action)
 
     def settle_raised(self, raised: Optional[str]) -> bool:
         """Notes which actions it went on after, though they raised; whether it ended by the last one's failure."""
-        if self._actions is None:
+        if self.noted is None:
             return False
-        for action in self._actions[:-1]:
+        for action in self.noted[:-1]:
             action.caught = action.caught or action.raised is not None
-        last = self._actions[-1]
+        last = self.noted[-1]
         if last.raised is None:
             return False
         if raised == last.raised:

@@ -37,6 +37,9 @@ _LOOKS: Tuple[Tuple[Tuple[str, ...], Pattern[str]], ...] = (
 #: each of these words, with what may be there where it is
 _WORDS = tuple((word, look) for words, look in _LOOKS for word in words)
 
+#: the shortest text with a secret in it, `pwd=x`, and the shortest such one of letters and digits alone, a key of AWS
+_SHORTEST, _SHORTEST_PLAIN = 5, 20
+
 #: of longer values a digest is kept
 _LONG = 200
 
@@ -67,9 +70,13 @@ class Hiding:
         """
         if not self.hides_secrets:
             return text
-        known = self._secrets.get(text)
-        if known is not None:
-            return known
+        if self._secrets:
+            known = self._secrets.get(text)
+            if known is not None:
+                return known
+        length = len(text)
+        if length < _SHORTEST or (length < _SHORTEST_PLAIN and text.isalnum()):
+            return text
         lower = text.lower()
         looks = [look for word, look in _WORDS if word in lower]
         for look in dict.fromkeys(looks):

@@ -17,7 +17,7 @@ from twisted import logger
 from twisted.internet import base, defer, task, threads
 from twisted.python import context, failure, log
 
-from ..telling import is_dead_reference, switches
+from ..telling import is_dead_reference, switches, switching_names
 
 #: the files of Twisted's code that performs actions
 _ACTING = {module.__file__ for module in (base, defer, task, threads, context, failure)}
@@ -71,15 +71,33 @@ class Inside(NamedTuple):
     is_uncalled: bool
 
 
-class _Files(Dict[str, bool]):
-    """Whether the code of a file is neither Twisted's that acts nor what watches it, by its name."""
+class _Files(Dict[str, Optional[bool]]):
+    """By the name of a file, whether its code is a program's: None, where it is that of what watches Twisted, which may switch."""
 
-    def __missing__(self, file: str) -> bool:
-        found = self[file] = file not in _ACTING and not file.startswith((_WATCHING, "<frozen"))
+    def __missing__(self, file: str) -> Optional[bool]:
+        found = None if file.startswith(_WATCHING) else file not in _ACTING and not file.startswith("<frozen")
+        self[file] = found
         return found
 
 
 _FILES = _Files()
+
+
+def is_entered(around: int) -> bool:
+    """Whether the program's code was entered from inside Twisted's, as `entry` finds it.
+
+    The frames of this and of so many around it are known to be neither the program's nor where Twisted began to act.
+    """
+    frame: Optional[FrameType] = sys._getframe(around + 1)
+    while frame is not None:
+        code = frame.f_code
+        is_programs = _FILES[code.co_filename]
+        if is_programs:
+            return True
+        if is_programs is None and code.co_name in switching_names and id(code) in switches:
+            return False
+        frame = frame.f_back
+    return False
 
 
 def entry(called: int = 0) -> Optional[FrameType]:

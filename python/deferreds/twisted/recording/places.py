@@ -50,15 +50,6 @@ _LIBRARIES = tuple(
 _NOT_OF_LIBRARIES = (f"{os.sep}test{os.sep}", f"{os.sep}site-packages{os.sep}", f"{os.sep}dist-packages{os.sep}")
 
 
-def _is_own(file: str) -> bool:
-    """Whether a file is the program's own. That of the reactor counts as one: what is round it has only begun to run it."""
-    found = _OWN_FILES.get(file)
-    if found is None:
-        found = file == _REACTOR or (_FILES[file] and not file.startswith("<") and not _is_library(file))
-        _OWN_FILES[file] = found
-    return found
-
-
 def _is_library(file: str) -> bool:
     for library in _LIBRARIES:
         if file.startswith(library):
@@ -67,7 +58,20 @@ def _is_library(file: str) -> bool:
 
 
 _REACTOR = str(base.__file__)
-_OWN_FILES: Dict[str, bool] = {}
+
+
+class _OwnFiles(Dict[str, bool]):
+    """Whether files are the program's own. That of the reactor counts as one: what is round it has only begun to run it."""
+
+    def __missing__(self, file: str) -> bool:
+        found = file == _REACTOR or (_FILES[file] and not file.startswith("<") and not _is_library(file))
+        self[file] = found
+        return found
+
+
+_OWN_FILES = _OwnFiles()
+#: whether a file that was met before is the program's own
+_is_own_file = _OWN_FILES.get
 
 
 def _working_folder() -> str:
@@ -102,30 +106,32 @@ class Spots:
         """The caller performs an action, which isn't one that makes a Deferred: that is located."""
         try:
             frame = _getframe(_inside(action[0], 3))
-            code = frame.f_code
-            if _OWN_FILES[code.co_filename]:
-                self._note((action, code, frame.f_lasti))
-                return
         except ValueError:  # Python itself calls, as at its end
             return
-        except KeyError:
-            pass
-        self._look_round(action, frame)
+        code = frame.f_code
+        if _is_own_file(code.co_filename):
+            self._note((action, code, frame.f_lasti))
+        else:
+            self._look_round(action, frame)
 
     def locate(self, record: object, maker: Optional[str], inside: int) -> Spot:
         """A Deferred is made: where. The caller's frame and so many more around it are known not to be the program's."""
-        frame = program_frame(1 + inside)
+        try:
+            frame: Optional[FrameType] = _getframe(2 + inside)
+        except ValueError:  # Python itself calls, as at its end
+            return maker or "made", None, 0
+        while frame is not None and not _FILES[frame.f_code.co_filename]:
+            frame = frame.f_back
         if frame is None:
             return maker or "made", None, 0
         code = frame.f_code
-        if not _OWN_FILES.get(code.co_filename):
+        if not _is_own_file(code.co_filename):
             self._look_round(record, frame)
-        if code.co_name in _INNER:
-            return _spot_of(frame, maker)
-        return maker or code.co_name, code, frame.f_lasti
+        name = code.co_name
+        return _spot_of(frame, maker) if name in _INNER else (maker or name, code, frame.f_lasti)
 
     def _look_round(self, noted: object, frame: Optional[FrameType]) -> None:
-        while frame is not None and not _is_own(frame.f_code.co_filename):
+        while frame is not None and not _OWN_FILES[frame.f_code.co_filename]:
             frame = frame.f_back
         if frame is not None:
             self._note((noted, frame.f_code, frame.f_lasti))
@@ -145,7 +151,7 @@ class Spots:
                 yield noted[at], self._path(noted[at + 1]), line_of(noted[at + 1], noted[at + 2])
         for record, spot_ in made:
             code = spot_[1] if spot_ is not None else None
-            if spot_ is not None and code is not None and _is_own(code.co_filename):
+            if spot_ is not None and code is not None and _OWN_FILES[code.co_filename]:
                 yield record, self._path(code), line_of(code, spot_[2])
 
     def _path(self, code: CodeType) -> str:

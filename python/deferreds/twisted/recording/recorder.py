@@ -2,19 +2,32 @@
 
 from __future__ import annotations
 
-import contextlib
 import sys
-from typing import Any, Callable, Iterator, List, NamedTuple, Optional, Tuple, Union
+from typing import Any, Callable, List, Mapping, NamedTuple, Optional, Sequence, Tuple, Union
 
 from twisted.internet.defer import Deferred, FirstError
 from twisted.python.failure import Failure
 
+from ..classes import Classes
 from ..profile import Entry
-from ..telling import KINDS, Action, Advance, Failed, Frame, Observer, Record, Thing, is_deferred, switching, watched
+from ..telling import (
+    KINDS,
+    NO_KEYWORDS,
+    Action,
+    Advance,
+    Failed,
+    Frame,
+    Observer,
+    Record,
+    Thing,
+    is_deferred,
+    switching,
+    watched,
+)
 from ..texts import NULL, Outcome, Text, compact, weight_of
 from .bodies import Body, Run, Steps, Unsayable
 from .hiding import SECRETS, Hiding
-from .inside import CALLED, FINALIZED, KIND_OF_ACTION, MEDDLED, Inside, entry, is_uncalled, worked_on
+from .inside import CALLED, FINALIZED, KIND_OF_ACTION, MEDDLED, Inside, entry, is_entered, is_uncalled, worked_on
 from .places import FreeNames, Spots, name_of_spot, place, spot
 from .values import Values
 
@@ -84,13 +97,18 @@ class Recorder(Observer):
     #: the program itself, and the run of a body in which it is
     top: Run
     frame: Run
+    texts: Values
+
+    stack_room = _ROOM
+    #: how many events come before those by which the runs of bodies count
+    preceding = 0
+    #: what watches where the text of an object is asked for, once one was
+    _aside: Optional[Aside] = None
 
     def __init__(self, kinds: frozenset[str] = KINDS, redact: str = SECRETS) -> None:
-        super().__init__(kinds if "clock" in kinds else kinds - {"timer", "loop", "thread"})
-        self.texts: Values = Values(self.classes, self.ask, Hiding(redact))
-        self._aside = Aside(self)
-        self.top = Run("event")
-        self.frame = self.top
+        classes = Classes()
+        values = Values(classes, self.ask, Hiding(redact))
+        super().__init__(kinds if "clock" in kinds else kinds - {"timer", "loop", "thread"}, classes, values, Run("event"))
         #: the actions of the program itself, and how many parts of lines were told before each
         self.events: List[Action] = []
         self.begins: List[int] = []
@@ -100,27 +118,11 @@ class Recorder(Observer):
         #: the action that Twisted performs, and what the program has done inside it, though that calls for nothing
         self._performed: Optional[Action] = None
         self._inside: Optional[Inside] = None
-        #: how many events come before those by which the runs of bodies count
-        self.preceding = 0
         #: where actions were performed and Deferreds made
         self.spots = Spots()
-        self._note_spot = self.spots.note
         #: how many events have ended
         self.ended = 0
         self._names = FreeNames()
-
-    @contextlib.contextmanager
-    def watching(self) -> Iterator[Observer]:
-        """Has Twisted be watched by this observer. Python's stack has room for what that takes of it."""
-        limit = sys.getrecursionlimit()
-        raised = limit if self.is_on else _ROOM * limit
-        sys.setrecursionlimit(raised)
-        try:
-            with super().watching():
-                yield self
-        finally:
-            if sys.getrecursionlimit() == raised:
-                sys.setrecursionlimit(limit)
 
     def problem(self, reason: str, kind: Optional[str] = None) -> None:
         """Notes what a script can't say."""
@@ -134,12 +136,15 @@ class Recorder(Observer):
         """What the program's code says of an object of its own. What it does beside that is told nowhere."""
         if watched.observer is not self:
             return call()
-        watched.observer = self._aside
+        aside = self._aside
+        if aside is None:
+            aside = self._aside = Aside(self)
+        watched.observer = aside
         try:
             return call()
         finally:
             watched.observer = self
-            self._aside.forget()
+            aside.forget()
 
     # names
 
@@ -188,13 +193,17 @@ class Recorder(Observer):
         if self.acting:
             return self._act_inside(action, call, *args)
         run = self.frame
-        if run is self.top and self.pace is not None and not isinstance(action, Advance):
+        is_event = run is self.top
+        is_advance = type(action) is Advance
+        if is_event and self.pace is not None and not is_advance:
             self.pace.event(action[0] == "loop")
         # Python's collector may run a finalizer anywhere, so that this is set before anything is noted
         self.acting = True
-        performed, inside = self._performed, self._inside
-        self._performed, self._inside = action, None
-        if run is self.top:
+        performed, self._performed = self._performed, action
+        inside = self._inside
+        if inside is not None:
+            self._inside = None
+        if is_event:
             self._told = None
             self.events.append(action)
             self.begins.append(len(self.parts))
@@ -202,19 +211,21 @@ class Recorder(Observer):
             run.note(action)
             if run.kind != "inline":
                 self.parts.append(action)
-        if action[0] != "deferred" and not isinstance(action, Advance):
-            self._note_spot(action)
+        if not is_advance and action[0] != "deferred":
+            self.spots.note(action)
         try:
             return call(*args)
         except BaseException as error:
             self._end_action(run, action, error)
             raise
         finally:
-            if self._inside is not None:
-                self._refuse_unless_last(self._inside, action.raised is not None)
-            self._performed, self._inside = performed, inside
+            if self._inside is not inside:
+                if self._inside is not None:
+                    self._refuse_unless_last(self._inside, action.raised is not None)
+                self._inside = inside
+            self._performed = performed
             self.acting = False
-            if run is self.top:
+            if is_event:
                 self.ended = len(self.events)
 
     @switching
@@ -230,9 +241,10 @@ class Recorder(Observer):
 
     # what the program does inside Twisted's own code
 
-    def is_inside(self) -> bool:
-        """Whether the program calls though Twisted's own code performs an action."""
-        return entry() is not None
+    @property
+    def quiet(self) -> bool:
+        """Whether Twisted's own code calls the instrument which asks, and not the program's that runs inside that."""
+        return self.acting and not is_entered(2)
 
     def _act_inside(self, action: Action, call: Callable[..., Any], *args: Any) -> Any:
         """Performs an action of the program's which Twisted's own code, that performs another one, doesn't call for.
@@ -312,12 +324,39 @@ class Recorder(Observer):
         """In how many others a body lies."""
         return int(body.depth)
 
+    def perform(
+        self,
+        body: Any,
+        kind: str,
+        given: Optional[Tuple[object, Outcome]],
+        call: Callable[..., Any],
+        args: Sequence[Any] = (),
+        kwargs: Mapping[str, Any] = NO_KEYWORDS,
+    ) -> Any:
+        """Has the program do what it was called back for: a run of the body, on what it is given."""
+        run = Run(kind, None if given is None else given[1], body.depth, len(self.events))
+        body.runs.append(run)
+        before, acting = self.frame, self.acting
+        self.frame, self.acting = run, False
+        try:
+            result = call(*args, **kwargs)
+        except BaseException as error:
+            self.end_body(run, error, None, given)
+            raise
+        else:
+            if (result is None or type(result) is int) and run.noted is None and kind not in _DROPPED:
+                run.end = self._returned_plain(run, result, given)
+            else:
+                self.end_body(run, None, result, given)
+            return result
+        finally:
+            self.frame, self.acting = before, acting
+
     def begin_body(
         self, body: Any, kind: str, given: Optional[Tuple[object, Outcome]]
     ) -> Run:
         """A run of a body begins."""
-        run = Run(kind, None if given is None else given[1], body.depth)
-        run.began = len(self.events)
+        run = Run(kind, None if given is None else given[1], body.depth, len(self.events))
         body.runs.append(run)
         return run
 
@@ -332,7 +371,7 @@ class Recorder(Observer):
         assert isinstance(frame, Run)
         self.gave = None
         raised = None if error is None else self.texts.failure(error).text
-        if frame.settle_raised(raised):
+        if frame.noted is not None and frame.settle_raised(raised):
             return
         if error is not None:
             passed = given is not None and given[1].text == f"fail {raised}"
@@ -342,6 +381,17 @@ class Recorder(Observer):
                 frame.end = ["wait", self.record(result)]
         elif frame.kind not in _DROPPED:
             frame.end = self._returned(frame, result, given)
+
+    def _returned_plain(self, frame: Run, result: Optional[int], given: Optional[Tuple[object, Outcome]]) -> Any:
+        """What `_returned` says where a body gave None or an integer, which is found sooner."""
+        before = NULL if given is None else given[1]
+        if before.value is result:
+            self.gave = before
+            return None if given is None or given[0] is result else ["return", result]
+        if result is None:
+            self.gave = NULL
+            return ["return", None]
+        return self._returned(frame, result, given)
 
     def end_by_warning(self, record: Record, error: BaseException) -> None:
         """A side gave its own Deferred, and Twisted's warning of that was raised as an error."""

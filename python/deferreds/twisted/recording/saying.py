@@ -155,7 +155,8 @@ class Said:
             if before == "new " and isinstance(part, Record):
                 self._add_record(part)
             elif isinstance(part, Action) and part.caught:
-                part.helper = helper = Record(f"caught_{len(self.records)}")
+                part.helper = helper = Record()
+                helper.name = f"caught_{len(self.records)}"
                 helper.fired = helper.helper = True
                 self._add_record(helper)
             before = part

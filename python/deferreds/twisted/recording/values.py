@@ -13,7 +13,7 @@ from typing import Any, Callable, Dict, List, TypeVar
 from twisted.python.failure import Failure
 
 from ..classes import Classes, clean, own_message
-from ..texts import Shown, Texts, compact
+from ..texts import NULL, Outcome, Shown, Texts, compact
 from .hiding import Hiding
 
 #: the most characters, bytes or digits of a text that are shown in full, and how many are shown of a longer one
@@ -26,6 +26,16 @@ _MOST_BITS = 600
 
 _Given = TypeVar("_Given")
 _Leaf = Callable[[Any], Shown]
+
+#: by classes, the methods that show their values
+_WAYS = {
+    int: "_integer",
+    str: "_string",
+    bytes: "_bytes",
+    float: "_number",
+    complex: "_number",
+    Failure: "_failure",
+}
 
 #: the name of a class, though a class of it may say something else
 _name_of: Callable[[type], str] = vars(type)["__name__"].__get__
@@ -59,6 +69,13 @@ class Values(Texts):
 
     # whole values
 
+    def outcome(self, value: object) -> Outcome:
+        """What a Deferred that has this value shows."""
+        if value is None:
+            return NULL
+        way = self._whole.get(type(value))
+        return Outcome(self.shown(value) if way is None else way(value))
+
     def shown(self, value: Any, depth: int = 0) -> Shown:
         """A value in the language."""
         kind = type(value)
@@ -69,11 +86,13 @@ class Values(Texts):
 
     def _way_of_whole(self, kind: type) -> _Leaf:
         """How values of this class are shown that are part of no other."""
+        if kind in _WAYS and kind is not Failure:
+            return self._way_of_leaf(kind)
         if _is_list(kind):
             return self._list
         if Failure in kind.__mro__:
             return self._failed
-        return self._pretender if _pretends(kind) else self._leaf
+        return self._pretender if _pretends(kind) else self._way_of_leaf(kind)
 
     def _list(self, value: Any) -> Shown:
         return self._bounded(value, self._leaf)
@@ -100,24 +119,25 @@ class Values(Texts):
     def _leaf(self, value: Any) -> Shown:
         """A value that is no list."""
         kind = type(value)
+        return (self._ways.get(kind) or self._way_of_leaf(kind))(value)
+
+    def _way_of_leaf(self, kind: type) -> _Leaf:
+        """How values of this class are shown, which are no lists."""
         way = self._ways.get(kind)
         if way is None:
             way = self._ways[kind] = self._way(kind)
-        return way(value)
+        return way
 
     def _way(self, kind: type) -> _Leaf:
         """How values of this class are shown."""
         if kind is bool or kind is type(None):
             return _itself
-        ways: Dict[type, _Leaf] = {
-            int: self._integer,
-            str: self._string,
-            bytes: self._bytes,
-            float: self._number,
-            complex: self._number,
-            Failure: self._failure,
-        }
-        return next((ways[base] for base in kind.__mro__ if base in ways), self.named)
+        for base in kind.__mro__:
+            name = _WAYS.get(base)
+            if name is not None:
+                way: _Leaf = getattr(self, name)
+                return way
+        return self.named
 
     def _integer(self, value: int) -> Shown:
         plain = int.__int__(value)
@@ -132,7 +152,10 @@ class Values(Texts):
 
     def _string(self, value: str) -> str:
         plain = str.__str__(value)
-        return self._hiding.value(plain) if self._hiding.hides_all else self.text(plain)
+        hiding = self._hiding
+        if hiding.hides_all:
+            return hiding.value(plain)
+        return hiding.text(plain) if len(plain) <= LONGEST and plain.isascii() else self.text(plain)
 
     def _bytes(self, value: bytes) -> str:
         plain = bytes.__getitem__(value, slice(None))
