@@ -3,7 +3,7 @@
 It prints the table of docs/TWISTED.md. The status is 0 exactly where each test passes under the recorder that passes
 without it, but for those that compare attributes that the recorder sets, and no difference lacks an entry in
 docs/PROFILE.md; 70: a module can't be loaded, the program can't be run, or Twisted isn't known. `python/measure --slower`
-prints how much slower a program is that is recorded.
+prints how much slower a program is that is recorded, and `python/measure --slower-tests [MODULE..]` each test.
 """
 
 from __future__ import annotations
@@ -11,6 +11,7 @@ from __future__ import annotations
 import argparse
 import contextlib
 import os
+import statistics
 import sys
 import tempfile
 from typing import Iterator, List, Optional, Sequence
@@ -32,7 +33,7 @@ from ..recording.measuring import (
     measure_test,
 )
 from ..recording.programs import NotLoaded, tests_of
-from ..recording.slowness import slownesses
+from ..recording.slowness import TestSlowness, slownesses, tests_slownesses
 from ..running import with_room
 
 MODULES = (
@@ -50,6 +51,9 @@ MODULES = (
 
 #: tests that compare all attributes of two Deferreds, one of which is what the recorder keeps of each
 COMPARE_ATTRIBUTES = frozenset({"DeferredTests.test_succeedMatchesManualSuccess"})
+
+#: how many of the tests that are slowed down most are named
+_DEAREST = 10
 
 _HEADER = (
     "| Module | Tests | Nothing to record | Recorded whole | The same line for line "
@@ -146,17 +150,39 @@ def _slower() -> int:
     return 0
 
 
+def _slower_tests(modules: Sequence[str]) -> int:
+    print("| Module | Tests that use Deferreds | Times, lower quartile | Median | Upper quartile |\n|---|---|---|---|---|")
+    for module in modules:
+        tests_of(module)
+    everything = tests_slownesses(modules)
+    for module in modules:
+        print(_quartiles(module, [one for one in everything if one.module == module]))
+    print(_quartiles("all", everything) + "\n")
+    for test in sorted(everything, key=lambda one: one.times, reverse=True)[:_DEAREST]:
+        print(f"{test.times:.1f} times: {test.module}.{test.test}, {test.bare * 1000:.2f} ms without the recorder")
+    return 0
+
+
+def _quartiles(name: str, measured: Sequence[TestSlowness]) -> str:
+    times = [one.times for one in measured]
+    found = statistics.quantiles(times, n=4) if len(times) > 1 else times * 3
+    return f"| {name} | {len(times)} | " + " | ".join(f"{time:.2f}" for time in found) + " |"
+
+
 def main(words: List[str]) -> int:
     """The command."""
     parser = argparse.ArgumentParser(prog="measure", description=__doc__.split("\n", 1)[0])
     parser.add_argument("--ours", metavar="COMMAND", help="our program (deferreds, as it is built or installed)")
     parser.add_argument("--slower", action="store_true", help="measure how much slower a recorded program is")
+    parser.add_argument("--slower-tests", action="store_true", help="measure how much slower each recorded test is")
     parser.add_argument("modules", nargs="*", metavar="MODULE")
     arguments = parser.parse_args(words)
     install()
 
     def run() -> int:
         try:
+            if arguments.slower_tests:
+                return _slower_tests(arguments.modules or MODULES)
             return _slower() if arguments.slower else _run(arguments)
         except (Broken, NotLoaded) as why:
             print(f"measure: {why}", file=sys.stderr)
