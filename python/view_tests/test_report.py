@@ -324,7 +324,7 @@ class OfFacts(unittest.TestCase):
         text = told("new #0 d\n#0 d unfired\n", [0], [stuck(0, "unfired")])
         whole = text.split("\n")
         run = run_of_facts(read_facts("\n".join(whole[:-2]) + "\n"), Script(), "test")
-        self.assertEqual(run.problems, [("the facts were cut off: how the run ended isn't told",)])
+        self.assertEqual(run.problems, [("the facts were cut off: how the run ended isn't known",)])
 
 
 class Scripts(unittest.TestCase):

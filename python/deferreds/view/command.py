@@ -66,7 +66,7 @@ def _arguments(words: List[str]) -> argparse.Namespace:
     source.add_argument(
         "--json",
         metavar="FILE",
-        help=as_called("show what ./deferreds --json has told; SCRIPT may be the script of it"),
+        help=as_called("show what ./deferreds --json has printed; SCRIPT may be the script of it"),
     )
     add(
         "--places",

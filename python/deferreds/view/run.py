@@ -75,7 +75,7 @@ def run_of_facts(facts: Facts, script: Script, title: str) -> Run:
     """A run as `./deferreds --json` tells it: exact."""
     run = Run(Fold(facts.entries, facts.ends, facts.places), facts.left, script, title)
     if facts.ending is None:
-        run.problems.append(("the facts were cut off: how the run ended isn't told",))
+        run.problems.append(("the facts were cut off: how the run ended isn't known",))
     else:
         run.stopped = facts.ending.stopped
         run.weight = f"{facts.ending.weight} of {facts.ending.limit}"

@@ -135,7 +135,7 @@ def _measure(modules: Sequence[str], program: object) -> int:
 def _tell_each(measured: List[Measured]) -> None:
     down = [one for one in measured if one.state == SAME and not one.natively]
     timed = [one for one in measured if one.state == SAME and one.with_times]
-    print(f"{len(down)} of the same are told one level down, {len(timed)} with times of the real reactor")
+    print(f"{len(down)} of the same are recorded one level down, {len(timed)} with times of the real reactor")
     for one in measured:
         if not one.passed and one.test in COMPARE_ATTRIBUTES:
             print(f"{one.test} fails, since it compares attributes that the recorder sets")

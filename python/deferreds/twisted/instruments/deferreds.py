@@ -273,7 +273,7 @@ def _instrumented_canceller(watcher: Observer, body: Any, canceller: Canceller) 
         if watched.observer is not watcher:
             return canceller(deferred)
         if is_inline_canceller(canceller):
-            watcher.problem("a cancel of an inline body that isn't told as one")
+            watcher.problem("a cancel of an inline body that isn't recorded as one")
         return watcher.perform(body, "canceller", None, canceller, (deferred,))
 
     cancelled.__qualname__ = qualified(canceller) or "cancelled"
@@ -779,7 +779,7 @@ def _instrumented_list_cancel(self: Any) -> None:
     watcher = watched.observer
     if watcher is not None and watcher.record(self).kind != "list" and not self.called:
         if watcher.quiet:
-            watcher.problem("a cancel comes to a DeferredList that isn't told as one", "list")
+            watcher.problem("a cancel reaches a DeferredList that isn't recorded as one", "list")
         _list_cancel(self)  # told as what it is made of
         return
     _cancelled(self, _list_cancel)

@@ -145,7 +145,7 @@ class LastRecorder(Recorder):
             self._meet(first)
         known: Any = getattr(deferred, "_dv_record")
         if known[0] is not self:
-            self.problem("a Deferred from before what is kept, whose waits can't be told")
+            self.problem("a Deferred from before what is kept, whose waits can't be recorded")
             return super().adopt(deferred)
         return known[1]  # type: ignore[no-any-return]
 
@@ -187,7 +187,7 @@ class LastRecorder(Recorder):
             return known
         stood: Record = deferred._dv_record[1]
         if _is_odd(deferred) or (waits_for is not None and not isinstance(result_of(deferred), Deferred)):
-            self.problem("a Deferred from before what is kept, which can't be told as it stood")
+            self.problem("a Deferred from before what is kept, which can't be recorded as it stood")
         record = Record()
         record.made_at = stood.made_at or ("stood", None, 0)
         record.number = 0  # (it has one; which, is known when the run is said)
