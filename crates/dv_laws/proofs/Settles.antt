@@ -36,7 +36,8 @@ use Rattle.std.proofs.Common.{zero, suc, ◌≤◌, sum_by, sym, subst, ap, ◌�
 use Rattle.std.specs.Prelude.{◌&&◌, not, is_none}
 use Rattle.dv_value.specs.declared.value.Value.{Fault}
 use Rattle.std.proofs.lemmas.List.Sums.{sum_by-append, sum_by-cons}
-use Rattle.dv_performing.specs.Beginning.{happening, Occurrence, Occurs, Comes}
+use Rattle.dv_performing.specs.Beginning.{happening}
+use Rattle.dv_rules.specs.Scripts.{Occurrence, Occurs, Comes}
 use Rattle.dv_script.specs.declared.event.Event.TheVariants as event
 use Rattle.dv_script.specs.declared.script.Script.{Script}
 use Rattle.dv_objects.specs.Pair.{side_for}
@@ -49,7 +50,7 @@ use Rattle.dv_frames.specs.declared.frame.Frame.TheVariants as frame
 use Rattle.dv_performing.specs.Turning.{turned}
 use Rattle.dv_performing.specs.Settling.{place, side_begun, settled}
 use Rattle.dv_performing.specs.Meaning.{Gives, Happens, Runs, Means}
-use Rattle.dv_performing.specs.Occurrences.{occurrences}
+use Rattle.dv_rules.specs.Scripts.{occurrences}
 use Rattle.dv_performing.proofs.Extends.{Ended, gives_one}
 use Rattle.dv_performing.proofs.Halts.{finishes}
 use Rattle.dv_performing.proofs.Runs.{run, runs_lead}

@@ -1,6 +1,7 @@
 -- What is said with more depth left is said as with less, where that sufficed.
 use Rattle.std.proofs.Common.{◌≡◌, ℕ, zero, suc, ◌+◌, Bool, true, false, not, if◌then◌else◌, List, [], ◌∷◌, length, Option, None, Some, refl, sym, ap, subst, ◌∙◌, slice_get, zero-add, suc-add, add_comm}
-use Rattle.dv_performing.specs.Beginning.{Occurrence, happening}
+use Rattle.dv_performing.specs.Beginning.{happening}
+use Rattle.dv_rules.specs.Scripts.{Occurrence}
 use Rattle.dv_inline.specs.Position.{Position}
 use Rattle.dv_objects.specs.Cooperator.{result_of}
 use Rattle.dv_objects.specs.Pair.{releasing, turning, resuming}

@@ -31,10 +31,10 @@ deeper zero n x p w r h = rw zero-add h
 deeper (suc k) n x p w r h = rw suc-add ((next_extends (k + n)).at x p w r (deeper k n x p w r h))
 
 -- the same, k levels deeper
-deeper_left : (k n : ℕ) → Extends (meaning n) (meaning (k + n))
+pub deeper_left : (k n : ℕ) → Extends (meaning n) (meaning (k + n))
 deeper_left k n = record { at = deeper k n }
 
-deeper_right : (k n : ℕ) → Extends (meaning n) (meaning (n + k))
+pub deeper_right : (k n : ℕ) → Extends (meaning n) (meaning (n + k))
 deeper_right k n = subst (λ m. Extends (meaning n) (meaning m)) (add_comm k n) (deeper_left k n)
 
 -- frames lead to one end

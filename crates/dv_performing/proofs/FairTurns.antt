@@ -9,8 +9,9 @@ use Rattle.dv_performing.proofs.Lasting.{Comes}
 use Rattle.dv_performing.proofs.RuleComes.{rule_comes}
 use Rattle.dv_performing.proofs.StepsCome.{by_aside}
 use Rattle.dv_performing.specs.Acting.{begun}
-use Rattle.dv_performing.specs.Beginning.{Occurrence, Occurs, happening}
-use Rattle.dv_performing.specs.Beginning.{Comes as Posts}
+use Rattle.dv_performing.specs.Beginning.{happening}
+use Rattle.dv_rules.specs.Scripts.{Occurrence, Occurs}
+use Rattle.dv_rules.specs.Scripts.{Comes as Posts}
 use Rattle.dv_performing.specs.Turning.{turned}
 use Rattle.dv_rules.specs.Page.{carry_out}
 use Rattle.dv_script.specs.declared.action.Action.{Action, out-Action}

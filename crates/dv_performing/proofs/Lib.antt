@@ -10,7 +10,6 @@ pub mod Budget
 pub mod BoundsKept
 pub mod StepsCome
 pub mod RuleComes
-pub mod DueRuns
 pub mod Fair
 pub mod Fairly
 pub mod FairTurns
@@ -25,3 +24,4 @@ pub mod Said
 pub mod Deeper
 pub mod ScriptsSaid
 pub mod PartsSaid
+pub mod ByTerms

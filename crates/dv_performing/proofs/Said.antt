@@ -7,7 +7,8 @@ use Rattle.dv_frames.specs.declared.frame.Frame.TheVariants as frame
 use Rattle.dv_journal.specs.declared.entry.Entry.TheVariants as entry
 use Rattle.dv_objects.specs.declared.performed.Performed.{Performed}
 use Rattle.dv_performing.specs.Acting.{begun}
-use Rattle.dv_performing.specs.Beginning.{Occurrence, Occurs, Comes, happening}
+use Rattle.dv_performing.specs.Beginning.{happening}
+use Rattle.dv_rules.specs.Scripts.{Occurrence, Occurs, Comes}
 use Rattle.dv_performing.specs.Turning.{turned}
 use Rattle.dv_rules.proofs.Chained.{here, over_all, then_then}
 use Rattle.dv_rules.proofs.Sayings.{frames_say}

@@ -1,13 +1,13 @@
 -- A script leads by its frames where it leads by what is said.
 use Rattle.std.proofs.Common.{◌≡◌, ℕ, ◌+◌, List, [], ◌∷◌, ◌++◌, Option, None, Some, refl, sym, ap, subst, ◌∙◌}
-use Rattle.dv_performing.specs.Beginning.{Occurrence, Occurs, Comes}
+use Rattle.dv_rules.specs.Scripts.{Occurrence, Occurs, Comes}
 use Rattle.dv_journal.specs.declared.entry.Entry.TheVariants as entry
 use Rattle.dv_posts.specs.Batches.{Batch, Callers, body_of}
 use Rattle.dv_posts.specs.declared.posted.Posted.{Posted}
 use Rattle.dv_performing.proofs.Total.{every_script_ends, each_script_has_one_meaning, runs_end}
 use Rattle.dv_performing.specs.Meaning.{Happens, Runs, Means}
-use Rattle.dv_performing.specs.Occurrences.{occurrences, coming_with, comings}
-use Rattle.dv_performing.specs.Occurrences as occurring
+use Rattle.dv_rules.specs.Scripts.{occurrences, coming_with, comings}
+use Rattle.dv_rules.specs.Scripts as occurring
 use Rattle.dv_script.specs.declared.body.Body.{Body}
 use Rattle.dv_script.specs.declared.event.Event.{Event}
 use Rattle.dv_script.specs.declared.event.Event.TheVariants as event

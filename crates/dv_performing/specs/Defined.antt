@@ -4,8 +4,8 @@ use Rattle.dv_performing.specs.Acting.{begun}
 use Rattle.dv_objects.specs.declared.performed.Performed.{Performed}
 use Rattle.dv_objects.specs.declared.performed.Performed.TheVariants.{Done}
 use Rattle.dv_journal.specs.declared.entry.Entry.TheVariants as entry
-use Rattle.dv_performing.specs.Beginning.{Comes, Occurs}
-use Rattle.dv_performing.specs.Occurrences.{comings}
+use Rattle.dv_rules.specs.Scripts.{Comes, Occurs}
+use Rattle.dv_rules.specs.Scripts.{comings}
 use Rattle.dv_posts.specs.Batches.{Batch, Callers, body_of}
 use Rattle.dv_posts.specs.declared.posted.Posted.{Posted}
 use Rattle.dv_frames.specs.Turn.{rest_of}
@@ -17,12 +17,17 @@ use Rattle.dv_script.specs.declared.event.Event.{Event}
 use Rattle.dv_script.specs.declared.event.Event.TheVariants as event
 use Rattle.dv_script.specs.declared.script.Script.{Script}
 use Rattle.dv_definition.specs.Definition.{◌and_then◌, ComesTo, Inside, Leads, act, batch_comes, perform, post_comes, told}
+use Rattle.dv_rules.specs.Scripts as terms
 use Rattle.dv_value.specs.declared.value.Value.{Value}
 use Rattle.dv_world.specs.World.{World, advance, tell}
 
 -- a script leads to a world by its frames if and only if it leads there by the definition
 abbrev pub ScriptsMeanWhatIsDefined : Type 0
 ScriptsMeanWhatIsDefined = (script : Script) (batches : List Batch) (after : World) → Means script batches after ↔ Leads script batches after
+
+-- and if and only if it leads there by the rules as terms
+abbrev pub ScriptsLeadByTerms : Type 0
+ScriptsLeadByTerms = (script : Script) (batches : List Batch) (after : World) → terms.Leads script batches after ↔ Leads script batches after
 
 -- so it is with an action, whatever it comes to
 abbrev pub ActionsMeanWhatIsDefined : Type 0

@@ -6,7 +6,6 @@ pub mod TurnEnds
 pub mod Settling
 pub mod Performing
 pub mod Turning
-pub mod Occurrences
 pub mod Meaning
 pub mod Laws
 pub mod Defined

@@ -2,11 +2,12 @@
 use Rattle.std.specs.Prelude.{ℕ, zero, suc, ◌≡◌, List, [], ◌∷◌, Option, None, Some}
 use Rattle.dv_script.specs.declared.script.Script.{Script}
 use Rattle.dv_objects.specs.declared.performed.Performed.{Performed}
-use Rattle.dv_performing.specs.Beginning.{Occurrence, happening}
+use Rattle.dv_performing.specs.Beginning.{happening}
+use Rattle.dv_rules.specs.Scripts.{Occurrence}
 use Rattle.dv_performing.specs.Turning.{turned}
 use Rattle.dv_frames.specs.declared.frame.Frame.{Frame}
 use Rattle.dv_posts.specs.Batches.{Batch}
-use Rattle.dv_performing.specs.Occurrences.{occurrences}
+use Rattle.dv_rules.specs.Scripts.{occurrences}
 use Rattle.dv_world.specs.World.{World, first_world}
 
 -- what was come to and the world after it, where all has ended

@@ -1,7 +1,7 @@
 //! Laws of the meaning, each a function with an empty body whose clauses are the laws.
 
 ghost use Rattle.dv_performing.specs.Laws.{FramesEnd, FramesHaveOneResult, StoppedWorldsStay, StoppedActionsStay, EveryScriptEnds, EachScriptHasOneMeaning};
-ghost use Rattle.dv_performing.specs.Defined.{ScriptsMeanWhatIsDefined, ActionsMeanWhatIsDefined, BodiesMeanWhatIsDefined, CancelsMeanWhatIsDefined, SettlingMeansWhatIsDefined, EventsMeanWhatIsDefined, PostsMeanWhatIsDefined, BatchesMeanWhatIsDefined, DrainsMeanWhatIsDefined, EveryScriptLeads, EachScriptLeadsToOneWorld};
+ghost use Rattle.dv_performing.specs.Defined.{ScriptsLeadByTerms, ScriptsMeanWhatIsDefined, ActionsMeanWhatIsDefined, BodiesMeanWhatIsDefined, CancelsMeanWhatIsDefined, SettlingMeansWhatIsDefined, EventsMeanWhatIsDefined, PostsMeanWhatIsDefined, BatchesMeanWhatIsDefined, DrainsMeanWhatIsDefined, EveryScriptLeads, EachScriptLeadsToOneWorld};
 
 /// Frames end, and in one way; in a world that has stopped neither they nor an action change anything.
 pub fn frames_end()
@@ -21,6 +21,7 @@ pub fn scripts_end()
 /// a world, and to one only.
 pub fn scripts_mean_what_is_defined()
     ensures defined { ScriptsMeanWhatIsDefined }
+    ensures terms { ScriptsLeadByTerms }
     ensures ends { EveryScriptLeads }
     ensures one { EachScriptLeadsToOneWorld }
 {}

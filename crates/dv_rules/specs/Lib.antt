@@ -4,3 +4,4 @@ pub mod Saying
 pub mod Flags
 pub mod Page
 pub mod Law
+pub mod Scripts
