@@ -1,6 +1,5 @@
 -- How an inline body begins, and what its answers are: the page's terms, run.
 use Rattle.std.specs.Prelude.{ℕ, List, [], ◌∷◌, Option, None, Some}
-use Rattle.dv_definition.specs.Definition as rule
 use Rattle.dv_inline.specs.Position.{Position}
 use Rattle.dv_script.specs.declared.body.Statement.{Statement}
 use Rattle.dv_value.specs.Builtin.{name_error}
@@ -12,9 +11,9 @@ use Rattle.dv_frames.specs.declared.frame.Inlining.TheVariants.{Awaited}
 use Rattle.dv_objects.specs.Pair.{continuing}
 use Rattle.dv_objects.specs.declared.inline_id.Inline.{Inline}
 use Rattle.dv_objects.specs.declared.performed.Performed.{Performed}
-use Rattle.dv_rules.specs.Page as page
-use Rattle.dv_rules.specs.Rule.{run, Finds, ◌next◌, ◌after_which◌}
-use Rattle.dv_rules.specs.Steps.{BeginAwait}
+use Rattle.dv_definition.specs.Definition as page
+use Rattle.dv_definition.specs.Rule.{run, Finds, ◌next◌, ◌after_which◌}
+use Rattle.dv_definition.specs.Steps.{BeginAwait}
 use Rattle.dv_world.specs.World.{World}
 
 abbrev pub inline_begun : List ℕ → List Statement → World → Turned
@@ -36,7 +35,7 @@ abbrev pub awaited_by : Option ℕ → List ℕ → Inline → Position → Worl
 awaited_by o name i p w = run (Finds o (page.go_with i (fault name_error name) p) λ e. BeginAwait i e next page.add e (continuing i) after_which (frame.Inline (Awaited i e p) ∷ [])) w
 
 abbrev pub await_ended : Inline → ℕ → Position → World → Turned
-await_ended i e p w = run (page.end_await i e p) w
+await_ended i e p w = run (page.after_awaiting i e p) w
 
 abbrev pub answer_of : Performed → Value
-answer_of p = rule.answer_of p
+answer_of p = page.answer_of p

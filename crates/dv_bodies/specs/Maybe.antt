@@ -5,8 +5,9 @@ use Rattle.dv_frames.specs.declared.frame.Frame.{Frame}
 use Rattle.dv_frames.specs.declared.frame.Purpose.{Purpose}
 use Rattle.dv_objects.specs.declared.performed.Performed.{Performed}
 use Rattle.dv_script.specs.declared.body.Body.{Body}
-use Rattle.dv_rules.specs.Page as page
-use Rattle.dv_rules.specs.Rule.{run, Ends}
+use Rattle.dv_definition.specs.Definition as page
+use Rattle.dv_definition.specs.Scripts as scripts
+use Rattle.dv_definition.specs.Rule.{run, Ends}
 use Rattle.dv_value.specs.declared.value.Value.{Value}
 use Rattle.dv_world.specs.World.{World}
 
@@ -26,4 +27,4 @@ abbrev pub maybe_ended : Purpose → Performed → World → Turned
 maybe_ended purpose p w = run (page.deferred_of purpose p) w
 
 abbrev pub given_after : Performed → Performed → World → Turned
-given_after given p w = run (page.unless_raised p (Ends given)) w
+given_after given p w = run (scripts.unless_raised p (Ends given)) w

@@ -4,7 +4,8 @@ use Rattle.std.specs.Option.{option_map, option_map_or}
 use Rattle.dv_clock.specs.Clock.{Upcoming, due_at, first_from, first_of, next_call, upcoming}
 use Rattle.dv_clock.specs.declared.call.Call.{Call}
 use Rattle.dv_definition.specs.Conditions.{CallsComeInTurn, CancelsReach, FailuresAreThrown, ListsFire}
-use Rattle.dv_definition.specs.Definition.{all_came, caught_by, earlier, end_of_waiting, first_call, found, list_fires_with, reached_by, thrown, waited_for}
+use Rattle.dv_definition.specs.Definition.{all_came, caught_by, earlier, end_of_waiting, first_call, list_fires_with, reached_by, thrown, waited_for}
+use Rattle.dv_definition.specs.Rule.{found}
 use Rattle.dv_inline.specs.Position.{Position, class_caught, second_for, thrown_from, thrown_to}
 use Rattle.dv_inline.specs.declared.open.Catch.{Catch}
 use Rattle.dv_inline.specs.declared.open.Open.{Open}

@@ -1,1 +1,5 @@
 pub mod ConditionsHold
+pub mod Through
+pub mod Fires
+pub mod Sayings
+pub mod CasesHold

@@ -1,2 +1,9 @@
+pub mod Steps
+pub mod Rule
+pub mod Words
+pub mod Flags
 pub mod Definition
+pub mod Scripts
 pub mod Conditions
+pub mod Law
+pub mod Cases

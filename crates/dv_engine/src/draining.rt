@@ -3,7 +3,7 @@ ghost use Rattle.dv_posts.specs.Batches.{AreNext, body_of, joined};
 ghost use Rattle.dv_frames.specs.Bounds.{Bounded};
 ghost use Rattle.dv_engine.specs.Engine.{begun_for, taken_for};
 ghost use Rattle.dv_performing.specs.Meaning.{Runs};
-ghost use Rattle.dv_rules.specs.Scripts.{coming, comings};
+ghost use Rattle.dv_definition.specs.Scripts.{coming, comings};
 ghost use Rattle.dv_posts.specs.Taking.{with_batch};
 
 use crate::engine::Phase;

@@ -1,6 +1,6 @@
 -- What a run comes to.
 use Rattle.std.specs.Prelude.{◌≡◌}
-use Rattle.dv_definition.specs.Definition.{Leads}
+use Rattle.dv_definition.specs.Scripts.{Leads}
 use Rattle.dv_jobs.specs.Jobs.{jobs_from}
 use Rattle.dv_jobs.specs.Sources.{jobs_of}
 use Rattle.dv_json.specs.declared.marked.Marked.{Marked}

@@ -82,16 +82,18 @@ use Rattle.dv_objects.specs.Looping.{turn_dropped, with_stopped, with_ended}
 use Rattle.dv_objects.specs.Objects.{lock_changed, queue_changed}
 use Rattle.dv_objects.specs.declared.canceller.Canceller.{Canceller}
 use Rattle.dv_world.specs.World.{fire_guarded, call_later, schedule_tick, tell}
-use Rattle.dv_rules.specs.Flags as page_flags
-use Rattle.dv_definition.specs.Definition.{found}
+use Rattle.dv_definition.specs.Flags as page_flags
+use Rattle.dv_definition.specs.Rule.{found}
 use Rattle.dv_frames.specs.Turn.{Turned, settle_next, done, ◌over◌}
 use Rattle.dv_performing.specs.Acting.{begun}
 use Rattle.dv_performing.specs.Settling.{side_begun}
 use Rattle.dv_performing.specs.Turning.{turned}
-use Rattle.dv_rules.specs.Page as page
-use Rattle.dv_rules.specs.Rule.{Rule, Ends, By, If, Finds, Then, Asks, Fires, Unpauses, Over, run}
-use Rattle.dv_rules.specs.Steps as steps
-use Rattle.dv_rules.specs.Steps.{stepped, Question, Reply}
+use Rattle.dv_definition.specs.Definition as page
+use Rattle.dv_definition.specs.Scripts as scripts
+use Rattle.dv_definition.specs.Words as words
+use Rattle.dv_definition.specs.Rule.{Rule, Ends, By, If, Finds, Then, Asks, Fires, Unpauses, Over, run}
+use Rattle.dv_definition.specs.Steps as steps
+use Rattle.dv_definition.specs.Steps.{stepped, Question, Reply}
 use Rattle.dv_world.specs.World as world
 
 pub record Regular (loops : List LoopingCall) : Type 0 where
@@ -485,12 +487,12 @@ used_free (Named name) d = tt
 used_free (Holding l) d = (tt, (tt, tt))
 used_free (Turning l) d = (tt, tt)
 
-all_mild : (o : Found) (r : List ℕ → Rule) → ((ds : List ℕ) → Mildly (r ds)) → Mildly (page.on_found o r)
+all_mild : (o : Found) (r : List ℕ → Rule) → ((ds : List ℕ) → Mildly (r ds)) → Mildly (words.on_found o r)
 all_mild (All ds) r h = h ds
 all_mild (Unbound name) r h = tt
 
 list_mild : (name children : List ℕ) (flags : Flags) → Mildly (page.list name children flags)
-list_mild name children flags = λ w. (tt, (tt, ((tt, tt), add_free _ _ 0 children)))
+list_mild name children flags = λ w v. (tt, (tt, ((tt, tt), add_free _ _ 0 children)))
 
 reached_mild : (r : Reached) → Mildly (page.cancel_reached r)
 reached_mild reached.Nothing = tt
@@ -510,7 +512,7 @@ await_mild i name p = search [] depth 20
 resume_mild : (i : Inline) (input : Value) → Mildly (page.resume i input)
 resume_mild i input = search [] depth 20
 
-awaited_mild : (i : Inline) (e : ℕ) (p : Position) → Mildly (page.end_await i e p)
+awaited_mild : (i : Inline) (e : ℕ) (p : Position) → Mildly (page.after_awaiting i e p)
 awaited_mild i e p = search [] depth 20
 
 pub carry_mild : (itself : Option ℕ) (action : Action-F Action Statement body_of.Body) → Mildly (page.carry_out itself action)
@@ -560,12 +562,12 @@ wanted_mild i None p = tt
 wanted_mild i (Some (Do action)) p = (carry_mild (Some i.of) (out-Action action), (tt, tt))
 wanted_mild i (Some (Await name)) p = await_mild i name p
 
-inline_mild : (x : Inlining) (o : Performed) → Mildly (page.inline_goes x o)
+inline_mild : (x : Inlining) (o : Performed) → Mildly (scripts.inline_goes x o)
 inline_mild (Goes i p) o = (wanted_mild i (want_at (come p)) (come p), λ result. tt)
 inline_mild (Acted i p) o = search [] depth 20
 inline_mild (Awaited i e p) o = awaited_mild i e p
 
-unless_mild : (p : Performed) (r : Rule) → Mildly r → Mildly (page.unless_raised p r)
+unless_mild : (p : Performed) (r : Rule) → Mildly r → Mildly (scripts.unless_raised p r)
 unless_mild Done r h = h
 unless_mild (Gave v) r h = h
 unless_mild (Raised failure) r h = tt
@@ -582,7 +584,7 @@ maybe_mild purpose (Gave v) = λ w. (tt, (tt, used_free purpose (length w.record
 maybe_mild purpose (Raised failure) = λ w. (tt, (tt, used_free purpose (length w.records)))
 maybe_mild purpose (Awaits e) = taken_mild purpose e
 
-step_mild : (t : ℕ) (p : Performed) → Mildly (page.step_came_to t p)
+step_mild : (t : ℕ) (p : Performed) → Mildly (page.after_step t p)
 step_mild t Done = tt
 step_mild t (Gave v) = (tt, λ failure. end_mild t (Failed failure))
 step_mild t (Raised failure) = end_mild t (Failed failure)
@@ -613,7 +615,7 @@ IsMild frame.Tell = Unit {0}
 IsMild frame.Due = Unit {0}
 IsMild (frame.Inline inlining) = Unit {0}
 
-pub rule_mild : (f : Frame) (p : Performed) → IsMild f → Mildly (page.rule_of f p)
+pub rule_mild : (f : Frame) (p : Performed) → IsMild f → Mildly (scripts.rule_of f p)
 rule_mild (frame.Settle d) p m = absurd m
 rule_mild (frame.Place d) p m = absurd m
 rule_mild (frame.Rest rest) p m = unless_mild p _ (rest_mild rest.itself rest.actions rest.end rest.input)
@@ -653,7 +655,7 @@ pub side_mild : (d : ℕ) (s : Option Side) (input : Value) (w : World) → Mild
 side_mild d s input w = run_mild (page.run_side d s input) w (side_rule_mild d s input)
 
 pub turned_mild : (f : Frame) (p : Performed) (w : World) → IsMild f → Mild w (turned f p w)
-turned_mild f p w m = run_mild (page.rule_of f p) w (rule_mild f p m)
+turned_mild f p w m = run_mild (scripts.rule_of f p) w (rule_mild f p m)
 
 -- what happens begins so, but for that time goes on
 pub action_mild : (action : Action) (w : World) → Mild w (begun None (out-Action action) w over (frame.Tell ∷ []))

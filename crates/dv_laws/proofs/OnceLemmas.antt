@@ -20,7 +20,7 @@ use Rattle.dv_posts.specs.Batches.{Batch}
 use Rattle.dv_performing.specs.Meaning.{Means}
 use Rattle.dv_performing.proofs.Kept.{Both, Kind, Kept, telling_of, every_step}
 use Rattle.dv_laws.proofs.At.{counted_of, at, set_at, changing_at, first_at, last_at, more_at, push_at, split_last}
-use Rattle.dv_performing.proofs.ScriptsSaid.{scripts_mean_what_is_defined}
+use Rattle.dv_performing.proofs.Leading.{scripts_mean_what_is_defined}
 use Rattle.dv_performing.proofs.Total.{means_keeps}
 use Rattle.dv_world.specs.World.{World, Records, state_of}
 use Rattle.dv_objects.specs.Refusals.{cancelled}

@@ -19,7 +19,7 @@ use Rattle.dv_performing.specs.Meaning.{Means}
 use Rattle.dv_store.specs.Outcome.{outcome_of}
 use Rattle.dv_store.specs.declared.outcome.Outcome.{Outcome}
 use Rattle.dv_performing.proofs.Kept.{Both, Kind, Kept, telling_of, every_step}
-use Rattle.dv_performing.proofs.ScriptsSaid.{scripts_mean_what_is_defined}
+use Rattle.dv_performing.proofs.Leading.{scripts_mean_what_is_defined}
 use Rattle.dv_performing.proofs.Total.{means_keeps}
 use Rattle.dv_world.specs.World.{World, Records, state_of}
 use Rattle.dv_objects.specs.Refusals.{cancelled}

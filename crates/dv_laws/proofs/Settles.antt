@@ -37,7 +37,7 @@ use Rattle.std.specs.Prelude.{◌&&◌, not, is_none}
 use Rattle.dv_value.specs.declared.value.Value.{Fault}
 use Rattle.std.proofs.lemmas.List.Sums.{sum_by-append, sum_by-cons}
 use Rattle.dv_performing.specs.Beginning.{happening}
-use Rattle.dv_rules.specs.Scripts.{Occurrence, Occurs, Comes}
+use Rattle.dv_definition.specs.Scripts.{Occurrence, Occurs, Comes}
 use Rattle.dv_script.specs.declared.event.Event.TheVariants as event
 use Rattle.dv_script.specs.declared.script.Script.{Script}
 use Rattle.dv_objects.specs.Pair.{side_for}
@@ -50,11 +50,11 @@ use Rattle.dv_frames.specs.declared.frame.Frame.TheVariants as frame
 use Rattle.dv_performing.specs.Turning.{turned}
 use Rattle.dv_performing.specs.Settling.{place, side_begun, settled}
 use Rattle.dv_performing.specs.Meaning.{Gives, Happens, Runs, Means}
-use Rattle.dv_rules.specs.Scripts.{occurrences}
+use Rattle.dv_definition.specs.Scripts.{occurrences}
 use Rattle.dv_performing.proofs.Extends.{Ended, gives_one}
 use Rattle.dv_performing.proofs.Halts.{finishes}
 use Rattle.dv_performing.proofs.Runs.{run, runs_lead}
-use Rattle.dv_performing.proofs.ScriptsSaid.{scripts_mean_what_is_defined}
+use Rattle.dv_performing.proofs.Leading.{scripts_mean_what_is_defined}
 use Rattle.dv_engine.specs.Report.{Reports}
 use Rattle.dv_engine.specs.declared.report.Report.{Report}
 use Rattle.dv_journal.specs.Journal.{Written}

@@ -10,10 +10,10 @@ use Rattle.dv_performing.proofs.RuleComes.{rule_comes}
 use Rattle.dv_performing.proofs.StepsCome.{by_aside}
 use Rattle.dv_performing.specs.Acting.{begun}
 use Rattle.dv_performing.specs.Beginning.{happening}
-use Rattle.dv_rules.specs.Scripts.{Occurrence, Occurs}
-use Rattle.dv_rules.specs.Scripts.{Comes as Posts}
+use Rattle.dv_definition.specs.Scripts.{Occurrence, Occurs}
+use Rattle.dv_definition.specs.Scripts.{Comes as Posts}
 use Rattle.dv_performing.specs.Turning.{turned}
-use Rattle.dv_rules.specs.Page.{carry_out}
+use Rattle.dv_definition.specs.Definition.{carry_out}
 use Rattle.dv_script.specs.declared.action.Action.{Action, out-Action}
 use Rattle.dv_script.specs.declared.action.Action.TheOpen.{Action-F}
 use Rattle.dv_script.specs.declared.body.Body.{Body}

@@ -6,7 +6,8 @@ use Rattle.dv_clock.specs.Turns.{turn_of}
 use Rattle.dv_clock.specs.declared.call.CallState.TheVariants as call_state
 use Rattle.dv_clock.specs.declared.due.Due.{Due}
 use Rattle.dv_clock.specs.declared.due.Due.TheVariants as what
-use Rattle.dv_definition.specs.Definition.{found, answer_of}
+use Rattle.dv_definition.specs.Definition.{answer_of}
+use Rattle.dv_definition.specs.Rule.{found}
 use Rattle.dv_frames.specs.Turn.{Turned, settle_next, ◌over◌}
 use Rattle.dv_frames.specs.declared.frame.Frame.{Frame}
 use Rattle.dv_frames.specs.declared.frame.Frame.TheVariants as frame
@@ -54,10 +55,12 @@ use Rattle.dv_script.specs.declared.body.Statement.{Statement}
 use Rattle.dv_store.specs.Laws.{used}
 use Rattle.dv_store.specs.declared.store.Step.{Step as Move}
 use Rattle.dv_store.specs.declared.store.Step.TheVariants.{Nothing, Passed, Run, Handed}
-use Rattle.dv_rules.specs.Flags.{list_flags, gather_flags}
-use Rattle.dv_rules.specs.Page as page
-use Rattle.dv_rules.specs.Rule.{Rule, Ends, By, If, Finds, Then, Asks, Fires, Unpauses, Over, run}
-use Rattle.dv_rules.specs.Steps.{Question, Reply, stepped, asked, Cancel, PutInto, GetFrom, CameTo, CancelCall, TakeStep, EndTask, ComeToInline, EndAwait, ComeDue, Moves}
+use Rattle.dv_definition.specs.Flags.{list_flags, gather_flags}
+use Rattle.dv_definition.specs.Definition as page
+use Rattle.dv_definition.specs.Scripts as scripts
+use Rattle.dv_definition.specs.Words as words
+use Rattle.dv_definition.specs.Rule.{Rule, Ends, By, If, Finds, Then, Asks, Fires, Unpauses, Over, run}
+use Rattle.dv_definition.specs.Steps.{Question, Reply, stepped, asked, Cancel, PutInto, GetFrom, CameTo, CancelCall, TakeStep, EndTask, ComeToInline, EndAwait, ComeDue, Moves}
 use Rattle.dv_performing.proofs.RuleComes.{rule_comes}
 use Rattle.dv_performing.proofs.StepsCome.{by_aside, step_comes, question_comes, due_aside}
 use Rattle.dv_value.specs.Failure.{failure_in}
@@ -237,10 +240,10 @@ rule_fair m rule w h = record { comes = rule_comes rule w; falls = rule_falls m 
 
 -- 3. The page: each rule is as light as it is to be. Its names, tests and steps are one pattern.
 
-bound : (m : ℕ) (o : Option ℕ) (name : List ℕ) (r : ℕ → Rule) → ((d : ℕ) → Within m (r d)) → Within m (page.with_bound o name r)
+bound : (m : ℕ) (o : Option ℕ) (name : List ℕ) (r : ℕ → Rule) → ((d : ℕ) → Within m (r d)) → Within m (words.with_bound o name r)
 bound m o name r h = (tt, λ d e. h d)
 
-all_bound : (m : ℕ) (o : Found) (r : List ℕ → Rule) → ((ds : List ℕ) → Within m (r ds)) → Within m (page.on_found o r)
+all_bound : (m : ℕ) (o : Found) (r : List ℕ → Rule) → ((ds : List ℕ) → Within m (r ds)) → Within m (words.on_found o r)
 all_bound m (All ds) r h = h ds
 all_bound m (Unbound name) r h = tt
 
@@ -256,8 +259,8 @@ cancel_reached m d (reached.Inline i) = Pays (omega arith)
 cancel : (m d : ℕ) → Within m (page.cancel d)
 cancel m d = λ r k. cancel_reached m d r
 
-canceller_came_to : (m d : ℕ) (p : Performed) → 0 < m → Within m (page.canceller_came_to d p)
-canceller_came_to m d p q = ((λ w. (q, tt)), λ failure e. tt)
+after_canceller : (m d : ℕ) (p : Performed) → 0 < m → Within m (page.after_canceller d p)
+after_canceller m d p q = ((λ w. (q, tt)), λ failure e. tt)
 
 acquire : (m : ℕ) (name : List ℕ) (l : ℕ) → 0 < m → Within m (page.acquire name l)
 acquire m name l q = λ w v. (tt, λ s e. (tt, λ d k. q))
@@ -269,7 +272,7 @@ put_in : (m k : ℕ) (v : Value) → 0 < m → Within m (page.put_in k v)
 put_in m k v q = λ w. (tt, λ s e. ((λ a known. Light (tt, λ given k. q)), tt))
 
 get_out : (m : ℕ) (name : List ℕ) (k : ℕ) → 0 < m → Within m (page.get_out name k)
-get_out m name k q = λ w. (tt, λ s e. ((λ a known. Light (tt, λ v j. q)), tt))
+get_out m name k q = λ w u. (tt, λ s e. ((λ a known. Light (tt, λ v j. q)), tt))
 
 used_lighter : (purpose : Purpose) (d : ℕ) → Lighter 2 (page.used_for purpose d)
 used_lighter (Named name) d = tt
@@ -295,7 +298,7 @@ add_children m l d i [] q = tt
 add_children m l d i (c ∷ cs) q = (q, add_children m l d (1 + i) cs q)
 
 list : (m : ℕ) (name children : List ℕ) (flags : Flags) → 1 < m → Within m (page.list name children flags)
-list m name children flags q = λ w. ((omega (arith, q), tt), add_children m _ _ 0 children q)
+list m name children flags q = λ w v. ((omega (arith, q), tt), add_children m _ _ 0 children q)
 
 add_timeout : (m d delay : ℕ) → 1 < m → Within m (page.add_timeout d delay)
 add_timeout m d delay q = λ w. ((tt, (omega (arith, q), tt)), (q, tt))
@@ -304,7 +307,7 @@ turn : (m l : ℕ) (body : Body) → 1 + body_size body < m → Within m (page.t
 turn m l body q = (tt, (omega (arith, q, body_size_out body), (omega (arith, q, body_size_out body), tt)))
 
 stop_loop : (m l : ℕ) → 0 < m → Within m (page.stop_loop l)
-stop_loop m l q = λ w. (tt, λ x e. (tt, (q, tt)))
+stop_loop m l q = λ w. (tt, λ x e. λ v. (tt, (q, tt)))
 
 notify : (m d t : ℕ) → 0 < m → Within m (page.notify d t)
 notify m d t q = λ w. (tt, λ x e. (tt, λ end k. q))
@@ -316,11 +319,11 @@ notify_all m t (d ∷ ds) q = (q, (omega (arith, q), notify_all m t ds q))
 end_task : (m t : ℕ) (end : TaskEnd) → 1 < m → Within m (page.end_task t end)
 end_task m t end q = λ ds known. Light (tt, notify_all m t ds q)
 
-step_came_to : (m t : ℕ) (p : Performed) → 1 < m → Within m (page.step_came_to t p)
-step_came_to m t Done q = tt
-step_came_to m t (Gave v) q = (tt, λ failure e. end_task m t (Failed failure) q)
-step_came_to m t (Raised failure) q = end_task m t (Failed failure) q
-step_came_to m t (Awaits e) q = (tt, (q, tt))
+after_step : (m t : ℕ) (p : Performed) → 1 < m → Within m (page.after_step t p)
+after_step m t Done q = tt
+after_step m t (Gave v) q = (tt, λ failure e. end_task m t (Failed failure) q)
+after_step m t (Raised failure) q = end_task m t (Failed failure) q
+after_step m t (Awaits e) q = (tt, (q, tt))
 
 tick_taken : (m left : ℕ) (o : Option (ℕ × Option Body)) → Or (1 ≤ one_if_some o) (Within m (Finds o page.tick_ended (λ now. Over (page.take_step now.0 now.1) (frame.Tick left ∷ []))))
 tick_taken m left None = Light (tt, λ now e. absurd cc)
@@ -375,9 +378,9 @@ carry_out m itself (Action-F.WhenDone name task) q = λ w. (tt, λ t e. λ v. no
 carry_out m itself (Action-F.PauseTask name) q = λ w. (tt, λ t e. λ v. (tt, λ x k. (tt, λ end j. tt)))
 carry_out m itself (Action-F.StopTask name) q = λ w. (tt, λ t e. λ v. (tt, λ x k. (end_task m t Stopped (omega (arith, q)), λ end j. tt)))
 carry_out m itself (Action-F.ResumeTask name) q = λ w. (tt, λ t e. λ v. (tt, λ x k. (tt, tt)))
-carry_out m itself (Action-F.Inline name statements) q = λ w. (tt, (omega (arith, q), tt))
-carry_out m itself (Action-F.Thread name delay work) q = λ w. (tt, λ v. tt)
-carry_out m itself (Action-F.ThreadIn name pool delay work) q = λ w. (tt, λ v. tt)
+carry_out m itself (Action-F.Inline name statements) q = λ w v. (tt, (omega (arith, q), tt))
+carry_out m itself (Action-F.Thread name delay work) q = λ w v. (tt, λ u. tt)
+carry_out m itself (Action-F.ThreadIn name pool delay work) q = λ w v. (tt, λ u. tt)
 
 perform_rest : (itself : Option ℕ) (actions : List Action) (end : End) (input : Value) → Within (1 + actions_size actions) (page.perform_rest itself actions end input)
 perform_rest itself [] end input = λ w. tt
@@ -388,7 +391,7 @@ do_wanted m i None p h q = tt
 do_wanted m i (Some (Do action)) p h q = (carry_out m (Some i.of) (out-Action action) (omega (arith, begun_fits action, action_text p action h, q)), (omega (arith, q, ap (λ o. waiting_by o p) h), tt))
 do_wanted m i (Some (Await name)) p h q = await m i name p (omega (arith, q, ap (λ o. waiting_by o p) h))
 
-inline_goes : (x : Inlining) (o : Performed) → Within (rank (frame.Inline x)) (page.inline_goes x o)
+inline_goes : (x : Inlining) (o : Performed) → Within (rank (frame.Inline x)) (scripts.inline_goes x o)
 inline_goes (Goes i p) o = (do_wanted (1 + text_of p) i (want_at (come p)) (come p) refl (omega (arith, come_text p)), λ result e. omega arith)
 inline_goes (Acted i p) o = go_with (waiting_text p) i (answer_of o) p (omega arith)
 inline_goes (Awaited i e p) o = λ a known. Light (go_where i p a known)
@@ -405,7 +408,7 @@ put_in_place d (Gave v) = (tt, (omega arith, tt))
 put_in_place d (Raised failure) = (tt, (omega arith, tt))
 put_in_place d (Awaits e) = (tt, (omega arith, tt))
 
-unless_raised : (m : ℕ) (p : Performed) (r : Rule) → Within m r → Within m (page.unless_raised p r)
+unless_raised : (m : ℕ) (p : Performed) (r : Rule) → Within m r → Within m (scripts.unless_raised p r)
 unless_raised m Done r h = h
 unless_raised m (Gave v) r h = h
 unless_raised m (Raised failure) r h = tt
@@ -415,22 +418,22 @@ run_next : (m : ℕ) (o : Option Due) → Or (1 ≤ one_if_some o) (Within m (pa
 run_next m None = Light tt
 run_next m (Some due) = Pays (omega arith)
 
-rule_within : (f : Frame) (p : Performed) → Within (rank f) (page.rule_of f p)
+rule_within : (f : Frame) (p : Performed) → Within (rank f) (scripts.rule_of f p)
 rule_within (frame.Settle d) p = λ move known. settle_by 0 d move
 rule_within (frame.Place d) p = put_in_place d p
 rule_within (frame.Rest rest) p = unless_raised _ p _ (perform_rest rest.itself rest.actions rest.end rest.input)
-rule_within (frame.Canceller d) p = canceller_came_to 1 d p (omega arith)
+rule_within (frame.Canceller d) p = after_canceller 1 d p (omega arith)
 rule_within (frame.Maybe purpose) p = deferred_of purpose p
 rule_within (frame.Add d pair) p = (tt, (omega arith, tt))
 rule_within (frame.Cancel d) p = cancel 0 d
 rule_within (frame.Give given) p = unless_raised 0 p _ tt
 rule_within (frame.Notify d t) p = notify 1 d t (omega arith)
-rule_within (frame.Stepped t) p = λ w. (tt, step_came_to 2 t p (omega arith))
+rule_within (frame.Stepped t) p = λ w. (tt, after_step 2 t p (omega arith))
 rule_within (frame.Tick units) p = (tt, λ o known. tick_taken 0 (units - 1) o)
 rule_within frame.Tell p = (tt, λ failure e. tt)
 rule_within frame.Due p = λ o known. run_next 0 o
 rule_within (frame.Inline x) p = inline_goes x p
 
 -- as today
-pub turned_fair : (f : Frame) (p : Performed) (w : World) → Fair w (rank f) (run (page.rule_of f p) w)
-turned_fair f p w = rule_fair (rank f) (page.rule_of f p) w (rule_within f p)
+pub turned_fair : (f : Frame) (p : Performed) (w : World) → Fair w (rank f) (run (scripts.rule_of f p) w)
+turned_fair f p w = rule_fair (rank f) (scripts.rule_of f p) w (rule_within f p)

@@ -16,7 +16,7 @@ use Rattle.dv_performing.proofs.FairTurns.{happening_comes, turned_fair}
 use Rattle.dv_performing.proofs.Lasting.{Lasting}
 use Rattle.dv_performing.specs.Turning.{turned}
 use Rattle.dv_performing.specs.Beginning.{happening}
-use Rattle.dv_rules.specs.Scripts.{Occurrence}
+use Rattle.dv_definition.specs.Scripts.{Occurrence}
 use Rattle.dv_bodies.specs.Threading.{GoesOn, delivered, job_result}
 use Rattle.dv_performing.specs.TurnEnds.{ended_with}
 use Rattle.dv_performing.specs.declared.turn_end.TurnEnd.{TurnEnd}

@@ -19,9 +19,4 @@ pub mod Total
 pub mod Stopped
 pub mod Turns
 pub mod JobsKept
-pub mod Chained
-pub mod Said
-pub mod Deeper
-pub mod ScriptsSaid
-pub mod PartsSaid
-pub mod ByTerms
+pub mod Leading

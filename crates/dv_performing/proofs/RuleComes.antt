@@ -1,14 +1,14 @@
 -- Every rule leads on by steps of the world, by its form alone.
 use Rattle.std.proofs.Common.{ℕ, ◌≡◌, ◌+◌, ◌<◌, ◌≤◌, Bool, true, false, if◌then◌else◌, List, [], ◌∷◌, ◌++◌, Option, None, Some, refl, arith}
-use Rattle.dv_definition.specs.Definition.{found}
+use Rattle.dv_definition.specs.Rule.{found}
 use Rattle.dv_frames.specs.Turn.{Turned, settle_next}
 use Rattle.dv_frames.specs.declared.frame.Frame.{Frame}
 use Rattle.dv_frames.specs.declared.frame.Frame.TheVariants as frame
 use Rattle.dv_objects.specs.declared.follow.Follow.{Follow}
 use Rattle.dv_objects.specs.declared.follow.Follow.TheVariants as follow
 use Rattle.dv_performing.proofs.Lasting.{Comes}
-use Rattle.dv_rules.specs.Rule.{Rule, Ends, By, If, Finds, Then, Asks, Fires, Unpauses, Over, run}
-use Rattle.dv_rules.specs.Steps.{stepped, asked}
+use Rattle.dv_definition.specs.Rule.{Rule, Ends, By, If, Finds, Then, Asks, Fires, Unpauses, Over, run}
+use Rattle.dv_definition.specs.Steps.{stepped, asked}
 use Rattle.dv_performing.proofs.StepsCome.{same, join, step_comes, question_comes}
 use Rattle.dv_world.specs.World as world
 use Rattle.dv_world.specs.World.{World}

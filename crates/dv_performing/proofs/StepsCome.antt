@@ -24,7 +24,7 @@ use Rattle.dv_prims.specs.DeferredList.{Gather, came}
 use Rattle.dv_prims.specs.Queue.{Queue, may_put, receiver, put_to}
 use Rattle.dv_prims.specs.Tokens.{Semaphore, is_unheld}
 use Rattle.dv_script.specs.declared.body.Body as body_of
-use Rattle.dv_rules.specs.Steps.{Step, stepped, Question, Reply, asked, Make, Name, Append, FireGuarded, Pause, Note, TellTurn, TellUnhandled, NewLock, NewSemaphore, Ask, Release, Forget, NewQueue, Withdraw, NewList, StartTimer, EndTimer, CallLater, NewLoop, ScheduleTurn, StopLoop, EndLoop, NewTask, AwaitTask, PauseTask, ResumeTask, HoldTask, KeepTick, BeginTick, EndTick, AddInline, BeginAwait, Submit, DeliverLater, Advance, TellDrain, TellPost, Put, PutDeferred, ComeDue, Moves, Cancel, PutInto, GetFrom, CameTo, CancelCall, TakeStep, EndTask, ComeToInline, EndAwait}
+use Rattle.dv_definition.specs.Steps.{Step, stepped, Question, Reply, asked, Make, Name, Append, FireGuarded, Pause, Note, TellTurn, TellUnhandled, NewLock, NewSemaphore, Ask, Release, Forget, NewQueue, Withdraw, NewList, StartTimer, EndTimer, CallLater, NewLoop, ScheduleTurn, StopLoop, EndLoop, NewTask, AwaitTask, PauseTask, ResumeTask, HoldTask, KeepTick, BeginTick, EndTick, AddInline, BeginAwait, Submit, DeliverLater, Advance, TellDrain, TellPost, Put, PutDeferred, ComeDue, Moves, Cancel, PutInto, GetFrom, CameTo, CancelCall, TakeStep, EndTask, ComeToInline, EndAwait}
 use Rattle.dv_value.specs.declared.value.Value.{Value}
 use Rattle.dv_world.specs.World.{World, aside, lock_told, release_found, unless_stopped, put_into_found, get_from_found, arrange, came_to_found, came_to, come_due_found, waiting_cancelled, state_cancelled, call_cancelled, cancel_call, turn_scheduled, loop_stopped, task_told, task_ended, tick_dropped, keep_tick, step_taken, turn_taken, come_to_inline, end_await}
 

@@ -4,7 +4,7 @@ use Rattle.dv_performing.proofs.Lasting.{Lasting}
 use Rattle.dv_performing.proofs.Total.{gives_keeps, begun_gives_keeps, happens_keeps, frames_end, happens_end}
 use Rattle.dv_performing.specs.Laws.{StoppedWorldsStay, StoppedActionsStay}
 use Rattle.dv_performing.specs.Meaning.{Gives, Ends, Happens}
-use Rattle.dv_rules.specs.Scripts.{Occurrence}
+use Rattle.dv_definition.specs.Scripts.{Occurrence}
 use Rattle.dv_frames.specs.declared.frame.Frame.{Frame}
 use Rattle.dv_world.specs.World.{World, step, put, put_deferred, append, make, fire, fire_guarded, cancel, pause, unpause, aside, arrange, submit}
 use Rattle.dv_objects.specs.declared.performed.Performed.{Performed}

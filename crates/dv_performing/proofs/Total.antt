@@ -7,8 +7,8 @@ use Rattle.dv_posts.specs.Batches.{Batch}
 use Rattle.dv_performing.specs.Laws.{FramesEnd, FramesHaveOneResult, EveryScriptEnds, EachScriptHasOneMeaning}
 use Rattle.dv_performing.specs.Meaning.{Gives, Happens, Runs, Means}
 use Rattle.dv_performing.specs.Beginning.{happening}
-use Rattle.dv_rules.specs.Scripts.{Occurrence}
-use Rattle.dv_rules.specs.Scripts.{occurrences}
+use Rattle.dv_definition.specs.Scripts.{Occurrence}
+use Rattle.dv_definition.specs.Scripts.{occurrences}
 use Rattle.dv_frames.specs.declared.frame.Frame.{Frame}
 use Rattle.dv_performing.proofs.Extends.{gives_one}
 use Rattle.dv_performing.proofs.Halts.{finishes}

@@ -7,7 +7,7 @@ use Rattle.dv_performing.proofs.Runs.{turned_leads}
 use Rattle.dv_frames.specs.Bounds.{Bounded}
 use Rattle.dv_performing.specs.Turning.{turned}
 use Rattle.dv_performing.specs.Beginning.{happening}
-use Rattle.dv_rules.specs.Scripts.{Occurrence}
+use Rattle.dv_definition.specs.Scripts.{Occurrence}
 use Rattle.dv_performing.specs.Meaning.{Gives}
 use Rattle.dv_frames.specs.Turn.{Turned, ◌over◌}
 use Rattle.dv_frames.specs.declared.frame.Frame.{Frame}

@@ -1,8 +1,8 @@
 -- What each action begins with (Twisted: the calls that a program makes): its rule, run.
 use Rattle.std.specs.Prelude.{ℕ, Option}
 use Rattle.dv_frames.specs.Turn.{Turned}
-use Rattle.dv_rules.specs.Page as page
-use Rattle.dv_rules.specs.Rule.{run}
+use Rattle.dv_definition.specs.Definition as page
+use Rattle.dv_definition.specs.Rule.{run}
 use Rattle.dv_script.specs.declared.action.Action.{Action}
 use Rattle.dv_script.specs.declared.action.Action.TheOpen.{Action-F}
 use Rattle.dv_script.specs.declared.body.Body.{Body}

@@ -9,7 +9,7 @@ use Rattle.dv_frames.specs.declared.frame.Frame.{Frame}
 use Rattle.dv_world.specs.World.{World}
 use Rattle.dv_objects.specs.declared.performed.Performed.{Performed}
 
--- frames end, whatever was come to before them and in every world
+-- frames end, whatever was given before them and in every world
 abbrev pub FramesEnd : Type 0
 FramesEnd = (frames : List Frame) (p : Performed) (w : World) → (q : Performed) × (after : World) × Gives frames p w q after
 

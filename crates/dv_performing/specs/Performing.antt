@@ -4,8 +4,9 @@ use Rattle.dv_frames.specs.Turn.{Turned}
 use Rattle.dv_frames.specs.declared.frame.Frame.TheVariants as frame
 use Rattle.dv_frames.specs.declared.frame.Rest.{Rest}
 use Rattle.dv_objects.specs.declared.performed.Performed.{Performed}
-use Rattle.dv_rules.specs.Page as page
-use Rattle.dv_rules.specs.Rule.{run}
+use Rattle.dv_definition.specs.Definition as page
+use Rattle.dv_definition.specs.Scripts as scripts
+use Rattle.dv_definition.specs.Rule.{run}
 use Rattle.dv_script.specs.declared.action.Action.{Action}
 use Rattle.dv_script.specs.declared.body.End.{End}
 use Rattle.dv_value.specs.declared.value.Value.{Value}
@@ -15,4 +16,4 @@ abbrev pub gone_on : Option ℕ → List Action → End → Value → World → 
 gone_on itself actions end input w = run (page.perform_rest itself actions end input) w
 
 abbrev pub rest_turned : Rest → Performed → World → Turned
-rest_turned rest p w = run (page.rule_of (frame.Rest rest) p) w
+rest_turned rest p w = run (scripts.rule_of (frame.Rest rest) p) w

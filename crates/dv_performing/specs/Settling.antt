@@ -5,13 +5,13 @@ use Rattle.dv_objects.specs.Pair.{Pair}
 use Rattle.dv_objects.specs.declared.pair.Side.{Side}
 use Rattle.dv_objects.specs.declared.performed.Performed.{Performed}
 use Rattle.dv_objects.specs.declared.performed.Performed.TheVariants.{Done, Gave, Raised, Awaits}
-use Rattle.dv_rules.specs.Page as page
-use Rattle.dv_rules.specs.Rule.{run}
+use Rattle.dv_definition.specs.Definition as page
+use Rattle.dv_definition.specs.Rule.{run}
 use Rattle.dv_store.specs.declared.store.Step.{Step}
 use Rattle.dv_value.specs.declared.value.Value.{Value, Null, Fault}
 use Rattle.dv_world.specs.World.{World, put, put_deferred}
 
--- what a side came to is put in place: null, its result, the failure that it raised, or the Deferred that it gave
+-- what a side gave is put in place: null, its result, the failure that it raised, or the Deferred that it gave
 abbrev pub place : ℕ → Performed → World → World
 place d Done w = put d Null w
 place d (Gave value) w = put d value w

@@ -7,12 +7,12 @@ use Rattle.dv_performing.specs.declared.turn_end.TurnEnd.{TurnEnd}
 use Rattle.dv_performing.specs.declared.turn_end.TurnEnd.TheVariants.{Came, Delivers}
 use Rattle.dv_world.specs.World.{World}
 
--- it has come to this, or a Deferred is fired with what its job has come to
+-- it gave this, or a Deferred is fired with the result of its job
 abbrev pub ended_with : TurnEnd → Performed → World → Turned
 ended_with Came p w = ([], p, w)
 ended_with (Delivers job d) p w = delivered d (job_result job w.works) w
 
--- a turn has come to something, where it was done
+-- a turn that was done gave something
 abbrev pub once_come : {E : Type 0} → Result (Unit {0}) E → Result TurnEnd E
 once_come (Ok _) = Ok Came
 once_come (Err e) = Err e

@@ -6,8 +6,9 @@ use Rattle.dv_inline.specs.Position.{Position, want_at}
 use Rattle.dv_inline.specs.declared.want.Want.{Want}
 use Rattle.dv_objects.specs.declared.inline_id.Inline.{Inline}
 use Rattle.dv_objects.specs.declared.performed.Performed.{Performed}
-use Rattle.dv_rules.specs.Page as page
-use Rattle.dv_rules.specs.Rule.{run, Finds, Fires}
+use Rattle.dv_definition.specs.Definition as page
+use Rattle.dv_definition.specs.Scripts as scripts
+use Rattle.dv_definition.specs.Rule.{run, Finds, Fires}
 use Rattle.dv_value.specs.declared.value.Value.{Value}
 use Rattle.dv_world.specs.World.{World}
 
@@ -18,4 +19,4 @@ abbrev pub reached : Inline → Option Value → Position → World → Turned
 reached i o p w = run (Finds o (page.do_wanted i (want_at p) p) (λ result. Fires i.of result)) w
 
 abbrev pub inline_turned : Inlining → Performed → World → Turned
-inline_turned inlining q w = run (page.inline_goes inlining q) w
+inline_turned inlining q w = run (scripts.inline_goes inlining q) w

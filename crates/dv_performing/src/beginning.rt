@@ -3,7 +3,7 @@
 ghost use Rattle.std.specs.Prelude.{◌≡◌, OnOk};
 ghost use Rattle.dv_objects.specs.declared.performed.Performed.TheVariants.{Done};
 ghost use Rattle.dv_performing.specs.Beginning.{happening};
-ghost use Rattle.dv_rules.specs.Scripts.{Occurs, Comes};
+ghost use Rattle.dv_definition.specs.Scripts.{Occurs, Comes};
 ghost use Rattle.dv_frames.specs.Bounds.{Bounded};
 ghost use Rattle.dv_frames.specs.Turn.{◌over◌};
 

@@ -1,7 +1,7 @@
 //! Laws of the meaning, each a function with an empty body whose clauses are the laws.
 
 ghost use Rattle.dv_performing.specs.Laws.{FramesEnd, FramesHaveOneResult, StoppedWorldsStay, StoppedActionsStay, EveryScriptEnds, EachScriptHasOneMeaning};
-ghost use Rattle.dv_performing.specs.Defined.{ScriptsLeadByTerms, ScriptsMeanWhatIsDefined, ActionsMeanWhatIsDefined, BodiesMeanWhatIsDefined, CancelsMeanWhatIsDefined, SettlingMeansWhatIsDefined, EventsMeanWhatIsDefined, PostsMeanWhatIsDefined, BatchesMeanWhatIsDefined, DrainsMeanWhatIsDefined, EveryScriptLeads, EachScriptLeadsToOneWorld};
+ghost use Rattle.dv_performing.specs.Defined.{ScriptsMeanWhatIsDefined, ActionsMeanWhatIsDefined, BodiesMeanWhatIsDefined, CancelsMeanWhatIsDefined, SettlingMeansWhatIsDefined, OccurrencesMeanWhatIsDefined, RunsMeanWhatIsDefined, EveryScriptLeads, EachScriptLeadsToOneWorld};
 
 /// Frames end, and in one way; in a world that has stopped neither they nor an action change anything.
 pub fn frames_end()
@@ -21,12 +21,11 @@ pub fn scripts_end()
 /// a world, and to one only.
 pub fn scripts_mean_what_is_defined()
     ensures defined { ScriptsMeanWhatIsDefined }
-    ensures terms { ScriptsLeadByTerms }
     ensures ends { EveryScriptLeads }
     ensures one { EachScriptLeadsToOneWorld }
 {}
 
-/// Nor is there a difference in what an action, a body, a cancel and a settling come to, in any world.
+/// Nor is there a difference in what an action, a body, a cancel and a settling give, in any world.
 pub fn parts_mean_what_is_defined()
     ensures actions { ActionsMeanWhatIsDefined }
     ensures bodies { BodiesMeanWhatIsDefined }
@@ -34,10 +33,9 @@ pub fn parts_mean_what_is_defined()
     ensures settling { SettlingMeansWhatIsDefined }
 {}
 
-/// Nor in what an engine makes of an event, a post, the batch of a drain and the last batch.
+/// Nor in what an engine makes of an event and of a post, and of several, one after the other: the batch of a drain after the drain, and the
+/// last batch.
 pub fn calls_mean_what_is_defined()
-    ensures events { EventsMeanWhatIsDefined }
-    ensures posts { PostsMeanWhatIsDefined }
-    ensures drains { DrainsMeanWhatIsDefined }
-    ensures batches { BatchesMeanWhatIsDefined }
+    ensures occurrences { OccurrencesMeanWhatIsDefined }
+    ensures runs { RunsMeanWhatIsDefined }
 {}

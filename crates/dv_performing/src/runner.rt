@@ -1,5 +1,5 @@
 ghost use Rattle.std.specs.Prelude.{◌≡◌, OnOk};
-ghost use Rattle.dv_rules.specs.Scripts.{Occurs, Comes};
+ghost use Rattle.dv_definition.specs.Scripts.{Occurs, Comes};
 ghost use Rattle.dv_frames.specs.Bounds.{Bounded};
 ghost use Rattle.dv_frames.specs.Turn.{◌over◌};
 ghost use Rattle.dv_performing.specs.TurnEnds.{ended_with};

@@ -9,8 +9,9 @@ use Rattle.dv_objects.specs.Objects.{with_new_list}
 use Rattle.dv_objects.specs.Refusals.{not_gathered}
 use Rattle.dv_objects.specs.declared.canceller.Canceller.TheVariants.{Children}
 use Rattle.dv_objects.specs.declared.pair.Child.{Child}
-use Rattle.dv_rules.specs.Page as page
-use Rattle.dv_rules.specs.Rule.{run, By, If, Finds, Fires}
+use Rattle.dv_definition.specs.Definition as page
+use Rattle.dv_definition.specs.Words as words
+use Rattle.dv_definition.specs.Rule.{run, By, If, Finds, Fires}
 use Rattle.dv_world.specs.World.{World, make, arrange, is_unfired}
 
 abbrev pub added_to_children : ℕ → ℕ → ℕ → List ℕ → List Frame
@@ -20,7 +21,7 @@ abbrev pub has_all_at_once : List ℕ → Flags → Bool
 has_all_at_once children flags = page.has_all_at_once children flags
 
 abbrev pub fired_at_once : ℕ → Bool → World → Turned
-fired_at_once d b w = run (If b (Fires d (value.List [])) page.finished) w
+fired_at_once d b w = run (If b (Fires d (value.List [])) words.finished) w
 
 -- the list, and its Deferred
 abbrev pub with_listed : List ℕ → List ℕ → Flags → World → World
@@ -30,16 +31,16 @@ abbrev pub listed : List ℕ → List ℕ → Flags → World → Turned
 listed name children flags w = run (page.list name children flags) w
 
 abbrev pub list_named : Option ℕ → List ℕ → List (List ℕ) → Flags → World → Turned
-list_named itself name children flags w = run (page.on_all itself children λ ds. page.list name ds flags) w
+list_named itself name children flags w = run (words.on_all itself children λ ds. page.list name ds flags) w
 
 abbrev pub gather_named : Option ℕ → List ℕ → List (List ℕ) → Flags → World → Turned
-gather_named itself name children flags w = run (page.on_all itself children λ ds. page.gather name ds flags) w
+gather_named itself name children flags w = run (words.on_all itself children λ ds. page.gather name ds flags) w
 
 abbrev pub fired_by_child : ℕ → Option Value → World → Turned
-fired_by_child d o w = run (Finds o page.finished (λ v. By λ w. If (is_unfired d w) (Fires d v) page.finished)) w
+fired_by_child d o w = run (Finds o words.finished (λ v. By λ w. If (is_unfired d w) (Fires d v) words.finished)) w
 
 abbrev pub come_by : Child → Value → World → Turned
-come_by child input w = run (page.come_to child input) w
+come_by child input w = run (page.report child input) w
 
 abbrev pub results_given : Option Value → World → Turned
-results_given o w = run (Finds o (page.raise not_gathered) page.give) w
+results_given o w = run (Finds o (words.raise not_gathered) words.give) w

@@ -2,7 +2,7 @@ ghost use Rattle.std.specs.Prelude.{◌≡◌, [], ◌++◌, length, OnOk};
 ghost use Rattle.dv_frames.specs.Bounds.{Bounded};
 ghost use Rattle.dv_waiting.specs.Listing.{added_to_children, has_all_at_once, fired_at_once, with_listed, listed, fired_by_child, come_by, results_given, list_named, gather_named};
 ghost use Rattle.dv_frames.specs.Turn.{◌over◌};
-ghost use Rattle.dv_rules.specs.Flags.{list_flags, gather_flags};
+ghost use Rattle.dv_definition.specs.Flags.{list_flags, gather_flags};
 ghost use Rattle.dv_prims.specs.DeferredList.{seconds_of};
 ghost use Rattle.dv_world.specs.World.{World as Seen};
 ghost use Rattle.dv_objects.specs.declared.performed.Performed.TheVariants.{Done};

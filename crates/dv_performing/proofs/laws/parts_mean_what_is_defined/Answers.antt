@@ -1,4 +1,4 @@
-use Rattle.dv_performing.proofs.PartsSaid.{actions_mean, bodies_mean, cancels_mean, settling_means}
+use Rattle.dv_performing.proofs.Leading.{actions_mean, bodies_mean, cancels_mean, settling_means}
 use Rattle.dv_performing.proofs.laws.parts_mean_what_is_defined.Goals as goal
 
 pub returns-clause-actions : goal.returns-clause-actions

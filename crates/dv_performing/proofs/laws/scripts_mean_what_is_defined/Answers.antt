@@ -1,12 +1,8 @@
-use Rattle.dv_performing.proofs.ByTerms.{scripts_lead_by_terms}
-use Rattle.dv_performing.proofs.ScriptsSaid.{scripts_mean_what_is_defined, every_script_leads, each_script_leads_to_one_world}
+use Rattle.dv_performing.proofs.Leading.{scripts_mean_what_is_defined, every_script_leads, each_script_leads_to_one_world}
 use Rattle.dv_performing.proofs.laws.scripts_mean_what_is_defined.Goals as goal
 
 pub returns-clause-defined : goal.returns-clause-defined
 returns-clause-defined c = scripts_mean_what_is_defined
-
-pub returns-clause-terms : goal.returns-clause-terms
-returns-clause-terms c = scripts_lead_by_terms
 
 pub returns-clause-ends : goal.returns-clause-ends
 returns-clause-ends c = every_script_leads

@@ -4,7 +4,7 @@ use Rattle.dv_objects.specs.declared.performed.Performed.TheVariants.{Done}
 use Rattle.dv_performing.proofs.JobsKept.{happening_goes_on}
 use Rattle.dv_performing.proofs.Stopped.{happens_stopped}
 use Rattle.dv_performing.proofs.Turns.{happening_bounded}
-use Rattle.dv_rules.specs.Scripts.{Comes}
+use Rattle.dv_definition.specs.Scripts.{Comes}
 use Rattle.dv_bodies.specs.Threading.{GoesOn}
 use Rattle.dv_performing.proofs.runner.come.Goals as goal
 

@@ -3,7 +3,7 @@ use Rattle.dv_script.specs.declared.work.Work.{Work}
 use Rattle.dv_performing.proofs.JobsKept.{happening_goes_on}
 use Rattle.dv_performing.proofs.Stopped.{happens_stopped}
 use Rattle.dv_performing.proofs.Turns.{happening_bounded}
-use Rattle.dv_rules.specs.Scripts.{Occurs}
+use Rattle.dv_definition.specs.Scripts.{Occurs}
 use Rattle.dv_bodies.specs.Threading.{GoesOn}
 use Rattle.dv_performing.proofs.runner.happen.Goals as goal
 

@@ -1,17 +1,16 @@
--- For every rule: what its frames lead to is what is spoken, whatever frames mean. By the form of a rule alone.
+-- For every rule: its frames lead where it says, whatever frames mean. By the form of a rule alone.
 use Rattle.std.proofs.Common.{◌≡◌, ℕ, Bool, true, false, not, if◌then◌else◌, List, [], ◌∷◌, Option, None, Some, refl, codes}
-use Rattle.dv_definition.specs.Definition.{Answer, ◌and_then◌, found, finished, raise, is_fired, swallows, is_unpaused}
 use Rattle.dv_frames.specs.Turn.{Turned, settle_next}
 use Rattle.dv_frames.specs.declared.frame.Frame.{Frame}
 use Rattle.dv_frames.specs.declared.frame.Frame.TheVariants as frame
 use Rattle.dv_objects.specs.declared.follow.Follow.{Follow}
-use Rattle.dv_objects.specs.declared.performed.Performed.TheVariants.{Done}
-use Rattle.dv_rules.proofs.Chained.{here, over_all}
-use Rattle.dv_rules.proofs.Fires.{Fires as FiresBy, stopped, set, swallowed, refused, fires as fires_by, Unpauses as UnpausesBy, halted, unheld, less, unpauses as unpauses_by}
-use Rattle.dv_rules.specs.Law.{FramesSayTheRule}
-use Rattle.dv_rules.specs.Page.{rule_of}
-use Rattle.dv_rules.specs.Rule.{Rule, Ends, By, If, Finds, Then, Asks, Fires, Unpauses, Over, run, say, Meant, fires, unpauses}
-use Rattle.dv_rules.specs.Steps.{stepped, asked}
+use Rattle.dv_objects.specs.declared.performed.Performed.TheVariants.{Done, Raised}
+use Rattle.dv_definition.proofs.Through.{here, over_all}
+use Rattle.dv_definition.proofs.Fires.{Fires as FiresBy, stopped, set, swallowed, refused, fires as fires_by, Unpauses as UnpausesBy, halted, unheld, less, unpauses as unpauses_by}
+use Rattle.dv_definition.specs.Law.{FramesSayTheRule, FramesSayWhatHappens}
+use Rattle.dv_definition.specs.Scripts.{happens, rule_of}
+use Rattle.dv_definition.specs.Rule.{Answer, found, through, Rule, Ends, By, If, Finds, Then, Asks, Fires, Unpauses, Over, run, say, Meant, fires, unpauses}
+use Rattle.dv_definition.specs.Steps.{stepped, asked}
 use Rattle.dv_value.specs.Builtin.{assertion_error, already_called_error}
 use Rattle.dv_value.specs.Failure.{plain_failure}
 use Rattle.dv_value.specs.declared.value.Value.{Value}
@@ -19,14 +18,14 @@ use Rattle.dv_world.specs.World as world
 use Rattle.dv_world.specs.World.{World}
 
 by_fires : (go : Meant) (d : ℕ) (u : World) (f : Follow) (halts b c : Bool) → FiresBy f halts b c
-    → here go (settle_next d f u) ≡ (if halts then finished u else if not b then go (frame.Settle d) Done u else if c then finished u else raise (plain_failure already_called_error []) u)
+    → here go (settle_next d f u) ≡ (if halts then Some (Done, u) else if not b then through go (frame.Settle d ∷ []) Done u else if c then Some (Done, u) else Some (Raised (plain_failure already_called_error []), u))
 by_fires go d u f halts b c stopped = refl
 by_fires go d u f halts b c set = refl
 by_fires go d u f halts b c swallowed = refl
 by_fires go d u f halts b c refused = refl
 
 by_unpauses : (go : Meant) (d : ℕ) (u : World) (f : Follow) (halts b : Bool) → UnpausesBy f halts b
-    → here go (settle_next d f u) ≡ (if halts then finished u else if b then raise (plain_failure assertion_error (codes "not paused")) u else go (frame.Settle d) Done u)
+    → here go (settle_next d f u) ≡ (if halts then Some (Done, u) else if b then Some (Raised (plain_failure assertion_error (codes "not paused")), u) else through go (frame.Settle d ∷ []) Done u)
 by_unpauses go d u f halts b halted = refl
 by_unpauses go d u f halts b unheld = refl
 by_unpauses go d u f halts b less = refl
@@ -52,3 +51,6 @@ frames_say go (Over rule frames) w = over_all go (run rule w) frames (say go rul
 
 pub rules_say : FramesSayTheRule
 rules_say go f p w = frames_say go (rule_of f p) w
+
+pub occurrences_say : FramesSayWhatHappens
+occurrences_say go occurrence w = frames_say go (happens occurrence) w

@@ -1,0 +1,38 @@
+-- The telling cases, each worked out.
+use Rattle.std.proofs.Common.{◌≡◌, ℕ, false, List, [], ◌∷◌, Option, None, Some, refl}
+use Rattle.dv_definition.specs.Cases.{TokensAreWaitedFor, FullQueuesRefuse, FiredListsStay, TurnsFollow, EndedTasksStay, NameErrorsAreThrown, ManyJobsAreRefused, FailuresOfCallsAreTold}
+use Rattle.dv_definition.specs.Rule.{Finds, Fires, run}
+use Rattle.dv_definition.specs.Words.{finished, if_unfired}
+use Rattle.dv_objects.specs.declared.performed.Performed.TheVariants.{Done}
+use Rattle.dv_value.specs.declared.value.Value.{Value}
+use Rattle.dv_world.specs.World as world
+use Rattle.dv_world.specs.World.{World, is_unfired}
+
+pub tokens_are_waited_for : TokensAreWaitedFor
+tokens_are_waited_for name l w s is taken = rw (is, taken) refl
+
+pub full_queues_refuse : FullQueuesRefuse
+full_queues_refuse k v w q is full = rw (is, full) refl
+
+-- whatever is due
+none_fired : (d : ℕ) (o : Option Value) (u : World) → is_unfired d u ≡ false → run (Finds o finished (λ v. if_unfired d (Fires d v) finished)) u ≡ ([], Done, u)
+none_fired d None u h = refl
+none_fired d (Some v) u h = rw h refl
+
+pub fired_lists_stay : FiredListsStay
+fired_lists_stay child input w h = let came = world.came_to child.list child.place input w in rw (none_fired child.of came.0.fire came.1 h) refl
+
+pub turns_follow : TurnsFollow
+turns_follow l w x is runs = rw (is, runs) refl
+
+pub ended_tasks_stay : EndedTasksStay
+ended_tasks_stay t e w over = rw over refl
+
+pub name_errors_are_thrown : NameErrorsAreThrown
+name_errors_are_thrown i name p w none = rw none refl
+
+pub many_jobs_are_refused : ManyJobsAreRefused
+many_jobs_are_refused name pool delay work w full = rw full refl
+
+pub failures_of_calls_are_told : FailuresOfCallsAreTold
+failures_of_calls_are_told name key body w is = rw is refl

@@ -1,0 +1,42 @@
+use Rattle.std.proofs.Common.{refl}
+use Rattle.dv_definition.proofs.CasesHold.{tokens_are_waited_for, full_queues_refuse, fired_lists_stay, turns_follow, ended_tasks_stay, name_errors_are_thrown, many_jobs_are_refused, failures_of_calls_are_told}
+use Rattle.dv_definition.proofs.laws.rules_decide_their_cases.Goals as goal
+
+pub returns-clause-deferreds : goal.returns-clause-deferreds
+returns-clause-deferreds c = λ d pair w. refl
+
+pub returns-clause-cancelling : goal.returns-clause-cancelling
+returns-clause-cancelling c = λ d e w. refl
+
+pub returns-clause-locks : goal.returns-clause-locks
+returns-clause-locks c = tokens_are_waited_for
+
+pub returns-clause-queues : goal.returns-clause-queues
+returns-clause-queues c = full_queues_refuse
+
+pub returns-clause-results : goal.returns-clause-results
+returns-clause-results c = λ name failure w. refl
+
+pub returns-clause-lists : goal.returns-clause-lists
+returns-clause-lists c = fired_lists_stay
+
+pub returns-clause-timeouts : goal.returns-clause-timeouts
+returns-clause-timeouts c = λ d delay w. refl
+
+pub returns-clause-loops : goal.returns-clause-loops
+returns-clause-loops c = turns_follow
+
+pub returns-clause-tasks : goal.returns-clause-tasks
+returns-clause-tasks c = ended_tasks_stay
+
+pub returns-clause-inline : goal.returns-clause-inline
+returns-clause-inline c = name_errors_are_thrown
+
+pub returns-clause-jobs : goal.returns-clause-jobs
+returns-clause-jobs c = many_jobs_are_refused
+
+pub returns-clause-settling : goal.returns-clause-settling
+returns-clause-settling c = λ d e w. refl
+
+pub returns-clause-calls : goal.returns-clause-calls
+returns-clause-calls c = failures_of_calls_are_told

@@ -1,0 +1,92 @@
+-- The telling case of each section of the page: what its rule leaves there, worked out by hand.
+use Rattle.std.specs.Prelude.{◌≡◌, ℕ, true, false, List, [], ◌∷◌, length, Option, None, Some, slice_get}
+use Rattle.dv_clock.specs.declared.due.Due.TheVariants as what
+use Rattle.dv_definition.specs.Definition.{add, cancel_reached, acquire, put_in, deferred_of, report, add_timeout, end_turn, is_over, step_ended, await, thread, settle_by, run_next}
+use Rattle.dv_definition.specs.Rule.{Fires, run, ◌after_which◌}
+use Rattle.dv_frames.specs.Turn.{rest_of}
+use Rattle.dv_frames.specs.declared.frame.Frame.TheVariants as frame
+use Rattle.dv_frames.specs.declared.frame.Inlining.TheVariants.{Goes}
+use Rattle.dv_frames.specs.declared.frame.Purpose.TheVariants.{Named}
+use Rattle.dv_inline.specs.Position.{Position, answered}
+use Rattle.dv_objects.specs.Pair.{Pair, timing, ending}
+use Rattle.dv_objects.specs.Refusals.{overflow}
+use Rattle.dv_objects.specs.Works.{is_full}
+use Rattle.dv_objects.specs.declared.canceller.Canceller.TheVariants.{Token}
+use Rattle.dv_objects.specs.declared.inline_id.Inline.{Inline}
+use Rattle.dv_objects.specs.declared.looping_call.LoopingCall.{LoopingCall}
+use Rattle.dv_objects.specs.declared.pair.Child.{Child}
+use Rattle.dv_objects.specs.declared.performed.Performed.TheVariants.{Done, Gave, Raised, Awaits}
+use Rattle.dv_objects.specs.declared.reached.Reached.TheVariants as reached
+use Rattle.dv_prims.specs.Queue.{Queue, may_put}
+use Rattle.dv_prims.specs.Tokens.{Semaphore, has_free}
+use Rattle.dv_script.specs.declared.body.Body.{Body}
+use Rattle.dv_script.specs.declared.work.Work.{Work}
+use Rattle.dv_store.specs.declared.store.Step.TheVariants.{Handed}
+use Rattle.dv_value.specs.Builtin.{name_error}
+use Rattle.dv_value.specs.Failure.{fault}
+use Rattle.dv_value.specs.declared.failure.Failure.{Failure}
+use Rattle.dv_value.specs.declared.value.Value.{Value, Null, Fault}
+use Rattle.dv_world.specs.World as world
+use Rattle.dv_world.specs.World.{World, deferred_at, is_unfired, make, too_many_jobs}
+
+-- a Deferred that gets a pair is settled
+abbrev pub PairsAreUsed : Type 0
+PairsAreUsed = (d : ℕ) (pair : Pair) (w : World) → run (add d pair) w ≡ (frame.Settle d ∷ [], Done, world.append d pair w)
+
+-- a cancel of a list cancels its children in order, and logs a failure of either
+abbrev pub CancelsReachChildren : Type 0
+CancelsReachChildren = (c e : ℕ) (w : World) → run (cancel_reached (reached.Children (c ∷ e ∷ []))) w ≡ (frame.Cancel c ∷ frame.Tell ∷ frame.Cancel e ∷ frame.Tell ∷ [], Done, w)
+
+-- where no token is free, who asks for one waits, and nobody is fired
+abbrev pub TokensAreWaitedFor : Type 0
+TokensAreWaitedFor =
+    (name : List ℕ) (l : ℕ) (w : World) (s : Semaphore) → (let made = make (Some name) (Some (Token l)) w in slice_get made.objects.semaphores l ≡ Some s → has_free s ≡ false
+    → run (acquire name l) w ≡ ([], Done, world.ask l (length w.records) made))
+
+-- a queue that is full takes no value
+abbrev pub FullQueuesRefuse : Type 0
+FullQueuesRefuse = (k : ℕ) (v : Value) (w : World) (q : Queue) → slice_get w.objects.queues k ≡ Some q → may_put q ≡ false → run (put_in k v) w ≡ ([], Raised overflow, w)
+
+-- a body that raises makes a Deferred that is fired with the failure
+abbrev pub FailuresAreKept : Type 0
+FailuresAreKept = (name : List ℕ) (failure : Failure) (w : World) → run (deferred_of (Named name) (Raised failure)) w ≡ run (Fires (length w.records) (Fault failure) after_which []) (make (Some name) None w)
+
+-- a list that somebody has fired is fired by no child
+abbrev pub FiredListsStay : Type 0
+FiredListsStay =
+    (child : Child) (input : Value) (w : World) → (let came = world.came_to child.list child.place input w in is_unfired child.of came.1 ≡ false
+    → run (report child input) w ≡ (frame.Give (Gave came.0.pass) ∷ [], Done, came.1))
+
+-- a firing ends the timer
+abbrev pub FiringsEndTimers : Type 0
+FiringsEndTimers =
+    (d delay : ℕ) (w : World) → (let t = length w.objects.clock.calls in run (add_timeout d delay) w ≡ (frame.Settle d ∷ frame.Add d (ending t) ∷ [], Done, world.append d (timing t) (world.start_timer d delay w)))
+
+-- after a turn of a loop that runs the next is scheduled
+abbrev pub TurnsFollow : Type 0
+TurnsFollow = (l : ℕ) (w : World) (x : LoopingCall) → slice_get w.objects.loops l ≡ Some x → x.running ≡ true → run (end_turn l) w ≡ ([], Done, world.schedule_turn l w)
+
+-- a task that has ended waits for nothing
+abbrev pub EndedTasksStay : Type 0
+EndedTasksStay = (t e : ℕ) (w : World) → is_over t w ≡ true → run (step_ended t (Awaits e)) w ≡ ([], Done, w)
+
+-- where an inline body awaits a name that isn't bound, NameError is thrown there
+abbrev pub NameErrorsAreThrown : Type 0
+NameErrorsAreThrown =
+    (i : Inline) (name : List ℕ) (p : Position) (w : World) → deferred_at (Some i.of) name w ≡ None
+    → run (await i name p) w ≡ (frame.Inline (Goes i (answered w.classes (fault name_error name) p)) ∷ [], Done, w)
+
+-- one job more than a run may have is refused
+abbrev pub ManyJobsAreRefused : Type 0
+ManyJobsAreRefused =
+    (name : List ℕ) (pool : Option (List ℕ)) (delay : ℕ) (work : Work) (w : World) → is_full w.works ≡ true → run (thread name pool delay work) w ≡ ([], Raised too_many_jobs, w)
+
+-- who got a value by a hand-over is settled before who gave it
+abbrev pub ReceiversComeFirst : Type 0
+ReceiversComeFirst = (d c : ℕ) (w : World) → run (settle_by d (Handed c)) w ≡ (frame.Settle c ∷ frame.Settle d ∷ [], Done, w)
+
+-- a failure that leaves the body of a delayed call is logged, before what is due next is run
+abbrev pub FailuresOfCallsAreTold : Type 0
+FailuresOfCallsAreTold =
+    (name : List ℕ) (key : ℕ) (body : Body) (w : World) → slice_get w.objects.bodies key ≡ Some body
+    → run (run_next (Some (what.Call name key))) w ≡ (frame.Rest (rest_of None body Null) ∷ frame.Tell ∷ frame.Due ∷ [], Done, w)

@@ -1,0 +1,131 @@
+-- What a script means as a whole: the rules tied together, what happens in a run, and what a script leads to.
+use Rattle.std.specs.Prelude.{ℕ, zero, suc, ◌≡◌, List, [], ◌∷◌, ◌++◌, Option, None, Some}
+use Rattle.dv_definition.specs.Definition.{settle, put_in_place, perform_rest, after_canceller, deferred_of, add, cancel, notify, step_ended, tick, run_due, go_on, go_with, after_awaiting, answer_of, act}
+use Rattle.dv_definition.specs.Rule.{Rule, Ends, Finds, Meant, say, ◌and_then◌, ◌next◌, ◌after_which◌}
+use Rattle.dv_definition.specs.Steps.{Advance, TellDrain, TellPost, TellUnhandled}
+use Rattle.dv_definition.specs.Words.{finished, raise, ◌and◌, calls, performs, runs_due, tells_failure}
+use Rattle.dv_frames.specs.declared.frame.Frame.{Frame}
+use Rattle.dv_frames.specs.declared.frame.Frame.TheVariants as frame
+use Rattle.dv_frames.specs.declared.frame.Inlining.{Inlining}
+use Rattle.dv_frames.specs.declared.frame.Inlining.TheVariants.{Goes, Acted, Awaited}
+use Rattle.dv_objects.specs.Performed.{failed_with}
+use Rattle.dv_objects.specs.declared.performed.Performed.{Performed}
+use Rattle.dv_objects.specs.declared.performed.Performed.TheVariants.{Done, Gave, Raised, Awaits}
+use Rattle.dv_posts.specs.Batches.{Batch, Callers, body_of}
+use Rattle.dv_posts.specs.declared.posted.Posted.{Posted}
+use Rattle.dv_script.specs.declared.body.Body.{Body}
+use Rattle.dv_script.specs.declared.event.Event.{Event}
+use Rattle.dv_script.specs.declared.event.Event.TheVariants as event
+use Rattle.dv_script.specs.declared.script.Script.{Script}
+use Rattle.dv_value.specs.declared.value.Value.{Null}
+use Rattle.dv_world.specs.World.{World, first_world}
+
+-- 21. The rules tied together.
+
+-- this follows, unless a failure was raised
+abbrev pub unless_raised : Performed → Rule → Rule
+unless_raised Done rule = rule
+unless_raised (Gave v) rule = rule
+unless_raised (Raised failure) rule = raise failure
+unless_raised (Awaits e) rule = rule
+
+-- logs a failure that nothing catches as unhandled, and drops it
+abbrev pub tell_failure : Performed → Rule
+tell_failure p = Finds (failed_with p) finished λ failure. TellUnhandled failure next finished
+
+-- goes on with an inline body, with the answer to its action, or after its pair was added
+abbrev pub inline_goes : Inlining → Performed → Rule
+inline_goes (Goes i p) q = go_on i p
+inline_goes (Acted i p) q = go_with i (answer_of q) p
+inline_goes (Awaited i e p) q = after_awaiting i e p
+
+-- the rule of what is called for, by what was given before it
+abbrev pub rule_of : Frame → Performed → Rule
+rule_of (frame.Settle d) p = settle d
+rule_of (frame.Place d) p = put_in_place d p
+rule_of (frame.Rest rest) p = unless_raised p (perform_rest rest.itself rest.actions rest.end rest.input)
+rule_of (frame.Canceller d) p = after_canceller d p
+rule_of (frame.Maybe purpose) p = deferred_of purpose p
+rule_of (frame.Add d pair) p = add d pair
+rule_of (frame.Cancel d) p = cancel d
+rule_of (frame.Give given) p = unless_raised p (Ends given)
+rule_of (frame.Notify d t) p = notify d t
+rule_of (frame.Stepped t) p = step_ended t p
+rule_of (frame.Tick units) p = tick units
+rule_of frame.Tell p = tell_failure p
+rule_of frame.Due p = run_due
+rule_of (frame.Inline inlining) p = inline_goes inlining p
+
+-- does what is called for inside the rule that calls for it; no answer where calls nest deeper than `depth`. That some depth suffices for
+-- every script is a law
+unfoldable pub within : ℕ → Meant
+within zero frame p w = None
+within (suc depth) frame p w = say (within depth) (rule_of frame p) w
+
+-- at some depth, something gives this
+pub record ComesTo {A : Type 0} (something : Meant → Option A) (a : A) : Type 0 where
+  pub depth : ℕ
+  pub ends : something (within depth) ≡ Some a
+
+-- 22. What happens in a run (Twisted: `reactor.callFromThread`, but `posts-at-drains`).
+
+-- an event occurs, or a post with its body comes from another thread
+pub data Occurrence : Type 0 where
+  Occurs : (event : Event) → Occurrence
+  Comes : (posted : Posted) (body : Body) → Occurrence
+
+-- Performs an action, in which `@` isn't bound. Sets the time forward, and runs what is due. Logs a drain; how many posts it takes at most
+-- decides which batches fit the script. Performs the body of a post, in which `@` isn't bound. Logs a failure of an action or body as
+-- unhandled
+abbrev pub happens : Occurrence → Rule
+happens (Occurs (event.Action action)) = act None action after_which tells_failure
+happens (Occurs (event.Advance ticks)) = Advance ticks next calls runs_due
+happens (Occurs (event.Drain most)) = TellDrain next finished
+happens (Comes posted body) = TellPost posted.caller posted.index next calls (performs None body Null and tells_failure)
+
+-- the world after it
+abbrev pub happen : Meant → Occurrence → World → Option World
+happen go occurrence w = say go (happens occurrence) w and_then λ (p, w). Some w
+
+-- one thing happens, and then the next
+abbrev pub all_happen : Meant → List Occurrence → World → Option World
+all_happen go [] w = Some w
+all_happen go (occurrence ∷ rest) w = happen go occurrence w and_then all_happen go rest
+
+-- the post with its body, if there is such a post
+abbrev pub coming_with : Posted → Option Body → List Occurrence
+coming_with posted None = []
+coming_with posted (Some body) = Comes posted body ∷ []
+
+abbrev pub coming : Callers → Posted → List Occurrence
+coming callers posted = coming_with posted (body_of callers posted)
+
+-- the posts of a batch, in order
+abbrev pub comings : Callers → Batch → List Occurrence
+comings callers [] = []
+comings callers (posted ∷ posts) = coming callers posted ++ comings callers posts
+
+-- the next batch, which is empty where there is none
+abbrev pub next_batch : List Batch → Batch
+next_batch [] = []
+next_batch (batch ∷ batches) = batch
+
+-- and those after it
+abbrev pub later_batches : List Batch → List Batch
+later_batches [] = []
+later_batches (batch ∷ batches) = batches
+
+-- 23. Scripts.
+
+-- the events in order; the next batch follows each drain, and the last batch the last event
+abbrev pub occurrences : Callers → List Event → List Batch → List Occurrence
+occurrences callers [] batches = comings callers (next_batch batches)
+occurrences callers (event.Action action ∷ events) batches = Occurs (event.Action action) ∷ occurrences callers events batches
+occurrences callers (event.Advance ticks ∷ events) batches = Occurs (event.Advance ticks) ∷ occurrences callers events batches
+occurrences callers (event.Drain most ∷ events) batches = Occurs (event.Drain most) ∷ (comings callers (next_batch batches) ++ occurrences callers events (later_batches batches))
+
+-- a script leads, where these batches of posts are taken, from a world in which nothing is made to this one
+abbrev pub Leads : Script → List Batch → World → Type 0
+Leads script batches after =
+    let first = first_world script.classes script.limit script.cooperator in
+    ComesTo (λ go. all_happen go (occurrences script.callers script.events batches) first) after

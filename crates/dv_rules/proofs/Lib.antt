@@ -1,4 +1,0 @@
-pub mod Chained
-pub mod Fires
-pub mod Sayings
-pub mod Says
