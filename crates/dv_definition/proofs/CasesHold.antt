@@ -1,5 +1,5 @@
 -- The telling cases, each worked out.
-use Rattle.std.proofs.Common.{◌≡◌, ℕ, false, List, [], ◌∷◌, Option, None, Some, refl}
+use Rattle.std.proofs.Common.{◌≡◌, ℕ, false, [], Option, None, Some, refl}
 use Rattle.dv_definition.specs.Cases.{TokensAreWaitedFor, FullQueuesRefuse, FiredListsStay, TurnsFollow, EndedTasksStay, NameErrorsAreThrown, ManyJobsAreRefused, FailuresOfCallsAreTold}
 use Rattle.dv_definition.specs.Rule.{Finds, Fires, run}
 use Rattle.dv_definition.specs.Words.{finished, if_unfired}

@@ -12,7 +12,7 @@ use Rattle.dv_clock.specs.declared.due.Due.{Due}
 use Rattle.dv_clock.specs.declared.due.Due.TheVariants as what
 use Rattle.dv_definition.specs.Flags.{list_flags, gather_flags}
 use Rattle.dv_definition.specs.Rule.{Rule, Ends, By, If, Finds, Asks, Fires, Unpauses, found, ◌next◌, ◌after_which◌}
-use Rattle.dv_definition.specs.Steps.{Make, Name, Append, FireGuarded, Pause, Note, TellTurn, TellUnhandled, NewLock, NewSemaphore, Ask, Release, Forget, NewQueue, Withdraw, NewList, StartTimer, EndTimer, CallLater, NewLoop, ScheduleTurn, StopLoop, EndLoop, NewTask, AwaitTask, PauseTask, ResumeTask, HoldTask, KeepTick, BeginTick, EndTick, AddInline, BeginAwait, Submit, DeliverLater, Put, PutDeferred, ComeDue, Moves, Cancel, PutInto, GetFrom, CameTo, CancelCall, TakeStep, EndTask, ComeToInline, EndAwait}
+use Rattle.dv_definition.specs.Steps.{Make, Name, Append, FireGuarded, Pause, Note, TellTurn, NewLock, NewSemaphore, Ask, Release, Forget, NewQueue, Withdraw, NewList, StartTimer, EndTimer, CallLater, NewLoop, ScheduleTurn, StopLoop, EndLoop, NewTask, AwaitTask, PauseTask, ResumeTask, HoldTask, KeepTick, BeginTick, EndTick, AddInline, BeginAwait, Submit, DeliverLater, Put, PutDeferred, ComeDue, Moves, Cancel, PutInto, GetFrom, CameTo, CancelCall, TakeStep, EndTask, ComeToInline, EndAwait}
 use Rattle.dv_definition.specs.Words.{finished, give, raise, give_end, ◌and◌, calls, settles, places, performs, goes_through, cancels, ends_canceller, makes_deferred, adds, gives, notifies, ends_step, takes_steps, goes_on, goes_on_with_answer, awaits, tells_failure, runs_due}
 use Rattle.dv_definition.specs.Words.{next_deferred, next_list, next_loop, next_call, next_inline_body, next_job, the_lock, the_queue, the_loop, the_task, the_job, the_body, what_is_awaited, its_value, all_jobs, the_clock, steps_of_a_tick, all_classes, its_time_is_over, if_unfired}
 use Rattle.dv_definition.specs.Words.{deferred_or, on_deferred, on_all, on_lock, on_queue, on_call, on_loop, on_task}

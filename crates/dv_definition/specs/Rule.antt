@@ -3,9 +3,10 @@
 use Rattle.std.specs.Prelude.{ℕ, nat_eq, Bool, false, not, if◌then◌else◌, List, [], ◌∷◌, ◌++◌, Option, None, Some, slice_get, codes}
 use Rattle.std.specs.Option.{option_map_or}
 use Rattle.dv_definition.specs.Steps.{Step, stepped, Question, Reply, asked}
-use Rattle.dv_frames.specs.Turn.{Turned, settle_next}
+use Rattle.dv_frames.specs.Turn.{Turned, settle_next, ◌onto◌}
 use Rattle.dv_frames.specs.declared.frame.Frame.{Frame}
 use Rattle.dv_frames.specs.declared.frame.Frame.TheVariants as frame
+use Rattle.dv_frames.specs.declared.turn.Turn.{Turn}
 use Rattle.dv_objects.specs.declared.performed.Performed.{Performed}
 use Rattle.dv_objects.specs.declared.performed.Performed.TheVariants.{Done, Raised}
 use Rattle.dv_value.specs.Builtin.{assertion_error, already_called_error}
@@ -124,3 +125,7 @@ run (Asks question rule) w = let answer = asked question w in run (rule answer.0
 run (Fires d v) w = settle_next d (world.fire d v w).0 (world.fire d v w).1
 run (Unpauses d) w = settle_next d (world.unpause d w).0 (world.unpause d w).1
 run (Over rule frames) w = let t = run rule w in (t.0 ++ frames, t.1, t.2)
+
+-- what the code works on, after a rule
+abbrev pub after : Rule → Turn → Turn
+after rule turn = run rule turn.world onto turn

@@ -27,7 +27,7 @@ use Rattle.dv_value.specs.declared.failure.Failure.{Failure}
 use Rattle.dv_value.specs.declared.value.Value.{Value}
 use Rattle.dv_world.specs.Ending.{ended}
 use Rattle.dv_world.specs.Found.{deferreds_at}
-use Rattle.dv_world.specs.World.{World, deferred_at, is_unfired, awaited_in, has_timed_out, value_of}
+use Rattle.dv_world.specs.World.{deferred_at, is_unfired, awaited_in, has_timed_out, value_of}
 use Rattle.dv_world.specs.declared.found.Found.{Found}
 use Rattle.dv_world.specs.declared.found.Found.TheVariants.{All, Unbound}
 

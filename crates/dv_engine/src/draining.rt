@@ -8,7 +8,7 @@ ghost use Rattle.dv_posts.specs.Taking.{with_batch};
 
 use crate::engine::Phase;
 use dv_bodies::submissions::Submissions;
-use dv_frames::frames::Frames;
+use dv_frames::turn::Turn;
 use dv_inline::poller::Poller;
 use dv_jobs::source::JobSource;
 use dv_journal::entry::Entry;
@@ -18,19 +18,17 @@ use dv_posts::posted::Posted;
 use dv_script::body::Body;
 use dv_value::items::Items;
 use dv_world::world::World;
-use std::alloc::{AllocError, AllocGlobal, Global};
+use std::alloc::{AllocError, AllocGlobal};
 use std::random::RandomSource;
 use std::sync::Wait;
 
 /// Performs a batch, each post of which is the next one of its caller, and takes it: that of a drain, which is told before, or
-/// the one after the last event. The error is want of memory alone.
+/// the one after the last event. The only error is out of memory.
 pub fn drain<'s, R, J>(
     rt: &R,
-    alloc: Global,
     poller: &Poller,
     jobs: &mut Submissions<'s, J>,
-    world: &mut World<'s>,
-    stack: &mut Frames<'s>,
+    turn: &mut Turn<'s>,
     batches: &mut Batches<'s>,
     phase: Phase,
     batch: Items<Posted>,
@@ -38,29 +36,20 @@ pub fn drain<'s, R, J>(
 where
     R: Wait + RandomSource + AllocGlobal,
     J: JobSource,
-    requires bounded { Bounded world.old }
-    requires jobs { jobs.old ≡ world.old.works }
+    requires bounded { Bounded turn.old.world }
+    requires jobs { jobs.old ≡ turn.old.world.works }
     requires next { AreNext batches.old.callers (joined batches.old.batches ++ batch) }
-    ensures runs { OnOk result (Runs (taken_for phase batches.old.callers batch) world.old world.new) }
-    ensures jobs { OnOk result (jobs.new ≡ world.new.works) }
+    ensures runs { OnOk result (Runs (taken_for phase batches.old.callers batch) turn.old.world turn.new.world) }
+    ensures jobs { OnOk result (jobs.new ≡ turn.new.world.works) }
     ensures batches { OnOk result (batches.new ≡ with_batch batch batches.old) }
     ensures callers { batches.new.callers ≡ batches.old.callers }
 {
-    begin(world, phase)?;
-    come_all(
-        rt,
-        alloc,
-        poller,
-        jobs,
-        world,
-        stack,
-        batches.callers(),
-        batch.as_slice(),
-    )?;
+    begin(&mut turn.world, phase)?;
+    come_all(rt, poller, jobs, turn, batches.callers(), batch.as_slice())?;
     batches.put(batch)
 }
 
-/// A drain is told.
+/// Logs a drain.
 fn begin<'s>(world: &mut World<'s>, phase: Phase) -> Result<(), AllocError>
     ensures runs { OnOk result (Runs (begun_for phase) world.old world.new) }
     ensures works { OnOk result (world.new.works ≡ world.old.works) }
@@ -77,24 +66,22 @@ fn begin<'s>(world: &mut World<'s>, phase: Phase) -> Result<(), AllocError>
 /// Posts come, one after the other.
 fn come_all<'s, R, J>(
     rt: &R,
-    alloc: Global,
     poller: &Poller,
     jobs: &mut Submissions<'s, J>,
-    world: &mut World<'s>,
-    stack: &mut Frames<'s>,
+    turn: &mut Turn<'s>,
     callers: &'s [Items<Body>],
     batch: &[Posted],
 ) -> Result<(), AllocError>
 where
     R: Wait + RandomSource + AllocGlobal,
     J: JobSource,
-    requires bounded { Bounded world.old }
-    requires jobs { jobs.old ≡ world.old.works }
-    ensures runs { OnOk result (Runs (comings callers.now batch.now) world.old world.new) }
-    ensures jobs { OnOk result (jobs.new ≡ world.new.works) }
+    requires bounded { Bounded turn.old.world }
+    requires jobs { jobs.old ≡ turn.old.world.works }
+    ensures runs { OnOk result (Runs (comings callers.now batch.now) turn.old.world turn.new.world) }
+    ensures jobs { OnOk result (jobs.new ≡ turn.new.world.works) }
 {
     for posted in batch {
-        come_if_there(rt, alloc, poller, jobs, world, stack, callers, posted)?;
+        come_if_there(rt, poller, jobs, turn, callers, posted)?;
     }
     Ok(())
 }
@@ -102,25 +89,23 @@ where
 /// A post comes, where there is such a post.
 fn come_if_there<'s, R, J>(
     rt: &R,
-    alloc: Global,
     poller: &Poller,
     jobs: &mut Submissions<'s, J>,
-    world: &mut World<'s>,
-    stack: &mut Frames<'s>,
+    turn: &mut Turn<'s>,
     callers: &'s [Items<Body>],
     posted: &Posted,
 ) -> Result<(), AllocError>
 where
     R: Wait + RandomSource + AllocGlobal,
     J: JobSource,
-    requires bounded { Bounded world.old }
-    requires jobs { jobs.old ≡ world.old.works }
-    ensures runs { OnOk result (Runs (coming callers.now posted.now) world.old world.new) }
-    ensures jobs { OnOk result (jobs.new ≡ world.new.works) }
+    requires bounded { Bounded turn.old.world }
+    requires jobs { jobs.old ≡ turn.old.world.works }
+    ensures runs { OnOk result (Runs (coming callers.now posted.now) turn.old.world turn.new.world) }
+    ensures jobs { OnOk result (jobs.new ≡ turn.new.world.works) }
 {
     match body_of(callers, posted) {
         None => Ok(()),
-        Some(body) => come(rt, alloc, poller, jobs, world, stack, posted, body),
+        Some(body) => come(rt, poller, jobs, turn, posted, body),
     }
 }
 

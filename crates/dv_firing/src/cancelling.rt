@@ -1,75 +1,63 @@
 ghost use Rattle.std.specs.Prelude.{◌≡◌, ◌++◌, OnOk};
-ghost use Rattle.dv_objects.specs.Performed.{failed_with};
-ghost use Rattle.dv_world.specs.World.{awaited_in, cancel, fire};
+ghost use Rattle.dv_definition.specs.Definition as page;
+ghost use Rattle.dv_definition.specs.Rule.{Fires, after};
+ghost use Rattle.dv_definition.specs.Words.{calls, cancels, what_is_awaited};
 ghost use Rattle.dv_objects.specs.Refusals.{cancelled};
-ghost use Rattle.dv_firing.specs.Cancelling.{awaited_cancelled, children_cancelled, cancel_begun, canceller_ended};
-ghost use Rattle.dv_frames.specs.Turn.{◌over◌, settle_next};
 ghost use Rattle.dv_objects.specs.declared.performed.Performed.TheVariants.{Done};
 
-use dv_frames::following::{fire_and_settle, settle_after, whole};
+use dv_frames::following::{fire_and_settle, whole};
 use dv_frames::frame::Frame;
 use dv_frames::frames::Frames;
+use dv_frames::turn::Turn;
 use dv_journal::deferred_id::DeferredId;
 use dv_objects::inline_id::InlineId;
 use dv_objects::input::Input;
 use dv_objects::performed::Performed;
 use dv_objects::reached::Reached;
 use dv_objects::refusals::cancelled;
-use dv_world::world::World;
-use std::alloc::{AllocError, Global};
+use std::alloc::AllocError;
 
 /// Cancels a Deferred: tells of it, and begins with whom it reaches (Twisted: `Deferred.cancel`).
-pub fn cancel<'s>(
-    alloc: Global,
-    world: &mut World<'s>,
-    stack: &mut Frames<'s>,
-    performed: &mut Performed<'s>,
-    id: DeferredId,
-) -> Result<(), AllocError>
-    requires done { performed.old ≡ Done }
-    ensures { OnOk result ((stack.new, performed.new, world.new) ≡ cancel_begun (cancel id world.old).0 (cancel id world.old).1 over stack.old) }
+pub fn cancel<'s>(turn: &mut Turn<'s>, id: DeferredId) -> Result<(), AllocError>
+    requires done { turn.old.performed ≡ Done }
+    ensures { OnOk result (turn.new ≡ after (page.cancel id) turn.old) }
 {
-    match world.cancel(id)? {
+    match turn.world.cancel(id)? {
         Reached::Nothing => Ok(()),
         Reached::Fire(end) => {
-            world.fire_guarded(end)?;
-            settle_after(stack, end)
+            turn.world.fire_guarded(end)?;
+            turn.stack.push(Frame::Settle(end))
         }
         Reached::Run(end, canceller) => {
-            stack.push(Frame::Canceller(end))?;
-            stack.push(Frame::Rest(whole(Some(end), canceller, Input::null())))
+            turn.stack.push(Frame::Canceller(end))?;
+            turn.stack
+                .push(Frame::Rest(whole(Some(end), canceller, Input::null())))
         }
-        Reached::Children(children) => cancel_children(stack, children.as_slice()),
-        Reached::Inline(inline) => cancel_awaited(world, stack, inline),
+        Reached::Children(children) => cancel_children(&mut turn.stack, children.as_slice()),
+        Reached::Inline(inline) => cancel_awaited(turn, inline),
         Reached::ForItem(end, queue) => {
-            world.withdraw(queue, end);
-            fire_cancelled(alloc, world, stack, performed, end)
+            turn.world.withdraw(queue, end);
+            fire_cancelled(turn, end)
         }
         Reached::ForToken(end, lock) => {
-            world.forget(lock, end);
-            fire_cancelled(alloc, world, stack, performed, end)
+            turn.world.forget(lock, end);
+            fire_cancelled(turn, end)
         }
     }
 }
 
 /// Fires a Deferred with CancelledError.
-fn fire_cancelled<'s>(
-    alloc: Global,
-    world: &mut World<'s>,
-    stack: &mut Frames<'s>,
-    performed: &mut Performed<'s>,
-    id: DeferredId,
-) -> Result<(), AllocError>
-    requires done { performed.old ≡ Done }
-    ensures { OnOk result ((stack.new, performed.new, world.new) ≡ settle_next id (fire id cancelled world.old).0 (fire id cancelled world.old).1 over stack.old) }
+fn fire_cancelled<'s>(turn: &mut Turn<'s>, id: DeferredId) -> Result<(), AllocError>
+    requires done { turn.old.performed ≡ Done }
+    ensures { OnOk result (turn.new ≡ after (Fires id cancelled) turn.old) }
 {
-    fire_and_settle(world, stack, performed, id, cancelled(alloc)?)
+    fire_and_settle(turn, id, cancelled(turn.alloc)?)
 }
 
 /// The children of a DeferredList are to be cancelled in order; a failure that leaves the cancel of one is told, and the
 /// next one follows.
 fn cancel_children<'s>(stack: &mut Frames<'s>, children: &[DeferredId]) -> Result<(), AllocError>
-    ensures { OnOk result (stack.new ≡ children_cancelled children.now ++ stack.old) }
+    ensures { OnOk result (stack.new ≡ page.cancel_children children.now ++ stack.old) }
 {
     for place in (0..children.len()).rev() {
         stack.push(Frame::Tell)?;
@@ -79,15 +67,12 @@ fn cancel_children<'s>(stack: &mut Frames<'s>, children: &[DeferredId]) -> Resul
 }
 
 /// What an inline body awaits is to be cancelled, where it awaits something, and nothing else happens.
-fn cancel_awaited<'s>(
-    world: &World<'s>,
-    stack: &mut Frames<'s>,
-    inline: InlineId,
-) -> Result<(), AllocError>
-    ensures { OnOk result ((stack.new, Done, world.now) ≡ awaited_cancelled (awaited_in inline world.now) world.now over stack.old) }
+fn cancel_awaited(turn: &mut Turn<'_>, inline: InlineId) -> Result<(), AllocError>
+    requires done { turn.old.performed ≡ Done }
+    ensures { OnOk result (turn.new ≡ after (what_is_awaited inline λ e. calls (cancels e)) turn.old) }
 {
-    if let Some(awaited) = world.awaited(inline) {
-        stack.push(Frame::Cancel(awaited))?;
+    if let Some(awaited) = turn.world.awaited(inline) {
+        turn.stack.push(Frame::Cancel(awaited))?;
     }
     Ok(())
 }
@@ -95,26 +80,23 @@ fn cancel_awaited<'s>(
 /// Goes on after a canceller of a Deferred, by what it came to: its failure is raised, and else the Deferred is fired
 /// where it still may be.
 pub fn end_canceller<'s>(
-    alloc: Global,
-    world: &mut World<'s>,
-    stack: &mut Frames<'s>,
-    performed: &mut Performed<'s>,
+    turn: &mut Turn<'s>,
     id: DeferredId,
     came: Performed<'s>,
 ) -> Result<(), AllocError>
-    requires done { performed.old ≡ Done }
-    ensures { OnOk result ((stack.new, performed.new, world.new) ≡ canceller_ended id (failed_with came.entry) world.old over stack.old) }
+    requires done { turn.old.performed ≡ Done }
+    ensures { OnOk result (turn.new ≡ after (page.after_canceller id came.entry) turn.old) }
 {
-    match came.into_failure(alloc)? {
+    match came.into_failure(turn.alloc)? {
         Some(failure) => {
-            *performed = Performed::Raised(failure);
+            turn.performed = Performed::Raised(failure);
             Ok(())
         }
         None => {
-            if !world.is_unfired(id) {
+            if !turn.world.is_unfired(id) {
                 return Ok(());
             }
-            fire_cancelled(alloc, world, stack, performed, id)
+            fire_cancelled(turn, id)
         }
     }
 }

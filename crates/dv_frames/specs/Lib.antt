@@ -1,5 +1,4 @@
 pub mod Turn
-pub mod Naming
 pub mod Maybe
 pub mod Bounds
 pub mod Raising

@@ -6,6 +6,7 @@ use Rattle.dv_script.specs.declared.body.Body.{Body, out-Body}
 use Rattle.dv_frames.specs.declared.frame.Frame.{Frame}
 use Rattle.dv_frames.specs.declared.frame.Frame.TheVariants.{Settle}
 use Rattle.dv_frames.specs.declared.frame.Rest.{Rest}
+use Rattle.dv_frames.specs.declared.turn.Turn.{Turn}
 use Rattle.dv_world.specs.World.{World}
 use Rattle.dv_objects.specs.declared.follow.Follow.{Follow}
 use Rattle.dv_objects.specs.declared.follow.Follow.TheVariants as follow
@@ -20,6 +21,11 @@ Turned = List Frame × Performed × World
 infixl 10 ◌over◌
 abbrev pub ◌over◌ : Turned → List Frame → Turned
 t over below = (t.0 ++ below, t.1, t.2)
+
+-- a turn, once this is left: what follows is done before what was still to be done
+infixl 10 ◌onto◌
+abbrev pub ◌onto◌ : Turned → Turn → Turn
+t onto turn = record turn { world = t.2; stack = t.0 ++ turn.stack; performed = t.1 }
 
 -- nothing follows
 abbrev pub done : World → Turned

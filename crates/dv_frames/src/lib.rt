@@ -6,3 +6,4 @@ pub mod frame;
 pub mod frames;
 pub mod maybe;
 pub mod raising;
+pub mod turn;

@@ -1,4 +1,4 @@
--- What a run comes to.
+-- The end of a run.
 use Rattle.std.specs.Prelude.{◌≡◌}
 use Rattle.dv_definition.specs.Scripts.{Leads}
 use Rattle.dv_jobs.specs.Jobs.{jobs_from}

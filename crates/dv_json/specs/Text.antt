@@ -69,7 +69,7 @@ pub record HasLines (table : List Class) (marks : List ℕ) (journal : Written) 
   pub end : IsEndLine journal stopped last
   pub is : text ≡ flat_map ended (start_line ∷ of_entries ++ of_deferreds ++ of_left ++ last ∷ [])
 
--- the text of a run that has come to this
+-- the text of a run that ended so
 abbrev pub IsText : List Class → Marked → List ℕ → Type 0
 IsText table end text = HasLines table end.marks end.remains.journal end.remains.stopped end.remains.outcomes (length end.remains.left) text
 

@@ -1,4 +1,4 @@
-//! Keeps what a run has come to, and marks where each event begins.
+//! Keeps the world and the jobs of a run, and marks where each event begins.
 
 ghost use Rattle.dv_json.specs.Ended.{Ends};
 

@@ -136,7 +136,7 @@ fn print_lines<'r, W: Sink>(
     Ok(())
 }
 
-/// Ends a line, and writes what is gathered where it has come to a piece of some kilobytes.
+/// Ends a line, and writes what is gathered once that is some kilobytes.
 #[tactic(auto, using(crate::proofs::Cuts::pieces))]
 fn end_line<W: Sink>(gathered: &mut String, sink: &mut W) -> Result<(), PrintFault>
     ensures ok { OnOk result (AppendsBut (W.taken sink.old) (W.taken sink.new) (string_bytes gathered.old ++ codes "\n") (string_bytes gathered.new)) }
@@ -281,7 +281,7 @@ fn write_work(
     write_jobs(alloc, classes, out, run.dones)
 }
 
-/// Adds what the journal came to, and the time.
+/// Adds the counts of the journal, and the time.
 fn write_totals(run: Run<'_>, time: u64, out: &mut String) -> Result<(), AllocError>
     ensures { let journal = run.entry.journal.now in OnOk result (string_bytes out.new ≡ string_bytes out.old ++ totals journal.limit run.entry.stopped time (total_weight journal.entries)) }
 {
@@ -342,7 +342,7 @@ fn write_jobs(
     write_text(out, "]")
 }
 
-/// Adds a job: its number, and what it came to.
+/// Adds a job: its number, and its result.
 fn write_job(
     alloc: Global,
     classes: &Classes,

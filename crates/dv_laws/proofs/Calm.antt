@@ -1,15 +1,11 @@
 -- Each rule but settling leads on by steps that use no item and put nothing in place: what Calm proves, from the form of a rule.
 use Rattle.std.proofs.Common.{ℕ, ◌+◌, ◌≡◌, Bool, true, false, if◌then◌else◌, List, [], ◌∷◌, ◌++◌, Option, None, Some, length, nat_eq, ◌-◌, slice_get, refl, arith}
-use Rattle.std.specs.Option.{option_map}
-use Rattle.dv_value.specs.Failure.{failure_in, fault}
-use Rattle.dv_value.specs.declared.failure.Failure.{Failure}
-use Rattle.dv_value.specs.declared.value.Value.{Value, Null, Fault, Text}
-use Rattle.dv_value.specs.declared.value.Value.TheVariants as value
+use Rattle.dv_value.specs.declared.value.Value.{Value}
 use Rattle.dv_journal.specs.declared.entry.Entry.{Entry}
 use Rattle.dv_journal.specs.declared.entry.Entry.TheVariants as entry
-use Rattle.dv_prims.specs.DeferredList.{Gather, came, seconds_of}
-use Rattle.dv_prims.specs.Queue.{Queue, may_put, may_get, receiver, put_to}
-use Rattle.dv_prims.specs.Tokens.{Semaphore, is_unheld, first_waiting}
+use Rattle.dv_prims.specs.DeferredList.{Gather, came}
+use Rattle.dv_prims.specs.Queue.{Queue, may_put, receiver, put_to}
+use Rattle.dv_prims.specs.Tokens.{Semaphore, is_unheld}
 use Rattle.dv_prims.specs.declared.gather.Flags.{Flags}
 use Rattle.dv_script.specs.declared.action.Action.{Action, out-Action}
 use Rattle.dv_script.specs.declared.action.Action.TheOpen.{Action-F}
@@ -31,18 +27,13 @@ use Rattle.dv_frames.specs.declared.frame.Inlining.TheVariants.{Goes, Acted, Awa
 use Rattle.dv_frames.specs.declared.frame.Purpose.{Purpose}
 use Rattle.dv_frames.specs.declared.frame.Purpose.TheVariants.{Named, Holding, Turning}
 use Rattle.dv_frames.specs.declared.frame.Rest.{Rest}
-use Rattle.dv_objects.specs.Performed.{failed_with}
 use Rattle.dv_journal.specs.Told.{change_of, Aside}
 use Rattle.dv_world.specs.Found.{deferreds_at}
-use Rattle.dv_objects.specs.Names.{number_of}
-use Rattle.dv_objects.specs.Pair.{callback, errback, both, chain, timing, continuing}
-use Rattle.dv_world.specs.World.{World, deferred_at, step, append, fire, is_unfired, cancel, pause, unpause, make, aside, lock_told, ask, release_found, release, forget, unless_stopped, put_into_found, put_into, get_from_found, get_from, withdraw, arrange, came_to_found, came_to, come_due_found, waiting_cancelled, state_cancelled, call_cancelled, cancel_call, start_timer, turn_scheduled, loop_stopped, stop_loop, end_loop, task_told, pause_task, resume_task, hold_task, task_ended, end_task, tick_dropped, keep_tick, end_tick, step_taken, turn_taken, add_inline, begin_await, come_to_inline, end_await, awaited_in, submit, deliver_later}
-use Rattle.dv_objects.specs.Refusals.{cancelled}
-use Rattle.dv_objects.specs.Works.{is_full}
+use Rattle.dv_world.specs.World.{World, step, append, fire, cancel, pause, unpause, make, aside, lock_told, release_found, forget, unless_stopped, put_into_found, get_from_found, withdraw, arrange, came_to_found, came_to, come_due_found, waiting_cancelled, state_cancelled, call_cancelled, cancel_call, start_timer, turn_scheduled, loop_stopped, end_loop, task_told, task_ended, end_task, tick_dropped, keep_tick, step_taken, turn_taken, come_to_inline, end_await, submit, deliver_later}
 use Rattle.dv_script.specs.declared.work.Work.{Work}
-use Rattle.dv_objects.specs.Cooperator.{Cooperator, with_new_task, with_step, result_of, unended, wants_tick, idle_tick}
-use Rattle.dv_objects.specs.Objects.{Objects, with_queue, with_new_list, with_list, with_ended_call, cooperating, inlining}
-use Rattle.dv_objects.specs.declared.canceller.Canceller.TheVariants.{Body, Token, Item, Children, Inline as InlineCanceller}
+use Rattle.dv_objects.specs.Cooperator.{Cooperator, with_step, result_of, unended, wants_tick, idle_tick}
+use Rattle.dv_objects.specs.Objects.{Objects, with_queue, with_list, with_ended_call, cooperating, inlining}
+use Rattle.dv_objects.specs.declared.canceller.Canceller.TheVariants.{Body, Children}
 use Rattle.dv_objects.specs.declared.inline_id.Inline.{Inline}
 use Rattle.dv_objects.specs.Inlines.{come_to, end_adding}
 use Rattle.dv_inline.specs.Position.{Position, come, want_at}
@@ -55,11 +46,9 @@ use Rattle.std.specs.Prelude.{max}
 use Rattle.std.proofs.Common.{◌≤◌, zero, suc, sym, subst, ◌∙◌, cond, slice_set}
 use Rattle.dv_laws.proofs.ReadBackLemmas.{get_set}
 use Rattle.dv_objects.specs.Looping.{new_loop, next_due}
-use Rattle.dv_objects.specs.Looping.{is_scheduled, with_new_loop}
 use Rattle.dv_objects.specs.declared.looping_call.LoopingCall.{LoopingCall}
 use Rattle.dv_world.specs.declared.found.Found.{Found}
 use Rattle.dv_world.specs.declared.found.Found.TheVariants.{All, Unbound}
-use Rattle.dv_objects.specs.declared.pair.Child.{Child}
 use Rattle.dv_objects.specs.Pair.{Pair}
 use Rattle.dv_objects.specs.declared.pair.Side.{Side}
 use Rattle.dv_objects.specs.declared.pair.Side.TheVariants as side

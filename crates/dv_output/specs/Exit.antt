@@ -5,7 +5,7 @@ use Rattle.dv_reader.specs.Texts.{refusal_text}
 use Rattle.dv_output.specs.declared.error.RunFault.{RunFault}
 use Rattle.dv_output.specs.declared.error.RunFault.TheVariants.{ScriptRefused, OutOfMemory, ReadFault, WriteFault}
 
--- 2 for a script that is refused, 3 for want of memory, 4 for a reader or a writer that failed
+-- 2 for a script that is refused, 3 if memory ran out, 4 for a reader or a writer that failed
 abbrev pub fault_status : RunFault → ℕ
 fault_status (ScriptRefused fault) = 2
 fault_status OutOfMemory = 3

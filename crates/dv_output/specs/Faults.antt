@@ -8,12 +8,12 @@ use Rattle.dv_output.specs.declared.error.RunFault.TheVariants.{ScriptRefused, O
 use Rattle.dv_source.specs.declared.source.ReadError.{ReadError}
 use Rattle.dv_source.specs.declared.source.ReadError.TheVariants as reading
 
--- a reader that failed is a read fault, and want of memory stays that
+-- a reader that failed is a read fault, and out of memory stays that
 abbrev pub of_read : ReadError → RunFault
 of_read reading.ReadFault = ReadFault
 of_read reading.OutOfMemory = OutOfMemory
 
--- want of memory while a script is read is no refusal of the script
+-- out of memory while a script is read is no refusal of the script
 abbrev pub of_script : ScriptFault → RunFault
 of_script script.TooLong = ScriptRefused script.TooLong
 of_script script.NotJson = ScriptRefused script.NotJson
@@ -25,7 +25,7 @@ of_script script.BadClass = ScriptRefused script.BadClass
 of_script script.OutOfMemory = OutOfMemory
 of_script script.BadPool = ScriptRefused script.BadPool
 
--- a writer that failed is a write fault, and want of memory stays that
+-- a writer that failed is a write fault, and out of memory stays that
 abbrev pub of_print : PrintFault → RunFault
 of_print printing.WriteFault = WriteFault
 of_print printing.OutOfMemory = OutOfMemory

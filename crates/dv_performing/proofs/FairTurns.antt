@@ -1,5 +1,5 @@
 -- Each turn leads on by steps of the world, and leaves less to do, or less of each frame; and what happens in a run begins so.
-use Rattle.std.proofs.Common.{◌≡◌, ℕ, Option, None, refl}
+use Rattle.std.proofs.Common.{ℕ, Option, None, refl}
 use Rattle.dv_frames.specs.declared.frame.Frame.{Frame}
 use Rattle.dv_journal.specs.declared.entry.Entry.TheVariants as entry
 use Rattle.dv_objects.specs.declared.performed.Performed.{Performed}

@@ -1,11 +1,10 @@
 -- Each rule leaves less to do, or less of each frame: what Fair proves, from the form of a rule.
-use Rattle.std.proofs.Common.{ℕ, ◌≡◌, ◌+◌, ◌-◌, ◌<◌, ◌≤◌, nat_eq, Bool, true, false, if◌then◌else◌, List, [], ◌∷◌, ◌++◌, Option, None, Some, slice_get, length, refl, ap, sym, ◌∙◌, arith, subst}
+use Rattle.std.proofs.Common.{ℕ, ◌≡◌, ◌+◌, ◌-◌, ◌<◌, ◌≤◌, Bool, true, false, if◌then◌else◌, List, [], ◌∷◌, ◌++◌, Option, None, Some, slice_get, length, refl, ap, arith, subst}
 use Rattle.dv_clock.specs.Clock.{Upcoming, next_call}
 use Rattle.dv_clock.specs.Due.{coming_due}
 use Rattle.dv_clock.specs.Turns.{turn_of}
 use Rattle.dv_clock.specs.declared.call.CallState.TheVariants as call_state
 use Rattle.dv_clock.specs.declared.due.Due.{Due}
-use Rattle.dv_clock.specs.declared.due.Due.TheVariants as what
 use Rattle.dv_definition.specs.Definition.{answer_of}
 use Rattle.dv_definition.specs.Rule.{found}
 use Rattle.dv_frames.specs.Turn.{Turned, settle_next, ◌over◌}
@@ -26,26 +25,23 @@ use Rattle.dv_objects.specs.Cooperator.{with_step}
 use Rattle.dv_objects.specs.Inlines.{Inlines, end_adding, end_adding_at}
 use Rattle.dv_objects.specs.Objects.{Objects, with_ended_call, cooperating, inlining}
 use Rattle.dv_objects.specs.Pair.{Pair}
-use Rattle.dv_objects.specs.Performed.{failed_with}
 use Rattle.dv_objects.specs.Waiting.{added}
 use Rattle.dv_objects.specs.declared.follow.Follow.{Follow}
 use Rattle.dv_objects.specs.declared.follow.Follow.TheVariants as follow
 use Rattle.dv_objects.specs.declared.inline_id.Inline.{Inline}
-use Rattle.dv_objects.specs.declared.pair.Child.{Child}
 use Rattle.dv_objects.specs.declared.performed.Performed.{Performed}
 use Rattle.dv_objects.specs.declared.performed.Performed.TheVariants.{Done, Gave, Raised, Awaits}
 use Rattle.dv_objects.specs.declared.reached.Reached.{Reached}
 use Rattle.dv_objects.specs.declared.reached.Reached.TheVariants as reached
 use Rattle.dv_objects.specs.declared.task.Task.{Task}
 use Rattle.dv_objects.specs.declared.task.TaskEnd.{TaskEnd}
-use Rattle.dv_objects.specs.declared.task.TaskEnd.TheVariants.{Finished, Stopped, Failed}
+use Rattle.dv_objects.specs.declared.task.TaskEnd.TheVariants.{Stopped, Failed}
 use Rattle.dv_objects.specs.declared.waiting.Waiting.{Waiting}
 use Rattle.dv_objects.specs.declared.waiting.Waiting.TheVariants as waits
 use Rattle.dv_performing.proofs.Budget.{reaches, step_took, cancel_took, aside_took}
 use Rattle.dv_performing.proofs.Fair.{can, pays, rank, Lighter, Falls, paid, lighter, Fair}
 use Rattle.dv_performing.proofs.InlineSizes.{text_of, waiting_by, waiting_text, come_text, answer_text, action_text}
-use Rattle.dv_performing.proofs.Lasting.{Comes}
-use Rattle.dv_performing.proofs.Sizes.{actions_size, statements_size, body_size, body_size_out, begun_size, begun_fits}
+use Rattle.dv_performing.proofs.Sizes.{actions_size, body_size, body_size_out, begun_size, begun_fits}
 use Rattle.dv_prims.specs.declared.gather.Flags.{Flags}
 use Rattle.dv_script.specs.declared.action.Action.{Action, out-Action}
 use Rattle.dv_script.specs.declared.action.Action.TheOpen.{Action-F}
@@ -63,12 +59,10 @@ use Rattle.dv_definition.specs.Rule.{Rule, Ends, By, If, Finds, Then, Asks, Fire
 use Rattle.dv_definition.specs.Steps.{Question, Reply, stepped, asked, Cancel, PutInto, GetFrom, CameTo, CancelCall, TakeStep, EndTask, ComeToInline, EndAwait, ComeDue, Moves}
 use Rattle.dv_performing.proofs.RuleComes.{rule_comes}
 use Rattle.dv_performing.proofs.StepsCome.{by_aside, step_comes, question_comes, due_aside}
-use Rattle.dv_value.specs.Failure.{failure_in}
-use Rattle.dv_value.specs.declared.failure.Failure.{Failure}
 use Rattle.dv_value.specs.declared.value.Value.{Value, Null, Fault}
 use Rattle.dv_world.specs.Found.{deferreds_at}
 use Rattle.dv_world.specs.World as world
-use Rattle.dv_world.specs.World.{World, aside, arrange, unless_stopped, step_taken, turn_taken, come_due_found, end_await}
+use Rattle.dv_world.specs.World.{World, aside, arrange, step_taken, turn_taken, come_due_found, end_await}
 use Rattle.dv_world.specs.declared.found.Found.{Found}
 use Rattle.dv_world.specs.declared.found.Found.TheVariants.{All, Unbound}
 

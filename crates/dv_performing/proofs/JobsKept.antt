@@ -1,5 +1,6 @@
 -- The works that were submitted only grow.
-use Rattle.std.proofs.Common.{◌≡◌, ℕ, Bool, true, false, cond, List, [], ◌∷◌, ◌++◌, Option, None, Some, Result, Ok, Err, refl, sym, subst, ap, ◌∙◌, append-nil, append_assoc, length}
+use Rattle.std.proofs.Common.{◌≡◌, ℕ, Bool, true, false, cond, List, [], ◌∷◌, ◌++◌, Option, None, Some, Result, Ok, Err, refl, sym, subst, ap, ◌∙◌, append-nil, append_assoc, length, OnOk}
+use Rattle.std.specs.declared.alloc.AllocError.{AllocError}
 use Rattle.dv_journal.specs.Journal.{fits}
 use Rattle.dv_journal.specs.declared.entry.Entry.TheVariants as entry
 use Rattle.dv_journal.specs.declared.error.Stop.{Stop}
@@ -14,14 +15,14 @@ use Rattle.dv_store.specs.declared.store.Fired.TheVariants.{Set, Swallowed}
 use Rattle.dv_store.specs.declared.store.Step.{Step}
 use Rattle.dv_performing.proofs.FairTurns.{happening_comes, turned_fair}
 use Rattle.dv_performing.proofs.Lasting.{Lasting}
-use Rattle.dv_performing.specs.Turning.{turned}
-use Rattle.dv_performing.specs.Beginning.{happening}
-use Rattle.dv_definition.specs.Scripts.{Occurrence}
+use Rattle.dv_definition.specs.Rule as rule
+use Rattle.dv_definition.specs.Scripts.{Occurrence, happens, rule_of}
 use Rattle.dv_bodies.specs.Threading.{GoesOn, delivered, job_result}
-use Rattle.dv_performing.specs.TurnEnds.{ended_with}
+use Rattle.dv_performing.specs.TurnEnds.{ended_with, ending}
 use Rattle.dv_performing.specs.declared.turn_end.TurnEnd.{TurnEnd}
 use Rattle.dv_performing.specs.declared.turn_end.TurnEnd.TheVariants.{Came, Delivers}
-use Rattle.dv_frames.specs.Turn.{Turned, ◌over◌, settle_next}
+use Rattle.dv_frames.specs.Turn.{◌onto◌, settle_next}
+use Rattle.dv_frames.specs.declared.turn.Turn.{Turn}
 use Rattle.dv_frames.specs.declared.frame.Frame.{Frame}
 use Rattle.dv_objects.specs.Works.{is_full}
 use Rattle.dv_objects.specs.declared.follow.Follow.{Follow}
@@ -139,13 +140,19 @@ ended_same : (end : TurnEnd) (p : Performed) (w : World) → (ended_with end p w
 ended_same Came p w = refl
 ended_same (Delivers job d) p w = delivered_same d (job_result job w.works) w
 
-pub delivered_works : (d : ℕ) (o : Option Value) (below : List Frame) (w : World) (t : Turned) → t ≡ (delivered d o w over below) → t.2.works ≡ w.works
-delivered_works d o below w t e = subst (λ (x : Turned). x.2.works ≡ w.works) (sym e) (delivered_same d o w)
+delivered_works : (d : ℕ) (o : Option Value) (old new : Turn) → new ≡ (delivered d o old.world onto old) → new.world.works ≡ old.world.works
+delivered_works d o old new e = subst (λ (turn : Turn). turn.world.works ≡ old.world.works) (sym e) (delivered_same d o old.world)
+
+-- so it is where that is the last step
+pub delivers_works : (r : Result (Unit {0}) AllocError) (d : ℕ) (o : Option Value) (works : List Work) (old new : Turn) → works ≡ old.world.works → OnOk r (new ≡ (delivered d o old.world onto old)) → OnOk r (works ≡ new.world.works)
+delivers_works (Ok _) d o works old new e h = e ∙ sym (delivered_works d o old new h)
+delivers_works (Err _) d o works old new e h = h
 
 -- they go on by a turn, and when an event begins
-pub turned_goes_on : (below left : List Frame) (f : Frame) (o p : Performed) (w u : World) (end : TurnEnd) → ◌≡◌ {A = Turned} (ended_with end p u over left) (turned f o w over below) → GoesOn w.works u.works
-turned_goes_on below left f o p w u end e =
-    subst (λ works. GoesOn w.works works) (ended_same end p u) (subst (λ (x : Turned). GoesOn w.works x.2.works) (sym e) (((turned_fair f o w).comes.keeps Grows grow).goes_on))
+pub turned_goes_on : (f : Frame) (old new : Turn) (end : TurnEnd) → ending end new ≡ rule.after (rule_of f old.performed) old → GoesOn old.world.works new.world.works
+turned_goes_on f old new end e =
+    subst (λ works. GoesOn old.world.works works) (ended_same end new.performed new.world)
+    (subst (λ (turn : Turn). GoesOn old.world.works turn.world.works) (sym e) (((turned_fair f old.performed old.world).comes.keeps Grows grow).goes_on))
 
-pub happening_goes_on : (occurrence : Occurrence) (below : List Frame) (w : World) (t : Turned) → t ≡ (happening occurrence w over below) → GoesOn w.works t.2.works
-happening_goes_on occurrence below w t e = subst (λ (x : Turned). GoesOn w.works x.2.works) (sym e) (((happening_comes occurrence w).keeps Grows grow).goes_on)
+pub happening_goes_on : (occurrence : Occurrence) (old new : Turn) → new ≡ rule.after (happens occurrence) old → GoesOn old.world.works new.world.works
+happening_goes_on occurrence old new e = subst (λ (turn : Turn). GoesOn old.world.works turn.world.works) (sym e) (((happening_comes occurrence old.world).keeps Grows grow).goes_on)

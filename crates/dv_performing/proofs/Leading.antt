@@ -1,19 +1,18 @@
 -- Where frames lead, the definition leads.
 use Rattle.std.proofs.Common.{◌≡◌, ℕ, zero, suc, ◌+◌, List, [], ◌∷◌, Option, None, Some, refl, sym, ap, subst, ◌∙◌}
 use Rattle.dv_definition.proofs.Sayings.{frames_say}
-use Rattle.dv_definition.specs.Definition.{act, cancel, put_in_place, run_side, settle, settle_by}
-use Rattle.dv_definition.specs.Rule.{Meant, Rule, ◌and_then◌, run, say, through}
-use Rattle.dv_definition.specs.Scripts.{ComesTo, Leads, Occurrence, all_happen, happen, happens, occurrences, within}
+use Rattle.dv_definition.specs.Definition.{act, cancel, put_in_place, settle, settle_by}
+use Rattle.dv_definition.specs.Rule.{Rule, ◌and_then◌, run, say}
+use Rattle.dv_definition.specs.Scripts.{ComesTo, Occurrence, all_happen, happen, happens, occurrences, within}
 use Rattle.dv_frames.specs.declared.frame.Frame.{Frame}
 use Rattle.dv_frames.specs.declared.frame.Frame.TheVariants as frame
 use Rattle.dv_objects.specs.Pair.{Pair}
 use Rattle.dv_objects.specs.declared.performed.Performed.{Performed}
 use Rattle.dv_objects.specs.declared.performed.Performed.TheVariants.{Done, Gave, Raised, Awaits}
 use Rattle.dv_performing.proofs.Extends.{Ended, then_extends, say_extends, deeper_left, deeper_right, next_extends}
-use Rattle.dv_performing.proofs.Total.{every_script_ends, each_script_has_one_meaning, frames_end, happens_end, runs_end}
+use Rattle.dv_performing.proofs.Total.{every_script_ends, runs_end}
 use Rattle.dv_performing.specs.Defined.{ScriptsMeanWhatIsDefined, ActionsMeanWhatIsDefined, BodiesMeanWhatIsDefined, CancelsMeanWhatIsDefined, SettlingMeansWhatIsDefined, OccurrencesMeanWhatIsDefined, RunsMeanWhatIsDefined, EveryScriptLeads, EachScriptLeadsToOneWorld}
-use Rattle.dv_performing.specs.Meaning.{Gives, Happens, Runs, Means}
-use Rattle.dv_posts.specs.Batches.{Batch}
+use Rattle.dv_performing.specs.Meaning.{Gives, Runs}
 use Rattle.dv_script.specs.declared.script.Script.{Script}
 use Rattle.dv_store.specs.declared.store.Step.{Step as Move}
 use Rattle.dv_store.specs.declared.store.Step.TheVariants.{Nothing, Passed, Run, Handed}

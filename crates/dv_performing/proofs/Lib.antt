@@ -1,4 +1,3 @@
-pub mod DueLemmas
 pub mod Extends
 pub mod Runs
 pub mod Lasting

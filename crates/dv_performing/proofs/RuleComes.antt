@@ -1,9 +1,7 @@
 -- Every rule leads on by steps of the world, by its form alone.
-use Rattle.std.proofs.Common.{ℕ, ◌≡◌, ◌+◌, ◌<◌, ◌≤◌, Bool, true, false, if◌then◌else◌, List, [], ◌∷◌, ◌++◌, Option, None, Some, refl, arith}
+use Rattle.std.proofs.Common.{ℕ, Bool, true, false, if◌then◌else◌, Option, None, Some}
 use Rattle.dv_definition.specs.Rule.{found}
 use Rattle.dv_frames.specs.Turn.{Turned, settle_next}
-use Rattle.dv_frames.specs.declared.frame.Frame.{Frame}
-use Rattle.dv_frames.specs.declared.frame.Frame.TheVariants as frame
 use Rattle.dv_objects.specs.declared.follow.Follow.{Follow}
 use Rattle.dv_objects.specs.declared.follow.Follow.TheVariants as follow
 use Rattle.dv_performing.proofs.Lasting.{Comes}

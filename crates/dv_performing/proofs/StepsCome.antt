@@ -1,5 +1,5 @@
 -- Every step that rules take leads on by steps of the world: a line a step, written once for all laws.
-use Rattle.std.proofs.Common.{ℕ, ◌≡◌, Bool, true, false, if◌then◌else◌, List, [], ◌∷◌, Option, None, Some, slice_get, refl}
+use Rattle.std.proofs.Common.{ℕ, ◌≡◌, Bool, true, false, if◌then◌else◌, Option, None, Some, slice_get, refl}
 use Rattle.dv_clock.specs.Clock.{Upcoming, next_call}
 use Rattle.dv_clock.specs.Due.{coming_due}
 use Rattle.dv_clock.specs.Turns.{turn_of}
@@ -11,10 +11,9 @@ use Rattle.dv_clock.specs.declared.due.Due.TheVariants as what
 use Rattle.dv_journal.specs.Told.{change_of, Aside}
 use Rattle.dv_journal.specs.declared.entry.Entry.{Entry}
 use Rattle.dv_journal.specs.declared.entry.Entry.TheVariants as entry
-use Rattle.dv_objects.specs.Cooperator.{Cooperator, with_new_task, with_step, result_of, unended, wants_tick, idle_tick}
+use Rattle.dv_objects.specs.Cooperator.{Cooperator, result_of, unended, wants_tick, idle_tick}
 use Rattle.dv_objects.specs.Inlines.{come_to, end_adding}
-use Rattle.dv_objects.specs.Objects.{Objects, with_queue, with_list, with_ended_call, cooperating, inlining}
-use Rattle.dv_objects.specs.declared.inline_id.Inline.{Inline}
+use Rattle.dv_objects.specs.Objects.{Objects, with_queue, with_list, inlining}
 use Rattle.dv_objects.specs.declared.looping_call.LoopingCall.{LoopingCall}
 use Rattle.dv_objects.specs.declared.task.Task.{Task}
 use Rattle.dv_objects.specs.declared.task.TaskEnd.{TaskEnd}
@@ -23,8 +22,7 @@ use Rattle.dv_performing.proofs.Lasting.{Comes}
 use Rattle.dv_prims.specs.DeferredList.{Gather, came}
 use Rattle.dv_prims.specs.Queue.{Queue, may_put, receiver, put_to}
 use Rattle.dv_prims.specs.Tokens.{Semaphore, is_unheld}
-use Rattle.dv_script.specs.declared.body.Body as body_of
-use Rattle.dv_definition.specs.Steps.{Step, stepped, Question, Reply, asked, Make, Name, Append, FireGuarded, Pause, Note, TellTurn, TellUnhandled, NewLock, NewSemaphore, Ask, Release, Forget, NewQueue, Withdraw, NewList, StartTimer, EndTimer, CallLater, NewLoop, ScheduleTurn, StopLoop, EndLoop, NewTask, AwaitTask, PauseTask, ResumeTask, HoldTask, KeepTick, BeginTick, EndTick, AddInline, BeginAwait, Submit, DeliverLater, Advance, TellDrain, TellPost, Put, PutDeferred, ComeDue, Moves, Cancel, PutInto, GetFrom, CameTo, CancelCall, TakeStep, EndTask, ComeToInline, EndAwait}
+use Rattle.dv_definition.specs.Steps.{Step, stepped, Question, asked, Make, Name, Append, FireGuarded, Pause, Note, TellTurn, TellUnhandled, NewLock, NewSemaphore, Ask, Release, Forget, NewQueue, Withdraw, NewList, StartTimer, EndTimer, CallLater, NewLoop, ScheduleTurn, StopLoop, EndLoop, NewTask, AwaitTask, PauseTask, ResumeTask, HoldTask, KeepTick, BeginTick, EndTick, AddInline, BeginAwait, Submit, DeliverLater, Advance, TellDrain, TellPost, Put, PutDeferred, ComeDue, Moves, Cancel, PutInto, GetFrom, CameTo, CancelCall, TakeStep, EndTask, ComeToInline, EndAwait}
 use Rattle.dv_value.specs.declared.value.Value.{Value}
 use Rattle.dv_world.specs.World.{World, aside, lock_told, release_found, unless_stopped, put_into_found, get_from_found, arrange, came_to_found, came_to, come_due_found, waiting_cancelled, state_cancelled, call_cancelled, cancel_call, turn_scheduled, loop_stopped, task_told, task_ended, tick_dropped, keep_tick, step_taken, turn_taken, come_to_inline, end_await}
 

@@ -1,5 +1,5 @@
 -- A stopped world stays as it is.
-use Rattle.std.proofs.Common.{◌≡◌, Bool, true, false, cond, List, refl, subst, ◌∙◌}
+use Rattle.std.proofs.Common.{◌≡◌, Bool, true, false, cond, List, [], refl, subst, sym, ◌∙◌}
 use Rattle.dv_performing.proofs.Lasting.{Lasting}
 use Rattle.dv_performing.proofs.Total.{gives_keeps, begun_gives_keeps, happens_keeps, frames_end, happens_end}
 use Rattle.dv_performing.specs.Laws.{StoppedWorldsStay, StoppedActionsStay}
@@ -51,6 +51,11 @@ pub loop_stopped : (stack left : List Frame) (o last : Performed) (w u : World) 
 loop_stopped stack left o last w u leads h =
     let r = frames_end left last u in
     (r.0, leads r.0 u (subst (λ v. Gives left last u r.0 v) (stopped_worlds_stay left last u r.0 r.1 h r.2) r.2))
+
+-- or where the stack is empty
+pub loop_emptied : (stack left : List Frame) (o last : Performed) (w u : World) → left ≡ [] → ((q : Performed) (v : World) → Gives left last u q v → Gives stack o w q v) → Ends stack o w u
+loop_emptied stack left o last w u e leads =
+    (last, leads last u (subst (λ fs. Gives fs last u last u) (sym e) (record { depth = 0; ends = refl })))
 
 -- and nothing has to begin
 pub happens_stopped : (occurrence : Occurrence) (w : World) → w.stopped ≡ true → Happens occurrence w w

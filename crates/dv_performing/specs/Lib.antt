@@ -1,10 +1,8 @@
 pub mod Acting
 pub mod Beginning
-pub mod Wanting
 pub mod ComingDue
 pub mod TurnEnds
 pub mod Settling
-pub mod Performing
 pub mod Turning
 pub mod Meaning
 pub mod Laws

@@ -2,62 +2,52 @@
 
 ghost use Rattle.std.specs.Prelude.{◌≡◌, OnOk};
 ghost use Rattle.dv_objects.specs.declared.performed.Performed.TheVariants.{Done};
-ghost use Rattle.dv_performing.specs.Beginning.{happening};
-ghost use Rattle.dv_definition.specs.Scripts.{Occurs, Comes};
+ghost use Rattle.dv_definition.specs.Rule.{after};
+ghost use Rattle.dv_definition.specs.Scripts.{Comes, Occurs, happens};
 ghost use Rattle.dv_frames.specs.Bounds.{Bounded};
-ghost use Rattle.dv_frames.specs.Turn.{◌over◌};
 
 use crate::acting::begin;
 use dv_frames::following::whole;
 use dv_frames::frame::Frame;
-use dv_frames::frames::Frames;
+use dv_frames::turn::Turn;
 use dv_journal::entry::Entry;
 use dv_objects::input::Input;
-use dv_objects::performed::Performed;
 use dv_posts::posted::Posted;
 use dv_script::body::Body;
 use dv_script::event::Event;
 use dv_script::lent::BodyRef;
-use dv_world::world::World;
-use std::alloc::{AllocError, Global};
+use std::alloc::AllocError;
 
-/// Begins an event: performs an action, in which `@` isn't bound and a failure that leaves it is told, or lets time go on,
-/// after which what is due is run. A drain is told, and nothing else.
-pub fn begin_event<'s>(
-    alloc: Global,
-    world: &mut World<'s>,
-    stack: &mut Frames<'s>,
-    performed: &mut Performed<'s>,
-    event: &'s Event,
-) -> Result<(), AllocError>
-    requires bounded { Bounded world.old }
-    requires done { performed.old ≡ Done }
-    ensures { OnOk result ((stack.new, performed.new, world.new) ≡ happening (Occurs event.now) world.old over stack.old) }
+/// Begins an event. Performs an action, in which `@` isn't bound, and logs a failure that leaves it; sets the time forward,
+/// and runs what is due; or logs a drain.
+pub fn begin_event<'s>(turn: &mut Turn<'s>, event: &'s Event) -> Result<(), AllocError>
+    requires bounded { Bounded turn.old.world }
+    requires done { turn.old.performed ≡ Done }
+    ensures { OnOk result (turn.new ≡ after (happens (Occurs event.now)) turn.old) }
 {
     match event {
         Event::Action(action) => {
-            stack.push(Frame::Tell)?;
-            begin(alloc, world, stack, performed, None, action)
+            turn.stack.push(Frame::Tell)?;
+            begin(turn, None, action)
         }
         Event::Advance(ticks) => {
-            stack.push(Frame::Due)?;
-            world.advance(*ticks)
+            turn.stack.push(Frame::Due)?;
+            turn.world.advance(*ticks)
         }
-        Event::Drain(_) => world.tell(Entry::Drain),
+        Event::Drain(_) => turn.world.tell(Entry::Drain),
     }
 }
 
-/// Begins a post: tells it, after which its body is performed on null, in which `@` isn't bound, and a failure that leaves it
-/// is told.
+/// Begins a post: logs it, and performs its body on null, in which `@` isn't bound; logs a failure that leaves it.
 pub fn begin_post<'s>(
-    world: &mut World<'s>,
-    stack: &mut Frames<'s>,
+    turn: &mut Turn<'s>,
     posted: &Posted,
     body: &'s Body,
 ) -> Result<(), AllocError>
-    ensures { OnOk result ((stack.new, Done, world.new) ≡ happening (Comes posted.now body.now) world.old over stack.old) }
+    requires done { turn.old.performed ≡ Done }
+    ensures { OnOk result (turn.new ≡ after (happens (Comes posted.now body.now)) turn.old) }
 {
-    stack.push(Frame::Tell)?;
-    stack.push(Frame::Rest(whole(None, BodyRef::new(body), Input::null())))?;
-    world.tell(Entry::Post(posted.caller, posted.index))
+    turn.stack.push(Frame::Tell)?;
+    turn.stack.push(Frame::Rest(whole(None, BodyRef::new(body), Input::null())))?;
+    turn.world.tell(Entry::Post(posted.caller, posted.index))
 }

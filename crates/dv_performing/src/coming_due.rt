@@ -1,107 +1,86 @@
-ghost use Rattle.std.specs.Prelude.{◌≡◌, ◌∷◌, IfOk, OnOk};
-ghost use Rattle.dv_performing.specs.ComingDue.{body_called, timed_of, timed_out, come_due_with};
-ghost use Rattle.dv_performing.specs.TurnEnds.{ended_with};
-ghost use Rattle.dv_frames.specs.declared.frame.Frame.TheVariants.{Tell, Due as DueNext};
-ghost use Rattle.dv_frames.specs.Turn.{◌over◌};
+ghost use Rattle.std.specs.Prelude.{◌≡◌, Some, IfOk, OnOk};
+ghost use Rattle.dv_definition.specs.Definition as page;
+ghost use Rattle.dv_definition.specs.Rule.{after};
+ghost use Rattle.dv_definition.specs.Words.{calls, cancels, runs_due, tells_failure, ◌and◌};
 ghost use Rattle.dv_objects.specs.declared.performed.Performed.TheVariants.{Done};
-ghost use Rattle.dv_world.specs.World.{World as Seen, come_due};
+ghost use Rattle.dv_performing.specs.ComingDue.{call_body};
+ghost use Rattle.dv_performing.specs.TurnEnds.{ending};
 
 use crate::turn_end::{TurnEnd, came};
 use dv_clock::due::Due;
 use dv_clock::loop_id::LoopId;
 use dv_frames::following::whole;
 use dv_frames::frame::Frame;
-use dv_frames::frames::Frames;
+use dv_frames::turn::Turn;
 use dv_journal::deferred_id::DeferredId;
 use dv_objects::input::Input;
 use dv_script::lent::BodyRef;
 use dv_timing::looping::take_turn;
-use dv_world::world::World;
 use std::alloc::AllocError;
 
 /// What is due next is run, where something is, and then what is due after it (Twisted: `Clock.advance`).
 #[inline(never)]
-pub fn run_due<'s>(world: &mut World<'s>, stack: &mut Frames<'s>) -> Result<TurnEnd, AllocError>
-    ensures { IfOk result (λ end. (ended_with end Done world.new over stack.new) ≡ (come_due_with (come_due world.old).0 (come_due world.old).1 over stack.old)) }
+pub fn run_due(turn: &mut Turn<'_>) -> Result<TurnEnd, AllocError>
+    requires done { turn.old.performed ≡ Done }
+    ensures { IfOk result (λ end. ending end turn.new ≡ after page.run_due turn.old) }
 {
-    let what = world.come_due()?;
-    run_what(world, stack, what)
+    match turn.world.come_due()? {
+        None => Ok(TurnEnd::Came),
+        Some(what) => run_what(turn, what),
+    }
 }
 
 /// This is run, and then what is due after it.
-fn run_what<'s>(
-    world: &mut World<'s>,
-    stack: &mut Frames<'s>,
-    what: Option<Due>,
-) -> Result<TurnEnd, AllocError>
-    ensures { IfOk result (λ end. (ended_with end Done world.new over stack.new) ≡ (come_due_with what world.old over stack.old)) }
+fn run_what(turn: &mut Turn<'_>, what: Due) -> Result<TurnEnd, AllocError>
+    requires done { turn.old.performed ≡ Done }
+    ensures { IfOk result (λ end. ending end turn.new ≡ after (page.run_next (Some what)) turn.old) }
 {
-    let timed = timed_of(&what);
     match what {
-        None => Ok(TurnEnd::Came),
-        Some(Due::Call(name, key)) => {
+        Due::Call(name, key) => {
             drop(name);
-            came(call_body(stack, world.body(key)))
+            let body = turn.world.body(key);
+            came(run_call(turn, body))
         }
-        Some(Due::Turn(name, key)) => {
+        Due::Turn(name, key) => {
             drop(name);
-            stack.push(Frame::Due)?;
-            came(take_turn(world, stack, LoopId::new(key)))
+            turn.stack.push(Frame::Due)?;
+            came(take_turn(turn, LoopId::new(key)))
         }
-        Some(Due::Tick) => {
-            stack.push(Frame::Due)?;
-            came(stack.push(Frame::Tick(world.begin_tick())))
+        Due::Tick => {
+            turn.stack.push(Frame::Due)?;
+            came(turn.stack.push(Frame::Tick(turn.world.begin_tick())))
         }
-        Some(Due::Delivery(job, key)) => {
-            tell_and_go_on(stack)?;
+        Due::Delivery(job, key) => {
+            turn.stack.push(Frame::Due)?;
+            turn.stack.push(Frame::Tell)?;
             Ok(TurnEnd::Delivers(job, DeferredId::new(key)))
         }
-        Some(Due::Timeout(_)) => came(time_out(stack, timed)),
+        Due::Timeout(id) => came(time_out(turn, id)),
     }
-}
-
-/// A refusal is told, and then what is due next follows.
-fn tell_and_go_on<'s>(stack: &mut Frames<'s>) -> Result<(), AllocError>
-    ensures { OnOk result (stack.new ≡ Tell ∷ DueNext ∷ stack.old) }
-{
-    stack.push(Frame::Due)?;
-    stack.push(Frame::Tell)
 }
 
 /// The body of a delayed call is to be performed, and then what is due next.
-fn call_body<'s>(stack: &mut Frames<'s>, body: Option<BodyRef<'s>>) -> Result<(), AllocError>
-    ensures { OnOk result ((w : Seen) → (stack.new, Done, w) ≡ body_called body.entry w over stack.old) }
+fn run_call<'s>(turn: &mut Turn<'s>, body: Option<BodyRef<'s>>) -> Result<(), AllocError>
+    requires done { turn.old.performed ≡ Done }
+    ensures { OnOk result (turn.new ≡ after (call_body body.entry) turn.old) }
 {
-    stack.push(Frame::Due)?;
+    turn.stack.push(Frame::Due)?;
     match body {
         None => Ok(()),
         Some(body) => {
-            stack.push(Frame::Tell)?;
-            stack.push(Frame::Rest(whole(None, body, Input::null())))
+            turn.stack.push(Frame::Tell)?;
+            turn.stack
+                .push(Frame::Rest(whole(None, body, Input::null())))
         }
     }
 }
 
-/// The Deferred whose time is over.
-fn timed_of(what: &Option<Due>) -> Option<DeferredId>
-    ensures { result ≡ timed_of what.now }
+/// Cancels a Deferred whose time is over, logs what that raises, and goes on with what is due next.
+fn time_out(turn: &mut Turn<'_>, id: DeferredId) -> Result<(), AllocError>
+    requires done { turn.old.performed ≡ Done }
+    ensures { OnOk result (turn.new ≡ after (calls (cancels id and tells_failure and runs_due)) turn.old) }
 {
-    match what {
-        Some(Due::Timeout(id)) => Some(*id),
-        Some(Due::Call(..) | Due::Turn(..) | Due::Tick | Due::Delivery(..)) | None => None,
-    }
-}
-
-/// A Deferred whose time is over is cancelled, what that raises is told, and then what is due next follows.
-fn time_out<'s>(stack: &mut Frames<'s>, timed: Option<DeferredId>) -> Result<(), AllocError>
-    ensures { OnOk result ((w : Seen) → (stack.new, Done, w) ≡ timed_out timed w over stack.old) }
-{
-    match timed {
-        None => Ok(()),
-        Some(id) => {
-            stack.push(Frame::Due)?;
-            stack.push(Frame::Tell)?;
-            stack.push(Frame::Cancel(id))
-        }
-    }
+    turn.stack.push(Frame::Due)?;
+    turn.stack.push(Frame::Tell)?;
+    turn.stack.push(Frame::Cancel(id))
 }

@@ -1,17 +1,17 @@
 ghost use Rattle.std.specs.Prelude.{◌≡◌, Some, OnOk};
+ghost use Rattle.dv_definition.specs.Definition as page;
+ghost use Rattle.dv_definition.specs.Rule.{after};
 ghost use Rattle.dv_value.specs.Failure.{is_fault};
 ghost use Rattle.dv_objects.specs.Pair.{side_for};
 ghost use Rattle.dv_store.specs.declared.store.Step.TheVariants.{Run};
-ghost use Rattle.dv_world.specs.World.{step};
 ghost use Rattle.dv_objects.specs.declared.performed.Performed.TheVariants.{Done};
-ghost use Rattle.dv_performing.specs.Settling.{place, side_begun, settled};
-ghost use Rattle.dv_frames.specs.Turn.{◌over◌, settling};
+ghost use Rattle.dv_performing.specs.Settling.{place};
 
 use dv_bodies::inlining::resume;
-use dv_frames::following::{fire_and_settle, settle_after, settle_both, whole};
+use dv_frames::following::{fire_and_settle, whole};
 use dv_frames::frame::{Frame, Purpose};
-use dv_frames::frames::Frames;
 use dv_frames::maybe::perform_for;
+use dv_frames::turn::Turn;
 use dv_journal::deferred_id::DeferredId;
 use dv_objects::given::Given;
 use dv_objects::input::Input;
@@ -30,42 +30,32 @@ use std::alloc::{AllocError, Global};
 /// Makes the first move of settling a Deferred, and puts on the stack what is to follow (Twisted:
 /// `Deferred._runCallbacks`).
 #[inline(never)]
-pub fn settle<'s>(
-    alloc: Global,
-    world: &mut World<'s>,
-    stack: &mut Frames<'s>,
-    performed: &mut Performed<'s>,
-    id: DeferredId,
-) -> Result<(), AllocError>
-    requires done { performed.old ≡ Done }
-    ensures { OnOk result ((stack.new, performed.new, world.new) ≡ settled id (step id world.old).0 (step id world.old).1 over stack.old) }
+pub fn settle<'s>(turn: &mut Turn<'s>, id: DeferredId) -> Result<(), AllocError>
+    requires done { turn.old.performed ≡ Done }
+    ensures { OnOk result (turn.new ≡ after (page.settle id) turn.old) }
 {
-    match world.step(id)? {
+    match turn.world.step(id)? {
         Step::Nothing => Ok(()),
-        Step::Passed => settle_after(stack, id),
-        Step::Run(pair) => run(alloc, world, stack, performed, id, pair),
-        Step::Handed(to) => settle_both(stack, id, to),
+        Step::Passed => turn.stack.push(Frame::Settle(id)),
+        Step::Run(pair) => run(turn, id, pair),
+        Step::Handed(to) => {
+            turn.stack.push(Frame::Settle(id))?;
+            turn.stack.push(Frame::Settle(to))
+        }
     }
 }
 
-/// Begins a pair on the value of its Deferred; what that comes to is to be put in place.
-fn run<'s>(
-    alloc: Global,
-    world: &mut World<'s>,
-    stack: &mut Frames<'s>,
-    performed: &mut Performed<'s>,
-    id: DeferredId,
-    pair: Pair<'s>,
-) -> Result<(), AllocError>
-    requires done { performed.old ≡ Done }
-    ensures { OnOk result ((stack.new, performed.new, world.new) ≡ settled id (Run pair.entry) world.old over stack.old) }
+/// Begins a pair on the value of its Deferred; what that gives is to be put in place.
+fn run<'s>(turn: &mut Turn<'s>, id: DeferredId, pair: Pair<'s>) -> Result<(), AllocError>
+    requires done { turn.old.performed ≡ Done }
+    ensures { OnOk result (turn.new ≡ after (page.settle_by id (Run pair.entry)) turn.old) }
 {
-    if stack.push(Frame::Place(id)).is_err() {
+    if turn.stack.push(Frame::Place(id)).is_err() {
         drop(pair);
         return Err(AllocError);
     }
-    match world.value(id) {
-        Ok(input) => begin_side(alloc, world, stack, performed, id, pair, input),
+    match turn.world.value(id) {
+        Ok(input) => begin_side(turn, id, pair, input),
         Err(AllocError) => {
             drop(pair);
             Err(AllocError)
@@ -75,98 +65,92 @@ fn run<'s>(
 
 /// Begins the side of a pair for an input; a missing one gives it on.
 fn begin_side<'s>(
-    alloc: Global,
-    world: &mut World<'s>,
-    stack: &mut Frames<'s>,
-    performed: &mut Performed<'s>,
+    turn: &mut Turn<'s>,
     id: DeferredId,
     pair: Pair<'s>,
     input: Value,
 ) -> Result<(), AllocError>
-    requires done { performed.old ≡ Done }
-    ensures { OnOk result ((stack.new, performed.new, world.new) ≡ side_begun id (side_for pair.entry (is_fault input)) input world.old over stack.old) }
+    requires done { turn.old.performed ≡ Done }
+    ensures { OnOk result (turn.new ≡ after (page.run_side id (side_for pair.entry (is_fault input)) input) turn.old) }
 {
     match pair.into_side(input.is_fault()) {
         None => {
-            *performed = Performed::Gave(Given::own(input));
+            turn.performed = Performed::Gave(Given::own(input));
             Ok(())
         }
-        Some(side) => begin(alloc, world, stack, performed, id, side, input),
+        Some(side) => begin(turn, id, side, input),
     }
 }
 
 /// Begins a side on an input.
 fn begin<'s>(
-    alloc: Global,
-    world: &mut World<'s>,
-    stack: &mut Frames<'s>,
-    performed: &mut Performed<'s>,
+    turn: &mut Turn<'s>,
     id: DeferredId,
     side: Side<'s>,
     input: Value,
 ) -> Result<(), AllocError>
-    requires done { performed.old ≡ Done }
-    ensures { OnOk result ((stack.new, performed.new, world.new) ≡ side_begun id (Some side.entry) input world.old over stack.old) }
+    requires done { turn.old.performed ≡ Done }
+    ensures { OnOk result (turn.new ≡ after (page.run_side id (Some side.entry) input) turn.old) }
 {
     match side {
         Side::Body(body) => {
-            let input = Input::new(alloc, input)?;
-            stack.push(Frame::Rest(whole(Some(id), body, input)))
+            let input = Input::new(turn.alloc, input)?;
+            turn.stack.push(Frame::Rest(whole(Some(id), body, input)))
         }
-        Side::Fire(to) => fire_and_settle(world, stack, performed, to, input),
+        Side::Fire(to) => fire_and_settle(turn, to, input),
         Side::Timed(timer) => {
-            let over = world.has_timed_out(timer);
-            let given = timed(alloc, world.classes(), over, input)?;
-            *performed = Performed::Gave(given);
+            let over = turn.world.has_timed_out(timer);
+            let given = timed(turn.alloc, turn.world.classes(), over, input)?;
+            turn.performed = Performed::Gave(given);
             Ok(())
         }
         Side::EndTimer(timer) => {
-            world.end_timer(timer);
-            *performed = Performed::Gave(Given::own(input));
+            turn.world.end_timer(timer);
+            turn.performed = Performed::Gave(Given::own(input));
             Ok(())
         }
-        Side::Come(child) => come(world, stack, performed, child, input),
-        Side::Results => results(alloc, performed, input),
+        Side::Come(child) => come(turn, child, input),
+        Side::Results => results(turn, input),
         Side::Hold(lock, body) => {
             drop(input);
-            perform_for(stack, Purpose::Holding(lock), body)
+            perform_for(turn, Purpose::Holding(lock), body)
         }
         Side::Release(lock) => {
-            stack.push(Frame::Give(Performed::Gave(Given::own(input))))?;
-            give_back(alloc, world, stack, performed, lock)
+            turn.stack
+                .push(Frame::Give(Performed::Gave(Given::own(input))))?;
+            give_back(turn, lock)
         }
         Side::NextTurn(looping) => {
             drop(input);
-            end_turn(alloc, world, stack, performed, looping)
+            end_turn(turn, looping)
         }
         Side::EndLoop(looping) => {
-            world.end_loop(looping);
-            fail_turn(world, stack, performed, looping, input)
+            turn.world.end_loop(looping);
+            fail_turn(turn, looping, input)
         }
         Side::ResumeTask(task) => {
             drop(input);
-            end_hold(alloc, world, performed, task)
+            end_hold(turn, task)
         }
-        Side::FailTask(task) => fail_where(world, stack, task, input.into_failure()),
-        Side::Resume(inline) => resume(world, stack, inline, input),
+        Side::FailTask(task) => fail_where(turn, task, input.into_failure()),
+        Side::Resume(inline) => resume(turn, inline, input),
     }
 }
 
-/// What a side of a Deferred came to is put in place, and the Deferred is to be settled.
+/// Puts what a side of a Deferred gave in place; the Deferred is to be settled.
 pub fn end_side<'s>(
-    alloc: Global,
-    world: &mut World<'s>,
-    stack: &mut Frames<'s>,
+    turn: &mut Turn<'s>,
     id: DeferredId,
     came: Performed<'s>,
 ) -> Result<(), AllocError>
-    ensures { OnOk result ((stack.new, Done, world.new) ≡ settling id (place id came.entry world.old) over stack.old) }
+    requires done { turn.old.performed ≡ Done }
+    ensures { OnOk result (turn.new ≡ after (page.put_in_place id came.entry) turn.old) }
 {
-    place(alloc, world, id, came)?;
-    settle_after(stack, id)
+    place(turn.alloc, &mut turn.world, id, came)?;
+    turn.stack.push(Frame::Settle(id))
 }
 
-/// What a side of a Deferred came to is put in place.
+/// Puts what a side of a Deferred gave in place.
 fn place<'s>(
     alloc: Global,
     world: &mut World<'s>,

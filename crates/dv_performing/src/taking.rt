@@ -4,7 +4,7 @@ ghost use Rattle.dv_objects.specs.declared.performed.Performed.TheVariants.{Done
 use dv_objects::performed::Performed;
 use std::mem;
 
-/// Takes what was come to, in whose place nothing is.
+/// Takes what was given, and leaves nothing in its place.
 pub fn taken<'s>(performed: &mut Performed<'s>) -> Performed<'s>
     ensures was { result ≡ performed.old }
     ensures done { performed.new ≡ Done }
@@ -12,7 +12,7 @@ pub fn taken<'s>(performed: &mut Performed<'s>) -> Performed<'s>
     mem::replace(performed, Performed::Done)
 }
 
-/// Lets what was come to go, in whose place nothing is.
+/// Drops what was given, and leaves nothing in its place.
 #[inline(always)]
 pub fn clear(performed: &mut Performed<'_>)
     ensures { performed.new ≡ Done }
@@ -23,7 +23,7 @@ pub fn clear(performed: &mut Performed<'_>)
     }
 }
 
-/// Puts nothing in the place of what was come to.
+/// Leaves nothing in the place of what was given.
 #[inline(never)]
 fn put_done(performed: &mut Performed<'_>)
     ensures { performed.new ≡ Done }

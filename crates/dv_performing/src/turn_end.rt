@@ -7,13 +7,13 @@ use std::alloc::AllocError;
 /// How a turn ends.
 #[derive(Drop)]
 pub enum TurnEnd {
-    /// It has come to something.
+    /// It gave something.
     Came,
-    /// The Deferred is to be fired with what the job of this number has come to.
+    /// The Deferred is to be fired with the result of the job of this number.
     Delivers(u32, DeferredId),
 }
 
-/// A turn has come to something, where it was done.
+/// A turn that was done gave something.
 pub fn came(what: Result<(), AllocError>) -> Result<TurnEnd, AllocError>
     ensures { result ≡ once_come what }
 {

@@ -23,7 +23,7 @@ use std::thread::Threads;
 
 /// Performs a script, with a thread for each caller, so many for the jobs of the default pool, and as many as the script says for those
 /// of each other pool. Where there is no worker and no pool is named, no thread is started for jobs. A poller for
-/// inline bodies that can't be made, and keys for names that the system doesn't give, count as want of memory.
+/// inline bodies that can't be made, and keys for names that the system doesn't give, count as out of memory.
 pub fn perform<S, G, D>(
     rt: &S,
     script: &Script,

@@ -1,203 +1,168 @@
-ghost use Rattle.std.specs.Prelude.{◌≡◌, true, ◌++◌, slice_get, OnOk};
+ghost use Rattle.std.specs.Prelude.{◌≡◌, OnOk};
 ghost use Rattle.dv_frames.specs.Bounds.{Bounded};
-ghost use Rattle.dv_timing.specs.Looping.{looped, loop_begun, turn_begun, turn_taken, turn_ended, turn_failed, over_where, stopped_of, stop_loop_named};
-ghost use Rattle.dv_frames.specs.Turn.{◌over◌};
+ghost use Rattle.dv_definition.specs.Definition as page;
+ghost use Rattle.dv_definition.specs.Rule.{after};
+ghost use Rattle.dv_definition.specs.Words.{on_loop, the_loop};
+ghost use Rattle.dv_timing.specs.Looping.{begin_loop, end_where, fire_failed, first_turn};
 ghost use Rattle.dv_objects.specs.declared.performed.Performed.TheVariants.{Done};
 
 use dv_clock::loop_id::LoopId;
-use dv_frames::following::fire_and_settle;
-use dv_frames::frame::{Frame, Purpose};
-use dv_frames::frames::Frames;
+use dv_frames::following::{fire_and_settle, unbound};
+use dv_frames::frame::Purpose;
 use dv_frames::maybe::perform_for;
+use dv_frames::turn::Turn;
 use dv_journal::deferred_id::DeferredId;
 use dv_journal::entry::Entry;
-use dv_objects::performed::Performed;
-use dv_objects::refusals::unbound;
 use dv_script::lent::{BodyRef, TextRef};
 use dv_value::text::Text;
 use dv_value::value::Value;
-use dv_world::world::World;
 use dv_world::world::looping::not_running;
-use std::alloc::{AllocError, Global};
+use std::alloc::AllocError;
 
 /// Makes a loop and its Deferred, and takes its first turn at once or schedules it (Twisted: `LoopingCall.start`).
 #[tactic(auto, using(dv_frames::proofs::BoundsLemmas::records_within))]
 pub fn start_loop<'s>(
-    alloc: Global,
-    world: &mut World<'s>,
-    stack: &mut Frames<'s>,
+    turn: &mut Turn<'s>,
     name: TextRef<'s>,
     of: TextRef<'s>,
     interval: u64,
     at_once: bool,
     body: BodyRef<'s>,
 ) -> Result<(), AllocError>
-    requires bounded { Bounded world.old }
-    ensures { OnOk result ((stack.new, Done, world.new) ≡ looped name.entry of.entry interval at_once body.entry world.old over stack.old) }
+    requires bounded { Bounded turn.old.world }
+    requires done { turn.old.performed ≡ Done }
+    ensures { OnOk result (turn.new ≡ after (page.loop name.entry of.entry interval at_once body.entry) turn.old) }
 {
-    let id = world.next_id();
-    world.make(Some(of), None)?;
-    begin_loop(alloc, world, stack, name, id, interval, at_once, body)
+    let id = turn.world.next_id();
+    turn.world.make(Some(of), None)?;
+    begin_loop(turn, name, id, interval, at_once, body)
 }
 
 /// Makes a loop whose Deferred this is, and takes its first turn at once or schedules it.
 fn begin_loop<'s>(
-    alloc: Global,
-    world: &mut World<'s>,
-    stack: &mut Frames<'s>,
+    turn: &mut Turn<'s>,
     name: TextRef<'s>,
     of: DeferredId,
     interval: u64,
     at_once: bool,
     body: BodyRef<'s>,
 ) -> Result<(), AllocError>
-    ensures { OnOk result ((stack.new, Done, world.new) ≡ loop_begun name.entry of interval at_once body.entry world.old over stack.old) }
+    requires done { turn.old.performed ≡ Done }
+    ensures { OnOk result (turn.new ≡ after (begin_loop name.entry of interval at_once body.entry) turn.old) }
 {
     let shown = name.as_str();
     let body = body.get();
-    let looping = world.make_loop(name, of, interval, BodyRef::new(body))?;
+    let looping = turn
+        .world
+        .make_loop(name, of, interval, BodyRef::new(body))?;
     if at_once {
-        begin_at_once(alloc, world, stack, looping, shown, BodyRef::new(body))
+        begin_at_once(turn, looping, shown, BodyRef::new(body))
     } else {
-        world.schedule_turn(looping)
+        turn.world.schedule_turn(looping)
     }
 }
 
 /// A loop takes its first turn at once.
 fn begin_at_once<'s>(
-    alloc: Global,
-    world: &mut World<'s>,
-    stack: &mut Frames<'s>,
+    turn: &mut Turn<'s>,
     looping: LoopId,
     name: &str,
     body: BodyRef<'s>,
 ) -> Result<(), AllocError>
-    ensures { OnOk result ((stack.new, Done, world.new) ≡ turn_begun true name.now looping body.entry world.old over stack.old) }
+    requires done { turn.old.performed ≡ Done }
+    ensures { OnOk result (turn.new ≡ after (first_turn name.now looping body.entry) turn.old) }
 {
-    world.tell(Entry::Turn(Text::of(alloc, name)?))?;
-    perform_for(stack, Purpose::Turning(looping), body)
+    turn.world.tell(Entry::Turn(Text::of(turn.alloc, name)?))?;
+    perform_for(turn, Purpose::Turning(looping), body)
 }
 
 /// The body of a loop is to be performed, as a turn of it.
-pub fn take_turn<'s>(
-    world: &World<'s>,
-    stack: &mut Frames<'s>,
-    looping: LoopId,
-) -> Result<(), AllocError>
-    ensures { OnOk result (stack.new ≡ turn_taken looping (slice_get world.now.objects.loops looping) world.now ++ stack.old) }
+pub fn take_turn(turn: &mut Turn<'_>, looping: LoopId) -> Result<(), AllocError>
+    requires done { turn.old.performed ≡ Done }
+    ensures { OnOk result (turn.new ≡ after (the_loop looping λ x. page.turn looping x.body) turn.old) }
 {
-    match world.looping(looping) {
+    match turn.world.looping(looping) {
         None => Ok(()),
-        Some(found) => perform_for(
-            stack,
-            Purpose::Turning(looping),
-            BodyRef::new(found.body.get()),
-        ),
+        Some(found) => {
+            let body = BodyRef::new(found.body.get());
+            perform_for(turn, Purpose::Turning(looping), body)
+        }
     }
 }
 
 /// A turn of a loop has ended: while the loop runs its next turn is scheduled, else its Deferred is fired with its name.
-pub fn end_turn<'s>(
-    alloc: Global,
-    world: &mut World<'s>,
-    stack: &mut Frames<'s>,
-    performed: &mut Performed<'s>,
-    looping: LoopId,
-) -> Result<(), AllocError>
-    requires done { performed.old ≡ Done }
-    ensures { OnOk result ((stack.new, performed.new, world.new) ≡ turn_ended looping (slice_get world.old.objects.loops looping) world.old over stack.old) }
+pub fn end_turn<'s>(turn: &mut Turn<'s>, looping: LoopId) -> Result<(), AllocError>
+    requires done { turn.old.performed ≡ Done }
+    ensures { OnOk result (turn.new ≡ after (page.end_turn looping) turn.old) }
 {
-    let Some(found) = world.looping(looping) else {
+    let Some(found) = turn.world.looping(looping) else {
         return Ok(());
     };
     if found.running {
-        world.schedule_turn(looping)?;
+        turn.world.schedule_turn(looping)?;
         return Ok(());
     }
     let of = found.of;
-    let name = Text::of(alloc, found.name.as_str())?;
-    fire_and_settle(world, stack, performed, of, Value::Text(name))
+    let name = Text::of(turn.alloc, found.name.as_str())?;
+    fire_and_settle(turn, of, Value::Text(name))
 }
 
 /// A turn of a loop has failed, and its Deferred is fired with the failure.
-pub fn fail_turn<'s>(
-    world: &mut World<'s>,
-    stack: &mut Frames<'s>,
-    performed: &mut Performed<'s>,
-    looping: LoopId,
-    failure: Value,
-) -> Result<(), AllocError>
-    requires done { performed.old ≡ Done }
-    ensures { OnOk result ((stack.new, performed.new, world.new) ≡ turn_failed looping failure world.old over stack.old) }
+pub fn fail_turn<'s>(turn: &mut Turn<'s>, looping: LoopId, failure: Value) -> Result<(), AllocError>
+    requires done { turn.old.performed ≡ Done }
+    ensures { OnOk result (turn.new ≡ after (fire_failed looping failure) turn.old) }
 {
-    let Some(found) = world.looping(looping) else {
+    let Some(found) = turn.world.looping(looping) else {
         drop(failure);
         return Ok(());
     };
     let of = found.of;
-    fire_and_settle(world, stack, performed, of, failure)
+    fire_and_settle(turn, of, failure)
 }
 
 /// Stops a loop by its name; where no turn of it is under way, its Deferred is fired with its name (Twisted:
 /// `LoopingCall.stop`).
-pub fn stop_loop<'s>(
-    alloc: Global,
-    world: &mut World<'s>,
-    stack: &mut Frames<'s>,
-    performed: &mut Performed<'s>,
-    name: &str,
-) -> Result<(), AllocError>
-    requires done { performed.old ≡ Done }
-    ensures { OnOk result ((stack.new, performed.new, world.new) ≡ stop_loop_named name.now world.old over stack.old) }
+pub fn stop_loop<'s>(turn: &mut Turn<'s>, name: &str) -> Result<(), AllocError>
+    requires done { turn.old.performed ≡ Done }
+    ensures { OnOk result (turn.new ≡ after (on_loop name.now page.stop_loop) turn.old) }
 {
-    match world.find_loop(name) {
-        None => {
-            *performed = unbound(alloc, name)?;
-            Ok(())
-        }
-        Some(looping) => stop(alloc, world, stack, performed, looping),
+    match turn.world.find_loop(name) {
+        None => unbound(turn, name),
+        Some(looping) => stop(turn, looping),
     }
 }
 
 /// Stops a loop, where it runs.
-fn stop<'s>(
-    alloc: Global,
-    world: &mut World<'s>,
-    stack: &mut Frames<'s>,
-    performed: &mut Performed<'s>,
-    looping: LoopId,
-) -> Result<(), AllocError>
-    requires done { performed.old ≡ Done }
-    ensures { OnOk result ((stack.new, performed.new, world.new) ≡ stopped_of looping (slice_get world.old.objects.loops looping) world.old over stack.old) }
+fn stop<'s>(turn: &mut Turn<'s>, looping: LoopId) -> Result<(), AllocError>
+    requires done { turn.old.performed ≡ Done }
+    ensures { OnOk result (turn.new ≡ after (page.stop_loop looping) turn.old) }
 {
-    let Some(found) = world.looping(looping) else {
+    let Some(found) = turn.world.looping(looping) else {
         return Ok(());
     };
     if !found.running {
-        *performed = not_running(alloc)?;
+        turn.performed = not_running(turn.alloc)?;
         return Ok(());
     }
     let of = found.of;
-    let name = Text::of(alloc, found.name.as_str())?;
-    let scheduled = world.is_scheduled(found);
-    world.stop_loop(looping)?;
-    end_where(world, stack, performed, scheduled, of, name)
+    let name = Text::of(turn.alloc, found.name.as_str())?;
+    let scheduled = turn.world.is_scheduled(found);
+    turn.world.stop_loop(looping)?;
+    end_where(turn, scheduled, of, name)
 }
 
 /// Fires the Deferred of a loop with its name, where the loop is over.
 fn end_where<'s>(
-    world: &mut World<'s>,
-    stack: &mut Frames<'s>,
-    performed: &mut Performed<'s>,
+    turn: &mut Turn<'s>,
     ended: bool,
     of: DeferredId,
     name: Text,
 ) -> Result<(), AllocError>
-    requires done { performed.old ≡ Done }
-    ensures { OnOk result ((stack.new, performed.new, world.new) ≡ over_where ended of name world.old over stack.old) }
+    requires done { turn.old.performed ≡ Done }
+    ensures { OnOk result (turn.new ≡ after (end_where ended of name) turn.old) }
 {
     if ended {
-        fire_and_settle(world, stack, performed, of, Value::Text(name))
+        fire_and_settle(turn, of, Value::Text(name))
     } else {
         Ok(())
     }

@@ -1,35 +1,26 @@
-ghost use Rattle.std.specs.Prelude.{◌≡◌, [], OnOk};
-ghost use Rattle.dv_timing.specs.Timing.{timer_begun, timeout_named, cancel_call_named};
-ghost use Rattle.dv_frames.specs.Turn.{◌over◌};
+ghost use Rattle.std.specs.Prelude.{◌≡◌, OnOk};
+ghost use Rattle.dv_definition.specs.Definition as page;
+ghost use Rattle.dv_definition.specs.Rule.{Asks, Ends, after};
+ghost use Rattle.dv_definition.specs.Steps.{CancelCall};
+ghost use Rattle.dv_definition.specs.Words.{on_call, on_deferred};
 ghost use Rattle.dv_objects.specs.declared.performed.Performed.TheVariants.{Done};
 
-use dv_frames::following::add_and_settle;
+use dv_frames::following::{add_and_settle, unbound};
 use dv_frames::frame::Frame;
-use dv_frames::frames::Frames;
+use dv_frames::turn::Turn;
 use dv_journal::deferred_id::DeferredId;
 use dv_objects::pair::Pair;
-use dv_objects::performed::Performed;
-use dv_objects::refusals::unbound;
-use dv_world::world::World;
-use std::alloc::{AllocError, Global};
+use std::alloc::AllocError;
 
 /// Cancels a delayed call by its name (Twisted: `DelayedCall.cancel`).
-pub fn cancel_call<'s>(
-    alloc: Global,
-    world: &mut World<'s>,
-    performed: &mut Performed<'s>,
-    name: &str,
-) -> Result<(), AllocError>
-    requires done { performed.old ≡ Done }
-    ensures { OnOk result (([], performed.new, world.new) ≡ cancel_call_named name.now world.old) }
+pub fn cancel_call<'s>(turn: &mut Turn<'s>, name: &str) -> Result<(), AllocError>
+    requires done { turn.old.performed ≡ Done }
+    ensures { OnOk result (turn.new ≡ after (on_call name.now λ number. Asks (CancelCall number) Ends) turn.old) }
 {
-    match world.find_call(name) {
-        None => {
-            *performed = unbound(alloc, name)?;
-            Ok(())
-        }
+    match turn.world.find_call(name) {
+        None => unbound(turn, name),
         Some(call) => {
-            *performed = world.cancel_call(call)?;
+            turn.performed = turn.world.cancel_call(call)?;
             Ok(())
         }
     }
@@ -37,36 +28,26 @@ pub fn cancel_call<'s>(
 
 /// Gives a Deferred so many ticks, by its name, after which it is cancelled (Twisted: `Deferred.addTimeout`).
 pub fn add_timeout<'s>(
-    alloc: Global,
-    world: &mut World<'s>,
-    stack: &mut Frames<'s>,
-    performed: &mut Performed<'s>,
+    turn: &mut Turn<'s>,
     itself: Option<DeferredId>,
     name: &str,
     delay: u64,
 ) -> Result<(), AllocError>
-    requires done { performed.old ≡ Done }
-    ensures { OnOk result ((stack.new, performed.new, world.new) ≡ timeout_named itself name.now delay world.old over stack.old) }
+    requires done { turn.old.performed ≡ Done }
+    ensures { OnOk result (turn.new ≡ after (on_deferred itself name.now λ d. page.add_timeout d delay) turn.old) }
 {
-    match world.find(itself, name) {
-        None => {
-            *performed = unbound(alloc, name)?;
-            Ok(())
-        }
-        Some(id) => begin_timer(world, stack, id, delay),
+    match turn.world.find(itself, name) {
+        None => unbound(turn, name),
+        Some(id) => begin_timer(turn, id, delay),
     }
 }
 
 /// Starts a timer of a Deferred, and adds the two pairs that go with it.
-fn begin_timer<'s>(
-    world: &mut World<'s>,
-    stack: &mut Frames<'s>,
-    id: DeferredId,
-    delay: u64,
-) -> Result<(), AllocError>
-    ensures { OnOk result ((stack.new, Done, world.new) ≡ timer_begun id delay world.old over stack.old) }
+fn begin_timer<'s>(turn: &mut Turn<'s>, id: DeferredId, delay: u64) -> Result<(), AllocError>
+    requires done { turn.old.performed ≡ Done }
+    ensures { OnOk result (turn.new ≡ after (page.add_timeout id delay) turn.old) }
 {
-    let timer = world.start_timer(id, delay)?;
-    stack.push(Frame::Add(id, Pair::ending(timer)))?;
-    add_and_settle(world, stack, id, Pair::timing(timer))
+    let timer = turn.world.start_timer(id, delay)?;
+    turn.stack.push(Frame::Add(id, Pair::ending(timer)))?;
+    add_and_settle(turn, id, Pair::timing(timer))
 }

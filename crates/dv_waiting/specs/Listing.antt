@@ -1,46 +1,29 @@
--- DeferredLists, and what is gathered of one: the page's terms, run.
-use Rattle.std.specs.Prelude.{ℕ, Bool, List, [], length, Option, None, Some}
+-- DeferredLists, and what is gathered of one: parts of rules of the page.
+use Rattle.std.specs.Prelude.{ℕ, Bool, List, [], length, Option, Some}
+use Rattle.dv_prims.specs.DeferredList.{seconds_of}
 use Rattle.dv_prims.specs.declared.gather.Flags.{Flags}
 use Rattle.dv_value.specs.declared.value.Value.{Value}
 use Rattle.dv_value.specs.declared.value.Value.TheVariants as value
-use Rattle.dv_frames.specs.Turn.{Turned}
-use Rattle.dv_frames.specs.declared.frame.Frame.{Frame}
 use Rattle.dv_objects.specs.Objects.{with_new_list}
 use Rattle.dv_objects.specs.Refusals.{not_gathered}
 use Rattle.dv_objects.specs.declared.canceller.Canceller.TheVariants.{Children}
-use Rattle.dv_objects.specs.declared.pair.Child.{Child}
-use Rattle.dv_definition.specs.Definition as page
+use Rattle.dv_definition.specs.Rule.{Rule, If, Finds, Fires}
+use Rattle.dv_definition.specs.Words.{finished, raise, if_unfired}
 use Rattle.dv_definition.specs.Words as words
-use Rattle.dv_definition.specs.Rule.{run, By, If, Finds, Fires}
-use Rattle.dv_world.specs.World.{World, make, arrange, is_unfired}
+use Rattle.dv_world.specs.World.{World, make, arrange}
 
-abbrev pub added_to_children : ℕ → ℕ → ℕ → List ℕ → List Frame
-added_to_children l d i cs = page.add_children l d i cs
-
-abbrev pub has_all_at_once : List ℕ → Flags → Bool
-has_all_at_once children flags = page.has_all_at_once children flags
-
-abbrev pub fired_at_once : ℕ → Bool → World → Turned
-fired_at_once d b w = run (If b (Fires d (value.List [])) words.finished) w
-
--- the list, and its Deferred
+-- a list and its Deferred are made
 abbrev pub with_listed : List ℕ → List ℕ → Flags → World → World
 with_listed name children flags w = make (Some name) (Some (Children children)) (arrange (with_new_list (length children) flags) w)
 
-abbrev pub listed : List ℕ → List ℕ → Flags → World → Turned
-listed name children flags w = run (page.list name children flags) w
+-- a list that has all at once is fired with nothing
+abbrev pub fire_at_once : ℕ → Bool → Rule
+fire_at_once d at_once = If at_once (Fires d (value.List [])) finished
 
-abbrev pub list_named : Option ℕ → List ℕ → List (List ℕ) → Flags → World → Turned
-list_named itself name children flags w = run (words.on_all itself children λ ds. page.list name ds flags) w
+-- a list is fired with what is due, unless somebody has fired it
+abbrev pub fire_by_child : ℕ → Option Value → Rule
+fire_by_child d due = Finds due finished (λ v. if_unfired d (Fires d v) finished)
 
-abbrev pub gather_named : Option ℕ → List ℕ → List (List ℕ) → Flags → World → Turned
-gather_named itself name children flags w = run (words.on_all itself children λ ds. page.gather name ds flags) w
-
-abbrev pub fired_by_child : ℕ → Option Value → World → Turned
-fired_by_child d o w = run (Finds o words.finished (λ v. By λ w. If (is_unfired d w) (Fires d v) words.finished)) w
-
-abbrev pub come_by : Child → Value → World → Turned
-come_by child input w = run (page.report child input) w
-
-abbrev pub results_given : Option Value → World → Turned
-results_given o w = run (Finds o (words.raise not_gathered) words.give) w
+-- what the children of a list gave, from its result
+abbrev pub results : Value → Rule
+results input = Finds (seconds_of input) (raise not_gathered) words.give

@@ -1,162 +1,124 @@
-ghost use Rattle.std.specs.Prelude.{◌≡◌, slice_get, OnOk};
+ghost use Rattle.std.specs.Prelude.{◌≡◌, OnOk};
 ghost use Rattle.dv_frames.specs.Bounds.{Bounded};
-ghost use Rattle.dv_waiting.specs.Queueing.{put_of, asked_for, get_of, handed_out, got, put_named, get_named};
-ghost use Rattle.dv_frames.specs.Turn.{◌over◌};
+ghost use Rattle.dv_definition.specs.Definition as page;
+ghost use Rattle.dv_definition.specs.Rule.{after};
+ghost use Rattle.dv_definition.specs.Words.{on_queue};
+ghost use Rattle.dv_waiting.specs.Queueing.{ask, give, hand_out};
 ghost use Rattle.dv_objects.specs.declared.performed.Performed.TheVariants.{Done};
 
-use dv_frames::following::fire_and_settle;
-use dv_frames::frames::Frames;
+use dv_frames::following::{fire_and_settle, unbound};
+use dv_frames::turn::Turn;
 use dv_journal::deferred_id::DeferredId;
 use dv_objects::canceller::Canceller;
 use dv_objects::given::Given;
-use dv_objects::performed::Performed;
-use dv_objects::refusals::{overflow, unbound, underflow};
+use dv_objects::refusals::{overflow, underflow};
 use dv_prims::queue_id::QueueId;
 use dv_script::lent::TextRef;
 use dv_value::value::Value;
-use dv_world::world::World;
-use std::alloc::{AllocError, Global};
+use std::alloc::AllocError;
 
 /// Puts a value into a queue by its name (Twisted: `DeferredQueue.put`).
-pub fn put<'s>(
-    alloc: Global,
-    world: &mut World<'s>,
-    stack: &mut Frames<'s>,
-    performed: &mut Performed<'s>,
-    queue: &str,
-    given: Given<'s>,
-) -> Result<(), AllocError>
-    requires done { performed.old ≡ Done }
-    ensures { OnOk result ((stack.new, performed.new, world.new) ≡ put_named queue.now given.entry world.old over stack.old) }
+pub fn put<'s>(turn: &mut Turn<'s>, queue: &str, given: Given<'s>) -> Result<(), AllocError>
+    requires done { turn.old.performed ≡ Done }
+    ensures { OnOk result (turn.new ≡ after (on_queue queue.now λ k. page.put_in k given.entry) turn.old) }
 {
-    match world.find_queue(queue) {
+    match turn.world.find_queue(queue) {
         None => {
             drop(given);
-            *performed = unbound(alloc, queue)?;
-            Ok(())
+            unbound(turn, queue)
         }
-        Some(found) => put_where_it_may_be(alloc, world, stack, performed, found, given),
+        Some(found) => put_where_it_may_be(turn, found, given),
     }
 }
 
 /// Puts a value into a queue, where it may be, and fires whoever gets it.
 fn put_where_it_may_be<'s>(
-    alloc: Global,
-    world: &mut World<'s>,
-    stack: &mut Frames<'s>,
-    performed: &mut Performed<'s>,
+    turn: &mut Turn<'s>,
     queue: QueueId,
     given: Given<'s>,
 ) -> Result<(), AllocError>
-    requires done { performed.old ≡ Done }
-    ensures { OnOk result ((stack.new, performed.new, world.new) ≡ put_of queue given.entry (slice_get world.old.objects.queues queue) world.old over stack.old) }
+    requires done { turn.old.performed ≡ Done }
+    ensures { OnOk result (turn.new ≡ after (page.put_in queue given.entry) turn.old) }
 {
-    let Some(found) = world.queue(queue) else {
+    let Some(found) = turn.world.queue(queue) else {
         drop(given);
         return Ok(());
     };
     if !found.may_put() {
         drop(given);
-        *performed = overflow(alloc)?;
+        turn.performed = overflow(turn.alloc)?;
         return Ok(());
     }
-    let value = given.make(alloc)?;
-    let received = world.put_into(queue, value)?;
-    hand_out(world, stack, performed, received)
+    let value = given.make(turn.alloc)?;
+    let received = turn.world.put_into(queue, value)?;
+    hand_out(turn, received)
 }
 
 /// Fires whoever gets a value with it.
 fn hand_out<'s>(
-    world: &mut World<'s>,
-    stack: &mut Frames<'s>,
-    performed: &mut Performed<'s>,
+    turn: &mut Turn<'s>,
     received: Option<(DeferredId, Value)>,
 ) -> Result<(), AllocError>
-    requires done { performed.old ≡ Done }
-    ensures { OnOk result ((stack.new, performed.new, world.new) ≡ handed_out received world.old over stack.old) }
+    requires done { turn.old.performed ≡ Done }
+    ensures { OnOk result (turn.new ≡ after (hand_out received) turn.old) }
 {
     match received {
         None => Ok(()),
-        Some((id, value)) => fire_and_settle(world, stack, performed, id, value),
+        Some((id, value)) => fire_and_settle(turn, id, value),
     }
 }
 
 /// Makes a Deferred that asks a queue for a value, both by their names (Twisted: `DeferredQueue.get`).
-pub fn get<'s>(
-    alloc: Global,
-    world: &mut World<'s>,
-    stack: &mut Frames<'s>,
-    performed: &mut Performed<'s>,
-    name: TextRef<'s>,
-    queue: &str,
-) -> Result<(), AllocError>
-    requires bounded { Bounded world.old }
-    requires done { performed.old ≡ Done }
-    ensures { OnOk result ((stack.new, performed.new, world.new) ≡ get_named name.entry queue.now world.old over stack.old) }
+pub fn get<'s>(turn: &mut Turn<'s>, name: TextRef<'s>, queue: &str) -> Result<(), AllocError>
+    requires bounded { Bounded turn.old.world }
+    requires done { turn.old.performed ≡ Done }
+    ensures { OnOk result (turn.new ≡ after (on_queue queue.now λ k. page.get_out name.entry k) turn.old) }
 {
-    match world.find_queue(queue) {
-        None => {
-            *performed = unbound(alloc, queue)?;
-            Ok(())
-        }
-        Some(found) => get_where_it_may(alloc, world, stack, performed, name, found),
+    match turn.world.find_queue(queue) {
+        None => unbound(turn, queue),
+        Some(found) => get_where_it_may(turn, name, found),
     }
 }
 
 /// Makes a Deferred that asks a queue for a value, where it may.
 #[tactic(auto, using(dv_frames::proofs::BoundsLemmas::records_within))]
 fn get_where_it_may<'s>(
-    alloc: Global,
-    world: &mut World<'s>,
-    stack: &mut Frames<'s>,
-    performed: &mut Performed<'s>,
+    turn: &mut Turn<'s>,
     name: TextRef<'s>,
     queue: QueueId,
 ) -> Result<(), AllocError>
-    requires bounded { Bounded world.old }
-    requires done { performed.old ≡ Done }
-    ensures { OnOk result ((stack.new, performed.new, world.new) ≡ get_of name.entry queue (slice_get world.old.objects.queues queue) world.old over stack.old) }
+    requires bounded { Bounded turn.old.world }
+    requires done { turn.old.performed ≡ Done }
+    ensures { OnOk result (turn.new ≡ after (page.get_out name.entry queue) turn.old) }
 {
-    let Some(found) = world.queue(queue) else {
+    let Some(found) = turn.world.queue(queue) else {
         return Ok(());
     };
     if !found.may_get() {
-        *performed = underflow(alloc)?;
+        turn.performed = underflow(turn.alloc)?;
         return Ok(());
     }
-    let id = world.next_id();
-    world.make(Some(name), Some(Canceller::Item(queue)))?;
-    ask(world, stack, performed, queue, id)
+    let id = turn.world.next_id();
+    turn.world.make(Some(name), Some(Canceller::Item(queue)))?;
+    ask(turn, queue, id)
 }
 
 /// A Deferred asks a queue for a value, and is fired at once where it gets one.
-fn ask<'s>(
-    world: &mut World<'s>,
-    stack: &mut Frames<'s>,
-    performed: &mut Performed<'s>,
-    queue: QueueId,
-    id: DeferredId,
-) -> Result<(), AllocError>
-    requires done { performed.old ≡ Done }
-    ensures { OnOk result ((stack.new, performed.new, world.new) ≡ asked_for queue id world.old over stack.old) }
+fn ask<'s>(turn: &mut Turn<'s>, queue: QueueId, id: DeferredId) -> Result<(), AllocError>
+    requires done { turn.old.performed ≡ Done }
+    ensures { OnOk result (turn.new ≡ after (ask queue id) turn.old) }
 {
-    let value = world.get_from(queue, id)?;
-    give(world, stack, performed, id, value)
+    let value = turn.world.get_from(queue, id)?;
+    give(turn, id, value)
 }
 
 /// Fires a Deferred with the value that it got, if it did.
-fn give<'s>(
-    world: &mut World<'s>,
-    stack: &mut Frames<'s>,
-    performed: &mut Performed<'s>,
-    id: DeferredId,
-    value: Option<Value>,
-) -> Result<(), AllocError>
-    requires done { performed.old ≡ Done }
-    ensures { OnOk result ((stack.new, performed.new, world.new) ≡ got id value world.old over stack.old) }
+fn give<'s>(turn: &mut Turn<'s>, id: DeferredId, value: Option<Value>) -> Result<(), AllocError>
+    requires done { turn.old.performed ≡ Done }
+    ensures { OnOk result (turn.new ≡ after (give id value) turn.old) }
 {
     match value {
         None => Ok(()),
-        Some(value) => fire_and_settle(world, stack, performed, id, value),
+        Some(value) => fire_and_settle(turn, id, value),
     }
 }

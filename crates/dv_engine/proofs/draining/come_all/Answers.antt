@@ -14,8 +14,8 @@ loop-posted-preserved g c =
     let batch = c.args.batch.now in
     let i = c.loop-posted.posted-index in
     let p = slice_index_or batch i none in
-    let old = c.loop-posted.world in
-    let next = c.come_if_there.new.world in
+    let old = c.loop-posted.turn.world in
+    let next = c.come_if_there.new.turn.world in
     let came = c.in_ok-come_if_there.ensures in
     record {
       leads = λ v runs. c.loop-posted.invariant.leads v

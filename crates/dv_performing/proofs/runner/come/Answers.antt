@@ -1,6 +1,7 @@
 use Rattle.std.proofs.Common.{rules, ◌∙◌, List, sym, subst}
 use Rattle.dv_script.specs.declared.work.Work.{Work}
-use Rattle.dv_objects.specs.declared.performed.Performed.TheVariants.{Done}
+use Rattle.dv_frames.specs.Bounds.{Bounded}
+use Rattle.dv_frames.specs.declared.turn.Turn.{Turn}
 use Rattle.dv_performing.proofs.JobsKept.{happening_goes_on}
 use Rattle.dv_performing.proofs.Stopped.{happens_stopped}
 use Rattle.dv_performing.proofs.Turns.{happening_bounded}
@@ -11,14 +12,16 @@ use Rattle.dv_performing.proofs.runner.come.Goals as goal
 pub submit_all-requires : goal.submit_all-requires
 submit_all-requires g c =
     subst (λ (works : List Work). GoesOn c.args.jobs.now works) (sym c.works.ensures.works)
-    (subst (λ (works : List Work). GoesOn works c.begin_post.new.world.works) (sym c.requires.jobs)
-    (happening_goes_on (Comes c.args.posted.now c.args.body.now) c.clear.new.self c.args.world.now (c.begin_post.new.stack, Done, c.begin_post.new.world) c.in_ok-begin_post.ensures))
+    (subst (λ (works : List Work). GoesOn works c.begin_post.new.turn.world.works) (sym c.requires.jobs)
+    (subst (λ (turn : Turn). GoesOn turn.world.works c.begin_post.new.turn.world.works) c.begin_anew.ensures
+    (happening_goes_on (Comes c.args.posted.now c.args.body.now) c.begin_anew.new.turn c.begin_post.new.turn c.in_ok-begin_post.ensures)))
 
 pub run-requires : goal.run-requires
 run-requires g c = record {
-  bounded = happening_bounded (Comes c.args.posted.now c.args.body.now) c.clear.new.self c.args.world.now (c.begin_post.new.stack, Done, c.begin_post.new.world) c.in_ok-begin_post.ensures c.requires.bounded;
+  bounded = happening_bounded (Comes c.args.posted.now c.args.body.now) c.begin_anew.new.turn c.begin_post.new.turn c.in_ok-begin_post.ensures
+      (subst (λ (turn : Turn). Bounded turn.world) (sym c.begin_anew.ensures) c.requires.bounded);
   jobs = c.in_ok-submit_all.ensures ∙ c.works.ensures.works;
 }
 
 pub returns-then-is_stopped-clause-happens : goal.returns-then-is_stopped-clause-happens
-returns-then-is_stopped-clause-happens g c = happens_stopped (Comes c.args.posted.now c.args.body.now) c.args.world.now (search rules)
+returns-then-is_stopped-clause-happens g c = happens_stopped (Comes c.args.posted.now c.args.body.now) c.args.turn.now.world (search rules)

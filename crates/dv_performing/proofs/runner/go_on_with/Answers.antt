@@ -7,5 +7,5 @@ use Rattle.dv_performing.proofs.runner.go_on_with.Goals as goal
 pub submit_all-requires : goal.submit_all-requires
 submit_all-requires g c =
     subst (λ (works : List Work). GoesOn c.args.jobs.now works) (sym c.works.ensures.works)
-    (subst (λ (works : List Work). GoesOn works c.turn.new.world.works) (sym c.requires.jobs)
-    (turned_goes_on c.args.stack.now c.turn.new.stack c.args.frame c.args.performed.now c.turn.new.performed c.args.world.now c.turn.new.world c.in_ok-end.end c.in_ok-end.ensures))
+    (subst (λ (works : List Work). GoesOn works c.perform_frame.new.turn.world.works) (sym c.requires.jobs)
+    (turned_goes_on c.args.frame c.args.turn.now c.perform_frame.new.turn c.in_ok-end.end c.in_ok-end.ensures))

@@ -1,4 +1,4 @@
-use Rattle.std.proofs.Common.{ap, sym, ◌∙◌}
+use Rattle.std.proofs.Common.{ap, ◌∙◌}
 use Rattle.dv_bodies.specs.Threading.{job_result}
 use Rattle.dv_bodies.proofs.JobLemmas.{low_submitted, result_at}
 use Rattle.dv_bodies.proofs.submissions.Submissions.outcome.Goals as goal

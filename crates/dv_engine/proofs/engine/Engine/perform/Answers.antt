@@ -9,10 +9,10 @@ use Rattle.dv_engine.proofs.engine.Engine.perform.Goals as goal
 pub invariant_of-self-in-Ok : goal.invariant_of-self-in-Ok
 invariant_of-self-in-Ok g c =
     let e = c.self.inside in
-    let w = c.drain.new.world in
-    let before : Engine = record { script = e.script.now; left = e.left; batches = e.batches.batches; world = e.world; phase = e.phase } in
+    let w = c.drain.new.turn.world in
+    let before : Engine = record { script = e.script.now; left = e.left; batches = e.batches.batches; world = e.turn.world; phase = e.phase } in
     let may : MayTake before c.args.batch = subst (λ (x : Engine). MayTake x c.args.batch) (sym c.self.view_is) c.requires in
-    let runs : Runs (taken_for e.phase e.script.now.callers c.args.batch) e.world w = subst (λ (k : Callers). Runs (taken_for e.phase k c.args.batch) e.world w) c.self.invariant.2 c.in-Ok.ensures.runs in
+    let runs : Runs (taken_for e.phase e.script.now.callers c.args.batch) e.turn.world w = subst (λ (k : Callers). Runs (taken_for e.phase k c.args.batch) e.turn.world w) c.self.invariant.2 c.in-Ok.ensures.runs in
     let is : c.drain.new.batches.batches ≡ e.batches.batches ++ c.args.batch ∷ [] = ap (λ t. t.batches) c.in-Ok.ensures.batches in
     let q = c.phase_after-self-inside.result in (
       subst (λ (all : List Batch). Stands q (record { script = e.script.now; left = e.left; batches = all; world = w; phase = q })) (sym is)
@@ -25,12 +25,12 @@ invariant_of-self-in-Ok g c =
 pub returns-in-Ok : goal.returns-in-Ok
 returns-in-Ok g c =
     let e = c.self.inside in
-    let w = c.drain.new.world in
+    let w = c.drain.new.turn.world in
     let q = c.phase_after-self-inside.result in
-    let before : Engine = record { script = e.script.now; left = e.left; batches = e.batches.batches; world = e.world; phase = e.phase } in
+    let before : Engine = record { script = e.script.now; left = e.left; batches = e.batches.batches; world = e.turn.world; phase = e.phase } in
     let after : Engine = record { script = e.script.now; left = e.left; batches = c.drain.new.batches.batches; world = w; phase = q } in
     let may : MayTake before c.args.batch = subst (λ (x : Engine). MayTake x c.args.batch) (sym c.self.view_is) c.requires in
-    let runs : Runs (taken_for e.phase e.script.now.callers c.args.batch) e.world w = subst (λ (k : Callers). Runs (taken_for e.phase k c.args.batch) e.world w) c.self.invariant.2 c.in-Ok.ensures.runs in
+    let runs : Runs (taken_for e.phase e.script.now.callers c.args.batch) e.turn.world w = subst (λ (k : Callers). Runs (taken_for e.phase k c.args.batch) e.turn.world w) c.self.invariant.2 c.in-Ok.ensures.runs in
     let is : c.drain.new.batches.batches ≡ e.batches.batches ++ c.args.batch ∷ [] = ap (λ t. t.batches) c.in-Ok.ensures.batches in
     subst (λ (b : Engine). Takes c.args.batch b after) c.self.view_is (record {
       may = may;
@@ -42,6 +42,6 @@ returns-in-Ok g c =
 pub drain-requires-clause-next : goal.drain-requires-clause-next
 drain-requires-clause-next g c =
     let e = c.self.inside in
-    let before : Engine = record { script = e.script.now; left = e.left; batches = e.batches.batches; world = e.world; phase = e.phase } in
+    let before : Engine = record { script = e.script.now; left = e.left; batches = e.batches.batches; world = e.turn.world; phase = e.phase } in
     let may : MayTake before c.args.batch = subst (λ (x : Engine). MayTake x c.args.batch) (sym c.self.view_is) c.requires in
     subst (λ (k : Callers). AreNext k (joined e.batches.batches ++ c.args.batch)) (sym c.self.invariant.2) may.1
