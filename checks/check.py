@@ -72,6 +72,8 @@ STAGES = [
     Stage("launcher", "./deferreds runs the right program, or says why it runs none", [unittests("checks")]),
     Stage("rows", "each row ends and prints as it says", [[_PYTHON, "checks/rows.py"]]),
     Stage("outputs", "each output that a page shows is what is printed", [[_PYTHON, "checks/documented.py"]]),
+    Stage("language", "pages and the schema of scripts say what the language is", [unittests("python/language_tests", "-t", "python")],
+          variables={"EACH": "4"}),
     Stage("json", "runs as JSON agree with their journals", [["python/check_json", "--each", "4", "--random", "500"]]),
     Stage("faults", "refused memory and failed reads and writes, on a sample", [unittests("faults"), ["faults/sweep.py", "--sample"]], no_compiler),
     Stage("bench", "the measuring of speed", [unittests("bench")]),

@@ -18,7 +18,7 @@ PYTHON = TOP / "python"
 
 _PACKAGE = PYTHON / "deferreds"
 _ROWS = TOP / "crates" / "dv_rows" / "data"
-_SUFFIXES = (".py", ".typed", ".js", ".css", ".rows")
+_SUFFIXES = (".py", ".typed", ".js", ".css", ".rows", ".json")
 _LICENSE = "LICENSE"
 
 

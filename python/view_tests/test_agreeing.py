@@ -3,15 +3,12 @@
 from __future__ import annotations
 
 import json
-import tempfile
 import unittest
-from contextlib import redirect_stdout
-from io import StringIO
 from pathlib import Path
 from typing import List
 
-from deferreds.view import checking
-from deferreds.view.agreeing import agreement
+from deferreds.run_json.agreeing import agreement
+from deferreds.run_json.checking import Wrong, check_fold
 from deferreds.view.facts import read_facts
 
 from .stand_in import Json, stuck, thing, told
@@ -27,6 +24,7 @@ _LEFT: List[Json] = [
         "waiting": [{"name": "b", "number": 1}],
     },
 ]
+_VALUES: Json = {"kind": "values", "object": thing("queue", 0, "q"), "values": [1, "a"]}
 
 
 def differences(text: str) -> List[str]:
@@ -63,16 +61,28 @@ class Agreeing(unittest.TestCase):
         wrong[8]["under"], wrong[8]["depth"] = 1, 1
         self.assertTrue(differences("".join(f"{json.dumps(line)}\n" for line in wrong)))
 
-    def test_the_command_tells_what_differs(self) -> None:
-        with tempfile.TemporaryDirectory() as folder:
-            facts = Path(folder, "facts")
-            for left, status in ((_LEFT, 0), (_LEFT[1:], 1)):
-                facts.write_text(told(_JOURNAL, [0, 1, 4, 6], left), encoding="utf-8")
-                output = StringIO()
-                with redirect_stdout(output):
-                    self.assertEqual(checking.main(["--random", "2", "--ours", f"cat {facts}"]), status)
-                self.assertIn("0 differ" if status == 0 else "2 differ", output.getvalue())
-            self.assertEqual(checking.main(["--random", "1", "--ours", "false"]), 70)
+    def test_another_order_is_seen(self) -> None:
+        self.assertTrue(differences(told(_JOURNAL, [0, 1, 4, 6], _LEFT[::-1])))
+
+    def test_another_name_or_value_is_seen(self) -> None:
+        self.assertEqual(self._checked(["queue q none none", "put q 1", 'put q "a"'], _VALUES), [])
+        for wrong in (
+            {**_VALUES, "object": thing("queue", 0, "p")},
+            {**_VALUES, "values": [1]},
+            {**_VALUES, "values": ["a", 1]},
+        ):
+            self.assertTrue(self._checked(["queue q none none", "put q 1", 'put q "a"'], wrong))
+
+    def _checked(self, journal: List[str], left: Json) -> List[str]:
+        text = told("".join(f"{line}\n" for line in journal), [0, 1, 2], [left])
+        return agreement(read_facts(text), [json.loads(line) for line in text.splitlines()]).differences
+
+    def test_a_run_that_differs_is_wrong(self) -> None:
+        text = told(_JOURNAL, [0, 1, 4, 6], _LEFT[1:])
+        with self.assertRaisesRegex(Wrong, "only the fold"):
+            check_fold(text, [])
+        with self.assertRaises(Wrong):
+            check_fold("no facts", [])
 
 
 if __name__ == "__main__":

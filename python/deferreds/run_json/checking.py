@@ -8,8 +8,9 @@ from dataclasses import dataclass
 from typing import Any, Dict, Iterator, List, Optional, Sequence
 
 from ..program import NotRun
+from ..view.facts import NotFacts, read_facts
 
-from .fold import Fold, Rebound, Told
+from .agreeing import Told, agreement
 
 #: the keys of each kind of line, by docs/JSON.md
 KEYS: Dict[str, Sequence[str]] = {
@@ -65,6 +66,8 @@ _ORDER = ("start", "entry", "deferred", "left", "end")
 _SECONDS = 60
 #: how much of a script is shown on which the program doesn't end
 _SHOWN = 200
+#: how many differences of a run are shown
+_MOST_DIFFERENCES = 5
 
 
 class Wrong(Exception):
@@ -201,27 +204,15 @@ def check_events(script: str, lines: Sequence[Told]) -> None:
             _equal("the event of a line", events[at][0], entry["kind"])
 
 
-def check_left(lines: Sequence[Told]) -> bool:
-    """Holds what is left against a fold of the journal. False where a name was made twice, and nothing can be said."""
-    fold = Fold()
+def check_fold(output: str, lines: Sequence[Told]) -> bool:
+    """Holds a run against a fold of its journal. False where a name was made twice, so that only the Deferreds are compared."""
     try:
-        for entry in _of_type(lines, "entry"):
-            fold.take(entry["line"])
-    except Rebound:
-        return False
-    told = fold.told(_of_type(lines, "left"))
-    expected = fold.left()
-    if lines[-1]["stopped"]:
-        told, expected = _of_stopped(told), _of_stopped(expected)
-    _equal("what is left", told, expected)
-    return True
-
-
-def _of_stopped(left: Sequence[Told]) -> List[Told]:
-    """What the journal tells of a run that stopped. Its last entry may have had no more follow from it: whom a cancel was to take out
-    of a line, what an inline body awaits, which tick was to be dropped and which loop has failed isn't known."""
-    kept = [line for line in left if line["kind"] not in ("tick", "tokens", "getters", "loop")]
-    return [{**line, "hangs": []} if "hangs" in line else line for line in kept]
+        found = agreement(read_facts(output), lines)
+    except NotFacts as why:
+        raise Wrong(str(why)) from None
+    if found.differences:
+        raise Wrong("\n  ".join(found.differences[:_MOST_DIFFERENCES]))
+    return found.is_whole
 
 
 def rows_of(lines: Sequence[Told]) -> Iterator[str]:

@@ -1,9 +1,10 @@
-"""`check_json [--random N] [--seed S] [--each K] [--ours PROGRAM]`: holds what `./deferreds --json` tells against its journal.
+"""`check_json [--random N] [--seed S] [--each K] [--ours PROGRAM]`: holds what `./deferreds --json` prints against its journal.
 
-Over each K-th row of the repository, or all, the lines joined are what `./deferreds` prints, and what is left is what a fold of the journal
-gives; over the rows of `left.rows`, what is left is as it stands there, worked out by hand; and over N random scripts in which
-no name is made twice, what is left is what the fold gives. The last line is `N passed, M failed`, and the status is 0 exactly
-where M is 0. Without PROGRAM it is the one that `./deferreds` runs. Status 70: the program can't be run, or doesn't end in a minute.
+Over each K-th row of the repository, or all, the lines joined are what `./deferreds` prints, and a fold of the journal agrees with them: in
+what each line lies, by which line each Deferred was fired, and what is left. Over the rows of `left.rows`, what is left is as it stands
+there, worked out by hand. Over random scripts the fold agrees, too, until N of them make no name twice; of the others only the Deferreds
+are compared. The last line is `N passed, M failed`, and the status is 0 exactly where M is 0. Without PROGRAM it is the one that
+`./deferreds` runs. Status 70: the program can't be run, or doesn't end in a minute.
 """
 
 from __future__ import annotations
@@ -19,7 +20,7 @@ from ..program import NOT_RUN, NotRun, built
 from ..twisted.randoms import Scripts
 from ..twisted.rows import Expected, filled, read_rows, row_files
 
-from .checking import Ran, Wrong, check_left, check_run, rows_of, run
+from .checking import Ran, Wrong, check_fold, check_run, rows_of, run
 
 LEFT_ROWS = Path(__file__).resolve().parent / "data" / "left.rows"
 
@@ -66,7 +67,7 @@ class Checks:
         self.count(row.name, row.script, wrong)
 
     def check_random(self, number: int, script: str) -> bool:
-        """A random script. False where nothing can be said of it."""
+        """A random script. False where it wasn't compared as a whole."""
         told = run(self._told, script)
         printed = run(self._plain, script)
         if '"callers":' in script:
@@ -75,14 +76,16 @@ class Checks:
         return self._check(f"random {number}", script, printed, told)
 
     def _check(self, name: str, script: str, printed: Ran, told: Ran) -> bool:
+        """Holds a run against what is printed of it, and against the fold of its journal. False where that knew not all."""
+        is_whole = True
         try:
             lines = check_run(script, printed, told)
-            if lines and not check_left(lines):
-                return False
+            if lines:
+                is_whole = check_fold(told.output, lines)
             self.count(name, script, "")
         except Wrong as wrong:
             self.count(name, script, str(wrong))
-        return True
+        return is_whole
 
 
 def _joined(told: Ran) -> str:

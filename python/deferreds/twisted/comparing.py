@@ -171,7 +171,7 @@ def is_of_level(script: str, level: str) -> bool:
         root = json.loads(script)
     except ValueError:
         return True
-    known = grammar.actions_up_to(level)
+    known = frozenset(grammar.actions_up_to(level))
     words = _words(root)
     beyond = {word for word in words if word in grammar.ACTIONS and word not in known}
     return not beyond and all(grammar.has(level, other) for other in _levels(root, words))

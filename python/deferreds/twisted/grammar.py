@@ -1,36 +1,58 @@
-"""The grammar of scripts, as tables: what each word takes, of which kinds, in which ranges."""
+"""The grammar of scripts, as tables: what each word takes, of which kinds, in which ranges. It is read off `language.json`."""
 
 from __future__ import annotations
 
 import enum
-from typing import Dict, FrozenSet, List, Tuple
+from typing import Any, Dict, FrozenSet, List, Tuple
 
-MOST_BYTES = 1_048_576
-MOST_NODES = 65_536
-MOST_CLASSES = 256
-MOST_POOLS = 4
-MOST_CALLERS = 8
-MOST_POSTS = 256
-MOST_JOBS = 4_096
-DEEPEST = 127
-LONGEST_TIME = 10**15
-DEFAULT_LIMIT = 2_000
+from ..language import LANGUAGE, Form, Word
+
+_LIMITS = LANGUAGE.limits
+
+MOST_BYTES = _LIMITS["bytes"]
+MOST_NODES = _LIMITS["nodes"]
+MOST_CLASSES = _LIMITS["classes"]
+MOST_POOLS = _LIMITS["pools"]
+MOST_CALLERS = _LIMITS["callers"]
+MOST_POSTS = _LIMITS["posts"]
+MOST_JOBS = _LIMITS["jobs"]
+DEEPEST = _LIMITS["depth"]
+LONGEST_TIME = _LIMITS["time"]
+DEFAULT_LIMIT = LANGUAGE.usual["limit"]
 
 #: the keys that a script has to have, and for each version those that it may have
-NEEDED_KEYS: FrozenSet[str] = frozenset({"version", "events"})
-_KEYS: FrozenSet[str] = frozenset({"limit", "classes", "cooperator", "callers"})
-KEYS: Dict[int, FrozenSet[str]] = {1: _KEYS, 2: _KEYS | {"pools"}}
+NEEDED_KEYS: FrozenSet[str] = frozenset(key.key for key in LANGUAGE.keys_of("script") if key.needed)
+KEYS: Dict[int, FrozenSet[str]] = {
+    version: frozenset(key.key for key in LANGUAGE.keys_of("script", version)) - NEEDED_KEYS
+    for version in LANGUAGE.versions
+}
 
-LIMITS = range(0, 200_001)
-ADVANCES = range(0, LONGEST_TIME + 1)
-DRAINS = range(0, 2_049)
-DELAYS = range(0, 10**12 + 1)
-INTERVALS = range(1, 10**12 + 1)
-TOKENS = range(1, 65_537)
-BOUNDS = range(0, 65_537)
-SUMS = range(0, 1_000_001)
-UNITS = range(1, 1_001)
-WORKERS = range(0, 17)
+
+def _numbers(form: Form) -> range:
+    """The numbers from the least to the most."""
+    return range(form["least"], form["most"] + 1)
+
+
+def _of_key(of: str, name: str) -> Form:
+    """What a key asks for."""
+    return next(key.value for key in LANGUAGE.keys_of(of) if key.key == name)
+
+
+def _of_word(word: str, place: int) -> Form:
+    """What an argument of a word asks for, in its first form."""
+    return next(row.arguments[place] for row in LANGUAGE.words if row.word == word)
+
+
+LIMITS = _numbers(_of_key("script", "limit"))
+ADVANCES = _numbers(_of_word("advance", 0))
+DRAINS = _numbers(_of_word("drain", 0))
+DELAYS = _numbers(_of_word("later", 1))
+INTERVALS = _numbers(_of_word("loop", 2))
+TOKENS = _numbers(_of_word("semaphore", 1))
+BOUNDS = _numbers(_of_word("queue", 1))
+SUMS = _numbers(_of_word("sum", 0))
+UNITS = _numbers(_of_key("cooperator", "units"))
+WORKERS = _numbers(_of_key("script", "pools")["of"]["parts"][1])
 
 
 class Kind(enum.Enum):
@@ -53,6 +75,7 @@ class Kind(enum.Enum):
     VALUE = "a value"
     BODY = "a body"
     BODIES = "an array of bodies"
+    STATEMENT = "a statement"
     STATEMENTS = "an array of statements"
     CLASS = "a class"
     CLASSES = "an array of classes"
@@ -75,13 +98,13 @@ NUMBERS: Dict[Kind, range] = {
     Kind.TOKENS: TOKENS,
     Kind.DELAY: DELAYS,
     Kind.INTERVAL: INTERVALS,
-    Kind.INTEGER: range(-(2**63), 2**63),
+    Kind.INTEGER: _numbers(_of_word("plus", 0)),
     Kind.SUM: SUMS,
 }
 
 FLAGS: Dict[Kind, FrozenSet[str]] = {
-    Kind.LIST_FLAGS: frozenset({"fireOnOneCallback", "fireOnOneErrback", "consumeErrors"}),
-    Kind.GATHER_FLAGS: frozenset({"consumeErrors"}),
+    Kind.LIST_FLAGS: frozenset(_of_word("list", 2)["of"]["words"]),
+    Kind.GATHER_FLAGS: frozenset(_of_word("gather", 2)["of"]["words"]),
 }
 
 #: the kinds that name an object of a kind, or make one
@@ -92,72 +115,65 @@ FOUND: FrozenSet[Kind] = frozenset(
 
 Arguments = Tuple[Kind, ...]
 
-K = Kind
-ACTIONS: Dict[str, List[Arguments]] = {
-    "deferred": [(K.NEW_DEFERRED,), (K.NEW_DEFERRED, K.BODY)],
-    "callback": [(K.DEFERRED, K.VALUE)],
-    "errback": [(K.DEFERRED, K.CLASS, K.TEXT)],
-    "addCallback": [(K.DEFERRED, K.BODY)],
-    "addErrback": [(K.DEFERRED, K.BODY)],
-    "addBoth": [(K.DEFERRED, K.BODY)],
-    "addCallbacks": [(K.DEFERRED, K.BODY, K.BODY)],
-    "chain": [(K.DEFERRED, K.DEFERRED)],
-    "pause": [(K.DEFERRED,)],
-    "unpause": [(K.DEFERRED,)],
-    "cancel": [(K.DEFERRED,)],
-    "note": [(K.TEXT,)],
-    "lock": [(K.NEW_LOCK,)],
-    "semaphore": [(K.NEW_LOCK, K.TOKENS)],
-    "acquire": [(K.NEW_DEFERRED, K.LOCK)],
-    "release": [(K.LOCK,)],
-    "runWith": [(K.NEW_DEFERRED, K.LOCK, K.BODY)],
-    "queue": [(K.NEW_QUEUE, K.BOUND, K.BOUND)],
-    "put": [(K.QUEUE, K.VALUE)],
-    "get": [(K.NEW_DEFERRED, K.QUEUE)],
-    "maybe": [(K.NEW_DEFERRED, K.BODY)],
-    "list": [(K.NEW_DEFERRED, K.DEFERREDS, K.LIST_FLAGS)],
-    "gather": [(K.NEW_DEFERRED, K.DEFERREDS, K.GATHER_FLAGS)],
-    "later": [(K.NEW_CALL, K.DELAY, K.BODY)],
-    "cancelCall": [(K.CALL,)],
-    "addTimeout": [(K.DEFERRED, K.DELAY)],
-    "loop": [(K.NEW_LOOP, K.NEW_DEFERRED, K.INTERVAL, K.FLAG, K.BODY)],
-    "stopLoop": [(K.LOOP,)],
-    "cooperate": [(K.NEW_TASK, K.BODIES)],
-    "whenDone": [(K.NEW_DEFERRED, K.TASK)],
-    "pauseTask": [(K.TASK,)],
-    "resumeTask": [(K.TASK,)],
-    "stopTask": [(K.TASK,)],
-    "inline": [(K.NEW_DEFERRED, K.STATEMENTS)],
-    "thread": [(K.NEW_DEFERRED, K.DELAY, K.WORK)],
-    "threadIn": [(K.NEW_DEFERRED, K.POOL, K.DELAY, K.WORK)],
+#: the kinds of what isn't a number, a name, an array or flags
+_PLAIN: Dict[str, Kind] = {
+    "text": Kind.TEXT,
+    "value": Kind.VALUE,
+    "boolean": Kind.FLAG,
+    "bound": Kind.BOUND,
+    "object": Kind.BODY,
+}
+_ARRAYS: Dict[Kind, Kind] = {
+    Kind.DEFERRED: Kind.DEFERREDS,
+    Kind.CLASS: Kind.CLASSES,
+    Kind.BODY: Kind.BODIES,
+    Kind.STATEMENT: Kind.STATEMENTS,
+}
+_WORDS: Dict[str, Kind] = {
+    "action": Kind.ACTION,
+    "leaving": Kind.END,
+    "statement": Kind.STATEMENT,
+    "work": Kind.WORK,
 }
 
-ENDS: Dict[str, List[Arguments]] = {
-    "return": [(K.VALUE,)],
-    "pass": [()],
-    "plus": [(K.INTEGER,)],
-    "raise": [(K.CLASS, K.TEXT)],
-    "trap": [(K.CLASSES, K.VALUE)],
-    "wait": [(K.DEFERRED,)],
-}
 
+_NUMBERS: Dict[range, Kind] = {numbers: kind for kind, numbers in NUMBERS.items()}
+_FLAGS: Dict[FrozenSet[str], Kind] = {flags: kind for kind, flags in FLAGS.items()}
+
+
+def kind_of(form: Form) -> Kind:
+    """The kind of an argument. Raises KeyError where the language has a form that isn't known here."""
+    kind: str = form["type"]
+    of: Any = form.get("of")
+    if kind == "number":
+        return _NUMBERS[_numbers(form)]
+    if kind in ("new", "found"):
+        return Kind[f"{'NEW_' * (kind == 'new')}{of.upper()}"]
+    if kind == "words":
+        return _WORDS[of]
+    if kind == "array":
+        return _FLAGS[frozenset(of["words"])] if of["type"] == "flag" else _ARRAYS[kind_of(of)]
+    return _PLAIN[kind]
+
+
+def _table(place: str) -> Dict[str, List[Arguments]]:
+    """The words that may stand at a place, each with the kinds of its arguments in each of its forms."""
+    table: Dict[str, List[Arguments]] = {}
+    for row in LANGUAGE.at(place):
+        table.setdefault(row.word, []).append(_kinds(row))
+    return table
+
+
+def _kinds(row: Word) -> Arguments:
+    return tuple(map(kind_of, row.arguments))
+
+
+ACTIONS = _table("action")
+ENDS = _table("end")
 #: how an inline body may end
-INLINE_ENDS: Dict[str, List[Arguments]] = {
-    word: ENDS[word] for word in ("return", "pass", "plus", "raise")
-}
-
-STATEMENTS: Dict[str, List[Arguments]] = {
-    "do": [(K.ACTION,)],
-    "await": [(K.DEFERRED,)],
-    "try": [(K.STATEMENTS, K.CLASSES, K.STATEMENTS)],
-    "end": [(K.END,)],
-}
-
-WORKS: Dict[str, List[Arguments]] = {
-    "value": [(K.VALUE,)],
-    "raise": [(K.CLASS, K.TEXT)],
-    "sum": [(K.SUM,)],
-}
+INLINE_ENDS = _table("leaving")
+STATEMENTS = _table("statement")
+WORKS = _table("work")
 
 #: the levels that a port can begin with, each with the actions that it adds to those before it
 LEVELS: Dict[str, Tuple[str, ...]] = {
@@ -187,11 +203,11 @@ LEVELS: Dict[str, Tuple[str, ...]] = {
 }
 
 
-def actions_up_to(level: str) -> FrozenSet[str]:
-    """The actions of a level, and of those before it."""
+def actions_up_to(level: str) -> List[str]:
+    """The actions of a level, after those of the levels before it."""
     names = list(LEVELS)
     below = names[: names.index(level) + 1]
-    return frozenset(action for name in below for action in LEVELS[name])
+    return [action for name in below for action in LEVELS[name]]
 
 
 def has(level: str, part: str) -> bool:

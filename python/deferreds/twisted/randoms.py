@@ -59,7 +59,7 @@ class Scripts:
         self._seed = seed
         self._level = level
         self._random = random.Random()
-        self._known = [word for word in grammar.ACTIONS if word in grammar.actions_up_to(level)]
+        self._known = grammar.actions_up_to(level)
         self._pools: List[str] = []
         self._paused: List[str] = []
         self._makers: Dict[Kind, Callable[[int], Any]] = self._kinds()

@@ -8,25 +8,34 @@ import re
 from itertools import accumulate
 from typing import AbstractSet, Any, Dict, List, Mapping, NoReturn, Optional, Sequence, Tuple
 
+from ..language import LANGUAGE
 from . import grammar
 from .grammar import Kind
 
-_NAME = re.compile(r"[A-Za-z0-9_]{1,32}", re.ASCII)
+_NAME = re.compile(rf"[A-Za-z0-9_]{{1,{LANGUAGE.limits['name']}}}", re.ASCII)
 
-TOO_LONG = (1, "TooLong")
-NOT_JSON = (2, "NotJson")
-BAD_VERSION = (3, "BadVersion")
-BAD_SHAPE = (4, "BadShape")
-TOO_MANY = (5, "TooMany")
-BAD_NAME = (6, "BadName")
-BAD_CLASS = (7, "BadClass")
-BAD_POOL = (9, "BadPool")
+#: a refusal: its number and its name
+Reason = Tuple[int, str]
+
+
+def _reason(name: str) -> Reason:
+    return LANGUAGE.refusals[name], name
+
+
+TOO_LONG = _reason("TooLong")
+NOT_JSON = _reason("NotJson")
+BAD_VERSION = _reason("BadVersion")
+BAD_SHAPE = _reason("BadShape")
+TOO_MANY = _reason("TooMany")
+BAD_NAME = _reason("BadName")
+BAD_CLASS = _reason("BadClass")
+BAD_POOL = _reason("BadPool")
 
 
 class Refused(Exception):
     """A script that isn't accepted, with the number and the name of the least reason."""
 
-    def __init__(self, reason: Tuple[int, str], where: str = "") -> None:
+    def __init__(self, reason: Reason, where: str = "") -> None:
         super().__init__(f"script refused: {reason[0]} {reason[1]}")
         self.reason = reason
         #: what of the script it is, where that is known
@@ -37,7 +46,7 @@ class Script:
     """A script that is accepted: its keys, with what stands where one is left out."""
 
     def __init__(self, root: Mapping[str, Any]) -> None:
-        cooperator = root.get("cooperator", {"units": 1, "delay": 1})
+        cooperator = root.get("cooperator", LANGUAGE.usual)
         self.root = root
         self.events: List[List[Any]] = root["events"]
         self.limit: int = root.get("limit", grammar.DEFAULT_LIMIT)

@@ -182,7 +182,7 @@ def _hangs(fold: Fold, record: Record) -> Iterator[Hang]:
     for timer in fold.world.timers:
         if timer.deferred == record.number and timer.state is Wait.WAITING:
             yield Hang(At.TIMEOUT, timer.due)
-    if record.made is Made.LOOP and fold.world.loops.all[record.of].phase is not Phase.ENDED:
+    if record.made is Made.LOOP:
         yield Hang(At.LOOP, record.of)
     elif record.made is Made.WHEN_DONE and not fold.world.tasks.all[record.of].has_ended:
         yield Hang(At.TASK, record.of)

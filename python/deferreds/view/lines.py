@@ -1,13 +1,17 @@
 """The lines of a journal, read: each one's word, the Deferreds and the object that it names, and what it shows.
 
-The forms are those of docs/SCRIPT.md, "What is printed". A text in a line may hold U+2028 and the like, so that
+The forms are those of the language (docs/LANGUAGE.md, `lines`). A text in a line may hold U+2028 and the like, so that
 lines end at a line feed alone.
 """
 
 from __future__ import annotations
 
 import re
-from typing import Dict, List, NamedTuple, Optional, Pattern, Tuple
+from typing import Dict, List, NamedTuple, Optional, Pattern, Set, Tuple
+
+from ..language import LANGUAGE, Line
+
+_NAME = rf"[A-Za-z0-9_]{{1,{LANGUAGE.limits['name']}}}"
 
 
 class Outcome(NamedTuple):
@@ -53,106 +57,79 @@ class Entry(NamedTuple):
         return self.word == "unhandled" or (self.outcome is not None and self.outcome.is_failure)
 
 
-_DEFERRED, _OTHER = r"#(?P<deferred>\d+)", r"#(?P<other>\d+)"
-_NAME, _NUMBER = r"(?P<name>[A-Za-z0-9_]{1,32})", r"(?P<number>\d+)"
-_OUTCOME, _TEXT = r"(?P<tail>(?:ok|fail) .*)", r"(?P<tail>.*)"
-_BOUND = r"(?:\d+|none)"
-
-_FORMS: Dict[str, str] = {
-    "new": rf"{_DEFERRED} (?P<name>[A-Za-z0-9_]{{1,32}}|-)",
-    "name": f"{_DEFERRED} {_NAME}",
-    "add": _DEFERRED,
-    "fire": f"{_DEFERRED} {_OUTCOME}",
-    "refuse": _DEFERRED,
-    "swallow": _DEFERRED,
-    "run": _DEFERRED,
-    "set": f"{_DEFERRED} {_OUTCOME}",
-    "take": f"{_DEFERRED} {_OTHER} {_OUTCOME}",
-    "wait": f"{_DEFERRED} {_OTHER}",
-    "hand": f"{_OTHER} {_DEFERRED} {_OUTCOME}",
-    "pause": _DEFERRED,
-    "unpause": _DEFERRED,
-    "cancel": _DEFERRED,
-    "note": _TEXT,
-    "unhandled": _TEXT,
-    "lock": _NAME,
-    "semaphore": f"{_NAME} {_NUMBER}",
-    "acquire": f"{_NAME} {_DEFERRED}",
-    "release": _NAME,
-    "queue": f"{_NAME} {_BOUND} {_BOUND}",
-    "put": f"{_NAME} {_TEXT}",
-    "get": f"{_NAME} {_DEFERRED}",
-    "later": rf"(?:(?P<what>call|loop) {_NAME}|(?P<tick>tick)|job (?P<job>\d+)|timeout {_DEFERRED}) {_NUMBER}",
-    "uncall": _NAME,
-    "advance": _NUMBER,
-    "call": _NAME,
-    "loop": f"{_NAME} {_DEFERRED}",
-    "turn": _NAME,
-    "stop": _NAME,
-    "task": _NAME,
-    "tick": "",
-    "step": _NAME,
-    "hold": f"{_NAME} {_DEFERRED}",
-    "end": f"{_NAME} {_OUTCOME}",
-    "pausetask": _NAME,
-    "resumetask": _NAME,
-    "whendone": f"{_NAME} {_DEFERRED}",
-    "await": f"{_DEFERRED} {_OTHER}",
-    "job": f"{_NUMBER} {_DEFERRED}",
-    "deliver": _NUMBER,
-    "timeout": _DEFERRED,
-    "drain": "",
-    "post": rf"{_NUMBER} \d+",
+#: by the type of a part, how it is written, and where of an entry it goes
+_SHAPES: Dict[str, Tuple[str, str]] = {
+    "deferred": (r"\d+", "deferred"),
+    "fired": (r"\d+", "deferred"),
+    "new name": (f"{_NAME}|-", "name"),
+    "name": (f"{_NAME}|-", "name"),
+    "object": (_NAME, "name"),
+    "job": (r"\d+", "number"),
+    "number": (r"\d+", "number"),
+    "bound": (r"\d+|none", "bound"),
+    "due": (r"\d+", "number"),
+    "time": (r"\d+", "number"),
+    "outcome": ("(?:ok|fail) .*", "tail"),
+    "value": (".*", "tail"),
+    "failure": (".*", "tail"),
+    "text": (".*", "tail"),
 }
 
-_PATTERNS: Dict[str, Pattern[str]] = {
-    word: re.compile(f"{word} {form}" if form else word, re.DOTALL) for word, form in _FORMS.items()
-}
 
-#: the words of all lines
-WORDS = frozenset(_FORMS)
+def _pattern(form: Line) -> Pattern[str]:
+    """What a line of this form looks like. What no entry has is in no group."""
+    types = [part["type"] for part in form.parts]
+    written = [form.line]
+    seen: Set[str] = set()
+    for kind in types:
+        shape, group = _SHAPES[kind]
+        if kind == "job" and "due" in types:
+            group = "name"
+        if group == "deferred" and group in seen:
+            group = "other"
+        named = f"(?P<{group}>{shape})" if group not in seen else f"(?:{shape})"
+        written.append(f"#{named}" if group in ("deferred", "other") else named)
+        seen.add(group)
+    return re.compile(" ".join(written), re.DOTALL)
 
-_OUTCOME_LINE = re.compile(r"#(\d+) (\S+) (.*)", re.DOTALL)
+
+_PATTERNS: Dict[str, Pattern[str]] = {form.line: _pattern(form) for form in LANGUAGE.lines}
+_SHOW_OUTCOMES = frozenset(form.line for form in LANGUAGE.lines if {"type": "outcome"} in form.parts)
+
+#: the first words of all lines
+WORDS = frozenset(words.split()[0] for words in _PATTERNS)
 
 
 def read_line(row: int, line: str, thing: int = -1) -> Entry:
     """The line at this place, in which the object that it names is the one of this number, where that is known."""
-    word = line.partition(" ")[0]
-    pattern = _PATTERNS.get(word)
+    word, _, rest = line.partition(" ")
+    what = rest.partition(" ")[0] if word == "later" else ""
+    words = f"{word} {what}".rstrip()
+    pattern = _PATTERNS.get(words)
     found = pattern.fullmatch(line) if pattern is not None else None
     if found is None:
         return Entry(row, line)
     part = found.groupdict()
+    first, second = int(part.get("deferred") or -1), int(part.get("other") or -1)
+    if word == "hand":  # it names the one that hands over first
+        first, second = second, first
     tail = part.get("tail")
-    what, name = part.get("what") or "", part.get("name") or ""
-    if word == "later":
-        what, name = _scheduled(part)
-    shows_outcome = tail is not None and word in _SHOW_OUTCOMES
     return Entry(
         row,
         line,
         word,
         what,
-        int(part.get("deferred") or -1),
-        int(part.get("other") or -1),
-        name,
+        first,
+        second,
+        part.get("name") or "",
         int(part.get("number") or -1),
-        Outcome(tail) if tail is not None and shows_outcome else None,
+        Outcome(tail) if tail is not None and words in _SHOW_OUTCOMES else None,
         len(line) if tail is None else len(line) - len(tail),
         thing,
     )
 
 
-_SHOW_OUTCOMES = frozenset(word for word, form in _FORMS.items() if form.endswith(_OUTCOME))
-
-
-def _scheduled(part: Dict[str, Optional[str]]) -> Tuple[str, str]:
-    """What `later` schedules, and the name of that."""
-    if part["tick"]:
-        return "tick", ""
-    if part["job"] is not None:
-        return "job", part["job"]
-    return (part["what"], part["name"] or "") if part["what"] else ("timeout", "")
+_OUTCOME_LINE = re.compile(r"#(\d+) (\S+) (.*)", re.DOTALL)
 
 
 class End(NamedTuple):

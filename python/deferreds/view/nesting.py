@@ -10,10 +10,12 @@ from __future__ import annotations
 
 from typing import List, NamedTuple, Optional, Sequence
 
+from ..language import LANGUAGE
 from .records import Actor, By, Row
 
-_SECTIONS = frozenset({"call", "turn", "tick", "step", "deliver", "timeout", "post"})
-_CLOSERS = frozenset({"set", "take", "wait"})
+_SECTIONS = LANGUAGE.lines_that("due", "turn", "tick", "step")
+_CLOSERS = LANGUAGE.lines_that("ends")
+_OUTER = LANGUAGE.lines_that("outer")
 
 #: the event of the posts that are performed after the last event
 LAST_POSTS = -1
@@ -88,7 +90,7 @@ class Nesting:
             row.actor = Actor(By.EVENT, place.event)
 
     def _lay_by_sides(self, row: Row) -> None:
-        if row.entry.word in ("advance", "drain"):
+        if row.entry.word in _OUTER:
             self._section = None
         row.depth = len(self.sides)
         if self.sides:

@@ -5,17 +5,31 @@ from __future__ import annotations
 import json
 from typing import Any, Dict, Iterator, List, Optional, Sequence, Tuple
 
-#: which arguments of an action are names
+from ..language import LANGUAGE, Form, Word
+
+_NEW_DEFERRED: Form = {"type": "new", "of": "deferred"}
+
+
+def _names_in_front(word: Word) -> int:
+    """How many of the first arguments are names of objects."""
+    others = (
+        place
+        for place, form in enumerate(word.arguments)
+        if form["type"] not in ("new", "found") or form["of"] == "class"
+    )
+    return next(others, len(word.arguments))
+
+
+#: how many of the first arguments of an action or a statement are names
 _NAMES: Dict[str, int] = {
-    **dict.fromkeys(("chain", "acquire", "get", "loop", "whenDone", "runWith", "threadIn"), 2),
-    **dict.fromkeys(
-        "callback errback deferred addCallback addErrback addBoth addCallbacks pause unpause cancel lock semaphore release queue "
-        "put later cancelCall addTimeout stopLoop cooperate pauseTask resumeTask stopTask maybe inline list gather thread "
-        "await".split(),
-        1,
-    ),
+    word.word: _names_in_front(word) for word in LANGUAGE.at("action") + LANGUAGE.at("statement")
 }
-_MAKERS = frozenset("list gather inline maybe acquire get runWith whenDone thread threadIn".split())
+#: which argument names the Deferred that an action makes, and that not only actions are to fire
+_MADE: Dict[str, int] = {
+    word.word: word.arguments.index(_NEW_DEFERRED)
+    for word in LANGUAGE.at("action")
+    if word.word != "deferred" and _NEW_DEFERRED in word.arguments
+}
 _DEEPEST = 1
 
 #: the places of actions, by the name of a Deferred
@@ -84,13 +98,8 @@ def _fired(action: List[Any]) -> str:
 
 def _made(action: List[Any]) -> str:
     """The name of the Deferred that an action makes, which not only actions are to fire."""
-    if len(action) > 2 and action[0] == "loop":
-        return _text(action[2])
-    return (
-        _text(action[1])
-        if len(action) > 1 and isinstance(action[0], str) and action[0] in _MAKERS
-        else ""
-    )
+    place = _MADE.get(action[0]) if action and isinstance(action[0], str) else None
+    return _text(action[place + 1]) if place is not None and len(action) > place + 1 else ""
 
 
 def compact(value: object) -> str:

@@ -6,11 +6,13 @@ from __future__ import annotations
 
 from typing import List, NamedTuple, Sequence
 
+from ..language import LANGUAGE
 from .lines import Entry
 from .nesting import Place
 
-_DUE = frozenset({"call", "turn", "tick", "deliver", "timeout", "post"})
-_CLOSERS = frozenset({"set", "take", "wait"})
+_DUE = LANGUAGE.lines_that("due", "turn", "tick")
+_CLOSERS = LANGUAGE.lines_that("ends")
+_OUTER = LANGUAGE.lines_that("outer")
 
 
 class _Open(NamedTuple):
@@ -40,7 +42,7 @@ class Sections:
         elif not in_side:
             self._leave(entry)
         place = Place(event, self._open[-1].row if self._open else None, len(self._open))
-        if entry.word in ("run", "advance", "drain") or (
+        if entry.word == "run" or entry.word in _OUTER or (
             not in_side and (entry.word == "step" or self._is_due(entry))
         ):
             self._open.append(_Open(entry.row, entry.word))
@@ -57,7 +59,7 @@ class Sections:
             if self._open and self._open[-1].word == "step":
                 self._open.pop()
         elif self._is_due(entry):
-            while self._open and self._open[-1].word not in ("advance", "drain"):
+            while self._open and self._open[-1].word not in _OUTER:
                 self._open.pop()
 
 
