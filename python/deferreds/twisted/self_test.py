@@ -187,7 +187,7 @@ def _program() -> None:
 class _Unnamed(Teller):
     """Logs a program whose Deferreds have no names."""
 
-    def locate(self, record: Record) -> None:
+    def locate(self, record: Record, by_twisted: bool = False) -> None:
         """Names a Deferred."""
         record.name = "-"
 

@@ -125,11 +125,29 @@ def switching(function: _Function) -> _Function:
     return function
 
 
+def know_attributes(first: object, names: Iterable[str]) -> None:
+    """Has Python know which attributes objects of a class may have later, beside those that each has from the beginning.
+
+    It finds them soonest where the first object of the class has all, and where they are 30 at most.
+    """
+    for name in names:
+        setattr(first, name, getattr(first, name))
+
+
 class Record:
     """What is known of a Deferred. It doesn't keep that alive."""
 
-    #: what it had before that was taken
-    before = NULL
+    # what is read often is set when it is made, and is found sooner then
+
+    name: Optional[str] = None
+    number: Optional[int] = None
+    #: where in the program it was made, by which it is named
+    made_at: Optional[Tuple[Any, ...]] = None
+    fired = False
+    waits_for: Optional["Record"] = None
+    #: whether a side of its own has run whose result isn't in place yet, and what that is, where it is known
+    ran = False
+    same: Optional[Outcome] = None
     pauses = 0
     #: the body of the side that ran last
     side: Any = None
@@ -138,24 +156,14 @@ class Record:
     came: Optional[Dict[int, Outcome]] = None
     #: of an inline body: its frame
     body: Optional["Frame"] = None
-    made_in: Optional["Frame"] = None
     alias: Optional["Record"] = None
     helper = False
 
-    def __init__(self) -> None:
-        # what is asked for often is found sooner on the object than on its class
-        self.name: Optional[str] = None
-        self.number: Optional[int] = None
-        #: where in the program it was made, by which it is named
-        self.made_at: Optional[Tuple[Any, ...]] = None
-        self.fired = False
-        #: whether it is being fired, and what with isn't in place yet
-        self.starts = False
+    def __init__(self, made_in: Optional["Frame"] = None) -> None:
+        self.made_in = made_in
         self.outcome = NULL
-        self.waits_for: Optional[Record] = None
-        #: whether a side of its own has run whose result isn't in place yet, and what that is, where it is known
-        self.ran = False
-        self.same: Optional[Outcome] = None
+        #: what it had before that was taken
+        self.before = NULL
         #: of a Deferred that Twisted makes for a cancelled inline body: the one that the program knows
         self.hidden_of: Optional[Record] = None
 
@@ -177,17 +185,31 @@ class Record:
         return f"paused {state}" if self.pauses > 0 else state
 
 
+know_attributes(
+    Record(),
+    ("name", "number", "made_at", "fired", "waits_for", "ran", "same")
+    + ("pauses", "side", "kind", "came", "body", "alias", "helper"),
+)
+
+
 class Thing:
     """A lock, queue, delayed call, loop or task, by the name that its lines show."""
 
-    def __init__(self, name: str) -> None:
+    alias: Optional["Thing"] = None
+
+    def __init__(self, name: str, find_name: Optional[Callable[[], None]] = None) -> None:
+        """`find_name` sets the name where that isn't known yet, and is called where it is asked for."""
         self.own_name = name
-        self.alias: Optional[Thing] = None
+        self.find_name = find_name
 
     @property
     def name(self) -> str:
         """The name, which is another's where that was found to be the same."""
-        return self.own_name if self.alias is None else self.alias.name
+        if self.alias is not None:
+            return self.alias.name
+        if self.find_name is not None:
+            self.find_name()
+        return self.own_name
 
     def __str__(self) -> str:
         return self.name
@@ -303,35 +325,34 @@ class Expected:
 class Watching:
     """Has Twisted be watched by an observer while this is entered, once. (It is no generator, since each test enters some.)"""
 
-    __slots__ = ("_observer", "_before", "_was_on", "_limit")
-
     def __init__(self, observer: "Observer") -> None:
         self._observer = observer
+        #: how many frames there could be on Python's stack, where the observer was on nowhere
+        self._limit = 0
 
     def __enter__(self) -> "Observer":
         observer = self._observer
         self._before, watched.observer = watched.observer, observer
-        if observer.is_on:
-            self._was_on = True
-            return observer
-        self._was_on, observer.is_on, observer.thread = False, True, get_ident()
-        observers_on.append(observer)
-        self._limit = limit = getrecursionlimit()
-        setrecursionlimit(limit * observer.stack_room)
+        if not observer.is_on:
+            observer.is_on, observer.thread = True, get_ident()
+            observers_on.append(observer)
+            self._limit = limit = getrecursionlimit()
+            setrecursionlimit(limit * observer.stack_room)
         return observer
 
     def __exit__(self, *error: object) -> None:
         watched.observer = self._before
-        if self._was_on:
+        limit = self._limit
+        if not limit:
             return
         observer = self._observer
-        if observer in observers_on:
-            observers_on.remove(observer)
+        if observer.is_on and observers_on[-1] is observer:
+            del observers_on[-1]
             observer.is_on = False
         else:
             _take_off(observer.lineage)
-        if getrecursionlimit() == self._limit * observer.stack_room:
-            setrecursionlimit(self._limit)
+        if getrecursionlimit() == limit * observer.stack_room:
+            setrecursionlimit(limit)
 
 
 def _take_off(lineage: object) -> None:
@@ -370,6 +391,18 @@ class Observer:
     elsewhere = 0
     #: whether what is due is run after an error of a delayed call too, as under a reactor
     goes_on_after_errors = False
+    #: the thread in which it is on
+    thread = 0
+    #: the Deferred to which a cancel is being passed on along a wait
+    forwarded: Optional[Deferred[Any]] = None
+    #: what the body that has ended last gave, where it was asked for
+    gave: Optional[Outcome] = None
+    #: the inline bodies that are being cancelled
+    cancelling: Tuple[Record, ...] = ()
+    #: the number of Python for the failure that was told last, by the event that happens
+    _told: Optional[int] = None
+    #: the body of the turn that Twisted is about to perform
+    turn: Any = None
 
     def __init__(
         self,
@@ -379,36 +412,29 @@ class Observer:
         top: Optional[Frame] = None,
     ) -> None:
         self.kinds = kinds
-        self.classes = Classes() if classes is None else classes
-        self.texts: Texts = Texts(self.classes) if texts is None else texts
+        self.texts: Texts = Texts(Classes() if classes is None else classes) if texts is None else texts
         #: the parts of all lines, each line followed by None. No line is an object of its own, since Python's collector
         #: of garbage goes over all objects again and again
         self.parts: List[Optional[Part]] = []
         #: tells a line: its parts, followed by None
         self.tell_line: Callable[[Sequence[Optional[Part]]], None] = self.parts.extend
         self.records: List[Record] = []
-        self.top = Frame("event") if top is None else top
-        self.frame = self.top
+        self.top = self.frame = Frame("event") if top is None else top
         #: whether Twisted's own code performs an action; where it doesn't, nobody has to ask whether this is `quiet`
         self.acting = False
-        #: the Deferred to which a cancel is being passed on along a wait
-        self.forwarded: Optional[Deferred[Any]] = None
-        #: what the body that has ended last gave, where it was asked for
-        self.gave: Optional[Outcome] = None
-        #: the inline bodies that are being cancelled
-        self.cancelling: List[Record] = []
         #: where Twisted did what an entry of docs/PROFILE.md names: how many parts were told before, and the entry
         self.quirks: List[Tuple[int, Entry]] = []
-        self._told: Optional[int] = None
         #: the told time, where the clock is a real reactor
         self.pace: Any = None
         #: one object for all observers that take over from each other
-        self.lineage: object = object()
-        self.thread = get_ident()
+        self.lineage = object()
         #: the function after which the next Deferred is named, where that isn't the one that makes it
         self.maker: Optional[str] = None
-        #: the body of the turn that Twisted is about to perform
-        self.turn: Any = None
+
+    @property
+    def classes(self) -> Classes:
+        """The classes of failures that this run knows."""
+        return self.texts.classes
 
     def watching(self) -> "Watching":
         """Has Twisted be watched by this observer, and by no other, while what this gives is entered."""
@@ -499,11 +525,18 @@ class Observer:
         known = deferred._dv_record
         return known is not None and isinstance(known[0], Settled) and known[0].observer is self
 
-    def locate(self, record: Record) -> None:
-        """Notes where the program makes a Deferred, if it is named by that."""
+    def locate(self, record: Record, by_twisted: bool = False) -> None:
+        """Notes where the program makes a Deferred, or Twisted's own code for it, if it is named by that."""
 
-    def made(self, deferred: Deferred[Any], record: Record, kind: str = "") -> None:
-        """A Deferred was made: it gets its name, and is told."""
+    def make(self, deferred: Deferred[Any]) -> None:
+        """The program has made a Deferred that has no canceller, while it performs no action."""
+        record = Record(self.frame)
+        self.keep(deferred, record)
+        self.locate(record)
+        self.act(Action(("deferred", record)), self.made, deferred, record)
+
+    def made(self, deferred: Deferred[Any], record: Record, kind: str = "", by_twisted: bool = False) -> None:
+        """A Deferred was made, maybe by Twisted's own code while that performs an action: it gets its name, and is told."""
         frame = self.frame
         expected = self._next_expected() if frame.expected else None
         if frame.anonymous:
@@ -511,7 +544,7 @@ class Observer:
         elif expected is not None and expected.name is not None:
             record.name = expected.name
         elif record.made_at is None:
-            self.locate(record)
+            self.locate(record, by_twisted)
         self.maker = None
         if kind:
             record.kind = kind
@@ -565,6 +598,17 @@ class Observer:
 
     # actions and bodies
 
+    def begin_plain(self, action: Action, inside: int) -> Any:
+        """The program performs an action in which none of its code is called, while it performs no other. Gives what ends it.
+
+        So many frames, from the caller's on, are known not to be the program's.
+        """
+        self.acting = True
+
+    def end_plain(self, begun: Any, action: Action, error: Optional[BaseException] = None) -> None:
+        """It has ended, or has failed."""
+        self.acting = False
+
     @switching
     def act(self, action: Action, call: Callable[..., Any], *args: Any) -> Any:
         """Performs a call of the program's into Twisted."""
@@ -582,6 +626,17 @@ class Observer:
             return call(*args)
         finally:
             self.acting = acting
+
+    def begin_side(self, body: Any, given: Outcome) -> Frame:
+        """A side of the program's begins, and is the run of a body in which the program is."""
+        frame = self.begin_body(body, "callback", (None, given))
+        self.frame, self.acting = frame, False
+        return frame
+
+    def end_side(self, frame: Frame, result: object, value: object, given: Outcome) -> Optional[Outcome]:
+        """It has ended with this result, for a value that was shown so. Gives how the result is shown, where that is known."""
+        self.end_body(frame, None, result, (value, given))
+        return self.gave
 
     def perform(
         self,

@@ -6,7 +6,7 @@ import functools
 import math
 from typing import Any, Callable, Dict, List, NamedTuple, Optional
 
-from twisted.internet import task
+from twisted.internet import base, task
 
 from ..profile import Entry
 from ..telling import Action, Line, Observer, Time, observer_of, watched
@@ -79,18 +79,18 @@ def schedule(clock: task.Clock, delay: float, f: Callable[[], object]) -> Any:
 
 def keep_timer(watcher: Observer, call: Any) -> None:
     """Has a call be known as a timer, which no action of the language moves or ends."""
-    call.__dict__["_dv_timer"] = watcher
+    call._dv_timer = watcher
 
 
 def refuse_timer(watcher: Optional[Observer], call: Any, name: str) -> None:
     """A call on a timer, which the language hasn't."""
-    if watcher is not None and not watcher.quiet and call.__dict__.get("_dv_timer") is watcher:
+    if watcher is not None and call._dv_timer is watcher and not watcher.quiet:
         watcher.problem(f"the {name} of a timer that addTimeout has set", "timer")
 
 
 def delayed_of(watcher: Observer, call: Any) -> Optional[Delayed]:
     """What is known of a delayed call."""
-    known = call.__dict__.get("_dv_delayed")
+    known = call._dv_delayed
     return known[1] if known is not None and known[0] is watcher else None
 
 
@@ -132,7 +132,7 @@ def _act_later(
     def schedule() -> Any:
         watcher.tell("later call ", delayed.thing, " ", due_time(watcher, delay))
         call: Any = _later(clock, delay, due, *args, **kwargs)
-        call.__dict__["_dv_delayed"] = (watcher, delayed)
+        call._dv_delayed = (watcher, delayed)
         return call
 
     return watcher.act(delayed.action, schedule)
@@ -197,6 +197,9 @@ def run_due(clock: task.Clock) -> None:
 
 def install() -> None:
     """Puts the instrument into Clock."""
+    # an object whose `__dict__` is asked for is slower from then on, so these are attributes
+    for name in ("_dv_delayed", "_dv_timer", "_dv_waiting"):
+        setattr(base.DelayedCall, name, None)
     wrapped: Dict[str, Callable[..., Any]] = {
         "callLater": _instrumented_later,
         "advance": _instrumented_advance,

@@ -7,6 +7,9 @@ can be told from what the Deferred is doing, so that nothing depends on the line
 - it waits for another: that one hands its value over;
 - what it has is a Deferred: it takes the value of that one;
 - otherwise None is left in it, since its value was taken or handed over.
+
+So `result` is a property, whose value is in the attribute `_dv_result`. Twisted's own functions that fire a Deferred and
+run its callbacks find it there, which takes Python a tenth of the time.
 """
 
 from __future__ import annotations
@@ -14,7 +17,6 @@ from __future__ import annotations
 import functools
 import sys
 from functools import partial
-from operator import attrgetter
 from types import CodeType, FunctionType, MethodType
 from typing import Any, Callable, Dict, List, Optional, Tuple
 
@@ -34,9 +36,11 @@ from ..telling import (
     is_deferred,
     observers_on,
     refuse_elsewhere,
+    switching,
     watched,
 )
 from ..texts import NULL, Outcome
+from .renaming import renamed
 
 #: typed as a function by Twisted, since its overloads say what it gives
 DeferredList: Any = defer.DeferredList
@@ -44,15 +48,17 @@ DeferredList: Any = defer.DeferredList
 _init = Deferred.__init__
 _add_callbacks: Callable[..., Any] = Deferred.addCallbacks
 _chain_deferred = Deferred.chainDeferred
-_start = Deferred._startRunCallbacks
-_run_callbacks = Deferred._runCallbacks
+_start = renamed(Deferred._startRunCallbacks, "result", "_dv_result", "_dv_result")
+_run_callbacks = renamed(Deferred._runCallbacks, "result", "_dv_result", "_dv_result")
+#: the same, which tells what it sets
+_run_telling = renamed(Deferred._runCallbacks, "result", "_dv_result", "_dv_told_result")
 _continuation = Deferred._continuation
 _pause = Deferred.pause
 _unpause = Deferred.unpause
 _cancel = Deferred.cancel
 _list_cancel = DeferredList.cancel
-_run_code: CodeType = _run_callbacks.__code__
-_DEFER = _run_code.co_filename
+_run_code: CodeType = getattr(_run_callbacks, "__code__")
+_telling_code: CodeType = getattr(_run_telling, "__code__")
 _succeed_code: CodeType = defer.succeed.__code__
 _inline_code: CodeType = defer._inlineCallbacks.__code__
 
@@ -87,14 +93,8 @@ special_pairs: Dict[str, AddSpecial] = {}
 
 def qualified(function: object) -> str:
     """The name of a function or method with those of what it stands in. Any other object, which might run code, has none."""
-    return str(getattr(function, "__qualname__", "")) if type(function) in (FunctionType, MethodType) else ""
-
-
-class _NoResult:
-    """What a Deferred has in place of the attribute `_dv_result` until it has a result."""
-
-    def __get__(self, deferred: object, owner: object) -> Any:
-        raise AttributeError(f"{type(deferred).__name__!r} object has no attribute 'result'")
+    kind = type(function)
+    return str(getattr(function, "__qualname__", "")) if kind is FunctionType or kind is MethodType else ""
 
 
 def result_of(deferred: Deferred[Any]) -> object:
@@ -102,29 +102,47 @@ def result_of(deferred: Deferred[Any]) -> object:
     return getattr(deferred, "_dv_result", _NO_RESULT)
 
 
+def _get_result(deferred: Any) -> Any:
+    """The attribute `result` of a Deferred."""
+    try:
+        return deferred._dv_result
+    except AttributeError:
+        raise AttributeError(f"{type(deferred).__name__!r} object has no attribute 'result'") from None
+
+
 def _set_result(deferred: Any, value: object) -> None:
-    """Sets the attribute `result` of a Deferred, and tells what has come about by that."""
-    if not observers_on:
-        deferred._dv_result = value
-        return
+    """Sets the attribute `result` of a Deferred where its callbacks aren't run: later Twisteds do so in `succeed`."""
+    watcher = watched.observer if observers_on else None
+    if watcher is not None:
+        if not deferred.called and sys._getframe(1).f_code is _succeed_code:
+            _tell_made_fired(watcher, deferred, value)
+        else:
+            watcher.problem("the result of a Deferred is set by hand")
+    deferred._dv_result = value
+
+
+def _set_told_result(deferred: Any, value: object) -> None:
+    """Sets what a Deferred has where its callbacks are run, and tells what has come about by that."""
     watcher = watched.observer
     if watcher is None:
         deferred._dv_result = value
         return
-    code = sys._getframe(1).f_code
-    if not deferred.called and code is _succeed_code:
-        _tell_made_fired(watcher, deferred, value)
-    elif watcher.acting and code.co_filename == _DEFER:
-        known = deferred._dv_record
-        record = known[1] if known is not None and known[0] is watcher else watcher.record(deferred)
-        if record.ran:
-            _tell_side_ended(watcher, record, value)
-        elif record.starts:
-            record.starts = False
-        else:
-            _tell_moved(watcher, deferred, record, result_of(deferred), value)
-    else:
+    known = deferred._dv_record
+    record = known[1] if known is not None and known[0] is watcher else watcher.record(deferred)
+    if not watcher.acting:
         watcher.problem("the result of a Deferred is set by hand")
+    elif record.ran:
+        record.ran = False
+        same = record.same
+        if same is not None:
+            record.same = None
+            tell_line = watcher.tell_line
+            tell_line(("set ", record, " ", same, None))
+            record.outcome = same
+        elif not is_deferred(value):
+            _tell_set(watcher, record, value)
+    else:
+        _tell_moved(watcher, deferred, record, result_of(deferred), value)
     deferred._dv_result = value
 
 
@@ -146,7 +164,8 @@ def _tell_made_fired(watcher: Observer, deferred: Deferred[Any], value: object) 
 def _tell_fired(watcher: Observer, record: Record, result: object, outcome: Outcome) -> None:
     if is_deferred(result):
         watcher.problem("a Deferred is fired with a Deferred")  # earlier Twisteds refuse it
-    watcher.tell_line(("fire ", record, " ", outcome, None))
+    tell_line = watcher.tell_line
+    tell_line(("fire ", record, " ", outcome, None))
     record.fired, record.outcome = True, outcome
 
 
@@ -169,22 +188,12 @@ def _tell_moved(
         record.before, record.outcome = record.outcome, NULL
 
 
-def _tell_side_ended(watcher: Observer, record: Record, value: object) -> None:
-    record.ran = False
-    same = record.same
-    if same is not None:
-        record.same = None
-        watcher.tell_line(("set ", record, " ", same, None))
-        record.outcome = same
-    elif not is_deferred(value):
-        _tell_set(watcher, record, value)
-
-
 def _tell_set(watcher: Observer, record: Record, value: object) -> None:
     outcome = watcher.texts.outcome(value)
     if isinstance(value, Failure) and isinstance(value.value, RecursionError):
         watcher.quirk(Entry.PYTHON_STACK)
-    watcher.tell_line(("set ", record, " ", outcome, None))
+    tell_line = watcher.tell_line
+    tell_line(("set ", record, " ", outcome, None))
     record.outcome = outcome
 
 
@@ -220,8 +229,11 @@ def _instrumented_init(self: Deferred[Any], canceller: Optional[Canceller] = Non
         count_elsewhere()
         _init(self, canceller)
         return
-    record = Record()
-    record.made_in = watcher.frame
+    if canceller is None and not watcher.acting:
+        _init(self)
+        watcher.make(self)
+        return
+    record = Record(watcher.frame)
     if canceller is not None and is_inline_canceller(canceller) and "inline" in watcher.kinds:
         _init(self, canceller)
         if sys._getframe(1).f_code.co_name in _HANDLERS_OF_CANCELS:
@@ -234,7 +246,7 @@ def _instrumented_init(self: Deferred[Any], canceller: Optional[Canceller] = Non
     if watcher.acting and watcher.quiet:
         _init(self, canceller)
         watcher.keep(self, record)
-        watcher.made(self, record)
+        watcher.made(self, record, "", True)
         return
     _act_deferred(watcher, self, record, canceller)
 
@@ -242,7 +254,7 @@ def _instrumented_init(self: Deferred[Any], canceller: Optional[Canceller] = Non
 def _act_deferred(
     watcher: Observer, deferred: Deferred[Any], record: Record, canceller: Optional[Canceller]
 ) -> None:
-    """The program makes a Deferred."""
+    """The program makes a Deferred, which may have a canceller, or may be made inside an action."""
     action = Action(("deferred", record))
     if canceller is not None and callable(canceller):
         body = watcher.new_body("canceller")
@@ -256,8 +268,8 @@ def _act_deferred(
 
 def is_inline_canceller(canceller: object) -> bool:
     """Whether it is the canceller that Twisted gives the Deferred of an inline body."""
-    maker, _, _ = qualified(canceller).partition(".<locals>.")
-    return maker in _MAKERS_OF_INLINE
+    name = qualified(canceller)
+    return "InlineCallbacks" in name and name.partition(".<locals>.")[0] in _MAKERS_OF_INLINE
 
 
 def _cancelled_inline(watcher: Observer) -> Optional[Record]:
@@ -300,7 +312,7 @@ def _instrumented_add(
         _add_callbacks(self, callback, errback, callbackArgs, callbackKeywords, errbackArgs, errbackKeywords)
         return self
     errback = _failthru if errback is None else errback
-    _add(watcher, self, callback, errback, (callbackArgs, callbackKeywords, errbackArgs, errbackKeywords))
+    _add(watcher, self, callback, errback, callbackArgs, callbackKeywords, errbackArgs, errbackKeywords)
     return self
 
 
@@ -309,15 +321,68 @@ def _add(
     deferred: Any,
     callback: Callable[..., Any],
     errback: Callable[..., Any],
-    arguments: PairArguments,
+    on_value: Any,
+    by_name: Any,
+    on_failure: Any,
+    by_name_on_failure: Any,
 ) -> None:
     """A pair is added where an observer is on."""
     if not callable(callback) or not callable(errback):
-        _add_callbacks(deferred, callback, errback, *arguments)
+        _add_callbacks(deferred, callback, errback, on_value, by_name, on_failure, by_name_on_failure)
         watcher.problem("a callback that can't be called")  # earlier Twisteds refuse it
         return
     known = deferred._dv_record
     record = known[1] if known is not None and known[0] is watcher else watcher.record(deferred)
+    if watcher.acting or deferred.called or record.hidden_of is not None:
+        _add_odd(watcher, deferred, record, callback, errback, (on_value, by_name, on_failure, by_name_on_failure))
+        return
+    if errback is _failthru:
+        # what most programs do takes Python least here
+        body = watcher.new_body("callback")
+        action = Action(("addCallback", record, body))
+        first, second = _side(watcher, record, callback, body), errback
+    else:
+        arguments = (on_value, by_name, on_failure, by_name_on_failure)
+        special = special_pairs.get(qualified(errback))
+        if special is not None and special(watcher, deferred, record, callback, errback, arguments):
+            return
+        action, first, second = _pair(watcher, record, callback, errback, arguments)
+    _add_plain(watcher, deferred, action, first, second, on_value, by_name, on_failure, by_name_on_failure)
+
+
+@switching
+def _add_plain(
+    watcher: Observer,
+    deferred: Any,
+    action: Action,
+    first: Callable[..., Any],
+    second: Callable[..., Any],
+    on_value: Any,
+    by_name: Any,
+    on_failure: Any,
+    by_name_on_failure: Any,
+) -> None:
+    """The program adds a pair that doesn't run yet."""
+    begun = watcher.begin_plain(action, 3)
+    try:
+        tell_line = watcher.tell_line
+        tell_line(("add ", action[1], None))
+        _add_callbacks(deferred, first, second, on_value, by_name, on_failure, by_name_on_failure)
+    except BaseException as error:
+        watcher.end_plain(begun, action, error)
+        raise
+    watcher.end_plain(begun, action)
+
+
+def _add_odd(
+    watcher: Observer,
+    deferred: Any,
+    record: Record,
+    callback: Callable[..., Any],
+    errback: Callable[..., Any],
+    arguments: PairArguments,
+) -> None:
+    """A pair is added to a Deferred that is fired, or hidden, or while Twisted's own code acts."""
     if record.hidden_of is not None:
         if not watcher.quiet:
             watcher.problem("the hidden Deferred of a cancelled inline body is used", "inline")
@@ -330,10 +395,6 @@ def _add(
     if watcher.acting and watcher.quiet:
         first, second = _own_side(watcher, record, callback), _own_side(watcher, record, errback)
         _tell_pair(watcher, deferred, record, first, second, arguments)
-    elif errback is _failthru:
-        body = watcher.new_body("callback")
-        first = _side(watcher, record, callback, body)
-        watcher.act(Action(("addCallback", record, body)), _tell_pair, watcher, deferred, record, first, errback, arguments)
     else:
         action, first, second = _pair(watcher, record, callback, errback, arguments)
         watcher.act(action, _tell_pair, watcher, deferred, record, first, second, arguments)
@@ -350,17 +411,13 @@ def _pair(
     body = watcher.new_body("callback")
     if errback is _failthru:
         return Action(("addCallback", record, body)), _side(watcher, record, callback, body), errback
-    action = Action(("addBoth", record, body))
-    first = _side(watcher, record, callback, body)
     if callback is _passthru:
-        action[0], second = "addErrback", _side(watcher, record, errback, body)
-    elif not _is_same_function(callback, errback) or not _are_same(arguments):
-        action[0], other = "addCallbacks", watcher.new_body("callback")
-        action.append(other)
-        second = _side(watcher, record, errback, other)
-    else:
-        second = first
-    return action, first, second
+        return Action(("addErrback", record, body)), callback, _side(watcher, record, errback, body)
+    first = _side(watcher, record, callback, body)
+    if _is_same_function(callback, errback) and _are_same(arguments):
+        return Action(("addBoth", record, body)), first, first
+    other = watcher.new_body("callback")
+    return Action(("addCallbacks", record, body, other)), first, _side(watcher, record, errback, other)
 
 
 def _is_same_function(one: object, other: object) -> bool:
@@ -402,7 +459,8 @@ def _tell_pair(
     arguments: PairArguments,
 ) -> None:
     """Tells that a pair is added, and adds it."""
-    watcher.tell_line(("add ", record, None))
+    tell_line = watcher.tell_line
+    tell_line(("add ", record, None))
     _add_callbacks(deferred, callback, errback, *arguments)
 
 
@@ -449,13 +507,21 @@ def _run_side(
 ) -> object:
     if watched.observer is not watcher:
         return call(*args, **kwargs)
-    watcher.tell_line(("run ", record, None))
+    tell_line, given = watcher.tell_line, record.outcome
+    tell_line(("run ", record, None))
     record.side = body
+    before, acting = watcher.frame, watcher.acting
+    run = watcher.begin_side(body, given)
     try:
-        result = watcher.perform(body, "callback", (args[0], record.outcome), call, args, kwargs)
-        record.same = watcher.gave
+        result = call(*args, **kwargs)
+    except BaseException as error:
+        watcher.end_body(run, error, None, (args[0], given))
+        raise
+    else:
+        record.same = watcher.end_side(run, result, args[0], given)
         return result
     finally:
+        watcher.frame, watcher.acting = before, acting
         record.ran = True
 
 
@@ -465,7 +531,8 @@ def _run_own_side(
     if watched.observer is not watcher:
         return call(*args, **kwargs)
     value = args[0]
-    watcher.tell_line(("run ", record, None))
+    tell_line = watcher.tell_line
+    tell_line(("run ", record, None))
     given, frame = record.outcome, watcher.frame
     before, frame.passing = frame.passing, (value, given)
     if getattr(call, "__func__", None) is DeferredList._cbDeferred:
@@ -519,7 +586,7 @@ def _instrumented_add_callback(
             refuse_elsewhere(self)
         _add_callbacks(self, callback, None, args, kwargs)
         return self
-    _add(watcher, self, callback, _failthru, (args, kwargs, (), _NO_KEYWORDS))
+    _add(watcher, self, callback, _failthru, args, kwargs, (), _NO_KEYWORDS)
     return self
 
 
@@ -535,7 +602,7 @@ def _instrumented_add_errback(
         _add_callbacks(self, _passthru, errback, (), _NO_KEYWORDS, args, kwargs)
         return self
     given = _failthru if errback is None else errback
-    _add(watcher, self, _passthru, given, ((), _NO_KEYWORDS, args, kwargs))
+    _add(watcher, self, _passthru, given, (), _NO_KEYWORDS, args, kwargs)
     return self
 
 
@@ -558,12 +625,12 @@ def _instrumented_add_both(
         _add_callbacks(self, callback, callback, args, kwargs, args, kwargs)
         return self
     errback = _failthru if callback is None else callback
-    _add(watcher, self, callback, errback, (args, kwargs, args, kwargs))
+    _add(watcher, self, callback, errback, args, kwargs, args, kwargs)
     return self
 
 
 def _instrumented_chain(self: Deferred[Any], other: Deferred[Any]) -> Any:
-    watcher = watched.observer
+    watcher = watched.observer if observers_on else None
     if watcher is None or watcher.quiet or not _fires_as_twisted_does(other):
         return _chain_deferred(self, other)  # told as the pair that it is made of
     action = Action(["chain", watcher.record(self), watcher.record(other)])
@@ -592,8 +659,8 @@ def _instrumented_start(self: Any, result: object) -> None:
         return
     known = self._dv_record
     record = known[1] if known is not None and known[0] is watcher else watcher.record(self)
-    if _INTERNAL and "inline" in watcher.kinds and _is_internal(result):
-        record.fired = record.starts = True
+    if isinstance(result, Failure) and isinstance(result.value, _INTERNAL) and "inline" in watcher.kinds:
+        record.fired = True
         _start(self, result)
     elif watcher.acting and watcher.quiet:
         if is_dead_reference(result):
@@ -627,11 +694,6 @@ _INTERNAL: Tuple[type, ...] = tuple(
 )
 
 
-def _is_internal(result: object) -> bool:
-    """Whether it is the error by which Twisted cancels an inline body."""
-    return isinstance(result, Failure) and isinstance(result.value, _INTERNAL)
-
-
 def _ends_inline(watcher: Observer) -> bool:
     """Whether an inline body fires its own Deferred: its caller's caller is Twisted's loop over bodies."""
     return "inline" in watcher.kinds and sys._getframe(3).f_code is _inline_code
@@ -646,13 +708,13 @@ def _fire(
     elif not deferred.called:
         if is_deferred(result):
             watcher.problem("a Deferred is fired with a Deferred")  # earlier Twisteds refuse it
-        watcher.tell_line(("fire ", record, " ", outcome, None))
+        tell_line = watcher.tell_line
+        tell_line(("fire ", record, " ", outcome, None))
         record.fired, record.outcome = True, outcome
     elif deferred._suppressAlreadyCalled:
         watcher.tell("swallow ", record)
     else:
         watcher.tell("refuse ", record)
-    record.starts = not deferred.called
     try:
         _start(deferred, result)
     except defer.AlreadyCalledError as error:
@@ -696,9 +758,9 @@ def _tell_hidden_firing(
 
 def _instrumented_continuation(self: Deferred[Any]) -> Any:
     """Twisted asks for this where a Deferred comes to wait for what it has."""
-    watcher = watched.observer
+    watcher = watched.observer if observers_on else None
     if watcher is not None:
-        held: Any = self.result
+        held = result_of(self)
         record, other = watcher.record(self), watcher.record(held)
         if other.hidden_of is None:
             watcher.tell("wait ", record, " ", other)
@@ -711,13 +773,13 @@ def _instrumented_run(self: Deferred[Any]) -> None:
         _run_callbacks(self)
         return
     watcher = watched.observer
-    if watcher is None or self._runningCallbacks:
+    if watcher is None or self._runningCallbacks or not self.callbacks:
         _run_callbacks(self)
         return
     givers: List[Tuple[Deferred[Any], int]] = []
     _givers.append(givers)
     try:
-        _run_callbacks(self)
+        _run_telling(self)
     finally:
         _givers.pop()
     for giver, place in givers:
@@ -733,10 +795,14 @@ def _is_abandoned(giver: Deferred[Any]) -> bool:
 
 
 def _instrumented_pause(self: Deferred[Any]) -> None:
+    if not observers_on:
+        _pause(self)
+        return
     watcher = watched.observer
     if watcher is None:
         refuse_elsewhere(self)
-    if watcher is None or watcher.quiet or sys._getframe(1).f_code is _run_code:
+    code = sys._getframe(1).f_code
+    if watcher is None or watcher.quiet or code is _telling_code or code is _run_code:
         _pause(self)
         return
     record = watcher.record(self)
@@ -752,6 +818,9 @@ def _tell_paused(watcher: Observer, deferred: Deferred[Any], record: Record) -> 
 
 
 def _instrumented_unpause(self: Deferred[Any]) -> None:
+    if not observers_on:
+        _unpause(self)
+        return
     watcher = watched.observer
     if watcher is None:
         refuse_elsewhere(self)
@@ -776,7 +845,7 @@ def _instrumented_cancel(self: Deferred[Any]) -> None:
 
 
 def _instrumented_list_cancel(self: Any) -> None:
-    watcher = watched.observer
+    watcher = watched.observer if observers_on else None
     if watcher is not None and watcher.record(self).kind != "list" and not self.called:
         if watcher.quiet:
             watcher.problem("a cancel reaches a DeferredList that isn't recorded as one", "list")
@@ -786,6 +855,9 @@ def _instrumented_list_cancel(self: Any) -> None:
 
 
 def _cancelled(deferred: Deferred[Any], cancel: Callable[[Any], None]) -> None:
+    if not observers_on:
+        cancel(deferred)
+        return
     watcher = watched.observer
     if watcher is None:
         refuse_elsewhere(deferred)
@@ -820,11 +892,12 @@ def _tell_cancel(
         cancel(deferred)
         return
     _note_cancelled_inline(watcher, record)
-    watcher.cancelling.append(record)
+    before = watcher.cancelling
+    watcher.cancelling = (*before, record)
     try:
         cancel(deferred)
     finally:
-        watcher.cancelling.pop()
+        watcher.cancelling = before
 
 
 def _note_cancelled_inline(watcher: Observer, record: Record) -> None:
@@ -900,8 +973,8 @@ _warn: Callable[..., Any] = getattr(defer, "warnAboutFunction")
 def install() -> None:
     """Puts the instrument into Deferred and DeferredList."""
     setattr(defer, "warnAboutFunction", _warn_about)
-    setattr(Deferred, "result", property(attrgetter("_dv_result"), _set_result, _delete_result))
-    setattr(Deferred, "_dv_result", _NoResult())
+    setattr(Deferred, "result", property(_get_result, _set_result, _delete_result))
+    setattr(Deferred, "_dv_told_result", property(fset=_set_told_result))
     setattr(Deferred, "_dv_record", None)
     wrapped: Dict[str, Callable[..., Any]] = {
         "__init__": _instrumented_init,

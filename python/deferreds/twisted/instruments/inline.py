@@ -162,9 +162,14 @@ def _tell_failure_taken(watcher: Observer, deferred: Deferred[Any], failure: Fai
     if "inline" in watcher.kinds and frame.kind == "inline" and not watcher.acting:
         watcher.own(_await_failure, watcher, deferred, record, failure)
     elif not watcher.quiet:
-        body = watcher.new_body("callback")
-        watcher.begin_body(body, "callback", (failure, record.outcome)).end = ["return", None]
-        watcher.act(Action(["addErrback", record, body]), watcher.settle, deferred, record)
+        _take_by_errback(watcher, deferred, record, failure)
+
+
+def _take_by_errback(watcher: Observer, deferred: Deferred[Any], record: Record, failure: Failure) -> None:
+    """Tells that an errback takes the failure of a Deferred, and gives None."""
+    body = watcher.new_body("callback")
+    watcher.begin_body(body, "callback", (failure, record.outcome)).end = ["return", None]
+    watcher.act(Action(["addErrback", record, body]), watcher.settle, deferred, record)
 
 
 def _await_failure(watcher: Observer, deferred: Deferred[Any], record: Record, failure: Failure) -> None:

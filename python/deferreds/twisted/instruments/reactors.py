@@ -52,12 +52,12 @@ def schedule_waiting(watcher: Observer, reactor: Any, delay: float, waiting: Wai
 
 def _keep_waiting(watcher: Observer, call: Any, waiting: Waiting) -> None:
     """Has a delayed call be known as what waits."""
-    call.__dict__["_dv_waiting"] = (watcher, waiting)
+    call._dv_waiting = (watcher, waiting)
 
 
 def waiting_of(watcher: Optional[Observer], call: Any) -> Optional[Waiting]:
     """What a delayed call is known as."""
-    known = call.__dict__.get("_dv_waiting")
+    known = call._dv_waiting
     return known[1] if known is not None and known[0] is watcher else None
 
 
@@ -137,7 +137,7 @@ def _act_later(watcher: Observer, reactor: Any, delay: float, f: Callable[..., A
         delayed.action[2] = waiting.delay
         watcher.tell("later call ", delayed.thing, " ", waiting.due)
         scheduled: Any = _later(reactor, delay, due, *args, **kwargs)
-        scheduled.__dict__["_dv_delayed"] = (watcher, delayed)
+        scheduled._dv_delayed = (watcher, delayed)
         _keep_waiting(watcher, scheduled, waiting)
         return scheduled
 

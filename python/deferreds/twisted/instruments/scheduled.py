@@ -10,8 +10,8 @@ from twisted.internet import base, task
 
 _STANDS_FOR = "_dv_stands_for"
 
-#: the code objects of the functions of Twisted that call what is due
-_CALLERS = frozenset((task.Clock.advance.__code__, base.ReactorBase.runUntilCurrent.__code__))
+#: the code objects of the functions of Twisted that call what is due. (To find a code by its value takes Python long.)
+_ADVANCE, _RUN = task.Clock.advance.__code__, base.ReactorBase.runUntilCurrent.__code__
 
 
 def stand_for(telling: Callable[..., Any], function: Callable[..., Any]) -> None:
@@ -25,19 +25,26 @@ class _Function:
     def __get__(self, call: Any, owner: Optional[type] = None) -> Any:
         if call is None:
             return self
-        function = call.__dict__.get("func", self)
-        if function is self:
-            raise AttributeError(f"{type(call).__name__!r} object has no attribute 'func'")
-        if type(function) is not FunctionType or sys._getframe(1).f_code in _CALLERS:
+        try:
+            function = call._dv_func
+        except AttributeError:  # it was made before the instruments were put in, or is over
+            function = call.__dict__.get("func", self)
+            if function is self:
+                raise AttributeError(f"{type(call).__name__!r} object has no attribute 'func'") from None
+        if type(function) is not FunctionType:
             return function
-        return function.__dict__.get(_STANDS_FOR, function)
+        code = sys._getframe(1).f_code
+        return function if code is _ADVANCE or code is _RUN else function.__dict__.get(_STANDS_FOR, function)
 
     def __set__(self, call: Any, function: Any) -> None:
-        call.__dict__["func"] = function
+        call._dv_func = function
 
     def __delete__(self, call: Any) -> None:
-        if call.__dict__.pop("func", self) is self:
-            raise AttributeError("func")
+        try:
+            del call._dv_func
+        except AttributeError:
+            if call.__dict__.pop("func", self) is self:
+                raise AttributeError("func") from None
 
 
 def install() -> None:

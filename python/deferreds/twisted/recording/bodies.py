@@ -4,7 +4,7 @@ from __future__ import annotations
 
 from typing import Any, Iterator, List, NamedTuple, Optional, Sequence, Tuple
 
-from ..telling import Action, Frame, Record, Thing
+from ..telling import Action, Frame, Record, Thing, know_attributes
 from ..texts import Outcome
 
 
@@ -51,9 +51,6 @@ class Run(Frame):
         self.began = began
         #: the actions, once there is one
         self.noted: Optional[List[Action]] = None
-        # what is asked for often is found sooner on the object than on its class
-        self.expected = ()
-        self.anonymous = False
 
     @property
     def actions(self) -> Sequence[Action]:
@@ -88,6 +85,10 @@ class Run(Frame):
         last.caught = True
         return False
 
+
+know_attributes(
+    Run("event"), ("end", "has_fired", "record", "awaits", "outer", "present", "anonymous", "passing", "expected")
+)
 
 #: the kinds of bodies that aren't nested where their objects are told as what they are made of, and the kinds of these
 _TOLD_PLAINLY = {"inline": "inline", "call": "clock", "turn": "loop"}

@@ -7,10 +7,10 @@ trial is given another Deferred in its place, and told of that by it.
 
 from __future__ import annotations
 
-import contextlib
 import functools
 import inspect
 import unittest
+from types import FunctionType, MethodType
 from typing import Any, Callable, Dict, Optional
 
 from twisted.internet import base
@@ -20,14 +20,14 @@ from twisted.trial.unittest import TestCase
 
 from ..instruments import install
 from ..instruments.maybe import making
-from ..telling import is_deferred, watched
+from ..telling import Watching, is_deferred, watched
 from .hiding import SECRETS
 from .programs import PrintingNotes
 from .reactor import VirtualReactor, in_place_of_the_real
 from .recorder import Recorder
 
-#: the methods of a test that are the program, beside its own, and those in their place which do nothing
-_PARTS = {"setUp": unittest.TestCase.setUp, "tearDown": unittest.TestCase.tearDown}
+#: the methods in the place of those that are the program, beside the test's own, which do nothing
+_NO_SET_UP, _NO_TEAR_DOWN = unittest.TestCase.setUp, unittest.TestCase.tearDown
 
 _MISSING = object()
 
@@ -76,49 +76,56 @@ class RecordedCase:
         self._before: Dict[str, object] = {}
         #: whether trial waits for a Deferred of the test, and what has the recorder be on while the reactor runs
         self._awaits_reactor = False
-        self._while_reactor_runs = contextlib.ExitStack()
+        self._while_reactor_runs: Optional[Watching] = None
 
     def __enter__(self) -> None:
         case: Any = self._case
-        self._put_once(case._testMethodName)
-        for name, nothing in _PARTS.items():
-            if getattr(getattr(case, name), "__func__", None) is not nothing:
-                self._put_once(name)
-        self._put("addCleanup", functools.partial(self._add_cleanup, case.addCleanup))
+        cls, own = type(case), case.__dict__
+        self._put_once(own, case._testMethodName)
+        if cls.setUp is not _NO_SET_UP or "setUp" in own:
+            self._put_once(own, "setUp")
+        if cls.tearDown is not _NO_TEAR_DOWN or "tearDown" in own:
+            self._put_once(own, "tearDown")
+        before = self._before
+        before["addCleanup"] = own.get("addCleanup", _MISSING)
+        own["addCleanup"] = functools.partial(self._add_cleanup, case.addCleanup)
         if self._waits:
-            self._put("_cleanUp", functools.partial(self._clean_up, case._cleanUp))
+            before["_cleanUp"] = own.get("_cleanUp", _MISSING)
+            own["_cleanUp"] = functools.partial(self._clean_up, case._cleanUp)
         self._watched_before = watched.observer, watched.is_resting
         watched.observer, watched.is_resting = None, True
 
     def __exit__(self, *error: object) -> None:
-        self._while_reactor_runs.close()
+        if self._while_reactor_runs is not None:
+            self._stop_watching()
         watched.observer, watched.is_resting = self._watched_before
-        for name in list(self._before):
-            self._put_back(name)
+        own = self._case.__dict__
+        for name, before in self._before.items():
+            _put_back(own, name, before)
 
-    def _put(self, name: str, function: Callable[..., Any]) -> None:
-        self._before[name] = self._case.__dict__.get(name, _MISSING)
-        setattr(self._case, name, function)
+    def _stop_watching(self) -> None:
+        """The reactor doesn't run for the test any more."""
+        watching, self._while_reactor_runs = self._while_reactor_runs, None
+        if watching is not None:
+            watching.__exit__()
 
-    def _put_back(self, name: str) -> None:
-        before = self._before.pop(name, _MISSING)
-        if before is _MISSING:
-            self._case.__dict__.pop(name, None)
-        else:
-            setattr(self._case, name, before)
-
-    def _put_once(self, name: str) -> None:
+    def _put_once(self, own: Dict[str, object], name: str) -> None:
         """Puts a part in place until it is called: what the test finds there then is its own."""
         method = getattr(self._case, name)
-        if inspect.isgeneratorfunction(method):  # trial refuses such a one, and has to see it
+        if _is_generator_function(method):  # trial refuses such a one, and has to see it
             return
 
         def once() -> Any:
             __tracebackhide__ = True
-            self._put_back(name)
+            _put_back(own, name, self._before.pop(name, _MISSING))
             return self._run(method)
 
-        self._put(name, _named_as(once, method))
+        once.__name__ = str(getattr(method, "__name__", "test"))
+        attributes = getattr(method, "__dict__", None)
+        if attributes:
+            once.__dict__.update(attributes)
+        self._before[name] = own.get(name, _MISSING)
+        own[name] = once
 
     def _add_cleanup(self, add: Callable[..., Any], f: Callable[..., Any], *args: Any, **kwargs: Any) -> Any:
         return add(self._part(f), *args, **kwargs)
@@ -126,7 +133,7 @@ class RecordedCase:
     def _clean_up(self, clean_up: Callable[[Any], Any], result: Any) -> Any:
         """All parts have run, and trial looks at what they have left."""
         self._awaits_reactor = False
-        self._while_reactor_runs.close()
+        self._stop_watching()
         watched.observer = None
         return clean_up(result)
 
@@ -163,8 +170,9 @@ class RecordedCase:
             self._awaits_reactor = True
 
             def start() -> None:
-                if self._awaits_reactor:
-                    self._while_reactor_runs.enter_context(recorder.watching())
+                if self._awaits_reactor and self._while_reactor_runs is None:
+                    self._while_reactor_runs = recorder.watching()
+                    self._while_reactor_runs.__enter__()
 
             with AtRest():
                 _call_first(start)
@@ -235,13 +243,19 @@ class _Given:
             self.handed.come(value)
 
 
-def _named_as(function: Callable[..., Any], method: Callable[..., Any]) -> Callable[..., Any]:
-    """The function, with the name of the method in whose place it is put, and with what is set on that."""
-    function.__name__ = str(getattr(method, "__name__", "test"))
-    attributes = getattr(method, "__dict__", None)
-    if attributes:
-        function.__dict__.update(attributes)
-    return function
+def _is_generator_function(method: Any) -> bool:
+    """Whether `inspect.isgeneratorfunction` says so, which takes Python long."""
+    if type(method) is MethodType and type(method.__func__) is FunctionType:
+        return bool(method.__func__.__code__.co_flags & inspect.CO_GENERATOR)
+    return inspect.isgeneratorfunction(method)
+
+
+def _put_back(own: Dict[str, object], name: str, before: object) -> None:
+    """Puts back what an object had as an attribute of its own."""
+    if before is _MISSING:
+        own.pop(name, None)
+    else:
+        own[name] = before
 
 
 def _call_first(call: Callable[[], None]) -> None:

@@ -81,6 +81,7 @@ class _Files(Dict[str, Optional[bool]]):
 
 
 _FILES = _Files()
+_getframe = sys._getframe
 
 
 def is_entered(around: int) -> bool:
@@ -88,14 +89,15 @@ def is_entered(around: int) -> bool:
 
     The frames of this and of so many around it are known to be neither the program's nor where Twisted began to act.
     """
-    frame: Optional[FrameType] = sys._getframe(around + 1)
+    frame: Optional[FrameType] = _getframe(around + 1)
     while frame is not None:
         code = frame.f_code
         is_programs = _FILES[code.co_filename]
-        if is_programs:
+        if is_programs is None:
+            if code.co_name in switching_names and id(code) in switches:
+                return False
+        elif is_programs:
             return True
-        if is_programs is None and code.co_name in switching_names and id(code) in switches:
-            return False
         frame = frame.f_back
     return False
 

@@ -16,7 +16,7 @@ from typing import Any, Callable, List, Optional
 from twisted.internet.defer import Deferred
 
 from ..instruments.deferreds import result_of, runs_callbacks, take_over, take_over_canceller
-from ..telling import Action, Record, watched
+from ..telling import Action, Observer, Record, watched
 from ..texts import NULL, Outcome
 from .bodies import Body, Run, Steps, Unsayable
 from .places import place
@@ -73,7 +73,7 @@ class LastRecorder(Recorder):
         self._records = False
         if before is not None:
             self.earlier = before.earlier + len(before.events)
-            self.classes, self.texts = before.classes, before.texts
+            self.texts = before.texts
             self.problems = list(dict.fromkeys(before.problems))
             self.texts.forget_kept()
             self.texts.ask_by(self.ask)
@@ -86,9 +86,24 @@ class LastRecorder(Recorder):
         try:
             return super().act(action, call, *args)
         finally:
-            self._records = outer
-            if len(self.events) >= self._count and self._is_between_events():
-                self._hand_over()
+            self._end_recording(outer)
+
+    def begin_plain(self, action: Action, inside: int) -> Any:
+        """The program performs an action in which none of its code is called, while it performs no other. Gives what ends it."""
+        outer, self._records = self._records, True
+        return outer, super().begin_plain(action, inside + 1)
+
+    def end_plain(self, begun: Any, action: Action, error: Optional[BaseException] = None) -> None:
+        """It has ended, or has failed."""
+        outer, inside = begun
+        super().end_plain(inside, action, error)
+        self._end_recording(outer)
+
+    def _end_recording(self, outer: bool) -> None:
+        """An action has been recorded, in which another one may be recorded."""
+        self._records = outer
+        if len(self.events) >= self._count and self._is_between_events():
+            self._hand_over()
 
     def _is_between_events(self) -> bool:
         is_outside = self.frame is self.top and not self.acting and not self.top.expected
@@ -116,10 +131,14 @@ class LastRecorder(Recorder):
 
     # Deferreds
 
-    def made(self, deferred: Deferred[Any], record: Record, kind: str = "") -> None:
+    def make(self, deferred: Any) -> None:
+        """The program has made a Deferred that has no canceller, while it performs no action."""
+        Observer.make(self, deferred)
+
+    def made(self, deferred: Deferred[Any], record: Record, kind: str = "", by_twisted: bool = False) -> None:
         """A Deferred was made. Its line has its name, which is known at the end."""
         before = len(self.parts)
-        super().made(deferred, record, kind)
+        super().made(deferred, record, kind, by_twisted)
         if self.parts[before] == "new ":
             self._name_late(before + 3, record)
 

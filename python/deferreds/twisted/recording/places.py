@@ -10,11 +10,13 @@ import re
 import sys
 import sysconfig
 from types import CodeType, FrameType
-from typing import Any, Dict, Iterable, Iterator, List, Optional, Tuple
+from typing import Any, Dict, Iterable, Iterator, List, Optional, Set, Tuple
 
 import twisted
 from twisted.internet import base, defer, task, threads
 from twisted.python import context, failure
+
+from ..telling import Thing
 
 #: a function, and the code and the instruction of it, if it isn't Twisted's. What line that is is worked out where it is asked for,
 #: which takes Python longer than all else here
@@ -66,12 +68,14 @@ class _OwnFiles(Dict[str, bool]):
     def __missing__(self, file: str) -> bool:
         found = file == _REACTOR or (_FILES[file] and not file.startswith("<") and not _is_library(file))
         self[file] = found
+        if found and file != _REACTOR:
+            _own_files.add(file)
         return found
 
 
+#: those that were met and are the program's own, without that of the reactor
+_own_files: Set[str] = set()
 _OWN_FILES = _OwnFiles()
-#: whether a file that was met before is the program's own
-_is_own_file = _OWN_FILES.get
 
 
 def _working_folder() -> str:
@@ -81,11 +85,9 @@ def _working_folder() -> str:
         return ""
 
 
-#: by the words of actions, how many frames round that of `note` are known not to be the program's, where these aren't two
-_INSIDE = dict.fromkeys(("callback", "errback", "addCallback", "addErrback", "addBoth", "addCallbacks"), 4)
+#: the folder from which the program's files are called, before it goes to another. (To ask for it takes longer than to begin a test.)
+_FOLDER = _working_folder()
 
-
-_inside = _INSIDE.get
 _getframe = sys._getframe
 
 
@@ -99,33 +101,50 @@ class Spots:
         #: three items for each: the action or the Deferred, the code, and the instruction
         self._noted: List[Any] = []
         self._note = self._noted.extend
-        #: the folder from which the program's files are called, before it goes to another
-        self._folder = _working_folder()
+        #: what was noted last where the program itself is in a file of its own
+        self._last: object = None
 
-    def note(self, action: Any) -> None:
-        """The caller performs an action, which isn't one that makes a Deferred: that is located."""
+    def note(self, action: object, first: int) -> None:
+        """An action is performed, which isn't one that makes a Deferred: that is located.
+
+        `first` is the number of the first frame that may be the program's, where this call's is 0.
+        """
         try:
-            frame = _getframe(_inside(action[0], 3))
+            frame = _getframe(first)
         except ValueError:  # Python itself calls, as at its end
             return
         code = frame.f_code
-        if _is_own_file(code.co_filename):
-            self._note((action, code, frame.f_lasti))
+        if code.co_filename in _own_files:
+            note = self._note
+            note((action, code, frame.f_lasti))
+            self._last = action
         else:
             self._look_round(action, frame)
 
+    def of_last(self, action: object, maker: Optional[str]) -> Optional[Spot]:
+        """Where Twisted makes a Deferred while this action is performed; None, where `locate` has to find that."""
+        noted = self._noted
+        if action is None or self._last is not action or noted[-3] is not action:
+            return None
+        code = noted[-2]
+        return None if code.co_name in _INNER else (maker or code.co_name, code, noted[-1])
+
     def locate(self, record: object, maker: Optional[str], inside: int) -> Spot:
-        """A Deferred is made: where. The caller's frame and so many more around it are known not to be the program's."""
+        """A Deferred is made: where. The caller's frame and so many around it are known not to be the program's."""
         try:
-            frame: Optional[FrameType] = _getframe(2 + inside)
+            inner = _getframe(1 + inside)
         except ValueError:  # Python itself calls, as at its end
             return maker or "made", None, 0
+        code = inner.f_code
+        if code.co_filename in _own_files and code.co_name not in _INNER:
+            return maker or code.co_name, code, inner.f_lasti
+        frame: Optional[FrameType] = inner
         while frame is not None and not _FILES[frame.f_code.co_filename]:
             frame = frame.f_back
         if frame is None:
             return maker or "made", None, 0
         code = frame.f_code
-        if not _is_own_file(code.co_filename):
+        if not _OWN_FILES[code.co_filename]:
             self._look_round(record, frame)
         name = code.co_name
         return _spot_of(frame, maker) if name in _INNER else (maker or name, code, frame.f_lasti)
@@ -139,6 +158,7 @@ class Spots:
     def forget(self) -> None:
         """Keeps nothing of what was noted."""
         self._noted.clear()
+        self._last = None
 
     def all(self, made: Iterable[Tuple[object, Optional[Spot]]]) -> Iterator[Tuple[Any, str, int]]:
         """Each action or Deferred whose place is known, with the whole path of its file and the line.
@@ -155,7 +175,7 @@ class Spots:
                 yield record, self._path(code), line_of(code, spot_[2])
 
     def _path(self, code: CodeType) -> str:
-        return os.path.join(self._folder, code.co_filename)
+        return os.path.join(_FOLDER, code.co_filename)
 
 
 def program_frame(inside: int = 0) -> Optional[FrameType]:
@@ -235,3 +255,23 @@ class FreeNames:
         """This name, or where it was given before, this one with a number."""
         number = self._given[wanted] = self._given.get(wanted, 0) + 1
         return wanted if number == 1 else f"{wanted}_{number}"
+
+
+class LateNames:
+    """Names things by where they are made, in the order in which they are. The names are worked out where one is asked for."""
+
+    def __init__(self) -> None:
+        self._names = FreeNames()
+        #: what has no name yet
+        self._made: List[Tuple[Thing, str, Spot]] = []
+
+    def thing(self, kind: str, made_at: Spot) -> Thing:
+        """Something of this kind that is made there."""
+        thing = Thing("", self._find)
+        self._made.append((thing, kind, made_at))
+        return thing
+
+    def _find(self) -> None:
+        made, self._made = self._made, []
+        for thing, kind, made_at in made:
+            thing.own_name, thing.find_name = self._names.give(f"{kind}_{name_of_spot(made_at)}"[:27]), None

@@ -43,17 +43,18 @@ LADDER: Tuple[frozenset[str], ...] = tuple(
 _RUNNERS = {__file__, runpy.run_path.__code__.co_filename, "<frozen runpy>"}
 
 
+_BUILTINS = vars(builtins)
+
+
 class PrintingNotes:
     """Has what the program prints be notes of the journal, while it is entered."""
 
-    __slots__ = ("_print",)
-
     def __enter__(self) -> None:
-        self._print: Callable[..., None] = getattr(builtins, "print")
-        setattr(builtins, "print", self._note)
+        self._print: Callable[..., None] = _BUILTINS["print"]
+        _BUILTINS["print"] = self._note
 
     def __exit__(self, *error: object) -> None:
-        setattr(builtins, "print", self._print)
+        _BUILTINS["print"] = self._print
 
     def _note(self, *values: Any, **kwargs: Any) -> None:
         recorder = watched.observer

@@ -20,6 +20,7 @@ from ..telling import (
     Record,
     Thing,
     is_deferred,
+    know_attributes,
     switching,
     watched,
 )
@@ -27,14 +28,19 @@ from ..texts import NULL, Outcome, Text, compact, weight_of
 from .bodies import Body, Run, Steps, Unsayable
 from .hiding import SECRETS, Hiding
 from .inside import CALLED, FINALIZED, KIND_OF_ACTION, MEDDLED, Inside, entry, is_entered, is_uncalled, worked_on
-from .places import FreeNames, Spots, name_of_spot, place, spot
+from .places import LateNames, Spots, place, spot
 from .values import Values
 
 #: kinds of runs whose result is dropped
 _DROPPED = frozenset({"call", "canceller", "step"})
 
-#: how many frames around `locate` are never the program's: an instrument is called, and has a Deferred made
-_INSTRUMENTS = 2
+#: by the words of actions, which frame is the first that may be the program's, where that isn't the third from what `act` calls
+_FIRST_FRAMES = {
+    **dict.fromkeys(("addCallback", "addErrback", "addBoth", "addCallbacks", "inline"), 5),
+    **dict.fromkeys(("callback", "errback", "cancel", "later", "loop", "maybe", "whenDone", "thread", "threadIn"), 4),
+    **dict.fromkeys(("list", "gather", "lock", "semaphore", "acquire", "runWith", "queue", "get", "put"), 4),
+}
+_first_frame = _FIRST_FRAMES.get
 
 
 class Problem(NamedTuple):
@@ -101,6 +107,8 @@ class Recorder(Observer):
     stack_room = _ROOM
     #: how many events come before those by which the runs of bodies count
     preceding = 0
+    #: the names of things, once there is one
+    _names: Optional[LateNames] = None
     #: what watches where the text of an object is asked for, once one was
     _aside: Optional[Aside] = None
 
@@ -108,6 +116,8 @@ class Recorder(Observer):
         classes = Classes()
         values = Values(classes, self.ask, Hiding(redact))
         super().__init__(kinds if "clock" in kinds else kinds - {"timer", "loop", "thread"}, classes, values, Run("event"))
+        # what is asked for often is found sooner on the object than on its class
+        self.top.expected, self.top.anonymous = (), False
         #: the actions of the program itself, and how many parts of lines were told before each
         self.events: List[Action] = []
         self.begins: List[int] = []
@@ -121,7 +131,6 @@ class Recorder(Observer):
         self.spots = Spots()
         #: how many events have ended
         self.ended = 0
-        self._names = FreeNames()
 
     def problem(self, reason: str, kind: Optional[str] = None) -> None:
         """Notes what a script can't say."""
@@ -149,11 +158,15 @@ class Recorder(Observer):
 
     def thing(self, kind: str) -> Thing:
         """A name for an object that is made."""
-        return Thing(self._names.give(f"{kind}_{name_of_spot(spot())}"[:27]))
+        names = self._names
+        if names is None:
+            names = self._names = LateNames()
+        return names.thing(kind, spot())
 
-    def locate(self, record: Record) -> None:
-        """Notes where a Deferred is made."""
-        record.made_at = self.spots.locate(record, self.maker, _INSTRUMENTS)
+    def locate(self, record: Record, by_twisted: bool = False) -> None:
+        """Notes where the program makes a Deferred, or Twisted's own code for it."""
+        spot_ = self.spots.of_last(self._performed, self.maker) if by_twisted else None
+        record.made_at = self.spots.locate(record, self.maker, 3) if spot_ is None else spot_
 
     def adopt(self, deferred: Deferred[Any]) -> Record:
         """A Deferred that was made before the recording began is made, and fired, where it is met first."""
@@ -191,27 +204,26 @@ class Recorder(Observer):
         """Performs a call of the program's into Twisted, and notes it as an action."""
         if self.acting:
             return self._act_inside(action, call, *args)
-        run = self.frame
-        is_event = run is self.top
-        is_advance = type(action) is Advance
-        if is_event and self.pace is not None and not is_advance:
-            self.pace.event(action[0] == "loop")
-        # Python's collector may run a finalizer anywhere, so that this is set before anything is noted
-        self.acting = True
-        performed, self._performed = self._performed, action
-        inside = self._inside
-        if inside is not None:
-            self._inside = None
-        if is_event:
-            self._told = None
-            self.events.append(action)
-            self.begins.append(len(self.parts))
-        else:
+        run, parts, inside, performed = self.frame, self.parts, self._inside, self._performed
+        if run is not self.top:
+            # Python's collector may run a finalizer anywhere, so that this is set before anything is noted
+            self.acting = True
             run.note(action)
             if run.kind != "inline":
-                self.parts.append(action)
-        if not is_advance and action[0] != "deferred":
-            self.spots.note(action)
+                parts.append(action)
+        else:
+            if self.pace is not None and type(action) is not Advance:
+                self.pace.event(action[0] == "loop")
+            self.acting = True
+            self._told = None
+            self.events.append(action)
+            self.begins.append(len(parts))
+        self._performed = action
+        if inside is not None:
+            self._inside = None
+        word = action[0]
+        if word != "deferred" and type(action) is not Advance:
+            self.spots.note(action, _first_frame(word, 3))
         try:
             return call(*args)
         except BaseException as error:
@@ -224,8 +236,83 @@ class Recorder(Observer):
                 self._inside = inside
             self._performed = performed
             self.acting = False
-            if is_event:
+            if run is self.top:
                 self.ended = len(self.events)
+
+    def begin_plain(self, action: Action, inside: int) -> Any:
+        """The program performs an action in which none of its code is called, while it performs no other. Gives what ends it.
+
+        So many frames, from the caller's on, are known not to be the program's.
+        """
+        run, before = self.frame, self._inside
+        if run is not self.top:
+            self.acting = True
+            run.note(action)
+            if run.kind != "inline":
+                self.parts.append(action)
+        else:
+            if self.pace is not None:
+                self.pace.event(False)
+            self.acting = True
+            self._told = None
+            self.events.append(action)
+            self.begins.append(len(self.parts))
+        if before is not None:
+            self._inside = None
+        self.spots.note(action, 2 + inside)
+        return before
+
+    def end_plain(self, begun: Any, action: Action, error: Optional[BaseException] = None) -> None:
+        """It has ended, or has failed."""
+        if error is not None:
+            self._end_action(self.frame, action, error)
+        if self._inside is not begun:
+            if self._inside is not None:
+                self._refuse_unless_last(self._inside, error is not None)
+            self._inside = begun
+        self.acting = False
+        if self.frame is self.top:
+            self.ended = len(self.events)
+
+    @switching
+    def make(self, deferred: Any) -> None:
+        """The program has made a Deferred that has no canceller, while it performs no action."""
+        run = self.frame
+        record = Record(run)
+        deferred._dv_record = (self, record)
+        record.made_at = self.spots.locate(record, self.maker, 2)
+        action = Action(("deferred", record))
+        if self._inside is not None or run.expected or run.anonymous:
+            self.act(action, self.made, deferred, record)
+            return
+        # what most programs do takes Python least here
+        parts, records, events, is_event = self.parts, self.records, self.events, run is self.top
+        if is_event and self.pace is not None:
+            self.pace.event(False)
+        self.acting = True
+        try:
+            if is_event:
+                self._told = None
+                events.append(action)
+                self.begins.append(len(parts))
+            else:
+                run.note(action)
+                if run.kind != "inline":
+                    parts.append(action)
+            self.maker = None
+            record.number = number = len(records)
+            parts.extend(("new ", record, " ", number, None))
+            records.append(record)
+        except BaseException as error:
+            self._end_action(run, action, error)
+            raise
+        finally:
+            self.acting = False
+            if is_event:
+                self.ended = len(events)
+        if self._inside is not None:
+            self._refuse_unless_last(self._inside, False)
+            self._inside = None
 
     @switching
     def own(self, call: Callable[..., Any], *args: Any) -> Any:
@@ -323,6 +410,31 @@ class Recorder(Observer):
         """In how many others a body lies."""
         return int(body.depth)
 
+    def begin_side(self, body: Any, given: Outcome) -> Frame:
+        """A side of the program's begins, and is the run of a body in which the program is."""
+        run = Run("callback", given, body.depth, len(self.events))
+        body.runs.append(run)
+        self.frame = run
+        self.acting = False
+        return run
+
+    def end_side(self, frame: Frame, result: object, value: object, given: Outcome) -> Optional[Outcome]:
+        """It has ended with this result, for a value that was shown so. Gives how the result is shown, where that is known."""
+        assert isinstance(frame, Run)
+        if result is given.value and frame.noted is None and (result is None or type(result) is int):
+            if result is not value:
+                frame.end = ["return", result]
+            return given
+        self._end_run(frame, result, (value, given))
+        return self.gave
+
+    def _end_run(self, run: Run, result: object, given: Optional[Tuple[object, Outcome]]) -> None:
+        """A run has ended with this result, whose kind isn't one whose result is dropped."""
+        if (result is None or type(result) is int) and run.noted is None:
+            run.end = self._returned_plain(run, result, given)
+        else:
+            self.end_body(run, None, result, given)
+
     def perform(
         self,
         body: Any,
@@ -343,10 +455,10 @@ class Recorder(Observer):
             self.end_body(run, error, None, given)
             raise
         else:
-            if (result is None or type(result) is int) and run.noted is None and kind not in _DROPPED:
-                run.end = self._returned_plain(run, result, given)
-            else:
+            if kind in _DROPPED:
                 self.end_body(run, None, result, given)
+            else:
+                self._end_run(run, result, given)
             return result
         finally:
             self.frame, self.acting = before, acting
@@ -467,9 +579,14 @@ class Recorder(Observer):
 
     def firing(self, record: Record, result: object, outcome: Outcome) -> Action:
         """The action that fires a Deferred with this, which is shown so."""
+        shown = outcome.value
         if isinstance(result, Failure):
-            return Action(["errback", record, self.raising(self.texts.error_of(result))])
-        return Action(["callback", record, self.value(outcome)])
+            is_plain = type(shown) is dict and "sub" not in shown
+            raising = ["raise", shown["fail"], shown["message"]] if is_plain else self.raising(self.texts.error_of(result))
+            return Action(("errback", record, raising))
+        if type(shown) is list or type(shown) is dict:
+            shown = self.value(outcome)
+        return Action(("callback", record, shown))
 
     def value(self, outcome: Outcome) -> Any:
         """A VALUE, unless the language has none for it."""
@@ -489,6 +606,12 @@ class Recorder(Observer):
             outcome = f"fail {self.texts.failure(error).text}"
             return Unsayable("a FirstError is made or passed on by the program", place(), outcome)
         return ["raise", self.classes.name_of(type(error)), self.texts.message(error)]
+
+
+know_attributes(
+    Recorder(),
+    ("is_on", "thread", "_told", "gave", "forwarded", "turn", "clock", "clock_base", "cooperator", "_names"),
+)
 
 
 def _is_waited_for(frame: Run, result: object) -> bool:

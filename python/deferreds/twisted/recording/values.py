@@ -23,6 +23,8 @@ MOST, DEEPEST, FIRST = 200, 20, 10
 
 _LEAST_INTEGER, _MOST_INTEGER = -(2**63), 2**63 - 1
 _MOST_BITS = 600
+#: the least integer of which it is asked whether it is too large
+_SMALL = 2**62
 
 _Given = TypeVar("_Given")
 _Leaf = Callable[[Any], Shown]
@@ -55,6 +57,8 @@ class Values(Texts):
         super().__init__(classes)
         self._ask = ask
         self._hiding = hiding
+        #: whether those that aren't too large are shown as they are
+        self._shows_integers = not hiding.hides_all
         self._whole: Dict[type, _Leaf] = {}
         self._ways: Dict[type, _Leaf] = {}
 
@@ -73,12 +77,15 @@ class Values(Texts):
         """What a Deferred that has this value shows."""
         if value is None:
             return NULL
-        way = self._whole.get(type(value))
-        return Outcome(self.shown(value) if way is None else way(value))
+        if type(value) is int and self._shows_integers and -_SMALL < value < _SMALL:
+            return Outcome(value)
+        return Outcome(self.shown(value))
 
     def shown(self, value: Any, depth: int = 0) -> Shown:
         """A value in the language."""
         kind = type(value)
+        if kind is str:
+            return self._string(value)
         way = self._whole.get(kind)
         if way is None:
             way = self._whole[kind] = self._way_of_whole(kind)
@@ -151,7 +158,7 @@ class Values(Texts):
         return f"<int of {bits:,} bits, {_digest(plain.to_bytes(bits // 8 + 1, 'big', signed=True))}>"
 
     def _string(self, value: str) -> str:
-        plain = str.__str__(value)
+        plain = value if type(value) is str else str.__str__(value)
         hiding = self._hiding
         if hiding.hides_all:
             return hiding.value(plain)
@@ -265,7 +272,8 @@ class _Full:
 
     def of_list(self, value: Any, depth: int) -> Shown:
         """A list or a tuple."""
-        base = _base_of(value)
+        kind = type(value)
+        base = kind if kind is list or kind is tuple else _base_of(value)
         self.left -= base.__len__(value)
         if self.left < 0 or depth >= DEEPEST:
             raise _TooLarge
@@ -280,7 +288,10 @@ class _Full:
 
     def item(self, item: Any, depth: int) -> Shown:
         """An item of a list."""
-        return self.of_list(item, depth + 1) if _is_list(type(item)) else self.leaf(item)
+        kind = type(item)
+        if kind in _NO_LISTS or not _is_list(kind):
+            return self.leaf(item)
+        return self.of_list(item, depth + 1)
 
 
 class _Brief(_Full):
@@ -305,6 +316,10 @@ class _Brief(_Full):
         self.left -= len(first)
         told = self.items(first, depth)
         return told if length <= FIRST else [*told, f"<{length - FIRST:,} more>"]
+
+
+#: classes of which it is known
+_NO_LISTS = frozenset({int, str, bool, type(None), float, bytes, dict, Failure})
 
 
 def _is_list(kind: type) -> bool:
