@@ -209,7 +209,8 @@ impl<'e> Story<'e> {
     {
         write_text(out, r#"{"deferreds":["#)?;
         self.write_first(alloc, out, facts.first)?;
-        self.write_second(alloc, out, facts.second)?;
+        self.write_further(alloc, out, facts.second)?;
+        self.write_further(alloc, out, facts.third)?;
         write_text(out, "]")
     }
 
@@ -231,7 +232,7 @@ impl<'e> Story<'e> {
 
     /// Adds a Deferred after a comma, where there is one.
     #[tactic(auto, using(crate::proofs::Added::parts))]
-    fn write_second(
+    fn write_further(
         &self,
         alloc: Global,
         out: &mut String,

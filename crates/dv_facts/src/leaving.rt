@@ -4,12 +4,12 @@ ghost use Rattle.std.specs.Prelude.{◌++◌, OnOk, string_bytes};
 ghost use Rattle.dv_facts.specs.Parts.{Adds};
 
 use crate::entries::Story;
-use crate::facts::Kind;
 use crate::members::{write_bool, write_comma, write_number, write_number_or_null, write_quoted};
 use crate::names::{Object, job};
 use crate::values::write_object;
 use dv_journal::deferred_id::DeferredId;
 use dv_journal::entry::Entry;
+use dv_journal::form::ObjectKind;
 use dv_left::left::{Hang, Left, LeftDeferred, LeftLoop, LeftTask, LeftTokens, Stage};
 use dv_store::outcome::{Outcome, State};
 use dv_value::classes::Classes;
@@ -82,7 +82,7 @@ impl<'k, 'e> Known<'k, 'e> {
         write_object(self.alloc, out, object)
     }
 
-    fn at(&self, kind: Kind, number: usize) -> Object<'e> {
+    fn at(&self, kind: ObjectKind, number: usize) -> Object<'e> {
         self.story.objects.at(kind, number)
     }
 
@@ -122,12 +122,12 @@ impl<'k, 'e> Known<'k, 'e> {
             Hang::Child(id, place) => self.write_at_child(out, id, place),
             Hang::Chain(id) => self.write_at_deferred(out, r#"{"at":"chain","deferred":"#, id),
             Hang::Await(id) => self.write_at_deferred(out, r#"{"at":"await","deferred":"#, id),
-            Hang::Lock(number) => self.write_at_object(out, self.at(Kind::Lock, number)),
-            Hang::Queue(number) => self.write_at_object(out, self.at(Kind::Queue, number)),
+            Hang::Lock(number) => self.write_at_object(out, self.at(ObjectKind::Lock, number)),
+            Hang::Queue(number) => self.write_at_object(out, self.at(ObjectKind::Queue, number)),
             Hang::Job(number) => self.write_at_object(out, job(number)),
             Hang::Timeout(due) => write_at_timeout(out, due),
-            Hang::Loop(number) => self.write_at_object(out, self.at(Kind::Loop, number)),
-            Hang::Task(number) => self.write_at_object(out, self.at(Kind::Task, number)),
+            Hang::Loop(number) => self.write_at_object(out, self.at(ObjectKind::Loop, number)),
+            Hang::Task(number) => self.write_at_object(out, self.at(ObjectKind::Task, number)),
         }
     }
 
@@ -187,7 +187,7 @@ impl<'k, 'e> Known<'k, 'e> {
         self.object(
             out,
             r#","kind":"call","object":"#,
-            self.at(Kind::Call, number as usize),
+            self.at(ObjectKind::Call, number as usize),
         )?;
         write_text(out, r#","type":"left"}"#)
     }
@@ -223,7 +223,7 @@ impl<'k, 'e> Known<'k, 'e> {
         self.object(
             out,
             r#","kind":"loop","object":"#,
-            self.at(Kind::Loop, left.number),
+            self.at(ObjectKind::Loop, left.number),
         )?;
         self.ids(
             out,
@@ -240,7 +240,7 @@ impl<'k, 'e> Known<'k, 'e> {
         self.object(
             out,
             r#","kind":"task","object":"#,
-            self.at(Kind::Task, left.number),
+            self.at(ObjectKind::Task, left.number),
         )?;
         write_number(out, r#","pauses":"#, left.pauses)?;
         self.ids(
@@ -258,7 +258,7 @@ impl<'k, 'e> Known<'k, 'e> {
         self.object(
             out,
             r#","kind":"tokens","object":"#,
-            self.at(Kind::Lock, left.number),
+            self.at(ObjectKind::Lock, left.number),
         )?;
         write_number(out, r#","tokens":"#, u64::from(left.tokens))?;
         self.ids(out, r#","type":"left","waiting":"#, left.waiting.as_slice())?;
@@ -276,7 +276,7 @@ impl<'k, 'e> Known<'k, 'e> {
         self.object(
             out,
             r#"{"kind":"getters","object":"#,
-            self.at(Kind::Queue, number),
+            self.at(ObjectKind::Queue, number),
         )?;
         self.ids(out, r#","type":"left","waiting":"#, waiting)?;
         write_text(out, "}")
@@ -294,7 +294,7 @@ impl<'k, 'e> Known<'k, 'e> {
         self.object(
             out,
             r#"{"kind":"values","object":"#,
-            self.at(Kind::Queue, number),
+            self.at(ObjectKind::Queue, number),
         )?;
         write_text(out, r#","type":"left","values":["#)?;
         for place in 0..values.len() {

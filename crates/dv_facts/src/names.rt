@@ -1,6 +1,7 @@
 //! The objects that a journal names, numbered in order of making.
 
-use crate::facts::{Kind, Named};
+use crate::facts::Named;
+use dv_journal::form::{Naming, ObjectKind};
 use std::alloc::{AllocError, Global};
 use std::collections::BTreeMap;
 
@@ -77,13 +78,13 @@ pub struct Objects<'e> {
     pub tasks: Names<'e>,
 }
 
-fn word_of(kind: Kind) -> &'static str {
+fn word_of(kind: ObjectKind) -> &'static str {
     match kind {
-        Kind::Lock => "lock",
-        Kind::Queue => "queue",
-        Kind::Call => "call",
-        Kind::Loop => "loop",
-        Kind::Task => "task",
+        ObjectKind::Lock => "lock",
+        ObjectKind::Queue => "queue",
+        ObjectKind::Call => "call",
+        ObjectKind::Loop => "loop",
+        ObjectKind::Task => "task",
     }
 }
 
@@ -98,23 +99,37 @@ impl<'e> Objects<'e> {
         }
     }
 
-    fn names(&self, kind: Kind) -> &Names<'e> {
+    fn names(&self, kind: ObjectKind) -> &Names<'e> {
         match kind {
-            Kind::Lock => &self.locks,
-            Kind::Queue => &self.queues,
-            Kind::Call => &self.calls,
-            Kind::Loop => &self.loops,
-            Kind::Task => &self.tasks,
+            ObjectKind::Lock => &self.locks,
+            ObjectKind::Queue => &self.queues,
+            ObjectKind::Call => &self.calls,
+            ObjectKind::Loop => &self.loops,
+            ObjectKind::Task => &self.tasks,
         }
     }
 
-    fn make(&mut self, kind: Kind, name: &'e str) -> Result<usize, AllocError> {
+    fn make(&mut self, kind: ObjectKind, name: &'e str) -> Result<usize, AllocError> {
         match kind {
-            Kind::Lock => self.locks.make(name),
-            Kind::Queue => self.queues.make(name),
-            Kind::Call => self.calls.make(name),
-            Kind::Loop => self.loops.make(name),
-            Kind::Task => self.tasks.make(name),
+            ObjectKind::Lock => self.locks.make(name),
+            ObjectKind::Queue => self.queues.make(name),
+            ObjectKind::Call => self.calls.make(name),
+            ObjectKind::Loop => self.loops.make(name),
+            ObjectKind::Task => self.tasks.make(name),
+        }
+    }
+
+    /// The number of the object that a name stands for, where that is known. It may be made by that.
+    fn number(
+        &mut self,
+        kind: ObjectKind,
+        naming: Naming,
+        name: &'e str,
+    ) -> Result<Option<usize>, AllocError> {
+        match naming {
+            Naming::Made => Ok(Some(self.make(kind, name)?)),
+            Naming::Last => Ok(self.names(kind).last(name)),
+            Naming::Any => Ok(self.names(kind).only(name)),
         }
     }
 
@@ -122,16 +137,8 @@ impl<'e> Objects<'e> {
     pub fn take(&mut self, named: &Named<'e>) -> Result<Option<Object<'e>>, AllocError> {
         match named {
             Named::Nothing => Ok(None),
-            Named::Made(kind, name) => {
-                let number = self.make(*kind, name)?;
-                Ok(Some(named_object(*kind, name, Some(number))))
-            }
-            Named::Last(kind, name) => {
-                let number = self.names(*kind).last(name);
-                Ok(Some(named_object(*kind, name, number)))
-            }
-            Named::Any(kind, name) => {
-                let number = self.names(*kind).only(name);
+            Named::Object(kind, naming, name) => {
+                let number = self.number(*kind, *naming, name)?;
                 Ok(Some(named_object(*kind, name, number)))
             }
             Named::Job(number) => Ok(Some(job(*number))),
@@ -139,7 +146,7 @@ impl<'e> Objects<'e> {
     }
 
     /// The object of a kind and a number.
-    pub fn at(&self, kind: Kind, number: usize) -> Object<'e> {
+    pub fn at(&self, kind: ObjectKind, number: usize) -> Object<'e> {
         Object {
             kind: word_of(kind),
             name: self.names(kind).name(number),
@@ -149,7 +156,7 @@ impl<'e> Objects<'e> {
 }
 
 /// The object of a kind and a name.
-fn named_object<'e>(kind: Kind, name: &'e str, number: Option<usize>) -> Object<'e> {
+fn named_object<'e>(kind: ObjectKind, name: &'e str, number: Option<usize>) -> Object<'e> {
     Object {
         kind: word_of(kind),
         name: Some(name),

@@ -1,6 +1,6 @@
 //! What lies in what.
 
-use crate::facts::Nesting;
+use dv_journal::form::Nesting;
 use std::alloc::{AllocError, Global};
 
 /// What an entry is in which others lie.

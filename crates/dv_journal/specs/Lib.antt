@@ -1,3 +1,6 @@
+pub mod Parts
+pub mod Borrowed
+pub mod Forms
 pub mod Entry
 pub mod Told
 pub mod Journal

@@ -1,8 +1,19 @@
 ghost use Rattle.std.specs.Prelude.{◌≡◌, ◌^◌, ◌-◌, min};
+ghost use Rattle.dv_journal.specs.Borrowed.{parts_in};
 ghost use Rattle.dv_journal.specs.Entry.{weight_of};
+ghost use Rattle.dv_journal.specs.Forms.{form_in, form_of};
+ghost use Rattle.dv_journal.specs.Parts.{parts_of};
 ghost use Rattle.dv_journal.specs.Told.{is_unhandled};
 
 use crate::deferred_id::DeferredId;
+use crate::form::Naming::{Any, Last, Made};
+use crate::form::ObjectKind::{Call, Lock, Loop, Queue, Task};
+use crate::forms;
+use crate::part::Part::{
+    Bound, Deferred, Due, Fired, Job, Name, NewName, Number, Object, Outcome, Time,
+};
+use crate::part::Parts::{Nothing, One, Three, Two};
+use crate::part::{Line, Part};
 use dv_value::boxed::Boxed;
 use dv_value::failure::Failure;
 use dv_value::text::Text;
@@ -126,59 +137,114 @@ impl Entry {
         matches!(self, Entry::Unhandled(_))
     }
 
+    /// The line of the entry in parts.
+    #[inline(always)]
+    pub fn line(&self) -> Line<'_>
+        ensures form { form_in result.0 ≡ form_of self.now }
+        ensures parts { parts_in result.1 ≡ parts_of self.now }
+    {
+        match self {
+            Entry::New(id, name) => Line(forms::NEW, Two(Deferred(*id), NewName(name))),
+            Entry::Name(id, name) => Line(forms::NAME, Two(Deferred(*id), Name(name))),
+            Entry::Add(id) => Line(forms::ADD, One(Deferred(*id))),
+            Entry::Fire(id, value) => Line(forms::FIRE, Two(Fired(*id), Outcome(value))),
+            Entry::Swallow(id) => Line(forms::SWALLOW, One(Deferred(*id))),
+            Entry::Refuse(id) => Line(forms::REFUSE, One(Deferred(*id))),
+            Entry::Run(id) => Line(forms::RUN, One(Deferred(*id))),
+            Entry::Set(id, value) => Line(forms::SET, Two(Deferred(*id), Outcome(value))),
+            Entry::Take(id, from, value) => Line(
+                forms::TAKE,
+                Three(Deferred(*id), Deferred(*from), Outcome(value.get())),
+            ),
+            Entry::Wait(id, on) => Line(forms::WAIT, Two(Deferred(*id), Deferred(*on))),
+            Entry::Hand(from, id, value) => Line(
+                forms::HAND,
+                Three(Deferred(*from), Deferred(*id), Outcome(value.get())),
+            ),
+            Entry::Pause(id) => Line(forms::PAUSE, One(Deferred(*id))),
+            Entry::Unpause(id) => Line(forms::UNPAUSE, One(Deferred(*id))),
+            Entry::Cancel(id) => Line(forms::CANCEL, One(Deferred(*id))),
+            Entry::Note(text) => Line(forms::NOTE, One(Part::Text(text))),
+            Entry::Unhandled(failure) => Line(forms::UNHANDLED, One(Part::Failure(failure.get()))),
+            Entry::Lock(name) => Line(forms::LOCK, One(Object(Lock, Made, name))),
+            Entry::Semaphore(name, tokens) => Line(
+                forms::SEMAPHORE,
+                Two(Object(Lock, Made, name), Number(*tokens)),
+            ),
+            Entry::Acquire(name, id) => Line(
+                forms::ACQUIRE,
+                Two(Object(Lock, Last, name), Deferred(*id)),
+            ),
+            Entry::Release(name) => Line(forms::RELEASE, One(Object(Lock, Any, name))),
+            Entry::Queue(name, most_stored, most_waiting) => Line(
+                forms::QUEUE,
+                Three(
+                    Object(Queue, Made, name.get()),
+                    Bound(*most_stored),
+                    Bound(*most_waiting),
+                ),
+            ),
+            Entry::Put(name, value) => Line(
+                forms::PUT,
+                Two(Object(Queue, Last, name), Part::Value(value.get())),
+            ),
+            Entry::Get(name, id) => Line(forms::GET, Two(Object(Queue, Last, name), Deferred(*id))),
+            Entry::LaterCall(name, due) => Line(
+                forms::LATER_CALL,
+                Two(Object(Call, Made, name), Due(*due)),
+            ),
+            Entry::LaterLoop(name, due) => Line(
+                forms::LATER_LOOP,
+                Two(Object(Loop, Any, name), Due(*due)),
+            ),
+            Entry::LaterTick(due) => Line(forms::LATER_TICK, One(Due(*due))),
+            Entry::LaterJob(job, due) => Line(forms::LATER_JOB, Two(Job(*job), Due(*due))),
+            Entry::LaterTimeout(id, due) => Line(
+                forms::LATER_TIMEOUT,
+                Two(Deferred(*id), Due(*due)),
+            ),
+            Entry::Uncall(name) => Line(forms::UNCALL, One(Object(Call, Last, name))),
+            Entry::Call(name) => Line(forms::CALL, One(Object(Call, Any, name))),
+            Entry::Tick => Line(forms::TICK, Nothing),
+            Entry::Deliver(job) => Line(forms::DELIVER, One(Job(*job))),
+            Entry::Timeout(id) => Line(forms::TIMEOUT, One(Deferred(*id))),
+            Entry::Loop(name, id) => Line(
+                forms::LOOP,
+                Two(Object(Loop, Made, name), Deferred(*id)),
+            ),
+            Entry::Turn(name) => Line(forms::TURN, One(Object(Loop, Any, name))),
+            Entry::Stop(name) => Line(forms::STOP, One(Object(Loop, Last, name))),
+            Entry::Task(name) => Line(forms::TASK, One(Object(Task, Made, name))),
+            Entry::Step(name) => Line(forms::STEP, One(Object(Task, Any, name))),
+            Entry::Hold(name, id) => Line(forms::HOLD, Two(Object(Task, Any, name), Deferred(*id))),
+            Entry::End(name, value) => Line(
+                forms::END,
+                Two(Object(Task, Any, name), Outcome(value.get())),
+            ),
+            Entry::PauseTask(name) => Line(forms::PAUSE_TASK, One(Object(Task, Last, name))),
+            Entry::ResumeTask(name) => Line(forms::RESUME_TASK, One(Object(Task, Any, name))),
+            Entry::WhenDone(name, id) => Line(
+                forms::WHEN_DONE,
+                Two(Object(Task, Last, name), Deferred(*id)),
+            ),
+            Entry::Await(id, on) => Line(forms::AWAIT, Two(Deferred(*id), Deferred(*on))),
+            Entry::Job(job, id) => Line(forms::JOB, Two(Job(*job), Deferred(*id))),
+            Entry::Advance(time) => Line(forms::ADVANCE, One(Time(*time))),
+            Entry::Drain => Line(forms::DRAIN, Nothing),
+            Entry::Post(caller, index) => Line(forms::POST, Two(Number(*caller), Number(*index))),
+        }
+    }
+
     /// How much the entry counts against the journal's limit: one, and the size of the value, the failure or the
     /// noted text that its line shows. It stops at `u64::MAX`.
     pub fn weight(&self) -> u64
         ensures { result ≡ min (weight_of self.now) (2 ^ 64 - 1) }
     {
-        match self {
-            Entry::Fire(_, value) | Entry::Set(_, value) => value.size().saturating_add(1),
-            Entry::Take(_, _, value) | Entry::Hand(_, _, value) => {
-                value.get().size().saturating_add(1)
-            }
-            Entry::Put(_, value) | Entry::End(_, value) => value.get().size().saturating_add(1),
-            Entry::Note(text) => (text.as_str().len() as u64).saturating_add(2),
-            Entry::Unhandled(failure) => failure.get().size().saturating_add(1),
-            Entry::New(_, _)
-            | Entry::Name(_, _)
-            | Entry::Add(_)
-            | Entry::Swallow(_)
-            | Entry::Refuse(_)
-            | Entry::Run(_)
-            | Entry::Wait(_, _)
-            | Entry::Pause(_)
-            | Entry::Unpause(_)
-            | Entry::Cancel(_)
-            | Entry::Lock(_)
-            | Entry::Semaphore(_, _)
-            | Entry::Acquire(_, _)
-            | Entry::Release(_)
-            | Entry::Queue(_, _, _)
-            | Entry::Get(_, _)
-            | Entry::LaterCall(_, _)
-            | Entry::LaterLoop(_, _)
-            | Entry::LaterTick(_)
-            | Entry::LaterJob(_, _)
-            | Entry::LaterTimeout(_, _)
-            | Entry::Uncall(_)
-            | Entry::Call(_)
-            | Entry::Tick
-            | Entry::Deliver(_)
-            | Entry::Timeout(_)
-            | Entry::Loop(_, _)
-            | Entry::Turn(_)
-            | Entry::Stop(_)
-            | Entry::Task(_)
-            | Entry::Step(_)
-            | Entry::Hold(_, _)
-            | Entry::PauseTask(_)
-            | Entry::ResumeTask(_)
-            | Entry::WhenDone(_, _)
-            | Entry::Await(_, _)
-            | Entry::Job(_, _)
-            | Entry::Advance(_)
-            | Entry::Drain
-            | Entry::Post(_, _) => 1,
+        match self.line().1 {
+            Nothing => 1,
+            One(part) => part.weight_with(1),
+            Two(part, other) => other.weight_with(part.weight_with(1)),
+            Three(part, other, last) => last.weight_with(other.weight_with(part.weight_with(1))),
         }
     }
 }

@@ -4,8 +4,11 @@
 pub mod deferred_id;
 pub mod entry;
 pub mod error;
+pub mod form;
+pub mod forms;
 pub mod io_sink;
 pub mod journal;
 pub mod line;
 pub mod memory_sink;
+pub mod part;
 pub mod sink;
