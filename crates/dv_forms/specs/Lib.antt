@@ -3,3 +3,5 @@ pub mod Table
 pub mod Leaving
 pub mod Parts
 pub mod Answer
+pub mod Wants
+pub mod Words

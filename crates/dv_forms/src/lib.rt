@@ -8,3 +8,5 @@ pub mod leaving;
 pub mod stop;
 pub mod table;
 pub mod value;
+pub mod want;
+pub mod words;

@@ -26,7 +26,7 @@ use Rattle.dv_forms.specs.Forms.{Each, IsList, Field, Key, IsText, IsNumber, IsC
 use Rattle.dv_forms.specs.Table.{table_of}
 use Rattle.dv_grammar.specs.Grammar.{plain_cooperator, IsEnd, returns, passes, adds, raises, traps, waits, IsWork, gives, fails, sums, IsListFlag, fires_on_callback, fires_on_errback, consumes_errors, IsGatherFlag, gathers_errors, IsBound, no_bound, a_bound, IsAction, deferred, deferred_with, callback, errback, add_callback, add_errback, add_both, add_callbacks, chain, pause, unpause, cancel, add_timeout, note, list, gather, maybe, lock, semaphore, acquire, release, run_with, queue, put, get, later, cancel_call, loop, stop_loop, cooperate, when_done, pause_task, stop_task, resume_task, inline, thread, thread_in, AreActions, no_actions, more_actions, IsDo, does_nothing, does, IsBody, body, AreBodies, no_bodies, more_bodies, IsStatement, performs, awaits, tries, leaves, AreStatements, no_statements, more_statements, IsEvent, acts, advances, drains, IsDeclaration, declares, IsPool, pools, IsCooperator, IsScript}
 use Rattle.dv_forms.specs.Parts.{value_at, values_at, each, list_at, text_at, number_at, within, bound_at, class_at, list_flag_at, gather_flag_at, call_at, none, first, if_any, one, one_or_two, two, three, four, five, sole, pair, triple, fields_at, field, declaration_at, table_for}
-use Rattle.dv_grammar.specs.Shape.{end_at, end_of, leave_at, work_at, work_of, action_by, action_of, new_deferred_of, thread_in_of, plain_of, loop_of, nesting_of, body_by, statement_by, statement_of, readers, body_at, statement_at, action_at, event_at, event_of, other_event, cooperator_at, pool_at, caller_at, script_at}
+use Rattle.dv_grammar.specs.Shape.{end_at, end_of, leave_at, work_at, work_of, action_by, action_of, new_deferred_of, thread_in_of, loop_of, body_by, statement_by, statement_of, readers, body_at, statement_at, action_at, event_at, event_of, other_event, cooperator_at, pool_at, caller_at, script_at}
 use Rattle.dv_grammar.proofs.Steps.{picked}
 
 -- ---- values, lists, leaves
@@ -119,9 +119,9 @@ depth-get_member key (member k c ms) d e = elim (picked (slice_cmp nat_cmp key k
 -- ---- actions, bodies, statements
 
 mutual
-  unfolding action_by action_of new_deferred_of thread_in_of plain_of loop_of nesting_of call_at none first if_any one one_or_two two three four five sole pair triple readers body_by fields_at statement_by statement_of leave_at
+  unfolding action_by action_of new_deferred_of thread_in_of loop_of call_at none first if_any one one_or_two two three four five sole pair triple readers body_by fields_at statement_by statement_of leave_at
 
-  complete_action : (table : List Class) {d : Data} {a : Action} (n : ℕ) → IsAction table d a → depth d ≤ n → action_at table n d ≡ Some a
+  pub complete_action : (table : List Class) {d : Data} {a : Action} (n : ℕ) → IsAction table d a → depth d ≤ n → action_at table n d ≡ Some a
   complete_action table n (deferred name) h = refl
   complete_action table n (deferred_with name d canceller g) h = rw (complete_body table n g (omega (arith, h))) refl
   complete_action table n (callback name d v g) h = rw (complete_value g) refl

@@ -18,7 +18,7 @@ use Rattle.dv_script.specs.declared.action.ListFlag.{ListFlag}
 use Rattle.dv_script.specs.declared.action.ListFlag.TheVariants as flag
 use Rattle.dv_script.specs.declared.action.GatherFlag.{GatherFlag}
 use Rattle.dv_script.specs.declared.action.GatherFlag.TheVariants as gather_flag
-use Rattle.dv_script.specs.declared.action.Action.{Action, Deferred, Callback, Errback, AddCallback, AddErrback, AddBoth, AddCallbacks, Chain, Pause, Unpause, Cancel, AddTimeout, Note, List as ListOf, Gather, Maybe, Lock, Semaphore, Acquire, Release, RunWith, Queue, Put, Get, Later, CancelCall, StopLoop, Cooperate, WhenDone, PauseTask, StopTask, ResumeTask, Inline, Thread, ThreadIn}
+use Rattle.dv_script.specs.declared.action.Action.{Action, Deferred, Callback, Errback, AddCallback, AddErrback, AddBoth, AddCallbacks, Chain, Pause, Unpause, Cancel, AddTimeout, Note, List as ListOf, Gather, Maybe, Lock, Semaphore, Acquire, Release, RunWith, Queue, Put, Get, Later, CancelCall, StopLoop, Cooperate, WhenDone, PauseTask, StopTask, ResumeTask, Inline, Thread}
 use Rattle.dv_script.specs.declared.event.Event.{Event}
 use Rattle.dv_script.specs.declared.event.Event.TheVariants as happens
 use Rattle.dv_script.specs.declared.script.Cooperator.{Cooperator}
@@ -27,35 +27,20 @@ use Rattle.dv_script.specs.declared.limits.TheConstants.{MOST_DRAINED, MOST_LIMI
 use Rattle.dv_clock.specs.declared.limits.TheConstants.{MOST_DELAY, MOST_TICKS}
 use Rattle.dv_forms.specs.declared.declaration.Declaration.{Declaration}
 use Rattle.dv_grammar.specs.declared.draft.Draft.{Draft}
-use Rattle.dv_grammar.specs.declared.words.NameWord.{NameWord}
-use Rattle.dv_grammar.specs.declared.words.NameWord.TheVariants as of_name
-use Rattle.dv_grammar.specs.declared.words.NamesWord.{NamesWord}
-use Rattle.dv_grammar.specs.declared.words.NamesWord.TheVariants as of_names
-use Rattle.dv_grammar.specs.declared.words.BodyWord.{BodyWord}
-use Rattle.dv_grammar.specs.declared.words.BodyWord.TheVariants as of_body
-use Rattle.dv_grammar.specs.declared.words.PlainWord.{PlainWord}
-use Rattle.dv_grammar.specs.declared.words.PlainWord.TheVariants as plain
-use Rattle.dv_grammar.specs.declared.words.NestingWord.{NestingWord}
-use Rattle.dv_grammar.specs.declared.words.NestingWord.TheVariants as nesting
-use Rattle.dv_grammar.specs.declared.words.ActionWord.{ActionWord}
-use Rattle.dv_grammar.specs.declared.words.ActionWord.TheVariants.{OfName, OfNames, OfBody, Plain, Nesting}
-use Rattle.dv_grammar.specs.declared.words.EventWord.{EventWord}
-use Rattle.dv_grammar.specs.declared.words.EventWord.TheVariants as event_words
-use Rattle.dv_grammar.specs.declared.words.EndWord.{EndWord}
-use Rattle.dv_grammar.specs.declared.words.EndWord.TheVariants as end_words
-use Rattle.dv_grammar.specs.declared.words.StatementWord.{StatementWord}
-use Rattle.dv_grammar.specs.declared.words.StatementWord.TheVariants as statement_words
-use Rattle.dv_grammar.specs.declared.words.WorkWord.{WorkWord}
-use Rattle.dv_grammar.specs.declared.words.WorkWord.TheVariants as work_words
-use Rattle.dv_grammar.specs.Words.{name_text, names_text, body_text, plain_text, nesting_text, action_text, action_word, event_text, event_words, event_word, end_text, end_words, end_word, statement_text, statement_words, statement_word, work_text, work_words, work_word}
 use Rattle.dv_forms.specs.Forms.{call, Each, IsList, Field, Key, has_only, IsText, IsInteger, IsNumber, IsClass, IsValue, a_null, a_bool, an_int, a_text, a_list, AreValues, no_values, more_values}
 use Rattle.dv_forms.specs.Table.{table_of}
 use Rattle.dv_forms.specs.Leaving.{may_leave}
+use Rattle.dv_forms.specs.declared.words.ActionWord.{ActionWord}
+use Rattle.dv_forms.specs.declared.words.EventWord.{EventWord}
+use Rattle.dv_forms.specs.declared.words.EndWord.{EndWord}
+use Rattle.dv_forms.specs.declared.words.StatementWord.{StatementWord}
+use Rattle.dv_forms.specs.declared.words.WorkWord.{WorkWord}
+use Rattle.dv_forms.specs.Words.{action_word, action_words, event_word, event_words, end_word, end_words, statement_word, statement_words, work_word, work_words}
 use Rattle.dv_grammar.specs.Grammar.{body_keys, cooperator_keys, keys_of, plain_cooperator, IsEnd, returns, passes, adds, raises, traps, waits, IsWork, gives, fails, sums, IsListFlag, fires_on_callback, fires_on_errback, consumes_errors, IsGatherFlag, gathers_errors, IsBound, no_bound, a_bound, IsAction, deferred, deferred_with, callback, errback, add_callback, add_errback, add_both, add_callbacks, chain, pause, unpause, cancel, add_timeout, note, list, gather, maybe, lock, semaphore, acquire, release, run_with, queue, put, get, later, cancel_call, loop, stop_loop, cooperate, when_done, pause_task, stop_task, resume_task, inline, thread, thread_in, AreActions, no_actions, more_actions, IsDo, does_nothing, does, IsBody, body, AreBodies, no_bodies, more_bodies, IsStatement, performs, awaits, tries, leaves, AreStatements, no_statements, more_statements, IsEvent, acts, advances, drains, IsDeclaration, declares, IsPool, pools, IsCooperator, IsScript}
 use Rattle.dv_forms.specs.Parts.{value_at, values_at, each, list_at, text_at, integer_at, number_at, within, bound_at, class_at, list_flag_at, gather_flag_at, call_at, none, first, if_any, one, one_or_two, two, three, four, five, sole, pair, triple, one_of, two_of, three_of, fields_at, field, if_there, declaration_at, table_for}
-use Rattle.dv_grammar.specs.Shape.{end_at, end_of, leave_at, work_at, work_of, Readers, action_with, action_by, action_of, with_name, with_names, with_body, new_deferred_of, thread_in_of, plain_of, loop_of, nesting_of, body_by, statement_by, statement_of, readers, body_at, action_at, event_by, event_at, event_of, other_event, cooperator_at, pool_at, caller_at, script_at}
+use Rattle.dv_grammar.specs.Shape.{end_at, end_of, leave_at, work_at, work_of, Readers, action_with, action_by, action_of, new_deferred_of, thread_in_of, loop_of, body_by, statement_by, statement_of, readers, body_at, action_at, event_by, event_at, event_of, other_event, cooperator_at, pool_at, caller_at, script_at}
 use Rattle.dv_grammar.proofs.Steps.{some_injective, bind, mapped, chosen}
-use Rattle.dv_grammar.proofs.WordsLemmas.{action_word_is, word_is}
+use Rattle.dv_grammar.proofs.WordsLemmas.{◌&◌, EachWord, found_word}
 
 -- ---- items
 
@@ -256,30 +241,28 @@ fields_is keys ms t e = elim (chosen (has_only keys ms) (Some tt) None (Some t) 
 
 -- ---- ends and works
 
-sound_end_of : (table : List Class) (word : EndWord) (ds : Items) (x : End) → end_of table word ds ≡ Some x → IsEnd table (array (item (string (end_text word)) ds)) x
+-- what the word of this end reads as is in the grammar
+abbrev IsEndRead : List Class → EndWord → List ℕ → Type 0
+IsEndRead table word text = (ds : Items) (x : End) → end_of table word ds ≡ Some x → IsEnd table (array (item (string text) ds)) x
+
+sound_ends : (table : List Class) → EachWord (IsEndRead table) end_words
 unfolding end_of
-sound_end_of table end_words.Return ds x e =
-    one_read value_at Return ds x e (λ d v ds_is v_is made. rw (ds_is, ← made) (returns d v (sound_value d v v_is)))
-sound_end_of table end_words.Pass ds x e =
-    bind (none ds) _ x e (λ t t_is t_then.
-    rw (none_is ds t t_is, ← some_injective t_then) passes)
-sound_end_of table end_words.Plus ds x e =
-    one_read integer_at Plus ds x e (λ d n ds_is n_is made. rw (ds_is, ← made) (adds d n (integer_is d n n_is)))
-sound_end_of table end_words.Raise ds x e =
-    two_read (class_at table) text_at Raise ds x e (λ d f c t ds_is c_is t_is made.
-    rw (ds_is, text_is f t t_is, ← made) (raises d c t (class_is table d c c_is)))
-sound_end_of table end_words.Trap ds x e =
-    two_read (list_at (class_at table)) value_at Trap ds x e (λ d f cs v ds_is cs_is v_is made.
-    rw (ds_is, ← made) (traps d cs f v (sound_list (IsClass table) (class_at table) (class_is table) d cs cs_is) (sound_value f v v_is)))
-sound_end_of table end_words.Wait ds x e =
-    one_read text_at Wait ds x e (λ d n ds_is n_is made. rw (ds_is, text_is d n n_is, ← made) (waits n))
+sound_ends table =
+    (λ ds x e. one_read value_at Return ds x e (λ d v ds_is v_is made. rw (ds_is, ← made) (returns d v (sound_value d v v_is)))) &
+    (λ ds x e. bind (none ds) _ x e (λ t t_is t_then. rw (none_is ds t t_is, ← some_injective t_then) passes)) &
+    (λ ds x e. one_read integer_at Plus ds x e (λ d n ds_is n_is made. rw (ds_is, ← made) (adds d n (integer_is d n n_is)))) &
+    (λ ds x e. two_read (class_at table) text_at Raise ds x e (λ d f c t ds_is c_is t_is made. rw (ds_is, text_is f t t_is, ← made) (raises d c t (class_is table d c c_is)))) &
+    (λ ds x e. two_read (list_at (class_at table)) value_at Trap ds x e (λ d f cs v ds_is cs_is v_is made.
+    rw (ds_is, ← made) (traps d cs f v (sound_list (IsClass table) (class_at table) (class_is table) d cs cs_is) (sound_value f v v_is)))) &
+    (λ ds x e. one_read text_at Wait ds x e (λ d n ds_is n_is made. rw (ds_is, text_is d n n_is, ← made) (waits n))) &
+    tt
 
 sound_end : (table : List Class) (d : Data) (x : End) → end_at table d ≡ Some x → IsEnd table d x
 unfolding end_at
 sound_end table d x e =
     bind (call_at d) _ x e (λ c c_is c_then.
     bind (end_word c.0) _ x c_then (λ w w_is w_then.
-    rw (call_is d c c_is, word_is end_text end_words c.0 w w_is) (sound_end_of table w c.1 x w_then)))
+    rw (call_is d c c_is) (found_word (IsEndRead table) end_words (sound_ends table) c.0 w w_is c.1 x w_then)))
 
 sound_leave : (table : List Class) (d : Data) (x : End) → leave_at table d ≡ Some x → IsEnd table d x × (may_leave x ≡ true)
 unfolding leave_at
@@ -289,22 +272,24 @@ sound_leave table d x e =
       | inr h ↦ cc
     ])
 
-sound_work_of : (table : List Class) (word : WorkWord) (ds : Items) (x : Work) → work_of table word ds ≡ Some x → IsWork table (array (item (string (work_text word)) ds)) x
+-- what the word of this work reads as is in the grammar
+abbrev IsWorkRead : List Class → WorkWord → List ℕ → Type 0
+IsWorkRead table word text = (ds : Items) (x : Work) → work_of table word ds ≡ Some x → IsWork table (array (item (string text) ds)) x
+
+sound_works : (table : List Class) → EachWord (IsWorkRead table) work_words
 unfolding work_of
-sound_work_of table work_words.Value ds x e =
-    one_read value_at job.Value ds x e (λ d v ds_is v_is made. rw (ds_is, ← made) (gives d v (sound_value d v v_is)))
-sound_work_of table work_words.Raise ds x e =
-    two_read (class_at table) text_at job.Raise ds x e (λ d f c t ds_is c_is t_is made.
-    rw (ds_is, text_is f t t_is, ← made) (fails d c t (class_is table d c c_is)))
-sound_work_of table work_words.Sum ds x e =
-    one_read (number_at 0 MOST_SUM) job.Sum ds x e (λ d n ds_is n_is made. rw (ds_is, ← made) (sums d n (number_is 0 MOST_SUM d n n_is)))
+sound_works table =
+    (λ ds x e. one_read value_at job.Value ds x e (λ d v ds_is v_is made. rw (ds_is, ← made) (gives d v (sound_value d v v_is)))) &
+    (λ ds x e. two_read (class_at table) text_at job.Raise ds x e (λ d f c t ds_is c_is t_is made. rw (ds_is, text_is f t t_is, ← made) (fails d c t (class_is table d c c_is)))) &
+    (λ ds x e. one_read (number_at 0 MOST_SUM) job.Sum ds x e (λ d n ds_is n_is made. rw (ds_is, ← made) (sums d n (number_is 0 MOST_SUM d n n_is)))) &
+    tt
 
 sound_work : (table : List Class) (d : Data) (x : Work) → work_at table d ≡ Some x → IsWork table d x
 unfolding work_at
 sound_work table d x e =
     bind (call_at d) _ x e (λ c c_is c_then.
     bind (work_word c.0) _ x c_then (λ w w_is w_then.
-    rw (call_is d c c_is, word_is work_text work_words c.0 w w_is) (sound_work_of table w c.1 x w_then)))
+    rw (call_is d c c_is) (found_word (IsWorkRead table) work_words (sound_works table) c.0 w w_is c.1 x w_then)))
 
 -- ---- actions, by their forms
 
@@ -394,38 +379,6 @@ module _ (table : List Class) (r : Readers) (sound : AreSound table r) where
       rw (first_is ds a a_is, ← some_injective b_then, ap (λ q. q.0) (some_injective o_then), text_is p.0 n n_is)
       (sound_deferred a.1 n p.1 b (o_is ∙ ap (λ q. Some q.1) (some_injective o_then)) b_is))))))
 
-  sound_name : (word : NameWord) (ds : Items) (x : Action) → one_of text_at (with_name word) ds ≡ Some x
-      → IsAction table (array (item (string (name_text word)) ds)) x
-  sound_name of_name.Pause ds x e = named table Pause (codes "pause") pause ds x e
-  sound_name of_name.Unpause ds x e = named table Unpause (codes "unpause") unpause ds x e
-  sound_name of_name.Cancel ds x e = named table Cancel (codes "cancel") cancel ds x e
-  sound_name of_name.Note ds x e = named table Note (codes "note") note ds x e
-  sound_name of_name.Lock ds x e = named table Lock (codes "lock") lock ds x e
-  sound_name of_name.Release ds x e = named table Release (codes "release") release ds x e
-  sound_name of_name.CancelCall ds x e = named table CancelCall (codes "cancelCall") cancel_call ds x e
-  sound_name of_name.StopLoop ds x e = named table StopLoop (codes "stopLoop") stop_loop ds x e
-  sound_name of_name.PauseTask ds x e = named table PauseTask (codes "pauseTask") pause_task ds x e
-  sound_name of_name.StopTask ds x e = named table StopTask (codes "stopTask") stop_task ds x e
-  sound_name of_name.ResumeTask ds x e = named table ResumeTask (codes "resumeTask") resume_task ds x e
-
-  sound_names : (word : NamesWord) (ds : Items) (x : Action) → two_of text_at text_at (with_names word) ds ≡ Some x
-      → IsAction table (array (item (string (names_text word)) ds)) x
-  sound_names of_names.Chain ds x e = named_twice table Chain (codes "chain") chain ds x e
-  sound_names of_names.Acquire ds x e = named_twice table Acquire (codes "acquire") acquire ds x e
-  sound_names of_names.Get ds x e = named_twice table Get (codes "get") get ds x e
-  sound_names of_names.WhenDone ds x e = named_twice table WhenDone (codes "whenDone") when_done ds x e
-
-  sound_with_body : (word : BodyWord) (ds : Items) (x : Action) → two_of text_at r.body (with_body word) ds ≡ Some x
-      → IsAction table (array (item (string (body_text word)) ds)) x
-  sound_with_body of_body.AddCallback ds x e =
-      named_with table r.body (IsBody table) sound.body AddCallback (codes "addCallback") add_callback ds x e
-  sound_with_body of_body.AddErrback ds x e =
-      named_with table r.body (IsBody table) sound.body AddErrback (codes "addErrback") add_errback ds x e
-  sound_with_body of_body.AddBoth ds x e =
-      named_with table r.body (IsBody table) sound.body AddBoth (codes "addBoth") add_both ds x e
-  sound_with_body of_body.Maybe ds x e =
-      named_with table r.body (IsBody table) sound.body Maybe (codes "maybe") maybe ds x e
-
   thread_in_read : (ds : Items) (x : Action) → thread_in_of table ds ≡ Some x
       → IsAction table (array (item (string (codes "threadIn")) ds)) x
   unfolding thread_in_of
@@ -437,29 +390,6 @@ module _ (table : List Class) (r : Readers) (sound : AreSound table r) where
       bind (work_at table p.3) _ x k_then (λ b b_is b_then.
       rw (four_is ds p p_is, text_is p.0 n n_is, text_is p.1 m m_is, ← some_injective b_then)
       (thread_in n m p.2 p.3 k b (number_is 0 MOST_DELAY p.2 k k_is) (sound_work table p.3 b b_is)))))))
-
-  sound_plain_of : (word : PlainWord) (ds : Items) (x : Action) → plain_of table word ds ≡ Some x
-      → IsAction table (array (item (string (plain_text word)) ds)) x
-  unfolding plain_of
-  sound_plain_of plain.Callback ds x e =
-      named_with table value_at IsValue sound_value Callback (codes "callback") callback ds x e
-  sound_plain_of plain.Errback ds x e =
-      named_with_two table (class_at table) (IsClass table) (class_is table) text_at IsText text_is Errback (codes "errback") (λ n c f class text c_is f_is. rw f_is (errback n c class text c_is)) ds x e
-  sound_plain_of plain.Put ds x e =
-      named_with table value_at IsValue sound_value Put (codes "put") put ds x e
-  sound_plain_of plain.List ds x e =
-      named_with_two table (list_at text_at) (IsList IsText) (sound_list IsText text_at text_is) (list_at list_flag_at) (IsList IsListFlag) (sound_list IsListFlag list_flag_at list_flag_is) ListOf (codes "list") list ds x e
-  sound_plain_of plain.Gather ds x e =
-      named_with_two table (list_at text_at) (IsList IsText) (sound_list IsText text_at text_is) (list_at gather_flag_at) (IsList IsGatherFlag) (sound_list IsGatherFlag gather_flag_at gather_flag_is) Gather (codes "gather") gather ds x e
-  sound_plain_of plain.Semaphore ds x e =
-      named_with table (number_at 1 MOST_PLACES) (IsNumber 1 MOST_PLACES) (number_is 1 MOST_PLACES) Semaphore (codes "semaphore") semaphore ds x e
-  sound_plain_of plain.Queue ds x e =
-      named_with_two table bound_at IsBound bound_is bound_at IsBound bound_is Queue (codes "queue") queue ds x e
-  sound_plain_of plain.Thread ds x e =
-      named_with_two table (number_at 0 MOST_DELAY) (IsNumber 0 MOST_DELAY) (number_is 0 MOST_DELAY) (work_at table) (IsWork table) (sound_work table) Thread (codes "thread") thread ds x e
-  sound_plain_of plain.ThreadIn ds x e = thread_in_read ds x e
-  sound_plain_of plain.AddTimeout ds x e =
-      named_with table (number_at 0 MOST_DELAY) (IsNumber 0 MOST_DELAY) (number_is 0 MOST_DELAY) AddTimeout (codes "addTimeout") add_timeout ds x e
 
   loop_read : (ds : Items) (x : Action) → loop_of r.body ds ≡ Some x
       → IsAction table (array (item (string (codes "loop")) ds)) x
@@ -474,37 +404,59 @@ module _ (table : List Class) (r : Readers) (sound : AreSound table r) where
       rw (five_is ds p p_is, text_is p.0 n n_is, text_is p.1 m m_is, boolean_is p.3 c c_is, ← some_injective b_then)
       (loop n m p.2 k c p.4 b (number_is 1 MOST_DELAY p.2 k k_is) (sound.body p.4 b b_is))))))))
 
-  sound_nesting_of : (word : NestingWord) (ds : Items) (x : Action) → nesting_of r.body r.statement word ds ≡ Some x
-      → IsAction table (array (item (string (nesting_text word)) ds)) x
-  unfolding nesting_of
-  sound_nesting_of nesting.Deferred ds x e = maker_read ds x e
-  sound_nesting_of nesting.AddCallbacks ds x e =
-      named_with_two table r.body (IsBody table) sound.body r.body (IsBody table) sound.body AddCallbacks (codes "addCallbacks") add_callbacks ds x e
-  sound_nesting_of nesting.RunWith ds x e =
-      named_with_two table text_at IsText text_is r.body (IsBody table) sound.body RunWith (codes "runWith") (λ n c f l b c_is b_is. rw c_is (run_with n l f b b_is)) ds x e
-  sound_nesting_of nesting.Later ds x e =
-      named_with_two table (number_at 0 MOST_DELAY) (IsNumber 0 MOST_DELAY) (number_is 0 MOST_DELAY) r.body (IsBody table) sound.body Later (codes "later") later ds x e
-  sound_nesting_of nesting.Loop ds x e = loop_read ds x e
-  sound_nesting_of nesting.Cooperate ds x e =
-      named_with table (list_at r.body) (IsBodies table) bodies_in Cooperate (codes "cooperate") (λ n d bs h. rw h.1 (cooperate n h.0 bs h.2)) ds x e
-  sound_nesting_of nesting.Inline ds x e =
-      named_with table (list_at r.statement) (IsStatements table) statements_in Inline (codes "inline") (λ n d ss h. rw h.1 (inline n h.0 ss h.2)) ds x e
+  -- what the word of this action reads as is in the grammar
+  abbrev IsActionRead : ActionWord → List ℕ → Type 0
+  IsActionRead word text = (ds : Items) (x : Action) → action_of table r.body r.statement word ds ≡ Some x → IsAction table (array (item (string text) ds)) x
 
-  sound_action_of : (word : ActionWord) (ds : Items) (x : Action) → action_of table r.body r.statement word ds ≡ Some x
-      → IsAction table (array (item (string (action_text word)) ds)) x
+  -- each word in the order of the table
+  sound_words : EachWord IsActionRead action_words
   unfolding action_of
-  sound_action_of (OfName word) ds x e = sound_name word ds x e
-  sound_action_of (OfNames word) ds x e = sound_names word ds x e
-  sound_action_of (OfBody word) ds x e = sound_with_body word ds x e
-  sound_action_of (Plain word) ds x e = sound_plain_of word ds x e
-  sound_action_of (Nesting word) ds x e = sound_nesting_of word ds x e
+  sound_words =
+      maker_read &
+      maker_read &
+      named_with table value_at IsValue sound_value Callback (codes "callback") callback &
+      named_with_two table (class_at table) (IsClass table) (class_is table) text_at IsText text_is Errback (codes "errback") (λ n c f class text c_is f_is. rw f_is (errback n c class text c_is)) &
+      named_with table r.body (IsBody table) sound.body AddCallback (codes "addCallback") add_callback &
+      named_with table r.body (IsBody table) sound.body AddErrback (codes "addErrback") add_errback &
+      named_with table r.body (IsBody table) sound.body AddBoth (codes "addBoth") add_both &
+      named_with_two table r.body (IsBody table) sound.body r.body (IsBody table) sound.body AddCallbacks (codes "addCallbacks") add_callbacks &
+      named_twice table Chain (codes "chain") chain &
+      named table Pause (codes "pause") pause &
+      named table Unpause (codes "unpause") unpause &
+      named table Cancel (codes "cancel") cancel &
+      named_with table (number_at 0 MOST_DELAY) (IsNumber 0 MOST_DELAY) (number_is 0 MOST_DELAY) AddTimeout (codes "addTimeout") add_timeout &
+      named table Note (codes "note") note &
+      named_with_two table (list_at text_at) (IsList IsText) (sound_list IsText text_at text_is) (list_at list_flag_at) (IsList IsListFlag) (sound_list IsListFlag list_flag_at list_flag_is) ListOf (codes "list") list &
+      named_with_two table (list_at text_at) (IsList IsText) (sound_list IsText text_at text_is) (list_at gather_flag_at) (IsList IsGatherFlag) (sound_list IsGatherFlag gather_flag_at gather_flag_is) Gather (codes "gather") gather &
+      named_with table r.body (IsBody table) sound.body Maybe (codes "maybe") maybe &
+      named table Lock (codes "lock") lock &
+      named_with table (number_at 1 MOST_PLACES) (IsNumber 1 MOST_PLACES) (number_is 1 MOST_PLACES) Semaphore (codes "semaphore") semaphore &
+      named_twice table Acquire (codes "acquire") acquire &
+      named table Release (codes "release") release &
+      named_with_two table text_at IsText text_is r.body (IsBody table) sound.body RunWith (codes "runWith") (λ n c f l b c_is b_is. rw c_is (run_with n l f b b_is)) &
+      named_with_two table bound_at IsBound bound_is bound_at IsBound bound_is Queue (codes "queue") queue &
+      named_with table value_at IsValue sound_value Put (codes "put") put &
+      named_twice table Get (codes "get") get &
+      named_with_two table (number_at 0 MOST_DELAY) (IsNumber 0 MOST_DELAY) (number_is 0 MOST_DELAY) r.body (IsBody table) sound.body Later (codes "later") later &
+      named table CancelCall (codes "cancelCall") cancel_call &
+      loop_read &
+      named table StopLoop (codes "stopLoop") stop_loop &
+      named_with table (list_at r.body) (IsBodies table) bodies_in Cooperate (codes "cooperate") (λ n d bs h. rw h.1 (cooperate n h.0 bs h.2)) &
+      named_twice table WhenDone (codes "whenDone") when_done &
+      named table PauseTask (codes "pauseTask") pause_task &
+      named table StopTask (codes "stopTask") stop_task &
+      named table ResumeTask (codes "resumeTask") resume_task &
+      named_with table (list_at r.statement) (IsStatements table) statements_in Inline (codes "inline") (λ n d ss h. rw h.1 (inline n h.0 ss h.2)) &
+      named_with_two table (number_at 0 MOST_DELAY) (IsNumber 0 MOST_DELAY) (number_is 0 MOST_DELAY) (work_at table) (IsWork table) (sound_work table) Thread (codes "thread") thread &
+      thread_in_read &
+      tt
 
   sound_action : (d : Data) (x : Action) → action_with table r d ≡ Some x → IsAction table d x
   unfolding action_by
   sound_action d x e =
       bind (call_at d) _ x e (λ c c_is c_then.
       bind (action_word c.0) _ x c_then (λ w w_is w_then.
-      rw (call_is d c c_is, action_word_is c.0 w w_is) (sound_action_of w c.1 x w_then)))
+      rw (call_is d c c_is) (found_word IsActionRead action_words sound_words c.0 w w_is c.1 x w_then)))
 
   sound_actions : (ds : Items) (xs : List Action) → each (action_with table r) ds ≡ Some xs → AreActions table ds xs
   sound_actions no_items xs e = rw (← some_injective e) no_actions
@@ -529,30 +481,31 @@ module _ (table : List Class) (r : Readers) (sound : AreSound table r) where
       (sound_field Pass l (IsEnd table) (end_at table) (sound_end table) (get_member (codes "end") ms) l_is)))))
   sound_body_by _ b e = cc
 
-  sound_statement_of : (word : StatementWord) (ds : Items) (x : Statement) → statement_of table (action_with table r) r.statement word ds ≡ Some x
-      → IsStatement table (array (item (string (statement_text word)) ds)) x
+  -- what the word of this statement reads as is in the grammar
+  abbrev IsStatementRead : StatementWord → List ℕ → Type 0
+  IsStatementRead word text = (ds : Items) (x : Statement) → statement_of table (action_with table r) r.statement word ds ≡ Some x → IsStatement table (array (item (string text) ds)) x
+
+  sound_statement_words : EachWord IsStatementRead statement_words
   unfolding statement_of
-  sound_statement_of statement_words.Do ds x e =
-      one_read (action_with table r) Do ds x e (λ d a ds_is a_is made. rw (ds_is, ← made) (performs d a (sound_action d a a_is)))
-  sound_statement_of statement_words.Await ds x e =
-      one_read text_at Await ds x e (λ d n ds_is n_is made. rw (ds_is, text_is d n n_is, ← made) (awaits n))
-  sound_statement_of statement_words.Try ds x e =
-      three_read (list_at r.statement) (list_at (class_at table)) (list_at r.statement) Try ds x e (λ d f g a c b ds_is a_is c_is b_is made.
+  sound_statement_words =
+      (λ ds x e. one_read (action_with table r) Do ds x e (λ d a ds_is a_is made. rw (ds_is, ← made) (performs d a (sound_action d a a_is)))) &
+      (λ ds x e. one_read text_at Await ds x e (λ d n ds_is n_is made. rw (ds_is, text_is d n n_is, ← made) (awaits n))) &
+      (λ ds x e. three_read (list_at r.statement) (list_at (class_at table)) (list_at r.statement) Try ds x e (λ d f g a c b ds_is a_is c_is b_is made.
       let first = statements_in d a a_is in
       let second = statements_in g b b_is in
       rw (ds_is, first.1, second.1, ← made)
-      (tries first.0 f second.0 a c b first.2 (sound_list (IsClass table) (class_at table) (class_is table) f c c_is) second.2))
-  sound_statement_of statement_words.End ds x e =
-      one_read (leave_at table) Leave ds x e (λ d l ds_is l_is made.
+      (tries first.0 f second.0 a c b first.2 (sound_list (IsClass table) (class_at table) (class_is table) f c c_is) second.2))) &
+      (λ ds x e. one_read (leave_at table) Leave ds x e (λ d l ds_is l_is made.
       let left = sound_leave table d l l_is in
-      rw (ds_is, ← made) (leaves d l left.0 left.1))
+      rw (ds_is, ← made) (leaves d l left.0 left.1))) &
+      tt
 
   sound_statement_by : (d : Data) (x : Statement) → statement_by table (action_with table r) r.statement d ≡ Some x → IsStatement table d x
   unfolding statement_by
   sound_statement_by d x e =
       bind (call_at d) _ x e (λ c c_is c_then.
       bind (statement_word c.0) _ x c_then (λ w w_is w_then.
-      rw (call_is d c c_is, word_is statement_text statement_words c.0 w w_is) (sound_statement_of w c.1 x w_then)))
+      rw (call_is d c c_is) (found_word IsStatementRead statement_words sound_statement_words c.0 w w_is c.1 x w_then)))
 
 sound_readers : (table : List Class) (n : ℕ) → AreSound table (readers table n)
 unfolding readers
@@ -564,20 +517,23 @@ sound_readers table (suc n) = record {
 
 -- ---- events, posts, scripts
 
-sound_event_of : (table : List Class) (word : EventWord) (ds : Items) (x : Event) → event_of word ds ≡ Some x
-    → IsEvent table (array (item (string (event_text word)) ds)) x
+-- what the word of this event reads as is in the grammar
+abbrev IsEventRead : List Class → EventWord → List ℕ → Type 0
+IsEventRead table word text = (ds : Items) (x : Event) → event_of word ds ≡ Some x → IsEvent table (array (item (string text) ds)) x
+
+sound_event_words : (table : List Class) → EachWord (IsEventRead table) event_words
 unfolding event_of
-sound_event_of table event_words.Advance ds x e =
-    one_read (number_at 0 MOST_TICKS) happens.Advance ds x e (λ d n ds_is n_is made. rw (ds_is, ← made) (advances d n (number_is 0 MOST_TICKS d n n_is)))
-sound_event_of table event_words.Drain ds x e =
-    one_read (number_at 0 MOST_DRAINED) happens.Drain ds x e (λ d n ds_is n_is made. rw (ds_is, ← made) (drains d n (number_is 0 MOST_DRAINED d n n_is)))
+sound_event_words table =
+    (λ ds x e. one_read (number_at 0 MOST_TICKS) happens.Advance ds x e (λ d n ds_is n_is made. rw (ds_is, ← made) (advances d n (number_is 0 MOST_TICKS d n n_is)))) &
+    (λ ds x e. one_read (number_at 0 MOST_DRAINED) happens.Drain ds x e (λ d n ds_is n_is made. rw (ds_is, ← made) (drains d n (number_is 0 MOST_DRAINED d n n_is)))) &
+    tt
 
 sound_other : (table : List Class) (d : Data) (x : Event) → other_event d ≡ Some x → IsEvent table d x
 unfolding other_event
 sound_other table d x e =
     bind (call_at d) _ x e (λ c c_is c_then.
     bind (event_word c.0) _ x c_then (λ w w_is w_then.
-    rw (call_is d c c_is, word_is event_text event_words c.0 w w_is) (sound_event_of table w c.1 x w_then)))
+    rw (call_is d c c_is) (found_word (IsEventRead table) event_words (sound_event_words table) c.0 w w_is c.1 x w_then)))
 
 sound_event_by : (table : List Class) (d : Data) (x : Event) (o : Option Action) (other : Option Event) → ((a : Action) → o ≡ Some a → IsAction table d a)
     → ((y : Event) → other ≡ Some y → IsEvent table d y) → event_by o other ≡ Some x → IsEvent table d x

@@ -1,3 +1,2 @@
 pub mod Grammar
-pub mod Words
 pub mod Shape

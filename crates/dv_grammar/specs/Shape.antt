@@ -3,7 +3,6 @@ use Rattle.std.specs.Prelude.{ℕ, zero, suc, List, [], Option, Some, None, if�
 use Rattle.serde_json.specs.Data.{Data, Items}
 use Rattle.serde_json.specs.Find.{as_array, as_bool, get}
 use Rattle.serde_json.specs.Read.{max_depth}
-use Rattle.dv_value.specs.declared.value.Value.{Value}
 use Rattle.dv_value.specs.declared.classes.Class.{Class}
 use Rattle.dv_script.specs.declared.body.End.{End}
 use Rattle.dv_script.specs.declared.body.End.TheVariants.{Return, Pass, Plus, Raise, Trap, Wait}
@@ -19,30 +18,20 @@ use Rattle.dv_script.specs.declared.script.NamedPool.{NamedPool}
 use Rattle.dv_script.specs.declared.limits.TheConstants.{MOST_DRAINED, MOST_LIMIT, MOST_PLACES, MOST_SUM, MOST_UNITS, MOST_WORKERS, USUAL_LIMIT}
 use Rattle.dv_clock.specs.declared.limits.TheConstants.{MOST_DELAY, MOST_TICKS}
 use Rattle.dv_grammar.specs.declared.draft.Draft.{Draft}
-use Rattle.dv_grammar.specs.declared.words.NameWord.{NameWord}
-use Rattle.dv_grammar.specs.declared.words.NameWord.TheVariants as of_name
-use Rattle.dv_grammar.specs.declared.words.NamesWord.{NamesWord}
-use Rattle.dv_grammar.specs.declared.words.NamesWord.TheVariants as of_names
-use Rattle.dv_grammar.specs.declared.words.BodyWord.{BodyWord}
-use Rattle.dv_grammar.specs.declared.words.BodyWord.TheVariants as of_body
-use Rattle.dv_grammar.specs.declared.words.PlainWord.{PlainWord}
-use Rattle.dv_grammar.specs.declared.words.PlainWord.TheVariants as plain
-use Rattle.dv_grammar.specs.declared.words.NestingWord.{NestingWord}
-use Rattle.dv_grammar.specs.declared.words.NestingWord.TheVariants as nesting
-use Rattle.dv_grammar.specs.declared.words.ActionWord.{ActionWord}
-use Rattle.dv_grammar.specs.declared.words.ActionWord.TheVariants.{OfName, OfNames, OfBody, Plain, Nesting}
-use Rattle.dv_grammar.specs.declared.words.EventWord.{EventWord}
-use Rattle.dv_grammar.specs.declared.words.EventWord.TheVariants as event
-use Rattle.dv_grammar.specs.declared.words.EndWord.{EndWord}
-use Rattle.dv_grammar.specs.declared.words.EndWord.TheVariants as end
-use Rattle.dv_grammar.specs.declared.words.StatementWord.{StatementWord}
-use Rattle.dv_grammar.specs.declared.words.StatementWord.TheVariants as statement
-use Rattle.dv_grammar.specs.declared.words.WorkWord.{WorkWord}
-use Rattle.dv_grammar.specs.declared.words.WorkWord.TheVariants as work
+use Rattle.dv_forms.specs.declared.words.ActionWord.{ActionWord}
+use Rattle.dv_forms.specs.declared.words.ActionWord.TheVariants as word
+use Rattle.dv_forms.specs.declared.words.EventWord.{EventWord}
+use Rattle.dv_forms.specs.declared.words.EventWord.TheVariants as event
+use Rattle.dv_forms.specs.declared.words.EndWord.{EndWord}
+use Rattle.dv_forms.specs.declared.words.EndWord.TheVariants as end
+use Rattle.dv_forms.specs.declared.words.StatementWord.{StatementWord}
+use Rattle.dv_forms.specs.declared.words.StatementWord.TheVariants as statement
+use Rattle.dv_forms.specs.declared.words.WorkWord.{WorkWord}
+use Rattle.dv_forms.specs.declared.words.WorkWord.TheVariants as work
+use Rattle.dv_forms.specs.Words.{action_word, event_word, end_word, statement_word, work_word}
 use Rattle.dv_forms.specs.Leaving.{may_leave}
-use Rattle.dv_forms.specs.Parts.{◌>>=◌, bound_at, call_at, class_at, declaration_at, field, fields_at, five, four, gather_flag_at, if_there, integer_at, list_at, list_flag_at, none, number_at, one, one_of, one_or_two, table_for, text_at, three_of, two, two_of, value_at}
+use Rattle.dv_forms.specs.Parts.{◌>>=◌, bound_at, call_at, class_at, declaration_at, field, fields_at, five, four, gather_flag_at, if_there, integer_at, list_at, list_flag_at, none, number_at, one_of, one_or_two, table_for, text_at, three_of, two_of, value_at}
 use Rattle.dv_grammar.specs.Grammar.{body_keys, cooperator_keys, keys_of, plain_cooperator}
-use Rattle.dv_grammar.specs.Words.{action_word, event_word, end_word, statement_word, work_word}
 
 -- an end, by its word
 unfoldable pub end_of : List Class → EndWord → Items → Option End
@@ -89,34 +78,6 @@ new_deferred_of body ds = do
   canceller ← if_there body p.1
   Some (Deferred name canceller)
 
--- an action with its one text
-abbrev pub with_name : NameWord → List ℕ → Action
-with_name of_name.Pause name = Pause name
-with_name of_name.Unpause name = Unpause name
-with_name of_name.Cancel name = Cancel name
-with_name of_name.Note text = Note text
-with_name of_name.Lock name = Lock name
-with_name of_name.Release name = Release name
-with_name of_name.CancelCall name = CancelCall name
-with_name of_name.StopLoop name = StopLoop name
-with_name of_name.PauseTask name = PauseTask name
-with_name of_name.StopTask name = StopTask name
-with_name of_name.ResumeTask name = ResumeTask name
-
--- an action with its two names
-abbrev pub with_names : NamesWord → List ℕ → List ℕ → Action
-with_names of_names.Chain name other = Chain name other
-with_names of_names.Acquire name other = Acquire name other
-with_names of_names.Get name other = Get name other
-with_names of_names.WhenDone name other = WhenDone name other
-
--- an action with its name and its body
-abbrev pub with_body : BodyWord → List ℕ → Body → Action
-with_body of_body.AddCallback name body = AddCallback name body
-with_body of_body.AddErrback name body = AddErrback name body
-with_body of_body.AddBoth name body = AddBoth name body
-with_body of_body.Maybe name body = Maybe name body
-
 -- a work that a thread of a pool does
 unfoldable pub thread_in_of : List Class → Items → Option Action
 thread_in_of table ds = do
@@ -126,19 +87,6 @@ thread_in_of table ds = do
   delay ← number_at 0 MOST_DELAY p.2
   given ← work_at table p.3
   Some (ThreadIn name pool delay given)
-
--- another action, in which there is no body
-unfoldable pub plain_of : List Class → PlainWord → Items → Option Action
-plain_of table plain.Callback ds = two_of text_at value_at Callback ds
-plain_of table plain.Errback ds = three_of text_at (class_at table) text_at Errback ds
-plain_of table plain.Put ds = two_of text_at value_at Put ds
-plain_of table plain.List ds = three_of text_at (list_at text_at) (list_at list_flag_at) ListOf ds
-plain_of table plain.Gather ds = three_of text_at (list_at text_at) (list_at gather_flag_at) Gather ds
-plain_of table plain.Semaphore ds = two_of text_at (number_at 1 MOST_PLACES) Semaphore ds
-plain_of table plain.Queue ds = three_of text_at bound_at bound_at Queue ds
-plain_of table plain.Thread ds = three_of text_at (number_at 0 MOST_DELAY) (work_at table) Thread ds
-plain_of table plain.ThreadIn ds = thread_in_of table ds
-plain_of table plain.AddTimeout ds = two_of text_at (number_at 0 MOST_DELAY) AddTimeout ds
 
 -- a loop, whose body is read so
 unfoldable pub loop_of : (Data → Option Body) → Items → Option Action
@@ -151,23 +99,44 @@ loop_of body ds = do
   b ← body p.4
   Some (Loop name deferred interval at_once b)
 
--- another action, whose bodies and statements are read so
-unfoldable pub nesting_of : (Data → Option Body) → (Data → Option Statement) → NestingWord → Items → Option Action
-nesting_of body statement nesting.Deferred ds = new_deferred_of body ds
-nesting_of body statement nesting.AddCallbacks ds = three_of text_at body body AddCallbacks ds
-nesting_of body statement nesting.RunWith ds = three_of text_at text_at body RunWith ds
-nesting_of body statement nesting.Later ds = three_of text_at (number_at 0 MOST_DELAY) body Later ds
-nesting_of body statement nesting.Loop ds = loop_of body ds
-nesting_of body statement nesting.Cooperate ds = two_of text_at (list_at body) Cooperate ds
-nesting_of body statement nesting.Inline ds = two_of text_at (list_at statement) Inline ds
-
--- an action, by its word
+-- an action by its word, whose bodies and statements are read so
 unfoldable pub action_of : List Class → (Data → Option Body) → (Data → Option Statement) → ActionWord → Items → Option Action
-action_of table body statement (OfName word) ds = one_of text_at (with_name word) ds
-action_of table body statement (OfNames word) ds = two_of text_at text_at (with_names word) ds
-action_of table body statement (OfBody word) ds = two_of text_at body (with_body word) ds
-action_of table body statement (Plain word) ds = plain_of table word ds
-action_of table body statement (Nesting word) ds = nesting_of body statement word ds
+action_of table body statement word.Deferred ds = new_deferred_of body ds
+action_of table body statement word.Callback ds = two_of text_at value_at Callback ds
+action_of table body statement word.Errback ds = three_of text_at (class_at table) text_at Errback ds
+action_of table body statement word.AddCallback ds = two_of text_at body AddCallback ds
+action_of table body statement word.AddErrback ds = two_of text_at body AddErrback ds
+action_of table body statement word.AddBoth ds = two_of text_at body AddBoth ds
+action_of table body statement word.AddCallbacks ds = three_of text_at body body AddCallbacks ds
+action_of table body statement word.Chain ds = two_of text_at text_at Chain ds
+action_of table body statement word.Pause ds = one_of text_at Pause ds
+action_of table body statement word.Unpause ds = one_of text_at Unpause ds
+action_of table body statement word.Cancel ds = one_of text_at Cancel ds
+action_of table body statement word.AddTimeout ds = two_of text_at (number_at 0 MOST_DELAY) AddTimeout ds
+action_of table body statement word.Note ds = one_of text_at Note ds
+action_of table body statement word.List ds = three_of text_at (list_at text_at) (list_at list_flag_at) ListOf ds
+action_of table body statement word.Gather ds = three_of text_at (list_at text_at) (list_at gather_flag_at) Gather ds
+action_of table body statement word.Maybe ds = two_of text_at body Maybe ds
+action_of table body statement word.Lock ds = one_of text_at Lock ds
+action_of table body statement word.Semaphore ds = two_of text_at (number_at 1 MOST_PLACES) Semaphore ds
+action_of table body statement word.Acquire ds = two_of text_at text_at Acquire ds
+action_of table body statement word.Release ds = one_of text_at Release ds
+action_of table body statement word.RunWith ds = three_of text_at text_at body RunWith ds
+action_of table body statement word.Queue ds = three_of text_at bound_at bound_at Queue ds
+action_of table body statement word.Put ds = two_of text_at value_at Put ds
+action_of table body statement word.Get ds = two_of text_at text_at Get ds
+action_of table body statement word.Later ds = three_of text_at (number_at 0 MOST_DELAY) body Later ds
+action_of table body statement word.CancelCall ds = one_of text_at CancelCall ds
+action_of table body statement word.Loop ds = loop_of body ds
+action_of table body statement word.StopLoop ds = one_of text_at StopLoop ds
+action_of table body statement word.Cooperate ds = two_of text_at (list_at body) Cooperate ds
+action_of table body statement word.WhenDone ds = two_of text_at text_at WhenDone ds
+action_of table body statement word.PauseTask ds = one_of text_at PauseTask ds
+action_of table body statement word.StopTask ds = one_of text_at StopTask ds
+action_of table body statement word.ResumeTask ds = one_of text_at ResumeTask ds
+action_of table body statement word.Inline ds = two_of text_at (list_at statement) Inline ds
+action_of table body statement word.Thread ds = three_of text_at (number_at 0 MOST_DELAY) (work_at table) Thread ds
+action_of table body statement word.ThreadIn ds = thread_in_of table ds
 
 -- an action, whose bodies and statements are read so
 unfoldable pub action_by : List Class → (Data → Option Body) → (Data → Option Statement) → Data → Option Action

@@ -3,4 +3,3 @@
 
 pub mod draft;
 pub mod reading;
-pub mod words;

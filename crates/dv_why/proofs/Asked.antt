@@ -10,17 +10,17 @@ use Rattle.serde_json.specs.Find.{at, get, get_item, get_member}
 use Rattle.serde_json.specs.View.{items_view}
 use Rattle.serde_json.specs.declared.value.Value.{Value}
 use Rattle.dv_grammar.proofs.Steps.{some_injective}
-use Rattle.dv_why.specs.declared.want.Want.{Want}
-use Rattle.dv_why.specs.declared.want.Want.TheVariants as want
-use Rattle.dv_why.specs.declared.want.Leaf.{Leaf}
-use Rattle.dv_why.specs.declared.want.Keyed.{Keyed}
-use Rattle.dv_why.specs.declared.want.Keyed.TheVariants as keyed
-use Rattle.dv_why.specs.declared.want.Call.{Call}
-use Rattle.dv_why.specs.declared.want.Pair.{Pair}
-use Rattle.dv_why.specs.declared.want.Item.{Item}
+use Rattle.dv_forms.specs.declared.want.Want.{Want}
+use Rattle.dv_forms.specs.declared.want.Want.TheVariants as want
+use Rattle.dv_forms.specs.declared.want.Leaf.{Leaf}
+use Rattle.dv_forms.specs.declared.want.Keyed.{Keyed}
+use Rattle.dv_forms.specs.declared.want.Keyed.TheVariants as keyed
+use Rattle.dv_forms.specs.declared.want.Call.{Call}
+use Rattle.dv_forms.specs.declared.want.Pair.{Pair}
+use Rattle.dv_forms.specs.declared.want.Item.{Item}
 use Rattle.dv_why.specs.declared.question.Question.{Question}
 use Rattle.dv_why.specs.declared.question.Question.TheVariants as question
-use Rattle.dv_why.specs.Wants.{key_want, keys_in, script_want, cooperator_want, body_want}
+use Rattle.dv_forms.specs.Wants.{key_want, keys_in, script_want, cooperator_want, body_want}
 use Rattle.dv_why.specs.Fits.{first_other, is_other, suits}
 use Rattle.dv_why.specs.AllSuit.{AllSuit, all_suit, ItemsSuit, KnownSuit, OthersOf, OthersSuit, ValuesSuit}
 

@@ -1,9 +1,11 @@
 -- Items and wants, counted.
-use Rattle.std.proofs.Common.{◌≡◌, ℕ, zero, suc, ◌<◌, ◌≤◌, List, [], ◌∷◌, length, get_or, Some, None, refl, ap, arith}
+use Rattle.std.proofs.Common.{◌≡◌, ◌≢◌, ℕ, zero, suc, ◌-◌, ◌<◌, ◌≤◌, List, [], ◌∷◌, length, get_or, Some, None, refl, ap, arith}
+use Rattle.serde_json.specs.Data.{Data}
 use Rattle.serde_json.specs.View.{items_view}
 use Rattle.serde_json.specs.declared.value.Value.{Value}
-use Rattle.dv_why.specs.declared.want.Want.{Want}
-use Rattle.dv_why.specs.Places.{count, nth}
+use Rattle.dv_forms.specs.declared.want.Want.{Want}
+use Rattle.dv_forms.specs.declared.want.Call.{Call}
+use Rattle.dv_why.specs.Places.{argument_want, call_want, count, nth}
 
 -- there are as many items as values
 pub count_items : (vs : List Value) → count (items_view vs) ≡ length vs
@@ -21,3 +23,8 @@ pub nth_past : (ws : List Want) (n : ℕ) → length ws ≤ n → nth ws n ≡ N
 nth_past [] n h = refl
 nth_past (w ∷ ws) zero h = absurd (omega arith)
 nth_past (w ∷ ws) (suc n) h = nth_past ws n (omega arith)
+
+-- a part of a call after its word is an argument
+pub after_word : (c : Call) (d : Data) (n : ℕ) → n ≢ 0 → argument_want c d (n - 1) ≡ call_want c d n
+after_word c d zero h = absurd (h refl)
+after_word c d (suc n) h = let e : suc n - 1 ≡ n = omega arith in ap (λ (k : ℕ). argument_want c d k) e

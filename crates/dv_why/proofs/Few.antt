@@ -1,5 +1,5 @@
 -- Where a document has few of everything, its script is small.
-use Rattle.std.proofs.Common.{◌≡◌, ℕ, zero, suc, ◌+◌, ◌-◌, ◌^◌, ◌≤◌, ◌<◌, min, Bool, true, false, ◌&&◌, nat_lt, List, [], ◌∷◌, length, map, sum, Option, Some, None, option_and_then, refl, sym, ap, ◌∙◌, arith, codes}
+use Rattle.std.proofs.Common.{◌≡◌, ℕ, zero, suc, ◌+◌, ◌-◌, ◌^◌, ◌≤◌, ◌<◌, min, Bool, true, false, not, bytes_eq, ◌&&◌, nat_lt, List, [], ◌∷◌, length, map, sum, Option, Some, None, option_and_then, refl, sym, ap, ◌∙◌, arith, codes}
 use Rattle.std.specs.List.{fold, list_all}
 use Rattle.std.proofs.lemmas.Bool.{le-leb, ltb-false}
 use Rattle.serde_json.specs.Data.{Data, Items, no_items, item}
@@ -12,11 +12,14 @@ use Rattle.dv_script.specs.declared.limits.TheConstants.{MOST_CALLERS, MOST_CLAS
 use Rattle.dv_clock.specs.declared.limits.TheConstants.{MOST_TICKS}
 use Rattle.dv_forms.specs.Forms.{Each, IsList, Field, Key}
 use Rattle.dv_grammar.specs.declared.draft.Draft.{Draft}
-use Rattle.dv_grammar.specs.Grammar.{IsAction, deferred, deferred_with, callback, errback, add_callback, add_errback, add_both, add_callbacks, chain, pause, unpause, cancel, add_timeout, note, list, gather, maybe, lock, semaphore, acquire, release, run_with, queue, put, get as gets, later, cancel_call, loop, stop_loop, cooperate, when_done, pause_task, stop_task, resume_task, inline, thread, thread_in, IsEvent, acts, advances, drains, IsScript}
+use Rattle.dv_grammar.specs.Grammar.{IsAction, IsEvent, acts, advances, drains, IsScript}
+use Rattle.dv_forms.specs.Words.{action_words}
+use Rattle.dv_why.proofs.Actions.{action_begins}
+use Rattle.dv_why.proofs.Forms.{checked_word}
 use Rattle.dv_reader.specs.Limits.{nodes, ticks_of, ticks_in as draft_ticks, are_few, is_small}
 use Rattle.dv_why.specs.Places.{count}
 use Rattle.dv_why.specs.Documents.{or_no_items}
-use Rattle.dv_why.specs.Counts.{count_at, count_in, posts_of, ticks_at, ticks_among, ticks_in}
+use Rattle.dv_why.specs.Counts.{count_at, count_in, posts_of, ticks_by, ticks_at, ticks_among, ticks_in}
 
 -- ---- numbers
 
@@ -63,44 +66,19 @@ field_posts Is (Some d) xs g few = few_posts Is g.0 xs g.2 (rw (g.1) at few)
 
 -- ---- ticks
 
+no_advance : (word : List ℕ) (ticks : Option ℕ) → bytes_eq word (codes "advance") ≡ false → ticks_by (Some word) ticks ≡ 0
+no_advance word None h = refl
+no_advance word (Some n) h = rw h refl
+
+not_true : (b : Bool) → not b ≡ true → b ≡ false
+not_true true h = cc
+not_true false h = refl
+
 no_ticks : (table : List Class) (d : Data) (a : Action) → IsAction table d a → ticks_at d ≡ 0
-no_ticks table _ _ (deferred _) = refl
-no_ticks table _ _ (deferred_with _ _ _ _) = refl
-no_ticks table _ _ (callback _ _ _ _) = refl
-no_ticks table _ _ (errback _ _ _ _ _) = refl
-no_ticks table _ _ (add_callback _ _ _ _) = refl
-no_ticks table _ _ (add_errback _ _ _ _) = refl
-no_ticks table _ _ (add_both _ _ _ _) = refl
-no_ticks table _ _ (add_callbacks _ _ _ _ _ _ _) = refl
-no_ticks table _ _ (chain _ _) = refl
-no_ticks table _ _ (pause _) = refl
-no_ticks table _ _ (unpause _) = refl
-no_ticks table _ _ (cancel _) = refl
-no_ticks table _ _ (add_timeout _ _ _ _) = refl
-no_ticks table _ _ (note _) = refl
-no_ticks table _ _ (list _ _ _ _ _ _ _) = refl
-no_ticks table _ _ (gather _ _ _ _ _ _ _) = refl
-no_ticks table _ _ (maybe _ _ _ _) = refl
-no_ticks table _ _ (lock _) = refl
-no_ticks table _ _ (semaphore _ _ _ _) = refl
-no_ticks table _ _ (acquire _ _) = refl
-no_ticks table _ _ (release _) = refl
-no_ticks table _ _ (run_with _ _ _ _ _) = refl
-no_ticks table _ _ (queue _ _ _ _ _ _ _) = refl
-no_ticks table _ _ (put _ _ _ _) = refl
-no_ticks table _ _ (gets _ _) = refl
-no_ticks table _ _ (later _ _ _ _ _ _ _) = refl
-no_ticks table _ _ (cancel_call _) = refl
-no_ticks table _ _ (loop _ _ _ _ _ _ _ _ _) = refl
-no_ticks table _ _ (stop_loop _) = refl
-no_ticks table _ _ (cooperate _ _ _ _) = refl
-no_ticks table _ _ (when_done _ _) = refl
-no_ticks table _ _ (pause_task _) = refl
-no_ticks table _ _ (stop_task _) = refl
-no_ticks table _ _ (resume_task _) = refl
-no_ticks table _ _ (inline _ _ _ _) = refl
-no_ticks table _ _ (thread _ _ _ _ _ _ _) = refl
-no_ticks table _ _ (thread_in _ _ _ _ _ _ _ _) = refl
+no_ticks table d a g =
+    let b = action_begins table d a g in
+    let other = checked_word (λ text. not (bytes_eq text (codes "advance"))) action_words refl b.word b.found b.is in
+    rw b.whole (no_advance b.word _ (not_true (bytes_eq b.word (codes "advance")) other))
 
 event_ticks : (table : List Class) (d : Data) (e : Event) → IsEvent table d e → ticks_at d ≡ ticks_of e
 event_ticks table _ _ (acts d a g) = no_ticks table d a g

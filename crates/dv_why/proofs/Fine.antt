@@ -1,7 +1,7 @@
 -- A value of which each part fits, opened.
-use Rattle.std.proofs.Common.{◌≡◌, ℕ, suc, ◌≤◌, ℤ, nat_eq, nat_le, Bool, true, false, not, ◌&&◌, List, [], ◌∷◌, length, Option, Some, None, is_some, option_map, bytes_eq, refl, sym, ap, ◌∙◌, arith, codes}
+use Rattle.std.proofs.Common.{◌≡◌, ℕ, suc, ◌≤◌, ℤ, nat_le, Bool, true, false, ◌&&◌, List, [], ◌∷◌, length, Option, Some, None, is_some, option_map, bytes_eq, refl, sym, ap, ◌∙◌, arith, codes}
 use Rattle.std.specs.Prelude.{⊤}
-use Rattle.std.proofs.lemmas.Bool.{and_parts, eqb-true, leb-true}
+use Rattle.std.proofs.lemmas.Bool.{and_parts, leb-true}
 use Rattle.std.proofs.lemmas.Slice.Eq.{bytes_eq-Decides}
 use Rattle.serde_json.specs.Data.{Data, unsigned, negative, float, null, boolean, number, string, array, object, Items, no_items, item, depth}
 use Rattle.serde_json.specs.Find.{at, get, get_item, as_array, as_bool, as_i64, as_str}
@@ -11,21 +11,20 @@ use Rattle.dv_script.specs.declared.limits.TheConstants.{MOST_PLACES}
 use Rattle.dv_forms.specs.Forms.{Each, IsList, IsInteger, IsNumber, IsValue, AreValues, a_null, a_bool, an_int, a_text, a_list, no_values, more_values}
 use Rattle.dv_forms.specs.Parts.{call_at, within, integer_at, number_at, bound_at, list_flag, list_flag_at, gather_flag_named, gather_flag_at}
 use Rattle.dv_grammar.specs.Grammar.{IsListFlag, fires_on_callback, fires_on_errback, consumes_errors, IsGatherFlag, gathers_errors, IsBound, no_bound, a_bound}
-use Rattle.dv_grammar.specs.declared.words.ActionWord.{ActionWord}
-use Rattle.dv_grammar.specs.declared.words.EventWord.{EventWord}
-use Rattle.dv_grammar.specs.Words.{or_else, action_word, event_word}
 use Rattle.dv_value.specs.declared.value.Value.{Value, Null, Bool as Flag, Int, Text, List as Values}
-use Rattle.dv_why.specs.declared.want.Want.{Want}
-use Rattle.dv_why.specs.declared.want.Want.TheVariants as want
-use Rattle.dv_why.specs.declared.want.Call.{Call}
-use Rattle.dv_why.specs.declared.want.Call.TheVariants as call_of
-use Rattle.dv_why.specs.declared.want.Item.{Item}
+use Rattle.dv_forms.specs.declared.want.Want.{Want}
+use Rattle.dv_forms.specs.declared.want.Want.TheVariants as want
+use Rattle.dv_forms.specs.declared.want.Call.{Call}
+use Rattle.dv_forms.specs.declared.want.Item.{Item}
 use Rattle.dv_why.specs.declared.question.Question.TheVariants as question
-use Rattle.dv_why.specs.Wants.{item_want, form_of, event_wants, action_wants}
+use Rattle.dv_forms.specs.Wants.{item_want}
+use Rattle.dv_forms.specs.Words.{may_stand, wants_of}
 use Rattle.dv_why.specs.Places.{count, nth, part_want, value_want}
+use Rattle.dv_why.specs.declared.fits.TheConstants.{LAST_VERSION}
 use Rattle.dv_why.specs.Fits.{fits, word_fits}
 use Rattle.dv_why.specs.AllSuit.{AllSuit}
 use Rattle.dv_why.proofs.Asked.{item_below, value_below}
+use Rattle.dv_why.proofs.Forms.{last_too, wants_many}
 use Rattle.dv_why.proofs.Named.{here, part, value}
 
 -- each part of the value fits in a script of this version, and it nests to so many levels at most
@@ -202,24 +201,6 @@ more_args v n w ws (item d ds) h = record { a = d; rest = ds; items = refl; fine
 
 -- ---- calls
 
-action_some : (o : Option ActionWord) (m n : ℕ) → is_some (option_map (λ w. action_wants w m) o) ≡ true → is_some (option_map (λ w. action_wants w n) o) ≡ true
-action_some None m n h = h
-action_some (Some w) m n h = refl
-
-event_some : (e : Option EventWord) (o : Option ActionWord) (m n : ℕ) → is_some (or_else (option_map event_wants e) (option_map (λ w. action_wants w m) o)) ≡ true
-    → is_some (or_else (option_map event_wants e) (option_map (λ w. action_wants w n) o)) ≡ true
-event_some None o m n h = action_some o m n h
-event_some (Some w) o m n h = refl
-
--- a word has a form for each number of arguments, where it has one
-other_form : (c : Call) (word : List ℕ) (m n : ℕ) → is_some (form_of c word m) ≡ true → is_some (form_of c word n) ≡ true
-other_form call_of.Event word m n h = event_some (event_word word) (action_word word) m n h
-other_form call_of.Action word m n h = action_some (action_word word) m n h
-other_form call_of.Statement word m n h = h
-other_form call_of.End word m n h = h
-other_form call_of.Leaving word m n h = h
-other_form call_of.Work word m n h = h
-
 -- a word that may stand there, and its arguments
 pub record IsOpenCall (v n : ℕ) (c : Call) (d : Data) : Type 0 where
   pub word : List ℕ
@@ -227,16 +208,17 @@ pub record IsOpenCall (v n : ℕ) (c : Call) (d : Data) : Type 0 where
   pub whole : d ≡ array (item (string word) rest)
   pub plain : word_fits v c (Some word) ≡ true
   pub wants : List Want
-  pub form : form_of c word (count rest) ≡ Some wants
+  pub form : wants_of c word (count rest) ≡ Some wants
   pub args : AreFine v n wants rest
 
 pub open_call : (v n : ℕ) (c : Call) (d : Data) → fits v (want.Call c) d ≡ true → ((k : ℕ) (u : Want) (e : Data) → part_want (want.Call c) d k ≡ Some u → at k d ≡ Some e → IsFine v n u e) → IsOpenCall v n c d
 unfolding call_at
 open_call v n c (array (item (string word) rest)) h parts =
     let plain : word_fits v c (Some word) ≡ true = fits_fine (parts 0 (want.Word c) (string word) refl refl) in
-    let known = and_parts (not (nat_eq v 1 && bytes_eq word (codes "threadIn"))) (is_some (form_of c word 0)) plain in
-    let form = there (form_of c word (count rest)) (other_form c word 0 (count rest) known.1) in
-    let many : length form.0 ≡ count rest = eqb-true (length form.0) (count rest) (rw (form.1) at h) in
+    let last : may_stand c word LAST_VERSION ≡ true = last_too c word v plain in
+    let known : is_some (wants_of c word (count rest)) ≡ true = rw last at h in
+    let form = there (wants_of c word (count rest)) known in
+    let many : length form.0 ≡ count rest = wants_many c word (count rest) form.0 form.1 in
     record {
       word = word;
       rest = rest;

@@ -1,6 +1,6 @@
 -- Where each class and each pool is as a question asks, the script knows its classes and its pools.
 use Rattle.std.proofs.Common.{◌≡◌, ◌≢◌, ℕ, zero, suc, ◌≤◌, ◌<◌, Bool, true, false, not, ◌||◌, nat_lt, nat_eq, List, [], ◌∷◌, length, Option, Some, None, is_some, option_and_then, unwrap_or, bytes_eq, refl, sym, ap, subst, ◌∙◌, arith, codes, inl, inr}
-use Rattle.std.proofs.lemmas.Bool.{and_parts, lt-ltb, leb-true}
+use Rattle.std.proofs.lemmas.Bool.{and_parts, eqb-true, lt-ltb, leb-true}
 use Rattle.std.proofs.Math.Bool.{or-true}
 use Rattle.std.proofs.lemmas.List.Quantifiers.{position-Some}
 use Rattle.std.proofs.lemmas.Slice.Eq.{bytes_eq-Decides}
@@ -29,7 +29,7 @@ use Rattle.dv_why.specs.Finds.{Misfits}
 use Rattle.dv_why.specs.Reasons.{IsRefusedFor}
 use Rattle.dv_why.specs.Wrong.{IsMisshaped, IsMisnamed, IsBadClass, IsBadPool}
 use Rattle.dv_why.specs.declared.misfit.Misfit.{Misfit}
-use Rattle.dv_why.specs.declared.want.Call.TheVariants as call_of
+use Rattle.dv_forms.specs.declared.want.Call.TheVariants as call_of
 use Rattle.dv_why.proofs.Named.{Asks, both}
 use Rattle.dv_why.proofs.Reading.{script_fine}
 use Rattle.dv_why.proofs.PoolNames.{declared_one}
@@ -53,7 +53,7 @@ classes_asked : (q : Question) (d : Data) (table : List Class) → IsOfClasses d
 classes_asked (question.Shape version) d table of same = absurd of
 classes_asked question.Names d table of same = absurd of
 classes_asked (question.Classes classes) d table of same = record {
-  name = λ x h. refl;
+  name = λ l x is h. refl;
   deferred = λ x h. refl;
   pool = λ x word h. refl;
   class = λ x h. known_place x table classes.now (of ∙ same) h;
@@ -128,7 +128,7 @@ pools_asked (question.Shape version) d draft of g = absurd of
 pools_asked question.Names d draft of g = absurd of
 pools_asked (question.Classes classes) d draft of g = absurd of
 pools_asked (question.Pools ps) d draft of g = record {
-  name = λ x h. refl;
+  name = λ l x is h. refl;
   deferred = λ x h. refl;
   pool = λ x word h.
       let one = declared_one ps.now x h in
@@ -175,9 +175,9 @@ found_pool q d m of once h shallow (inr whole) = differs (are_pooled h.0) (pools
 -- in version 1 no thread is one of a pool
 shape_asked : (v : ℕ) (table : List Class) → nat_eq v 1 ≡ true → Asks (question.Shape v) (wanted.Pools []) table
 shape_asked v table one = record {
-  name = λ x h. refl;
+  name = λ l x is h. refl;
   deferred = λ x h. refl;
-  pool = λ x word h. let no : word_fits v call_of.Action (Some (codes "threadIn")) ≡ false = rw one refl in differs (word_fits v call_of.Action (Some (codes "threadIn"))) word no;
+  pool = λ x word h. let no : word_fits v call_of.Action (Some (codes "threadIn")) ≡ false = rw (eqb-true v 1 one) refl in differs (word_fits v call_of.Action (Some (codes "threadIn"))) word no;
   class = λ x h. refl;
 }
 

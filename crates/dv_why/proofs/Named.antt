@@ -1,5 +1,6 @@
 -- Where each part answers a question of names well, the script is named well.
 use Rattle.std.proofs.Common.{◌≡◌, ℕ, suc, Bool, true, ◌&&◌, List, [], ◌∷◌, map, Option, Some, None, refl, subst, ◌∙◌, codes}
+use Rattle.std.specs.Prelude.{⊤}
 use Rattle.std.specs.List.{list_all}
 use Rattle.serde_json.specs.Data.{Data, string, array, Items, no_items, item}
 use Rattle.serde_json.specs.Find.{at, get as value_of, get_item, get_member}
@@ -19,23 +20,44 @@ use Rattle.dv_forms.specs.Parts.{call_at}
 use Rattle.dv_grammar.specs.Grammar.{IsEnd, returns, passes, adds, raises, traps, waits, IsWork, gives, fails, sums, IsAction, deferred, deferred_with, callback, errback, add_callback, add_errback, add_both, add_callbacks, chain, pause, unpause, cancel, add_timeout, note, list, gather, maybe, lock, semaphore, acquire, release, run_with, queue, put, get, later, cancel_call, loop, stop_loop, cooperate, when_done, pause_task, stop_task, resume_task, inline, thread, thread_in, AreActions, no_actions, more_actions, IsDo, does_nothing, does, IsBody, body, AreBodies, no_bodies, more_bodies, IsStatement, performs, awaits, tries, leaves, AreStatements, no_statements, more_statements}
 use Rattle.dv_reader.specs.declared.suits.Wanted.{Wanted}
 use Rattle.dv_reader.specs.Suits.{suits_name, suits_deferred, suits_class, suits_pool, suits_end, suits_work, action_step, statement_step, body_step, suits_action, suits_statement, suits_body}
-use Rattle.dv_why.specs.declared.want.Want.{Want}
-use Rattle.dv_why.specs.declared.want.Want.TheVariants as want
-use Rattle.dv_why.specs.declared.want.Leaf.TheVariants as leaf
-use Rattle.dv_why.specs.declared.want.Call.TheVariants as call_of
-use Rattle.dv_why.specs.declared.want.Item.{Item}
-use Rattle.dv_why.specs.declared.want.Item.TheVariants as item_of
+use Rattle.dv_forms.specs.declared.want.Want.{Want}
+use Rattle.dv_forms.specs.declared.want.Want.TheVariants as want
+use Rattle.dv_forms.specs.declared.want.Leaf.{Leaf}
+use Rattle.dv_forms.specs.declared.want.Leaf.TheVariants as leaf
+use Rattle.dv_forms.specs.declared.want.Object.TheVariants as object
+use Rattle.dv_forms.specs.declared.want.Call.TheVariants as call_of
+use Rattle.dv_forms.specs.declared.want.Item.{Item}
+use Rattle.dv_forms.specs.declared.want.Item.TheVariants as item_of
 use Rattle.dv_why.specs.declared.question.Question.{Question}
-use Rattle.dv_why.specs.Wants.{a_name, a_deferred, a_class, a_body, item_want}
+use Rattle.dv_forms.specs.Wants.{a_deferred, a_pool, a_class, a_body, item_want}
 use Rattle.dv_why.specs.Places.{part_want, value_want}
 use Rattle.dv_why.specs.Fits.{suits}
 use Rattle.dv_why.specs.AllSuit.{AllSuit, all_suit}
 
+-- a leaf is the name of an object, but for a Deferred that is looked up
+abbrev pub IsName : Leaf → Type 0
+IsName leaf.Text = ⊥
+IsName (leaf.New o) = ⊤
+IsName (leaf.Found object.Deferred) = ⊥
+IsName (leaf.Found object.Lock) = ⊤
+IsName (leaf.Found object.Queue) = ⊤
+IsName (leaf.Found object.Call) = ⊤
+IsName (leaf.Found object.Loop) = ⊤
+IsName (leaf.Found object.Task) = ⊤
+IsName (leaf.Found object.Pool) = ⊥
+IsName (leaf.Found object.Class) = ⊥
+IsName leaf.Integer = ⊥
+IsName (leaf.Number low high) = ⊥
+IsName leaf.Boolean = ⊥
+IsName leaf.Bound = ⊥
+IsName leaf.ListFlag = ⊥
+IsName leaf.GatherFlag = ⊥
+
 -- what the question asks of names, classes and pools is what the reader wants of them
 pub record Asks (q : Question) (wanted : Wanted) (table : List Class) : Type 0 where
-  pub name : (x : List ℕ) → suits q a_name (string x) ≡ true → suits_name wanted x ≡ true
+  pub name : (l : Leaf) (x : List ℕ) → IsName l → suits q (want.Leaf l) (string x) ≡ true → suits_name wanted x ≡ true
   pub deferred : (x : List ℕ) → suits q a_deferred (string x) ≡ true → suits_deferred wanted x ≡ true
-  pub pool : (x : List ℕ) → suits q (want.Word call_of.Action) (string (codes "threadIn")) ≡ true → suits q (want.Leaf leaf.Pool) (string x) ≡ true → suits_pool wanted x ≡ true
+  pub pool : (x : List ℕ) → suits q (want.Word call_of.Action) (string (codes "threadIn")) ≡ true → suits q a_pool (string x) ≡ true → suits_pool wanted x ≡ true
   pub class : (x : List ℕ) → suits q a_class (string x) ≡ true → suits_class wanted (place_of x table) ≡ true
 
 -- ---- parts
@@ -128,8 +150,8 @@ mutual
   unfolding call_at
 
   pub named_action : {q : Question} {wanted : Wanted} {table : List Class} → Asks q wanted table → {d : Data} {a : Action} → IsAction table d a → AllSuit q (want.Call call_of.Action) d → suits_action wanted a ≡ true
-  named_action {wanted = wanted} asks (deferred name) h = by_action wanted (Deferred name None) (rw (outs-Deferred name None) (both (asks.name name (here (part 1 h refl refl))) refl))
-  named_action {wanted = wanted} asks (deferred_with name d canceller g) h = by_action wanted (Deferred name (Some canceller)) (rw (outs-Deferred name (Some canceller)) (both (asks.name name (here (part 1 h refl refl))) (named_body asks g (part 2 h refl refl))))
+  named_action {wanted = wanted} asks (deferred name) h = by_action wanted (Deferred name None) (rw (outs-Deferred name None) (both (asks.name (leaf.New object.Deferred) name tt (here (part 1 h refl refl))) refl))
+  named_action {wanted = wanted} asks (deferred_with name d canceller g) h = by_action wanted (Deferred name (Some canceller)) (rw (outs-Deferred name (Some canceller)) (both (asks.name (leaf.New object.Deferred) name tt (here (part 1 h refl refl))) (named_body asks g (part 2 h refl refl))))
   named_action {wanted = wanted} asks (callback name d v g) h = by_action wanted (Callback name v) (rw (outs-Callback name v) (asks.deferred name (here (part 1 h refl refl))))
   named_action {wanted = wanted} asks (errback name c class text g) h = by_action wanted (Errback name class text) (rw (outs-Errback name class text) (both (asks.deferred name (here (part 1 h refl refl))) (named_class asks c class g (part 2 h refl refl))))
   named_action {wanted = wanted} asks (add_callback name d side g) h = by_action wanted (AddCallback name side) (rw (outs-AddCallback name side) (both (asks.deferred name (here (part 1 h refl refl))) (named_body asks g (part 2 h refl refl))))
@@ -142,29 +164,29 @@ mutual
   named_action {wanted = wanted} asks (cancel name) h = by_action wanted (Cancel name) (rw (outs-Cancel name) (asks.deferred name (here (part 1 h refl refl))))
   named_action {wanted = wanted} asks (add_timeout name d delay g) h = by_action wanted (AddTimeout name delay) (rw (outs-AddTimeout name delay) (asks.deferred name (here (part 1 h refl refl))))
   named_action {wanted = wanted} asks (note text) h = by_action wanted (Note text) (rw (outs-Note text) (refl))
-  named_action {wanted = wanted} asks (list name c e children flags g k) h = by_action wanted (ListOf name children flags) (rw (outs-List name children flags) (both (asks.name name (here (part 1 h refl refl))) (named_list (suits_deferred wanted) (named_text asks) c children g (part 2 h refl refl))))
-  named_action {wanted = wanted} asks (gather name c e children flags g k) h = by_action wanted (Gather name children flags) (rw (outs-Gather name children flags) (both (asks.name name (here (part 1 h refl refl))) (named_list (suits_deferred wanted) (named_text asks) c children g (part 2 h refl refl))))
-  named_action {wanted = wanted} asks (maybe name d b g) h = by_action wanted (Maybe name b) (rw (outs-Maybe name b) (both (asks.name name (here (part 1 h refl refl))) (named_body asks g (part 2 h refl refl))))
-  named_action {wanted = wanted} asks (lock name) h = by_action wanted (Lock name) (rw (outs-Lock name) (asks.name name (here (part 1 h refl refl))))
-  named_action {wanted = wanted} asks (semaphore name d m g) h = by_action wanted (Semaphore name m) (rw (outs-Semaphore name m) (asks.name name (here (part 1 h refl refl))))
-  named_action {wanted = wanted} asks (acquire name other) h = by_action wanted (Acquire name other) (rw (outs-Acquire name other) (both (asks.name name (here (part 1 h refl refl))) (asks.name other (here (part 2 h refl refl)))))
-  named_action {wanted = wanted} asks (release name) h = by_action wanted (Release name) (rw (outs-Release name) (asks.name name (here (part 1 h refl refl))))
-  named_action {wanted = wanted} asks (run_with name other d b g) h = by_action wanted (RunWith name other b) (rw (outs-RunWith name other b) (both (both (asks.name name (here (part 1 h refl refl))) (asks.name other (here (part 2 h refl refl)))) (named_body asks g (part 3 h refl refl))))
-  named_action {wanted = wanted} asks (queue name c e size backlog g k) h = by_action wanted (Queue name size backlog) (rw (outs-Queue name size backlog) (asks.name name (here (part 1 h refl refl))))
-  named_action {wanted = wanted} asks (put name d v g) h = by_action wanted (Put name v) (rw (outs-Put name v) (asks.name name (here (part 1 h refl refl))))
-  named_action {wanted = wanted} asks (get name other) h = by_action wanted (Get name other) (rw (outs-Get name other) (both (asks.name name (here (part 1 h refl refl))) (asks.name other (here (part 2 h refl refl)))))
-  named_action {wanted = wanted} asks (later name c d delay b g k) h = by_action wanted (Later name delay b) (rw (outs-Later name delay b) (both (asks.name name (here (part 1 h refl refl))) (named_body asks k (part 3 h refl refl))))
-  named_action {wanted = wanted} asks (cancel_call name) h = by_action wanted (CancelCall name) (rw (outs-CancelCall name) (asks.name name (here (part 1 h refl refl))))
-  named_action {wanted = wanted} asks (loop name other c interval at_once d b g k) h = by_action wanted (Loop name other interval at_once b) (rw (outs-Loop name other interval at_once b) (both (both (asks.name name (here (part 1 h refl refl))) (asks.name other (here (part 2 h refl refl)))) (named_body asks k (part 5 h refl refl))))
-  named_action {wanted = wanted} asks (stop_loop name) h = by_action wanted (StopLoop name) (rw (outs-StopLoop name) (asks.name name (here (part 1 h refl refl))))
-  named_action {wanted = wanted} asks (cooperate name ds bodies g) h = by_action wanted (Cooperate name bodies) (rw (outs-Cooperate name bodies) (both (asks.name name (here (part 1 h refl refl))) (named_bodies asks g (items_suit (part 2 h refl refl)))))
-  named_action {wanted = wanted} asks (when_done name task) h = by_action wanted (WhenDone name task) (rw (outs-WhenDone name task) (both (asks.name name (here (part 1 h refl refl))) (asks.name task (here (part 2 h refl refl)))))
-  named_action {wanted = wanted} asks (pause_task name) h = by_action wanted (PauseTask name) (rw (outs-PauseTask name) (asks.name name (here (part 1 h refl refl))))
-  named_action {wanted = wanted} asks (stop_task name) h = by_action wanted (StopTask name) (rw (outs-StopTask name) (asks.name name (here (part 1 h refl refl))))
-  named_action {wanted = wanted} asks (resume_task name) h = by_action wanted (ResumeTask name) (rw (outs-ResumeTask name) (asks.name name (here (part 1 h refl refl))))
-  named_action {wanted = wanted} asks (inline name ds statements g) h = by_action wanted (Inline name statements) (rw (outs-Inline name statements) (both (asks.name name (here (part 1 h refl refl))) (named_statements asks g (items_suit (part 2 h refl refl)))))
-  named_action {wanted = wanted} asks (thread name c d delay job g k) h = by_action wanted (Thread name delay job) (rw (outs-Thread name delay job) (both (asks.name name (here (part 1 h refl refl))) (named_work asks d job k (part 3 h refl refl))))
-  named_action {wanted = wanted} asks (thread_in name pool c d delay job g k) h = by_action wanted (ThreadIn name pool delay job) (rw (outs-ThreadIn name pool delay job) (both (both (asks.name name (here (part 1 h refl refl))) (asks.pool pool (here (part 0 h refl refl)) (here (part 2 h refl refl)))) (named_work asks d job k (part 4 h refl refl))))
+  named_action {wanted = wanted} asks (list name c e children flags g k) h = by_action wanted (ListOf name children flags) (rw (outs-List name children flags) (both (asks.name (leaf.New object.Deferred) name tt (here (part 1 h refl refl))) (named_list (suits_deferred wanted) (named_text asks) c children g (part 2 h refl refl))))
+  named_action {wanted = wanted} asks (gather name c e children flags g k) h = by_action wanted (Gather name children flags) (rw (outs-Gather name children flags) (both (asks.name (leaf.New object.Deferred) name tt (here (part 1 h refl refl))) (named_list (suits_deferred wanted) (named_text asks) c children g (part 2 h refl refl))))
+  named_action {wanted = wanted} asks (maybe name d b g) h = by_action wanted (Maybe name b) (rw (outs-Maybe name b) (both (asks.name (leaf.New object.Deferred) name tt (here (part 1 h refl refl))) (named_body asks g (part 2 h refl refl))))
+  named_action {wanted = wanted} asks (lock name) h = by_action wanted (Lock name) (rw (outs-Lock name) (asks.name (leaf.New object.Lock) name tt (here (part 1 h refl refl))))
+  named_action {wanted = wanted} asks (semaphore name d m g) h = by_action wanted (Semaphore name m) (rw (outs-Semaphore name m) (asks.name (leaf.New object.Lock) name tt (here (part 1 h refl refl))))
+  named_action {wanted = wanted} asks (acquire name other) h = by_action wanted (Acquire name other) (rw (outs-Acquire name other) (both (asks.name (leaf.New object.Deferred) name tt (here (part 1 h refl refl))) (asks.name (leaf.Found object.Lock) other tt (here (part 2 h refl refl)))))
+  named_action {wanted = wanted} asks (release name) h = by_action wanted (Release name) (rw (outs-Release name) (asks.name (leaf.Found object.Lock) name tt (here (part 1 h refl refl))))
+  named_action {wanted = wanted} asks (run_with name other d b g) h = by_action wanted (RunWith name other b) (rw (outs-RunWith name other b) (both (both (asks.name (leaf.New object.Deferred) name tt (here (part 1 h refl refl))) (asks.name (leaf.Found object.Lock) other tt (here (part 2 h refl refl)))) (named_body asks g (part 3 h refl refl))))
+  named_action {wanted = wanted} asks (queue name c e size backlog g k) h = by_action wanted (Queue name size backlog) (rw (outs-Queue name size backlog) (asks.name (leaf.New object.Queue) name tt (here (part 1 h refl refl))))
+  named_action {wanted = wanted} asks (put name d v g) h = by_action wanted (Put name v) (rw (outs-Put name v) (asks.name (leaf.Found object.Queue) name tt (here (part 1 h refl refl))))
+  named_action {wanted = wanted} asks (get name other) h = by_action wanted (Get name other) (rw (outs-Get name other) (both (asks.name (leaf.New object.Deferred) name tt (here (part 1 h refl refl))) (asks.name (leaf.Found object.Queue) other tt (here (part 2 h refl refl)))))
+  named_action {wanted = wanted} asks (later name c d delay b g k) h = by_action wanted (Later name delay b) (rw (outs-Later name delay b) (both (asks.name (leaf.New object.Call) name tt (here (part 1 h refl refl))) (named_body asks k (part 3 h refl refl))))
+  named_action {wanted = wanted} asks (cancel_call name) h = by_action wanted (CancelCall name) (rw (outs-CancelCall name) (asks.name (leaf.Found object.Call) name tt (here (part 1 h refl refl))))
+  named_action {wanted = wanted} asks (loop name other c interval at_once d b g k) h = by_action wanted (Loop name other interval at_once b) (rw (outs-Loop name other interval at_once b) (both (both (asks.name (leaf.New object.Loop) name tt (here (part 1 h refl refl))) (asks.name (leaf.New object.Deferred) other tt (here (part 2 h refl refl)))) (named_body asks k (part 5 h refl refl))))
+  named_action {wanted = wanted} asks (stop_loop name) h = by_action wanted (StopLoop name) (rw (outs-StopLoop name) (asks.name (leaf.Found object.Loop) name tt (here (part 1 h refl refl))))
+  named_action {wanted = wanted} asks (cooperate name ds bodies g) h = by_action wanted (Cooperate name bodies) (rw (outs-Cooperate name bodies) (both (asks.name (leaf.New object.Task) name tt (here (part 1 h refl refl))) (named_bodies asks g (items_suit (part 2 h refl refl)))))
+  named_action {wanted = wanted} asks (when_done name task) h = by_action wanted (WhenDone name task) (rw (outs-WhenDone name task) (both (asks.name (leaf.New object.Deferred) name tt (here (part 1 h refl refl))) (asks.name (leaf.Found object.Task) task tt (here (part 2 h refl refl)))))
+  named_action {wanted = wanted} asks (pause_task name) h = by_action wanted (PauseTask name) (rw (outs-PauseTask name) (asks.name (leaf.Found object.Task) name tt (here (part 1 h refl refl))))
+  named_action {wanted = wanted} asks (stop_task name) h = by_action wanted (StopTask name) (rw (outs-StopTask name) (asks.name (leaf.Found object.Task) name tt (here (part 1 h refl refl))))
+  named_action {wanted = wanted} asks (resume_task name) h = by_action wanted (ResumeTask name) (rw (outs-ResumeTask name) (asks.name (leaf.Found object.Task) name tt (here (part 1 h refl refl))))
+  named_action {wanted = wanted} asks (inline name ds statements g) h = by_action wanted (Inline name statements) (rw (outs-Inline name statements) (both (asks.name (leaf.New object.Deferred) name tt (here (part 1 h refl refl))) (named_statements asks g (items_suit (part 2 h refl refl)))))
+  named_action {wanted = wanted} asks (thread name c d delay job g k) h = by_action wanted (Thread name delay job) (rw (outs-Thread name delay job) (both (asks.name (leaf.New object.Deferred) name tt (here (part 1 h refl refl))) (named_work asks d job k (part 3 h refl refl))))
+  named_action {wanted = wanted} asks (thread_in name pool c d delay job g k) h = by_action wanted (ThreadIn name pool delay job) (rw (outs-ThreadIn name pool delay job) (both (both (asks.name (leaf.New object.Deferred) name tt (here (part 1 h refl refl))) (asks.pool pool (here (part 0 h refl refl)) (here (part 2 h refl refl)))) (named_work asks d job k (part 4 h refl refl))))
 
   named_actions : {q : Question} {wanted : Wanted} {table : List Class} → Asks q wanted table → {ds : Items} {xs : List Action} → AreActions table ds xs → EachSuit q (want.Call call_of.Action) ds → list_all (λ b. b) (map (suits_action wanted) xs) ≡ true
   named_actions asks no_actions h = refl

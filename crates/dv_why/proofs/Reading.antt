@@ -1,5 +1,5 @@
 -- Where each part of a value fits, it reads.
-use Rattle.std.proofs.Common.{Ordering, Less, Equal, Greater, is_eq, nat_cmp, ◌≡◌, ℕ, zero, suc, ◌≤◌, nat_eq, Bool, true, false, if◌then◌else◌, List, [], ◌∷◌, Option, Some, None, is_some, option_and_then, option_map, bytes_eq, refl, sym, ap, subst, ◌∙◌, arith, codes}
+use Rattle.std.proofs.Common.{Ordering, Less, Equal, Greater, is_eq, nat_cmp, ◌≡◌, ℕ, zero, suc, ◌≤◌, nat_eq, Bool, true, false, List, [], ◌∷◌, Option, Some, None, is_some, option_and_then, bytes_eq, refl, sym, ap, subst, ◌∙◌, arith, codes}
 use Rattle.std.specs.List.{list_any}
 use Rattle.std.specs.Ordering.{match_ordering}
 use Rattle.std.specs.Cmp.Lexicographic.{slice_cmp}
@@ -7,7 +7,7 @@ use Rattle.std.proofs.lemmas.Bool.{and_parts, eqb-true}
 use Rattle.std.proofs.lemmas.Map.Text.{is_eq-slice_cmp}
 use Rattle.std.proofs.lemmas.Slice.Eq.{bytes_eq-Decides}
 use Rattle.serde_json.specs.Data.{Data, string, array, object, Items, no_items, item, Members, no_members, member, depth}
-use Rattle.serde_json.specs.Find.{at, get_item, get_member, as_number, as_u64}
+use Rattle.serde_json.specs.Find.{at, get_item, get_member, as_number, as_u64, as_str}
 use Rattle.dv_value.specs.declared.classes.Class.{Class}
 use Rattle.dv_script.specs.declared.body.End.{End}
 use Rattle.dv_script.specs.declared.body.End.TheVariants.{Return, Pass, Plus, Raise, Trap, Wait}
@@ -23,66 +23,35 @@ use Rattle.dv_script.specs.declared.script.NamedPool.{NamedPool}
 use Rattle.dv_script.specs.declared.limits.TheConstants.{MOST_DRAINED, MOST_LIMIT, MOST_PLACES, MOST_SUM, MOST_UNITS, MOST_WORKERS, USUAL_LIMIT}
 use Rattle.dv_clock.specs.declared.limits.TheConstants.{MOST_DELAY, MOST_TICKS}
 use Rattle.dv_forms.specs.declared.declaration.Declaration.{Declaration}
-use Rattle.dv_forms.specs.Forms.{call, IsList, Field, Key, has_only, IsNumber, IsText, IsClass, place_of}
+use Rattle.dv_forms.specs.Forms.{call, IsList, Field, Key, has_only, IsNumber, IsText, IsClass, IsValue, place_of}
 use Rattle.dv_forms.specs.Leaving.{may_leave}
 use Rattle.dv_forms.specs.Table.{table_of, all_declared}
 use Rattle.dv_grammar.specs.declared.draft.Draft.{Draft}
-use Rattle.dv_grammar.specs.declared.words.NameWord.{NameWord}
-use Rattle.dv_grammar.specs.declared.words.NameWord.TheVariants as of_name
-use Rattle.dv_grammar.specs.declared.words.NamesWord.{NamesWord}
-use Rattle.dv_grammar.specs.declared.words.NamesWord.TheVariants as of_names
-use Rattle.dv_grammar.specs.declared.words.BodyWord.{BodyWord}
-use Rattle.dv_grammar.specs.declared.words.BodyWord.TheVariants as of_body
-use Rattle.dv_grammar.specs.declared.words.PlainWord.{PlainWord}
-use Rattle.dv_grammar.specs.declared.words.PlainWord.TheVariants as plain
-use Rattle.dv_grammar.specs.declared.words.NestingWord.{NestingWord}
-use Rattle.dv_grammar.specs.declared.words.NestingWord.TheVariants as nesting
-use Rattle.dv_grammar.specs.declared.words.ActionWord.{ActionWord}
-use Rattle.dv_grammar.specs.declared.words.ActionWord.TheVariants.{OfName, OfNames, OfBody, Plain, Nesting}
-use Rattle.dv_grammar.specs.declared.words.EventWord.{EventWord}
-use Rattle.dv_grammar.specs.declared.words.EventWord.TheVariants as event
-use Rattle.dv_grammar.specs.declared.words.EndWord.{EndWord}
-use Rattle.dv_grammar.specs.declared.words.EndWord.TheVariants as end
-use Rattle.dv_grammar.specs.declared.words.StatementWord.{StatementWord}
-use Rattle.dv_grammar.specs.declared.words.StatementWord.TheVariants as statement
-use Rattle.dv_grammar.specs.declared.words.WorkWord.{WorkWord}
-use Rattle.dv_grammar.specs.declared.words.WorkWord.TheVariants as work
-use Rattle.dv_grammar.specs.Words.{or_else, action_text, action_word, end_text, end_word, end_words, event_text, event_word, event_words, statement_text, statement_word, statement_words, work_text, work_word, work_words}
-use Rattle.dv_grammar.specs.Grammar.{body_keys, cooperator_keys, keys_of, plain_cooperator, IsEnd, returns, passes, adds, raises, traps, waits, IsWork, gives, fails, sums, IsListFlag, IsGatherFlag, IsAction, deferred, deferred_with, callback, errback, add_callback, add_errback, add_both, add_callbacks, chain, pause, unpause, cancel, add_timeout, note, list, gather, maybe, lock, semaphore, acquire, release, run_with, queue, put, get, later, cancel_call, loop, stop_loop, cooperate, when_done, pause_task, stop_task, resume_task, inline, thread, thread_in, AreActions, no_actions, more_actions, IsDo, does_nothing, does, IsBody, body, AreBodies, no_bodies, more_bodies, IsStatement, performs, awaits, tries, leaves, AreStatements, no_statements, more_statements, IsEvent, acts, advances, drains, IsDeclaration, declares, IsPool, pools, IsCooperator, IsScript}
-use Rattle.dv_grammar.proofs.Steps.{some_injective, bind, mapped}
-use Rattle.dv_grammar.proofs.WordsLemmas.{word_is, action_word_is}
-use Rattle.dv_why.specs.declared.want.Want.{Want}
-use Rattle.dv_why.specs.declared.want.Want.TheVariants as want
-use Rattle.dv_why.specs.declared.want.Leaf.TheVariants as leaf
-use Rattle.dv_why.specs.declared.want.Call.TheVariants as call_of
-use Rattle.dv_why.specs.declared.want.Keyed.{Keyed}
-use Rattle.dv_why.specs.declared.want.Keyed.TheVariants as keyed
-use Rattle.dv_why.specs.declared.want.Item.{Item}
-use Rattle.dv_why.specs.declared.want.Item.TheVariants as item_of
+use Rattle.dv_grammar.specs.Grammar.{body_keys, cooperator_keys, keys_of, plain_cooperator, IsEnd, returns, passes, adds, raises, traps, waits, IsWork, gives, fails, sums, IsListFlag, IsGatherFlag, IsAction, deferred, deferred_with, callback, errback, add_callback, add_errback, add_both, add_callbacks, chain, pause, unpause, cancel, add_timeout, note, list, gather, maybe, lock, semaphore, acquire, release, run_with, queue, put, get, later, cancel_call, loop, stop_loop, cooperate, when_done, pause_task, stop_task, resume_task, inline, thread, thread_in, AreActions, no_actions, more_actions, IsDo, does_nothing, does, IsBody, body, AreBodies, no_bodies, more_bodies, IsStatement, performs, awaits, tries, leaves, AreStatements, no_statements, more_statements, IsEvent, acts, advances, drains, IsDeclaration, declares, IsPool, pools, IsCooperator, IsScript, IsBound}
+use Rattle.dv_grammar.proofs.WordsLemmas.{◌&◌}
+use Rattle.dv_forms.specs.declared.want.Want.{Want}
+use Rattle.dv_forms.specs.declared.want.Want.TheVariants as want
+use Rattle.dv_forms.specs.declared.want.Leaf.TheVariants as leaf
+use Rattle.dv_forms.specs.declared.want.Call.TheVariants as call_of
+use Rattle.dv_forms.specs.declared.want.Keyed.{Keyed}
+use Rattle.dv_forms.specs.declared.want.Keyed.TheVariants as keyed
+use Rattle.dv_forms.specs.declared.want.Item.{Item}
+use Rattle.dv_forms.specs.declared.want.Item.TheVariants as item_of
 use Rattle.dv_why.specs.declared.question.Question.TheVariants as question
-use Rattle.dv_why.specs.Wants.{a_name, a_deferred, a_class, a_text, a_delay, a_body, a_work, item_want, key_want, keys_in, name_wants, names_wants, body_wants, plain_wants, nesting_wants, action_wants, action_form, event_wants, statement_wants, end_wants, leaving_wants, work_wants}
+use Rattle.dv_forms.specs.declared.want.Object.TheVariants as object
+use Rattle.dv_forms.specs.Wants.{a_deferred, a_class, a_text, a_body, item_want, key_want, keys_in}
+use Rattle.dv_forms.specs.Words.{own_forms, wants_in}
 use Rattle.dv_why.specs.Places.{count, nth}
 use Rattle.dv_why.specs.Documents.{one_or_two, version_in, script_in}
 use Rattle.dv_why.specs.Fits.{fits, are_two}
 use Rattle.dv_why.specs.AllSuit.{AllSuit}
 use Rattle.dv_why.proofs.Asked.{EachKey, known_key}
 use Rattle.dv_why.proofs.Fine.{IsFine, fits_fine, inside, same, under, value_fine, text_of, integer_of, number_of, boolean_of, bound_of, list_flag_of, gather_flag_of, value_of, open_array, list_of, AreFine, are_fine, no_args, one_arg, more_args, open_call}
+use Rattle.dv_why.proofs.Forms.{EachForm, either_found, found_form}
 use Rattle.dv_why.proofs.Named.{both, here, value}
 use Rattle.dv_why.proofs.Scripts.{within_two}
 
 -- ---- texts and classes
-
-text_fine : (v n : ℕ) (d : Data) → IsFine v n a_text d → (x : List ℕ) × (d ≡ string x)
-text_fine v n d h = text_of d (fits_fine h)
-
-name_fine : (v n : ℕ) (d : Data) → IsFine v n a_name d → (x : List ℕ) × (d ≡ string x)
-name_fine v n d h = text_of d (fits_fine h)
-
-deferred_fine : (v n : ℕ) (d : Data) → IsFine v n a_deferred d → (x : List ℕ) × (d ≡ string x)
-deferred_fine v n d h = text_of d (fits_fine h)
-
-pool_fine : (v n : ℕ) (d : Data) → IsFine v n (want.Leaf leaf.Pool) d → (x : List ℕ) × (d ≡ string x)
-pool_fine v n d h = text_of d (fits_fine h)
 
 is_text : (v n : ℕ) (d : Data) → IsFine v n a_deferred d → (x : List ℕ) × IsText d x
 is_text v n d h = text_of d (fits_fine h)
@@ -161,82 +130,91 @@ five_args v n w1 w2 w3 w4 w5 ds h =
 
 -- ---- ends and works
 
-end_of : (v n : ℕ) (table : List Class) (w : EndWord) (ds : Items) → AreFine v n (end_wants w) ds → (e : End) × IsEnd table (array (item (string (end_text w)) ds)) e
-end_of v n table end.Return ds h =
+-- the arguments of a word read as those of an end
+abbrev IsEndRead : ℕ → ℕ → List Class → List ℕ → List Want → Type 0
+IsEndRead v n table word wants = (ds : Items) → AreFine v n wants ds → (e : End) × IsEnd table (array (item (string word) ds)) e
+
+-- as those of an end by which an inline body may be left
+abbrev IsLeavingRead : ℕ → ℕ → List Class → List ℕ → List Want → Type 0
+IsLeavingRead v n table word wants = (ds : Items) → AreFine v n wants ds → (e : End) × IsEnd table (array (item (string word) ds)) e × (may_leave e ≡ true)
+
+-- as those of a work
+abbrev IsWorkRead : ℕ → ℕ → List Class → List ℕ → List Want → Type 0
+IsWorkRead v n table word wants = (ds : Items) → AreFine v n wants ds → (x : Work) × IsWork table (array (item (string word) ds)) x
+
+leavings : (v n : ℕ) (table : List Class) → EachForm (IsLeavingRead v n table) (own_forms call_of.Leaving)
+leavings v n table =
+    (λ ds h.
     let a = one_arg v n want.Value ds h in
     let x = value_of v n a.a a.fine in
-    rw (a.items) (Return x.0, returns a.a x.0 x.1)
-end_of v n table end.Pass ds h = rw (no_args v n ds h) (Pass, passes)
-end_of v n table end.Plus ds h =
+    rw (a.items) (Return x.0, returns a.a x.0 x.1, refl)) &
+    (λ ds h. rw (no_args v n ds h) (Pass, passes, refl)) &
+    (λ ds h.
     let a = one_arg v n (want.Leaf leaf.Integer) ds h in
     let x = integer_of a.a (fits_fine a.fine) in
-    rw (a.items) (Plus x.0, adds a.a x.0 x.1)
-end_of v n table end.Raise ds h =
+    rw (a.items) (Plus x.0, adds a.a x.0 x.1, refl)) &
+    (λ ds h.
     let a = two_args v n a_class a_text ds h in
     let c = class_fine v n table a.a a.one in
-    let t = text_fine v n a.b a.two in
-    rw (a.items, t.1) (Raise c.0 t.0, raises a.a c.0 t.0 c.1)
-end_of v n table end.Trap ds h =
+    let t = text_of a.b (fits_fine a.two) in
+    rw (a.items, t.1) (Raise c.0 t.0, raises a.a c.0 t.0 c.1, refl)) &
+    tt
+
+other_ends : (v n : ℕ) (table : List Class) → EachForm (IsEndRead v n table) (own_forms call_of.End)
+other_ends v n table =
+    (λ ds h.
     let a = two_args v n (want.Array item_of.Class) want.Value ds h in
     let c = list_of v n item_of.Class (IsClass table) (class_fine v n table) a.a a.one in
     let x = value_of v n a.b a.two in
-    rw (a.items) (Trap c.0 x.0, traps a.a c.0 a.b x.0 c.1 x.1)
-end_of v n table end.Wait ds h =
+    rw (a.items) (Trap c.0 x.0, traps a.a c.0 a.b x.0 c.1 x.1)) &
+    (λ ds h.
     let a = one_arg v n a_deferred ds h in
-    let t = deferred_fine v n a.a a.fine in
-    rw (a.items, t.1) (Wait t.0, waits t.0)
+    let t = text_of a.a (fits_fine a.fine) in
+    rw (a.items, t.1) (Wait t.0, waits t.0)) &
+    tt
+
+end_by : (v n : ℕ) (table : List Class) (word : List ℕ) (wants : List Want) (ds : Items) → wants_in (own_forms call_of.Leaving) word (count ds) ≡ Some wants → AreFine v n wants ds → (e : End) × IsEnd table (array (item (string word) ds)) e
+end_by v n table word wants ds form args =
+    let x = found_form (IsLeavingRead v n table) (own_forms call_of.Leaving) (leavings v n table) word (count ds) wants form ds args in
+    (x.0, x.1)
 
 end_fine : (v n : ℕ) (table : List Class) (d : Data) → IsFine v n (want.Call call_of.End) d → (e : End) × IsEnd table d e
 end_fine v n table d h =
     let o = open_call v n call_of.End d (fits_fine h) (λ k u e wants is. same k h wants is) in
-    mapped (end_word o.word) end_wants o.wants o.form (λ w is so.
-    rw (o.whole, word_is end_text end_words o.word w is) (end_of v n table w o.rest (subst (λ (ws : List Want). AreFine v n ws o.rest) (sym so) o.args)))
-
-leave_of : (v n : ℕ) (table : List Class) (w : EndWord) (wants : List Want) (ds : Items) → leaving_wants w ≡ Some wants → AreFine v n wants ds
-    → (e : End) × IsEnd table (array (item (string (end_text w)) ds)) e × (may_leave e ≡ true)
-leave_of v n table end.Return wants ds so h =
-    let a = one_arg v n want.Value ds (subst (λ (ws : List Want). AreFine v n ws ds) (sym (some_injective so)) h) in
-    let x = value_of v n a.a a.fine in
-    rw (a.items) (Return x.0, returns a.a x.0 x.1, refl)
-leave_of v n table end.Pass wants ds so h = rw (no_args v n ds (subst (λ (ws : List Want). AreFine v n ws ds) (sym (some_injective so)) h)) (Pass, passes, refl)
-leave_of v n table end.Plus wants ds so h =
-    let a = one_arg v n (want.Leaf leaf.Integer) ds (subst (λ (ws : List Want). AreFine v n ws ds) (sym (some_injective so)) h) in
-    let x = integer_of a.a (fits_fine a.fine) in
-    rw (a.items) (Plus x.0, adds a.a x.0 x.1, refl)
-leave_of v n table end.Raise wants ds so h =
-    let a = two_args v n a_class a_text ds (subst (λ (ws : List Want). AreFine v n ws ds) (sym (some_injective so)) h) in
-    let c = class_fine v n table a.a a.one in
-    let t = text_fine v n a.b a.two in
-    rw (a.items, t.1) (Raise c.0 t.0, raises a.a c.0 t.0 c.1, refl)
-leave_of v n table end.Trap wants ds so h = cc
-leave_of v n table end.Wait wants ds so h = cc
+    rw (o.whole) (either_found (wants_in (own_forms call_of.End) o.word (count o.rest)) _ o.wants o.form
+    (λ form. found_form (IsEndRead v n table) (own_forms call_of.End) (other_ends v n table) o.word (count o.rest) o.wants form o.rest o.args)
+    (λ form. end_by v n table o.word o.wants o.rest form o.args))
 
 leave_fine : (v n : ℕ) (table : List Class) (d : Data) → IsFine v n (want.Call call_of.Leaving) d → (e : End) × IsEnd table d e × (may_leave e ≡ true)
 leave_fine v n table d h =
     let o = open_call v n call_of.Leaving d (fits_fine h) (λ k u e wants is. same k h wants is) in
-    bind (end_word o.word) leaving_wants o.wants o.form (λ w is so.
-    rw (o.whole, word_is end_text end_words o.word w is) (leave_of v n table w o.wants o.rest so o.args))
+    rw (o.whole) (either_found (wants_in (own_forms call_of.Leaving) o.word (count o.rest)) None o.wants o.form
+    (λ form. found_form (IsLeavingRead v n table) (own_forms call_of.Leaving) (leavings v n table) o.word (count o.rest) o.wants form o.rest o.args)
+    (λ form. cc))
 
-work_of : (v n : ℕ) (table : List Class) (w : WorkWord) (ds : Items) → AreFine v n (work_wants w) ds → (x : Work) × IsWork table (array (item (string (work_text w)) ds)) x
-work_of v n table work.Value ds h =
+works : (v n : ℕ) (table : List Class) → EachForm (IsWorkRead v n table) (own_forms call_of.Work)
+works v n table =
+    (λ ds h.
     let a = one_arg v n want.Value ds h in
     let x = value_of v n a.a a.fine in
-    rw (a.items) (job_of.Value x.0, gives a.a x.0 x.1)
-work_of v n table work.Raise ds h =
+    rw (a.items) (job_of.Value x.0, gives a.a x.0 x.1)) &
+    (λ ds h.
     let a = two_args v n a_class a_text ds h in
     let c = class_fine v n table a.a a.one in
-    let t = text_fine v n a.b a.two in
-    rw (a.items, t.1) (job_of.Raise c.0 t.0, fails a.a c.0 t.0 c.1)
-work_of v n table work.Sum ds h =
+    let t = text_of a.b (fits_fine a.two) in
+    rw (a.items, t.1) (job_of.Raise c.0 t.0, fails a.a c.0 t.0 c.1)) &
+    (λ ds h.
     let a = one_arg v n (want.Leaf (leaf.Number 0 MOST_SUM)) ds h in
     let k = number_fine v n 0 MOST_SUM a.a a.fine in
-    rw (a.items) (job_of.Sum k.0, sums a.a k.0 k.1)
+    rw (a.items) (job_of.Sum k.0, sums a.a k.0 k.1)) &
+    tt
 
-work_fine : (v n : ℕ) (table : List Class) (d : Data) → IsFine v n a_work d → (x : Work) × IsWork table d x
+work_fine : (v n : ℕ) (table : List Class) (d : Data) → IsFine v n (want.Call call_of.Work) d → (x : Work) × IsWork table d x
 work_fine v n table d h =
     let o = open_call v n call_of.Work d (fits_fine h) (λ k u e wants is. same k h wants is) in
-    mapped (work_word o.word) work_wants o.wants o.form (λ w is so.
-    rw (o.whole, word_is work_text work_words o.word w is) (work_of v n table w o.rest (subst (λ (ws : List Want). AreFine v n ws o.rest) (sym so) o.args)))
+    rw (o.whole) (either_found (wants_in (own_forms call_of.Work) o.word (count o.rest)) None o.wants o.form
+    (λ form. found_form (IsWorkRead v n table) (own_forms call_of.Work) (works v n table) o.word (count o.rest) o.wants form o.rest o.args)
+    (λ form. cc))
 
 -- ---- keys
 
@@ -314,171 +292,129 @@ actions_of table (item d ds) h =
 
 -- ---- actions
 
-one_text : (v n : ℕ) (table : List Class) (w : Want) → ((d : Data) → IsFine v n w d → (x : List ℕ) × (d ≡ string x)) → (word : List ℕ) (make : List ℕ → Action) → ((x : List ℕ) → IsAction table (call word (string x ∷ [])) (make x))
-    → (ds : Items) → AreFine v n (w ∷ []) ds → (a : Action) × IsAction table (array (item (string word) ds)) a
-one_text v n table w text word make rule ds h =
-    let a = one_arg v n w ds h in
-    let t = text a.a a.fine in
-    rw (a.items, t.1) (make t.0, rule t.0)
+-- the arguments of a word read as those of an action
+abbrev IsActionRead : ℕ → ℕ → List Class → List ℕ → List Want → Type 0
+IsActionRead v n table word wants = (ds : Items) → AreFine v n wants ds → (a : Action) × IsAction table (array (item (string word) ds)) a
 
-two_texts : (v n : ℕ) (table : List Class) (w : Want) → ((d : Data) → IsFine v n w d → (x : List ℕ) × (d ≡ string x)) → (word : List ℕ) (make : List ℕ → List ℕ → Action) → ((x y : List ℕ) → IsAction table (call word (string x ∷ string y ∷ [])) (make x y))
-    → (ds : Items) → AreFine v n (w ∷ w ∷ []) ds → (a : Action) × IsAction table (array (item (string word) ds)) a
-two_texts v n table w text word make rule ds h =
-    let a = two_args v n w w ds h in
-    let t = text a.a a.one in
-    let u = text a.b a.two in
-    rw (a.items, t.1, u.1) (make t.0 u.0, rule t.0 u.0)
+-- a text
+abbrev IsTextAt : ℕ → Want → Type 0
+IsTextAt v w = (d : Data) → fits v w d ≡ true → is_some (as_str d) ≡ true
 
-with_body : (v n : ℕ) (table : List Class) → AreRead v n table → (w : Want) → ((d : Data) → IsFine v n w d → (x : List ℕ) × (d ≡ string x)) → (word : List ℕ) (make : List ℕ → Body → Action)
-    → ((x : List ℕ) (d : Data) (b : Body) → IsBody table d b → IsAction table (call word (string x ∷ d ∷ [])) (make x b))
-    → (ds : Items) → AreFine v n (w ∷ a_body ∷ []) ds → (a : Action) × IsAction table (array (item (string word) ds)) a
-with_body v n table r w text word make rule ds h =
-    let a = two_args v n w a_body ds h in
-    let t = text a.a a.one in
-    let b = r.of_body a.b a.two in
-    rw (a.items, t.1) (make t.0 b.0, rule t.0 a.b b.0 b.1)
+one_text : {word : List ℕ} (v n : ℕ) (table : List Class) (w : Want) → IsTextAt v w → (make : List ℕ → Action) → ((x : List ℕ) → IsAction table (call word (string x ∷ [])) (make x)) → IsActionRead v n table word (w ∷ [])
+one_text v n table w text make rule ds h =
+    let a = one_arg v n _ ds h in
+    let x = text_of a.a (text a.a (fits_fine a.fine)) in
+    rw (a.items, x.1) (make x.0, rule x.0)
 
-name_of : (v n : ℕ) (table : List Class) (w : NameWord) (ds : Items) → AreFine v n (name_wants w) ds → (a : Action) × IsAction table (array (item (string (action_text (OfName w))) ds)) a
-name_of v n table of_name.Pause ds h = one_text v n table a_deferred (deferred_fine v n) (codes "pause") (λ x. Pause x) (λ x. pause x) ds h
-name_of v n table of_name.Unpause ds h = one_text v n table a_deferred (deferred_fine v n) (codes "unpause") (λ x. Unpause x) (λ x. unpause x) ds h
-name_of v n table of_name.Cancel ds h = one_text v n table a_deferred (deferred_fine v n) (codes "cancel") (λ x. Cancel x) (λ x. cancel x) ds h
-name_of v n table of_name.Note ds h = one_text v n table a_text (text_fine v n) (codes "note") (λ x. Note x) (λ x. note x) ds h
-name_of v n table of_name.Lock ds h = one_text v n table a_name (name_fine v n) (codes "lock") (λ x. Lock x) (λ x. lock x) ds h
-name_of v n table of_name.Release ds h = one_text v n table a_name (name_fine v n) (codes "release") (λ x. Release x) (λ x. release x) ds h
-name_of v n table of_name.CancelCall ds h = one_text v n table a_name (name_fine v n) (codes "cancelCall") (λ x. CancelCall x) (λ x. cancel_call x) ds h
-name_of v n table of_name.StopLoop ds h = one_text v n table a_name (name_fine v n) (codes "stopLoop") (λ x. StopLoop x) (λ x. stop_loop x) ds h
-name_of v n table of_name.PauseTask ds h = one_text v n table a_name (name_fine v n) (codes "pauseTask") (λ x. PauseTask x) (λ x. pause_task x) ds h
-name_of v n table of_name.StopTask ds h = one_text v n table a_name (name_fine v n) (codes "stopTask") (λ x. StopTask x) (λ x. stop_task x) ds h
-name_of v n table of_name.ResumeTask ds h = one_text v n table a_name (name_fine v n) (codes "resumeTask") (λ x. ResumeTask x) (λ x. resume_task x) ds h
+two_texts : {word : List ℕ} (v n : ℕ) (table : List Class) (w u : Want) → IsTextAt v w → IsTextAt v u → (make : List ℕ → List ℕ → Action)
+    → ((x y : List ℕ) → IsAction table (call word (string x ∷ string y ∷ [])) (make x y)) → IsActionRead v n table word (w ∷ u ∷ [])
+two_texts v n table w u text other make rule ds h =
+    let a = two_args v n _ _ ds h in
+    let x = text_of a.a (text a.a (fits_fine a.one)) in
+    let y = text_of a.b (other a.b (fits_fine a.two)) in
+    rw (a.items, x.1, y.1) (make x.0 y.0, rule x.0 y.0)
 
-names_of : (v n : ℕ) (table : List Class) (w : NamesWord) (ds : Items) → AreFine v n (names_wants w) ds → (a : Action) × IsAction table (array (item (string (action_text (OfNames w))) ds)) a
-names_of v n table of_names.Chain ds h = two_texts v n table a_deferred (deferred_fine v n) (codes "chain") (λ x y. Chain x y) (λ x y. chain x y) ds h
-names_of v n table of_names.Acquire ds h = two_texts v n table a_name (name_fine v n) (codes "acquire") (λ x y. Acquire x y) (λ x y. acquire x y) ds h
-names_of v n table of_names.Get ds h = two_texts v n table a_name (name_fine v n) (codes "get") (λ x y. Get x y) (λ x y. get x y) ds h
-names_of v n table of_names.WhenDone ds h = two_texts v n table a_name (name_fine v n) (codes "whenDone") (λ x y. WhenDone x y) (λ x y. when_done x y) ds h
+-- a text, and what is read so
+text_and : {B : Type 0} {u : Want} {word : List ℕ} (v n : ℕ) (table : List Class) (w : Want) → IsTextAt v w → (Is : Data → B → Type 0) → ((d : Data) → IsFine v n u d → (b : B) × Is d b)
+    → (make : List ℕ → B → Action) → ((x : List ℕ) (d : Data) (b : B) → Is d b → IsAction table (call word (string x ∷ d ∷ [])) (make x b)) → IsActionRead v n table word (w ∷ u ∷ [])
+text_and v n table w text Is read make rule ds h =
+    let a = two_args v n _ _ ds h in
+    let x = text_of a.a (text a.a (fits_fine a.one)) in
+    let b = read a.b a.two in
+    rw (a.items, x.1) (make x.0 b.0, rule x.0 a.b b.0 b.1)
 
-of_body_of : (v n : ℕ) (table : List Class) → AreRead v n table → (w : BodyWord) (ds : Items) → AreFine v n (body_wants w) ds → (a : Action) × IsAction table (array (item (string (action_text (OfBody w))) ds)) a
-of_body_of v n table r of_body.AddCallback ds h = with_body v n table r a_deferred (deferred_fine v n) (codes "addCallback") (λ x b. AddCallback x b) (λ x d b g. add_callback x d b g) ds h
-of_body_of v n table r of_body.AddErrback ds h = with_body v n table r a_deferred (deferred_fine v n) (codes "addErrback") (λ x b. AddErrback x b) (λ x d b g. add_errback x d b g) ds h
-of_body_of v n table r of_body.AddBoth ds h = with_body v n table r a_deferred (deferred_fine v n) (codes "addBoth") (λ x b. AddBoth x b) (λ x d b g. add_both x d b g) ds h
-of_body_of v n table r of_body.Maybe ds h = with_body v n table r a_name (name_fine v n) (codes "maybe") (λ x b. Maybe x b) (λ x d b g. maybe x d b g) ds h
+-- a text, and two things that are
+text_and_two : {B C : Type 0} {u t : Want} {word : List ℕ} (v n : ℕ) (table : List Class) (w : Want) → IsTextAt v w → (Is : Data → B → Type 0) → ((d : Data) → IsFine v n u d → (b : B) × Is d b)
+    → (Are : Data → C → Type 0) → ((d : Data) → IsFine v n t d → (c : C) × Are d c) → (make : List ℕ → B → C → Action)
+    → ((x : List ℕ) (d e : Data) (b : B) (c : C) → Is d b → Are e c → IsAction table (call word (string x ∷ d ∷ e ∷ [])) (make x b c)) → IsActionRead v n table word (w ∷ u ∷ t ∷ [])
+text_and_two v n table w text Is read Are also make rule ds h =
+    let a = three_args v n _ _ _ ds h in
+    let x = text_of a.a (text a.a (fits_fine a.one)) in
+    let b = read a.b a.two in
+    let c = also a.c a.three in
+    rw (a.items, x.1) (make x.0 b.0 c.0, rule x.0 a.b a.c b.0 c.0 b.1 c.1)
 
-plain_of : (v n : ℕ) (table : List Class) (w : PlainWord) (ds : Items) → AreFine v n (plain_wants w) ds → (a : Action) × IsAction table (array (item (string (action_text (Plain w))) ds)) a
-plain_of v n table plain.Callback ds h =
-    let a = two_args v n a_deferred want.Value ds h in
-    let t = deferred_fine v n a.a a.one in
-    let x = value_of v n a.b a.two in
-    rw (a.items, t.1) (Callback t.0 x.0, callback t.0 a.b x.0 x.1)
-plain_of v n table plain.Errback ds h =
-    let a = three_args v n a_deferred a_class a_text ds h in
-    let t = deferred_fine v n a.a a.one in
-    let c = class_fine v n table a.b a.two in
-    let u = text_fine v n a.c a.three in
-    rw (a.items, t.1, u.1) (Errback t.0 c.0 u.0, errback t.0 a.b c.0 u.0 c.1)
-plain_of v n table plain.Put ds h =
-    let a = two_args v n a_name want.Value ds h in
-    let t = name_fine v n a.a a.one in
-    let x = value_of v n a.b a.two in
-    rw (a.items, t.1) (Put t.0 x.0, put t.0 a.b x.0 x.1)
-plain_of v n table plain.List ds h =
-    let a = three_args v n a_name (want.Array item_of.Deferred) (want.Array item_of.ListFlag) ds h in
-    let t = name_fine v n a.a a.one in
-    let xs = list_of v n item_of.Deferred IsText (is_text v n) a.b a.two in
-    let fs = list_of v n item_of.ListFlag IsListFlag (λ e g. list_flag_of e (fits_fine g)) a.c a.three in
-    rw (a.items, t.1) (ListOf t.0 xs.0 fs.0, list t.0 a.b a.c xs.0 fs.0 xs.1 fs.1)
-plain_of v n table plain.Gather ds h =
-    let a = three_args v n a_name (want.Array item_of.Deferred) (want.Array item_of.GatherFlag) ds h in
-    let t = name_fine v n a.a a.one in
-    let xs = list_of v n item_of.Deferred IsText (is_text v n) a.b a.two in
-    let fs = list_of v n item_of.GatherFlag IsGatherFlag (λ e g. gather_flag_of e (fits_fine g)) a.c a.three in
-    rw (a.items, t.1) (Gather t.0 xs.0 fs.0, gather t.0 a.b a.c xs.0 fs.0 xs.1 fs.1)
-plain_of v n table plain.Semaphore ds h =
-    let a = two_args v n a_name (want.Leaf (leaf.Number 1 MOST_PLACES)) ds h in
-    let t = name_fine v n a.a a.one in
-    let k = number_fine v n 1 MOST_PLACES a.b a.two in
-    rw (a.items, t.1) (Semaphore t.0 k.0, semaphore t.0 a.b k.0 k.1)
-plain_of v n table plain.Queue ds h =
-    let a = three_args v n a_name (want.Leaf leaf.Bound) (want.Leaf leaf.Bound) ds h in
-    let t = name_fine v n a.a a.one in
-    let k = bound_of a.b (fits_fine a.two) in
-    let l = bound_of a.c (fits_fine a.three) in
-    rw (a.items, t.1) (Queue t.0 k.0 l.0, queue t.0 a.b a.c k.0 l.0 k.1 l.1)
-plain_of v n table plain.Thread ds h =
-    let a = three_args v n a_name a_delay a_work ds h in
-    let t = name_fine v n a.a a.one in
-    let k = number_fine v n 0 MOST_DELAY a.b a.two in
-    let x = work_fine v n table a.c a.three in
-    rw (a.items, t.1) (Thread t.0 k.0 x.0, thread t.0 a.b a.c k.0 x.0 k.1 x.1)
-plain_of v n table plain.ThreadIn ds h =
-    let a = four_args v n a_name (want.Leaf leaf.Pool) a_delay a_work ds h in
-    let t = name_fine v n a.a a.one in
-    let u = pool_fine v n a.b a.two in
-    let k = number_fine v n 0 MOST_DELAY a.c a.three in
-    let x = work_fine v n table a.d a.four in
-    rw (a.items, t.1, u.1) (ThreadIn t.0 u.0 k.0 x.0, thread_in t.0 u.0 a.c a.d k.0 x.0 k.1 x.1)
-plain_of v n table plain.AddTimeout ds h =
-    let a = two_args v n a_deferred a_delay ds h in
-    let t = deferred_fine v n a.a a.one in
-    let k = number_fine v n 0 MOST_DELAY a.b a.two in
-    rw (a.items, t.1) (AddTimeout t.0 k.0, add_timeout t.0 a.b k.0 k.1)
-
-deferred_of : (v n : ℕ) (table : List Class) → AreRead v n table → (b : Bool) (ds : Items) → AreFine v n (if b then a_name ∷ a_body ∷ [] else a_name ∷ []) ds → (a : Action) × IsAction table (array (item (string (codes "deferred")) ds)) a
-deferred_of v n table r true ds h = with_body v n table r a_name (name_fine v n) (codes "deferred") (λ x b. Deferred x (Some b)) (λ x d b g. deferred_with x d b g) ds h
-deferred_of v n table r false ds h = one_text v n table a_name (name_fine v n) (codes "deferred") (λ x. Deferred x None) (λ x. deferred x) ds h
-
-nesting_of : (v n : ℕ) (table : List Class) → AreRead v n table → (w : NestingWord) (ds : Items) → AreFine v n (nesting_wants w (count ds)) ds → (a : Action) × IsAction table (array (item (string (action_text (Nesting w))) ds)) a
-nesting_of v n table r nesting.Deferred ds h = deferred_of v n table r (nat_eq (count ds) 2) ds h
-nesting_of v n table r nesting.AddCallbacks ds h =
-    let a = three_args v n a_deferred a_body a_body ds h in
-    let t = deferred_fine v n a.a a.one in
-    let b = r.of_body a.b a.two in
-    let c = r.of_body a.c a.three in
-    rw (a.items, t.1) (AddCallbacks t.0 b.0 c.0, add_callbacks t.0 a.b a.c b.0 c.0 b.1 c.1)
-nesting_of v n table r nesting.RunWith ds h =
-    let a = three_args v n a_name a_name a_body ds h in
-    let t = name_fine v n a.a a.one in
-    let u = name_fine v n a.b a.two in
-    let b = r.of_body a.c a.three in
-    rw (a.items, t.1, u.1) (RunWith t.0 u.0 b.0, run_with t.0 u.0 a.c b.0 b.1)
-nesting_of v n table r nesting.Later ds h =
-    let a = three_args v n a_name a_delay a_body ds h in
-    let t = name_fine v n a.a a.one in
-    let k = number_fine v n 0 MOST_DELAY a.b a.two in
-    let b = r.of_body a.c a.three in
-    rw (a.items, t.1) (Later t.0 k.0 b.0, later t.0 a.b a.c k.0 b.0 k.1 b.1)
-nesting_of v n table r nesting.Loop ds h =
-    let a = five_args v n a_name a_name (want.Leaf (leaf.Number 1 MOST_DELAY)) (want.Leaf leaf.Boolean) a_body ds h in
-    let t = name_fine v n a.a a.one in
-    let u = name_fine v n a.b a.two in
-    let k = number_fine v n 1 MOST_DELAY a.c a.three in
-    let o = boolean_of a.d (fits_fine a.four) in
-    let b = r.of_body a.e a.five in
-    rw (a.items, t.1, u.1, o.1) (Loop t.0 u.0 k.0 o.0 b.0, loop t.0 u.0 a.c k.0 o.0 a.e b.0 k.1 b.1)
-nesting_of v n table r nesting.Cooperate ds h =
-    let a = two_args v n a_name (want.Array item_of.Body) ds h in
-    let t = name_fine v n a.a a.one in
+-- those of each form, in the order of the table
+actions : (v n : ℕ) (table : List Class) → AreRead v n table → EachForm (IsActionRead v n table) (own_forms call_of.Action)
+actions v n table read =
+    one_text v n table _ (λ d h. h) (λ x. Deferred x None) deferred &
+    text_and v n table _ (λ d h. h) (IsBody table) read.of_body (λ x b. Deferred x (Some b)) deferred_with &
+    text_and v n table _ (λ d h. h) IsValue (value_of v n) (λ x b. Callback x b) callback &
+    (λ ds h.
+    let a = three_args v n _ _ _ ds h in
+    let p = text_of a.a (fits_fine a.one) in
+    let q = class_fine v n table a.b a.two in
+    let r = text_of a.c (fits_fine a.three) in
+    rw (a.items, p.1, r.1) (Errback p.0 q.0 r.0, errback p.0 a.b q.0 r.0 q.1)) &
+    text_and v n table _ (λ d h. h) (IsBody table) read.of_body (λ x b. AddCallback x b) add_callback &
+    text_and v n table _ (λ d h. h) (IsBody table) read.of_body (λ x b. AddErrback x b) add_errback &
+    text_and v n table _ (λ d h. h) (IsBody table) read.of_body (λ x b. AddBoth x b) add_both &
+    text_and_two v n table _ (λ d h. h) (IsBody table) read.of_body (IsBody table) read.of_body (λ x b c. AddCallbacks x b c) add_callbacks &
+    two_texts v n table _ _ (λ d h. h) (λ d h. h) (λ x y. Chain x y) chain &
+    one_text v n table _ (λ d h. h) (λ x. Pause x) pause &
+    one_text v n table _ (λ d h. h) (λ x. Unpause x) unpause &
+    one_text v n table _ (λ d h. h) (λ x. Cancel x) cancel &
+    text_and v n table _ (λ d h. h) (IsNumber 0 MOST_DELAY) (number_fine v n 0 MOST_DELAY) (λ x b. AddTimeout x b) add_timeout &
+    one_text v n table _ (λ d h. h) (λ x. Note x) note &
+    text_and_two v n table _ (λ d h. h) (IsList IsText) (list_of v n item_of.Deferred IsText (is_text v n)) (IsList IsListFlag) (list_of v n item_of.ListFlag IsListFlag (λ e g. list_flag_of e (fits_fine g))) (λ x b c. ListOf x b c) list &
+    text_and_two v n table _ (λ d h. h) (IsList IsText) (list_of v n item_of.Deferred IsText (is_text v n)) (IsList IsGatherFlag) (list_of v n item_of.GatherFlag IsGatherFlag (λ e g. gather_flag_of e (fits_fine g))) (λ x b c. Gather x b c) gather &
+    text_and v n table _ (λ d h. h) (IsBody table) read.of_body (λ x b. Maybe x b) maybe &
+    one_text v n table _ (λ d h. h) (λ x. Lock x) lock &
+    text_and v n table _ (λ d h. h) (IsNumber 1 MOST_PLACES) (number_fine v n 1 MOST_PLACES) (λ x b. Semaphore x b) semaphore &
+    two_texts v n table _ _ (λ d h. h) (λ d h. h) (λ x y. Acquire x y) acquire &
+    one_text v n table _ (λ d h. h) (λ x. Release x) release &
+    (λ ds h.
+    let a = three_args v n _ _ _ ds h in
+    let p = text_of a.a (fits_fine a.one) in
+    let q = text_of a.b (fits_fine a.two) in
+    let r = read.of_body a.c a.three in
+    rw (a.items, p.1, q.1) (RunWith p.0 q.0 r.0, run_with p.0 q.0 a.c r.0 r.1)) &
+    text_and_two v n table _ (λ d h. h) IsBound (λ d h. bound_of d (fits_fine h)) IsBound (λ d h. bound_of d (fits_fine h)) (λ x b c. Queue x b c) queue &
+    text_and v n table _ (λ d h. h) IsValue (value_of v n) (λ x b. Put x b) put &
+    two_texts v n table _ _ (λ d h. h) (λ d h. h) (λ x y. Get x y) get &
+    text_and_two v n table _ (λ d h. h) (IsNumber 0 MOST_DELAY) (number_fine v n 0 MOST_DELAY) (IsBody table) read.of_body (λ x b c. Later x b c) later &
+    one_text v n table _ (λ d h. h) (λ x. CancelCall x) cancel_call &
+    (λ ds h.
+    let a = five_args v n _ _ _ _ _ ds h in
+    let p = text_of a.a (fits_fine a.one) in
+    let q = text_of a.b (fits_fine a.two) in
+    let r = number_fine v n 1 MOST_DELAY a.c a.three in
+    let s = boolean_of a.d (fits_fine a.four) in
+    let t = read.of_body a.e a.five in
+    rw (a.items, p.1, q.1, s.1) (Loop p.0 q.0 r.0 s.0 t.0, loop p.0 q.0 a.c r.0 s.0 a.e t.0 r.1 t.1)) &
+    one_text v n table _ (λ d h. h) (λ x. StopLoop x) stop_loop &
+    (λ ds h.
+    let a = two_args v n _ _ ds h in
+    let p = text_of a.a (fits_fine a.one) in
     let o = open_array v n item_of.Body a.b a.two in
-    let xs = bodies_of table o.items (λ k e is. r.of_body e (o.each k e is)) in
-    rw (a.items, t.1, o.whole) (Cooperate t.0 xs.0, cooperate t.0 o.items xs.0 xs.1)
-nesting_of v n table r nesting.Inline ds h =
-    let a = two_args v n a_name (want.Array item_of.Statement) ds h in
-    let t = name_fine v n a.a a.one in
+    let q = bodies_of table o.items (λ k e is. read.of_body e (o.each k e is)) in
+    rw (a.items, p.1, o.whole) (Cooperate p.0 q.0, cooperate p.0 o.items q.0 q.1)) &
+    two_texts v n table _ _ (λ d h. h) (λ d h. h) (λ x y. WhenDone x y) when_done &
+    one_text v n table _ (λ d h. h) (λ x. PauseTask x) pause_task &
+    one_text v n table _ (λ d h. h) (λ x. StopTask x) stop_task &
+    one_text v n table _ (λ d h. h) (λ x. ResumeTask x) resume_task &
+    (λ ds h.
+    let a = two_args v n _ _ ds h in
+    let p = text_of a.a (fits_fine a.one) in
     let o = open_array v n item_of.Statement a.b a.two in
-    let xs = statements_of table o.items (λ k e is. r.of_statement e (o.each k e is)) in
-    rw (a.items, t.1, o.whole) (Inline t.0 xs.0, inline t.0 o.items xs.0 xs.1)
-
-action_of : (v n : ℕ) (table : List Class) → AreRead v n table → (w : ActionWord) (ds : Items) → AreFine v n (action_wants w (count ds)) ds → (a : Action) × IsAction table (array (item (string (action_text w)) ds)) a
-action_of v n table r (OfName w) ds h = name_of v n table w ds h
-action_of v n table r (OfNames w) ds h = names_of v n table w ds h
-action_of v n table r (OfBody w) ds h = of_body_of v n table r w ds h
-action_of v n table r (Plain w) ds h = plain_of v n table w ds h
-action_of v n table r (Nesting w) ds h = nesting_of v n table r w ds h
+    let q = statements_of table o.items (λ k e is. read.of_statement e (o.each k e is)) in
+    rw (a.items, p.1, o.whole) (Inline p.0 q.0, inline p.0 o.items q.0 q.1)) &
+    text_and_two v n table _ (λ d h. h) (IsNumber 0 MOST_DELAY) (number_fine v n 0 MOST_DELAY) (IsWork table) (work_fine v n table) (λ x b c. Thread x b c) thread &
+    (λ ds h.
+    let a = four_args v n _ _ _ _ ds h in
+    let p = text_of a.a (fits_fine a.one) in
+    let q = text_of a.b (fits_fine a.two) in
+    let r = number_fine v n 0 MOST_DELAY a.c a.three in
+    let s = work_fine v n table a.d a.four in
+    rw (a.items, p.1, q.1) (ThreadIn p.0 q.0 r.0 s.0, thread_in p.0 q.0 a.c a.d r.0 s.0 r.1 s.1)) &
+    tt
 
 action_fine : (v n : ℕ) (table : List Class) → AreRead v n table → (d : Data) → IsFine v n (want.Call call_of.Action) d → (a : Action) × IsAction table d a
 action_fine v n table r d h =
     let o = open_call v n call_of.Action d (fits_fine h) (λ k u e wants is. same k h wants is) in
-    mapped (action_word o.word) (λ w. action_wants w (count o.rest)) o.wants o.form (λ w is so.
-    rw (o.whole, action_word_is o.word w is) (action_of v n table r w o.rest (subst (λ (ws : List Want). AreFine v n ws o.rest) (sym so) o.args)))
+    rw (o.whole) (either_found (wants_in (own_forms call_of.Action) o.word (count o.rest)) None o.wants o.form
+    (λ form. found_form (IsActionRead v n table) (own_forms call_of.Action) (actions v n table r) o.word (count o.rest) o.wants form o.rest o.args)
+    (λ form. cc))
 
 -- ---- bodies and statements
 
@@ -500,33 +436,40 @@ body_of v n table r (object ms) h =
     (record { actions = xs.0; end = x.0 }, body ms xs.0 x.0 (body_only v ms h.suit) xs.1 x.1)
 body_of v n table r d h = let fit : fits v a_body d ≡ true = fits_fine h in cc
 
-statement_of : (v n : ℕ) (table : List Class) → AreRead v n table → (w : StatementWord) (ds : Items) → AreFine v n (statement_wants w) ds → (s : Statement) × IsStatement table (array (item (string (statement_text w)) ds)) s
-statement_of v n table r statement.Do ds h =
+-- the arguments of a word read as those of a statement
+abbrev IsStatementRead : ℕ → ℕ → List Class → List ℕ → List Want → Type 0
+IsStatementRead v n table word wants = (ds : Items) → AreFine v n wants ds → (s : Statement) × IsStatement table (array (item (string word) ds)) s
+
+statements : (v n : ℕ) (table : List Class) → AreRead v n table → EachForm (IsStatementRead v n table) (own_forms call_of.Statement)
+statements v n table r =
+    (λ ds h.
     let a = one_arg v n (want.Call call_of.Action) ds h in
     let x = action_fine v n table r a.a a.fine in
-    rw (a.items) (Do x.0, performs a.a x.0 x.1)
-statement_of v n table r statement.Await ds h =
+    rw (a.items) (Do x.0, performs a.a x.0 x.1)) &
+    (λ ds h.
     let a = one_arg v n a_deferred ds h in
-    let t = deferred_fine v n a.a a.fine in
-    rw (a.items, t.1) (Await t.0, awaits t.0)
-statement_of v n table r statement.Try ds h =
+    let t = text_of a.a (fits_fine a.fine) in
+    rw (a.items, t.1) (Await t.0, awaits t.0)) &
+    (λ ds h.
     let a = three_args v n (want.Array item_of.Statement) (want.Array item_of.Class) (want.Array item_of.Statement) ds h in
     let o = open_array v n item_of.Statement a.a a.one in
     let xs = statements_of table o.items (λ k e is. r.of_statement e (o.each k e is)) in
     let c = list_of v n item_of.Class (IsClass table) (class_fine v n table) a.b a.two in
     let p = open_array v n item_of.Statement a.c a.three in
     let ys = statements_of table p.items (λ k e is. r.of_statement e (p.each k e is)) in
-    rw (a.items, o.whole, p.whole) (Try xs.0 c.0 ys.0, tries o.items a.b p.items xs.0 c.0 ys.0 xs.1 c.1 ys.1)
-statement_of v n table r statement.End ds h =
+    rw (a.items, o.whole, p.whole) (Try xs.0 c.0 ys.0, tries o.items a.b p.items xs.0 c.0 ys.0 xs.1 c.1 ys.1)) &
+    (λ ds h.
     let a = one_arg v n (want.Call call_of.Leaving) ds h in
     let x = leave_fine v n table a.a a.fine in
-    rw (a.items) (Leave x.0, leaves a.a x.0 x.1 x.2)
+    rw (a.items) (Leave x.0, leaves a.a x.0 x.1 x.2)) &
+    tt
 
 statement_fine : (v n : ℕ) (table : List Class) → AreRead v n table → (d : Data) → IsFine v (suc n) (want.Call call_of.Statement) d → (s : Statement) × IsStatement table d s
 statement_fine v n table r d h =
     let o = open_call v n call_of.Statement d (fits_fine h) (λ k u e wants is. inside k h wants is) in
-    mapped (statement_word o.word) statement_wants o.wants o.form (λ w is so.
-    rw (o.whole, word_is statement_text statement_words o.word w is) (statement_of v n table r w o.rest (subst (λ (ws : List Want). AreFine v n ws o.rest) (sym so) o.args)))
+    rw (o.whole) (either_found (wants_in (own_forms call_of.Statement) o.word (count o.rest)) None o.wants o.form
+    (λ form. found_form (IsStatementRead v n table) (own_forms call_of.Statement) (statements v n table r) o.word (count o.rest) o.wants form o.rest o.args)
+    (λ form. cc))
 
 no_body : (v : ℕ) (table : List Class) (d : Data) → IsFine v 0 a_body d → (b : Body) × IsBody table d b
 no_body v table (object ms) h = let deep : depth (object ms) ≤ 0 = h.deep in absurd (omega (arith, deep))
@@ -542,29 +485,33 @@ are_read v (suc n) table = let r = are_read v n table in record { of_body = body
 
 -- ---- events
 
-event_of : (v n : ℕ) (table : List Class) (w : EventWord) (ds : Items) → AreFine v n (event_wants w) ds → (e : Event) × IsEvent table (array (item (string (event_text w)) ds)) e
-event_of v n table event.Advance ds h =
+-- the arguments of a word read as those of an event
+abbrev IsEventRead : ℕ → ℕ → List Class → List ℕ → List Want → Type 0
+IsEventRead v n table word wants = (ds : Items) → AreFine v n wants ds → (e : Event) × IsEvent table (array (item (string word) ds)) e
+
+other_events : (v n : ℕ) (table : List Class) → EachForm (IsEventRead v n table) (own_forms call_of.Event)
+other_events v n table =
+    (λ ds h.
     let a = one_arg v n (want.Leaf (leaf.Number 0 MOST_TICKS)) ds h in
     let k = number_fine v n 0 MOST_TICKS a.a a.fine in
-    rw (a.items) (happens.Advance k.0, advances a.a k.0 k.1)
-event_of v n table event.Drain ds h =
+    rw (a.items) (happens.Advance k.0, advances a.a k.0 k.1)) &
+    (λ ds h.
     let a = one_arg v n (want.Leaf (leaf.Number 0 MOST_DRAINED)) ds h in
     let k = number_fine v n 0 MOST_DRAINED a.a a.fine in
-    rw (a.items) (happens.Drain k.0, drains a.a k.0 k.1)
+    rw (a.items) (happens.Drain k.0, drains a.a k.0 k.1)) &
+    tt
 
-event_by : (v n : ℕ) (table : List Class) (word : List ℕ) (ds : Items) (wants : List Want) (o : Option EventWord) → event_word word ≡ o → or_else (option_map event_wants o) (action_form word (count ds)) ≡ Some wants → AreFine v n wants ds
-    → (e : Event) × IsEvent table (array (item (string word) ds)) e
-event_by v n table word ds wants (Some w) is form args =
-    rw (word_is event_text event_words word w is) (event_of v n table w ds (subst (λ (ws : List Want). AreFine v n ws ds) (sym (some_injective form)) args))
-event_by v n table word ds wants None is form args =
-    mapped (action_word word) (λ w. action_wants w (count ds)) wants form (λ w found so.
-    (let x = action_of v n table (are_read v n table) w ds (subst (λ (ws : List Want). AreFine v n ws ds) (sym so) args) in
-    rw (action_word_is word w found) (happens.Action x.0, acts _ x.0 x.1)))
+event_by : (v n : ℕ) (table : List Class) (word : List ℕ) (wants : List Want) (ds : Items) → wants_in (own_forms call_of.Action) word (count ds) ≡ Some wants → AreFine v n wants ds → (e : Event) × IsEvent table (array (item (string word) ds)) e
+event_by v n table word wants ds form args =
+    let x = found_form (IsActionRead v n table) (own_forms call_of.Action) (actions v n table (are_read v n table)) word (count ds) wants form ds args in
+    (happens.Action x.0, acts _ x.0 x.1)
 
 event_fine : (v n : ℕ) (table : List Class) (d : Data) → IsFine v n (want.Call call_of.Event) d → (e : Event) × IsEvent table d e
 event_fine v n table d h =
     let o = open_call v n call_of.Event d (fits_fine h) (λ k u e wants is. same k h wants is) in
-    rw (o.whole) (event_by v n table o.word o.rest o.wants (event_word o.word) refl o.form o.args)
+    rw (o.whole) (either_found (wants_in (own_forms call_of.Event) o.word (count o.rest)) _ o.wants o.form
+    (λ form. found_form (IsEventRead v n table) (own_forms call_of.Event) (other_events v n table) o.word (count o.rest) o.wants form o.rest o.args)
+    (λ form. event_by v n table o.word o.wants o.rest form o.args))
 
 -- ---- declarations, pools, the cooperator
 
@@ -574,16 +521,16 @@ pair_fine v n w1 w2 d ds whole two parts =
 
 declaration_fine : (v n : ℕ) (d : Data) → IsFine v n (item_want item_of.Declaration) d → (c : Declaration) × IsDeclaration d c
 declaration_fine v n (array ds) h =
-    let a = pair_fine v n a_name a_text (array ds) ds refl (fits_fine h) (λ k u e wants is. same k h wants is) in
-    let t = name_fine v n a.a a.one in
-    let u = text_fine v n a.b a.two in
+    let a = pair_fine v n (want.Leaf (leaf.New object.Class)) a_text (array ds) ds refl (fits_fine h) (λ k u e wants is. same k h wants is) in
+    let t = text_of a.a (fits_fine a.one) in
+    let u = text_of a.b (fits_fine a.two) in
     rw (a.items, t.1, u.1) (record { name = t.0; parent = u.0 }, declares t.0 u.0)
 declaration_fine v n d h = let fit : fits v (item_want item_of.Declaration) d ≡ true = fits_fine h in cc
 
 pool_pair_fine : (v n : ℕ) (d : Data) → IsFine v n (item_want item_of.Pool) d → (p : NamedPool) × IsPool d p
 pool_pair_fine v n (array ds) h =
-    let a = pair_fine v n a_name (want.Leaf (leaf.Number 0 MOST_WORKERS)) (array ds) ds refl (fits_fine h) (λ k u e wants is. same k h wants is) in
-    let t = name_fine v n a.a a.one in
+    let a = pair_fine v n (want.Leaf (leaf.New object.Pool)) (want.Leaf (leaf.Number 0 MOST_WORKERS)) (array ds) ds refl (fits_fine h) (λ k u e wants is. same k h wants is) in
+    let t = text_of a.a (fits_fine a.one) in
     let k = number_fine v n 0 MOST_WORKERS a.b a.two in
     rw (a.items, t.1) (record { name = t.0; workers = k.0 }, pools t.0 a.b k.0 k.1)
 pool_pair_fine v n d h = let fit : fits v (item_want item_of.Pool) d ≡ true = fits_fine h in cc

@@ -5,10 +5,11 @@ use Rattle.serde_json.specs.Data.{Data, Items}
 use Rattle.serde_json.specs.Find.{as_str}
 use Rattle.serde_json.specs.View.{view, items_view}
 use Rattle.dv_value.specs.Classes.{find_class}
-use Rattle.dv_why.specs.declared.want.Leaf.{Leaf}
-use Rattle.dv_why.specs.declared.want.Leaf.TheVariants as leaf
-use Rattle.dv_why.specs.declared.want.Want.{Want}
-use Rattle.dv_why.specs.declared.want.Want.TheVariants as want
+use Rattle.dv_forms.specs.declared.want.Leaf.{Leaf}
+use Rattle.dv_forms.specs.declared.want.Leaf.TheVariants as leaf
+use Rattle.dv_forms.specs.declared.want.Object.TheVariants as object
+use Rattle.dv_forms.specs.declared.want.Want.{Want}
+use Rattle.dv_forms.specs.declared.want.Want.TheVariants as want
 use Rattle.dv_why.specs.declared.misfit.Misfit.{Misfit}
 use Rattle.dv_why.specs.declared.question.Question.{Question}
 use Rattle.dv_why.specs.declared.question.Question.TheVariants as question
@@ -42,12 +43,12 @@ not_some : {X : Type 0} (o : Option X) → is_some o ≡ false → o ≡ None
 not_some None h = refl
 not_some (Some x) h = cc
 
-class_is : (l : Leaf) → is_class l ≡ true → l ≡ leaf.Class
-class_is leaf.Class h = refl
+class_is : (l : Leaf) → is_class l ≡ true → l ≡ leaf.Found object.Class
+class_is (leaf.Found object.Class) h = refl
 class_is _ h = cc
 
-pool_is : (l : Leaf) → is_pool l ≡ true → l ≡ leaf.Pool
-pool_is leaf.Pool h = refl
+pool_is : (l : Leaf) → is_pool l ≡ true → l ≡ leaf.Found object.Pool
+pool_is (leaf.Found object.Pool) h = refl
 pool_is _ h = cc
 
 -- a part that answers badly is a name that hasn't its form

@@ -2,11 +2,11 @@
 use Rattle.std.specs.Prelude.{◌≡◌, ◌<◌, ℕ, true, List, [], length, get_or, Some, ⊤}
 use Rattle.serde_json.specs.Data.{Data}
 use Rattle.serde_json.specs.Find.{at, get}
-use Rattle.dv_why.specs.declared.want.Want.{Want}
+use Rattle.dv_forms.specs.declared.want.Want.{Want}
 use Rattle.dv_why.specs.declared.question.Question.{Question}
-use Rattle.dv_why.specs.declared.want.Want.TheVariants as want
-use Rattle.dv_why.specs.declared.want.Keyed.{Keyed}
-use Rattle.dv_why.specs.Wants.{key_want, keys_in}
+use Rattle.dv_forms.specs.declared.want.Want.TheVariants as want
+use Rattle.dv_forms.specs.declared.want.Keyed.{Keyed}
+use Rattle.dv_forms.specs.Wants.{key_want, keys_in}
 use Rattle.dv_why.specs.Places.{part_want, value_want}
 use Rattle.dv_why.specs.Fits.{is_other, suits}
 

@@ -2,9 +2,9 @@
 use Rattle.std.specs.Prelude.{◌≡◌, ◌≢◌, ◌<◌, false, ℕ, nat_eq, if◌then◌else◌, List, Option, Some, None, option_and_then, codes}
 use Rattle.serde_json.specs.Data.{Data, Items, no_items}
 use Rattle.serde_json.specs.Find.{get, at, get_item, as_array, as_number, as_str, as_u64}
-use Rattle.dv_why.specs.declared.want.Want.{Want}
-use Rattle.dv_why.specs.declared.want.Want.TheVariants as want
-use Rattle.dv_why.specs.declared.want.Keyed.TheVariants as keyed
+use Rattle.dv_forms.specs.declared.want.Want.{Want}
+use Rattle.dv_forms.specs.declared.want.Want.TheVariants as want
+use Rattle.dv_forms.specs.declared.want.Keyed.TheVariants as keyed
 
 -- 1, or 2 where it is anything else
 abbrev pub one_or_two : Option ℕ → ℕ

@@ -2,7 +2,7 @@
 use Rattle.std.specs.Prelude.{◌≡◌, ◌≤◌, ◌⊎◌, [], Some, false, codes}
 use Rattle.serde_json.specs.Data.{Data, depth}
 use Rattle.serde_json.specs.View.{view}
-use Rattle.dv_why.specs.declared.want.Want.{Want}
+use Rattle.dv_forms.specs.declared.want.Want.{Want}
 use Rattle.dv_why.specs.declared.misfit.Misfit.{Misfit}
 use Rattle.dv_why.specs.declared.question.Question.{Question}
 use Rattle.dv_why.specs.declared.classes.Table.{Table}

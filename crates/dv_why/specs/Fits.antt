@@ -1,5 +1,5 @@
 -- Whether what stands at a place is what the place asks for, its parts apart.
-use Rattle.std.specs.Prelude.{ℕ, if◌then◌else◌, ◌&&◌, ◌||◌, nat_eq, Bool, true, false, not, List, length, Option, Some, None, is_some, option_and_then, bytes_eq, codes}
+use Rattle.std.specs.Prelude.{ℕ, if◌then◌else◌, ◌&&◌, ◌||◌, nat_eq, Bool, true, false, not, List, Option, Some, None, is_some, option_and_then, bytes_eq, codes}
 use Rattle.std.specs.List.{list_any}
 use Rattle.serde_json.specs.Data.{Data, null, boolean, number, string, array, object, Items, no_items, item, Members, no_members, member}
 use Rattle.serde_json.specs.Find.{as_str, as_bool, as_array, as_object, as_i64, get, at}
@@ -8,25 +8,27 @@ use Rattle.serde_json.specs.declared.value.Value.{Value}
 use Rattle.dv_value.specs.Classes.{find_class}
 use Rattle.dv_forms.specs.Parts.{text_at, integer_at, number_at, bound_at, list_flag_at, gather_flag_at}
 use Rattle.dv_reader.specs.Names.{is_name, names_one}
-use Rattle.dv_why.specs.declared.want.Leaf.{Leaf}
-use Rattle.dv_why.specs.declared.want.Leaf.TheVariants as leaf
-use Rattle.dv_why.specs.declared.want.Call.{Call}
-use Rattle.dv_why.specs.declared.want.Keyed.{Keyed}
-use Rattle.dv_why.specs.declared.want.Keyed.TheVariants as keyed
-use Rattle.dv_why.specs.declared.want.Want.{Want}
-use Rattle.dv_why.specs.declared.want.Want.TheVariants as want
+use Rattle.dv_forms.specs.declared.want.Object.{Object}
+use Rattle.dv_forms.specs.declared.want.Object.TheVariants as object
+use Rattle.dv_forms.specs.declared.want.Leaf.{Leaf}
+use Rattle.dv_forms.specs.declared.want.Leaf.TheVariants as leaf
+use Rattle.dv_forms.specs.declared.want.Call.{Call}
+use Rattle.dv_forms.specs.declared.want.Keyed.{Keyed}
+use Rattle.dv_forms.specs.declared.want.Keyed.TheVariants as keyed
+use Rattle.dv_forms.specs.declared.want.Want.{Want}
+use Rattle.dv_forms.specs.declared.want.Want.TheVariants as want
 use Rattle.dv_why.specs.declared.question.Question.{Question}
 use Rattle.dv_why.specs.declared.question.Question.TheVariants as question
-use Rattle.dv_why.specs.Wants.{form_of, key_want}
+use Rattle.dv_forms.specs.Wants.{key_want}
+use Rattle.dv_forms.specs.Words.{may_stand, wants_of}
+use Rattle.dv_why.specs.declared.fits.TheConstants.{LAST_VERSION}
 use Rattle.dv_why.specs.Places.{count}
 
 -- a leaf reads as the grammar reads it
 abbrev pub leaf_fits : Leaf → Data → Bool
 leaf_fits leaf.Text d = is_some (text_at d)
-leaf_fits leaf.Name d = is_some (text_at d)
-leaf_fits leaf.Deferred d = is_some (text_at d)
-leaf_fits leaf.Pool d = is_some (text_at d)
-leaf_fits leaf.Class d = is_some (text_at d)
+leaf_fits (leaf.New o) d = is_some (text_at d)
+leaf_fits (leaf.Found o) d = is_some (text_at d)
 leaf_fits leaf.Integer d = is_some (integer_at d)
 leaf_fits (leaf.Number low high) d = is_some (number_at low high d)
 leaf_fits leaf.Boolean d = is_some (as_bool d)
@@ -43,15 +45,10 @@ value_fits (string text) = true
 value_fits (array ds) = true
 value_fits (object ms) = false
 
--- the number of arguments is that of the word, or the word is wrong itself
-abbrev pub has_form : Option (List Want) → ℕ → Bool
-has_form None given = true
-has_form (Some wants) given = nat_eq (length wants) given
-
--- the first part of a call is no text, which is wrong itself, or a word that has so many arguments
+-- the first part of a call is no word that may stand there, which is wrong itself, or one that has a form with so many arguments
 abbrev pub begins_well : Call → Option (List ℕ) → ℕ → Bool
 begins_well c None given = true
-begins_well c (Some word) given = has_form (form_of c word given) given
+begins_well c (Some word) given = not (may_stand c word LAST_VERSION) || is_some (wants_of c word given)
 
 -- a call, its parts apart: an array of one part at least
 abbrev pub parts_fit : Call → Items → Bool
@@ -67,10 +64,10 @@ abbrev pub array_fits : (Items → Bool) → Option Items → Bool
 array_fits fit None = false
 array_fits fit (Some ds) = fit ds
 
--- the word of a call: in version 1 no thread is one of a pool
+-- the word of a call: one that may stand there in this version
 abbrev pub word_fits : ℕ → Call → Option (List ℕ) → Bool
 word_fits version c None = false
-word_fits version c (Some word) = not (nat_eq version 1 && bytes_eq word (codes "threadIn")) && is_some (form_of c word 0)
+word_fits version c (Some word) = may_stand c word version
 
 -- whether the object has the keys that it has to have
 abbrev pub has_keys : Keyed → Data → Bool
@@ -105,13 +102,22 @@ abbrev pub first_other : Keyed → Members → Option (List ℕ)
 first_other k no_members = None
 first_other k (member key d ms) = if is_other (key_want k key) then Some key else first_other k ms
 
+-- whether a name that is looked up has the form that its place asks for
+abbrev pub is_found_named : Object → List ℕ → Bool
+is_found_named object.Deferred name = names_one name
+is_found_named object.Lock name = is_name name
+is_found_named object.Queue name = is_name name
+is_found_named object.Call name = is_name name
+is_found_named object.Loop name = is_name name
+is_found_named object.Task name = is_name name
+is_found_named object.Pool name = is_name name
+is_found_named object.Class name = true
+
 -- whether a name has the form that its place asks for
 abbrev pub is_named : Leaf → List ℕ → Bool
 is_named leaf.Text name = true
-is_named leaf.Name name = is_name name
-is_named leaf.Deferred name = names_one name
-is_named leaf.Pool name = is_name name
-is_named leaf.Class name = true
+is_named (leaf.New o) name = is_name name
+is_named (leaf.Found o) name = is_found_named o name
 is_named leaf.Integer name = true
 is_named (leaf.Number low high) name = true
 is_named leaf.Boolean name = true
@@ -122,10 +128,15 @@ is_named leaf.GatherFlag name = true
 -- whether it names a class
 abbrev pub is_class : Leaf → Bool
 is_class leaf.Text = false
-is_class leaf.Name = false
-is_class leaf.Deferred = false
-is_class leaf.Pool = false
-is_class leaf.Class = true
+is_class (leaf.New o) = false
+is_class (leaf.Found object.Deferred) = false
+is_class (leaf.Found object.Lock) = false
+is_class (leaf.Found object.Queue) = false
+is_class (leaf.Found object.Call) = false
+is_class (leaf.Found object.Loop) = false
+is_class (leaf.Found object.Task) = false
+is_class (leaf.Found object.Pool) = false
+is_class (leaf.Found object.Class) = true
 is_class leaf.Integer = false
 is_class (leaf.Number low high) = false
 is_class leaf.Boolean = false
@@ -136,10 +147,15 @@ is_class leaf.GatherFlag = false
 -- whether it names a pool
 abbrev pub is_pool : Leaf → Bool
 is_pool leaf.Text = false
-is_pool leaf.Name = false
-is_pool leaf.Deferred = false
-is_pool leaf.Pool = true
-is_pool leaf.Class = false
+is_pool (leaf.New o) = false
+is_pool (leaf.Found object.Deferred) = false
+is_pool (leaf.Found object.Lock) = false
+is_pool (leaf.Found object.Queue) = false
+is_pool (leaf.Found object.Call) = false
+is_pool (leaf.Found object.Loop) = false
+is_pool (leaf.Found object.Task) = false
+is_pool (leaf.Found object.Pool) = true
+is_pool (leaf.Found object.Class) = false
 is_pool leaf.Integer = false
 is_pool (leaf.Number low high) = false
 is_pool leaf.Boolean = false

@@ -1,4 +1,3 @@
-pub mod Wants
 pub mod Places
 pub mod Pointers
 pub mod Documents

@@ -5,10 +5,11 @@ use Rattle.serde_json.specs.Find.{at, get}
 use Rattle.dv_forms.specs.Parts.{call_at}
 use Rattle.dv_why.specs.declared.misfit.Step.{Step}
 use Rattle.dv_why.specs.declared.misfit.Step.TheVariants as step
-use Rattle.dv_why.specs.declared.want.Want.{Want}
-use Rattle.dv_why.specs.declared.want.Want.TheVariants as want
-use Rattle.dv_why.specs.declared.want.Call.{Call}
-use Rattle.dv_why.specs.Wants.{item_want, key_want, form_of, pair_wants}
+use Rattle.dv_forms.specs.declared.want.Want.{Want}
+use Rattle.dv_forms.specs.declared.want.Want.TheVariants as want
+use Rattle.dv_forms.specs.declared.want.Call.{Call}
+use Rattle.dv_forms.specs.Wants.{item_want, key_want, pair_wants}
+use Rattle.dv_forms.specs.Words.{wants_of}
 
 -- a step by itself: to the value of a key, or to the item of a number
 pub data Part : Type 0 where
@@ -51,7 +52,7 @@ count (item d ds) = suc (count ds)
 
 -- what the place of an argument asks for
 abbrev pub argument_want : Call → Data → ℕ → Option Want
-argument_want c d n = option_and_then (λ call. option_and_then (λ ws. nth ws n) (form_of c call.0 (count call.1))) (call_at d)
+argument_want c d n = option_and_then (λ call. option_and_then (λ ws. nth ws n) (wants_of c call.0 (count call.1))) (call_at d)
 
 -- what the place of a part of a call asks for: first its word
 abbrev pub call_want : Call → Data → ℕ → Option Want

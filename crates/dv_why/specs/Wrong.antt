@@ -10,12 +10,11 @@ use Rattle.dv_clock.specs.declared.limits.TheConstants.{MOST_TICKS}
 use Rattle.dv_reader.specs.Limits.{nodes}
 use Rattle.dv_reader.specs.declared.error.ScriptFault.{ScriptFault}
 use Rattle.dv_reader.specs.declared.error.ScriptFault.TheVariants.{TooLong, NotJson, BadVersion, BadShape, TooMany, BadName, BadClass, OutOfMemory, BadPool}
-use Rattle.dv_why.specs.declared.want.Leaf.{Leaf}
-use Rattle.dv_why.specs.declared.want.Leaf.TheVariants as leaf
-use Rattle.dv_why.specs.declared.want.Want.TheVariants as want
+use Rattle.dv_forms.specs.declared.want.Leaf.{Leaf}
+use Rattle.dv_forms.specs.declared.want.Want.TheVariants as want
 use Rattle.dv_why.specs.declared.misfit.Misfit.{Misfit}
 use Rattle.dv_why.specs.Places.{Part, to_item, to_key, path_of, path_to}
-use Rattle.dv_why.specs.Wants.{a_class}
+use Rattle.dv_forms.specs.Wants.{a_class, a_pool}
 use Rattle.dv_why.specs.Documents.{version_in, list_in, name_in}
 use Rattle.dv_why.specs.Counts.{count_in, posts_of, ticks_in}
 use Rattle.dv_why.specs.Declaring.{table_before, table_in}
@@ -80,7 +79,7 @@ pub record IsGivenTwice (pools : Items) (path : List Part) (m : Misfit) : Type 0
 -- BadPool: a pool has the name of one before it, or a pool is used whose name none has
 pub data IsBadPool (d : Data) (m : Misfit) : Type 0 where
   given_twice : IsGivenTwice (list_in (codes "pools") d) (to_key (codes "pools") ∷ []) m → IsBadPool d m
-  unknown_pool : (name : List ℕ) → m.want ≡ want.Leaf leaf.Pool → HasText name m → ((n : ℕ) → name_in n (list_in (codes "pools") d) ≢ Some name) → IsBadPool d m
+  unknown_pool : (name : List ℕ) → m.want ≡ a_pool → HasText name m → ((n : ℕ) → name_in n (list_in (codes "pools") d) ≢ Some name) → IsBadPool d m
 
 -- what is wrong where a script is refused so
 abbrev pub IsWrong : ScriptFault → Data → Misfit → Type 0

@@ -6,12 +6,12 @@ ghost use Rattle.serde_json.specs.View.{view};
 ghost use Rattle.dv_why.specs.Declaring.{MayDeclare, class_after};
 ghost use Rattle.dv_why.specs.Finds.{IsTableOf, Leads};
 ghost use Rattle.dv_why.specs.Places.{to_item};
-ghost use Rattle.dv_why.specs.Wants.{all_classes, one_class};
+ghost use Rattle.dv_forms.specs.Wants.{all_classes, one_class};
 ghost use Rattle.dv_why.specs.Wrong.{IsUndeclarable};
 
 use crate::expected::Expected;
 use crate::misfit::{Misfit, Step};
-use crate::want::{Leaf, Want};
+use dv_forms::want::{Leaf, Object, Want};
 use dv_script::limits::MOST_CLASSES;
 use dv_value::class_fault::ClassFault;
 use dv_value::classes::Classes;
@@ -86,7 +86,7 @@ fn declare<'j>(
     match classes.declare(name_text, parent_text) {
         Ok(_) => Ok(None),
         Err(ClassFault::Taken) => {
-            let misfit = Misfit::here(alloc, Want::Leaf(Leaf::Name), name);
+            let misfit = Misfit::here(alloc, Want::Leaf(Leaf::New(Object::Class)), name);
             Ok(Some((misfit.under(Step::Item(0))?, Expected::FreeClass)))
         }
         Err(ClassFault::NoParent) => {

@@ -10,14 +10,14 @@ ghost use Rattle.dv_why.specs.Documents.{list_in, or_no_items, script_in};
 ghost use Rattle.dv_why.specs.Finds.{Leads};
 ghost use Rattle.dv_why.specs.Places.{count, to_item, to_key};
 ghost use Rattle.dv_why.specs.Reasons.{IsRefusedFor};
-ghost use Rattle.dv_why.specs.Wants.{all_callers};
+ghost use Rattle.dv_forms.specs.Wants.{all_callers};
 ghost use Rattle.dv_why.specs.Wrong.{IsAt, IsTooMuch};
 
 use crate::document::{value_of, whole};
 use crate::expected::Expected;
 use crate::misfit::{Misfit, Step};
-use crate::want::Item;
 use dv_clock::limits::MOST_TICKS;
+use dv_forms::want::Item;
 use dv_reader::limits::has_few_nodes;
 use dv_script::limits::{MOST_CALLERS, MOST_CLASSES, MOST_POOLS, MOST_POSTS};
 use serde_json::Value as Json;

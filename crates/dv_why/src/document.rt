@@ -8,7 +8,7 @@ ghost use Rattle.dv_why.specs.Places.{path_of, path_to};
 ghost use Rattle.dv_why.specs.Finds.{Leads};
 
 use crate::misfit::{Misfit, Step};
-use crate::want::{Keyed, Want};
+use dv_forms::want::{Keyed, Want};
 use serde_json::Value as Json;
 use std::alloc::{AllocError, Global};
 

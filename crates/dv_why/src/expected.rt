@@ -1,16 +1,26 @@
-use crate::form::Form;
-use crate::want::{Call, Item, Keyed, Leaf, Pair, Want};
 use dv_forms::leaf::call as call_in;
+use dv_forms::want::{Call, Item, Keyed, Leaf, Object, Pair, Want};
+use dv_forms::words::{
+    ACTION_FORMS, END_FORMS, EVENT_FORMS, Form, LEAVING_FORMS, STATEMENT_FORMS, WORK_FORMS,
+    narrower,
+};
 use serde_json::Value as Json;
 use std::alloc::AllocError;
+
+/// How the forms of a word are shown: most have one, and some two.
+#[derive(Clone, Copy, Drop)]
+pub struct Shown {
+    first: &'static str,
+    second: Option<&'static str>,
+}
 
 /// What is expected where a script is wrong.
 #[derive(Clone, Copy, Drop)]
 pub enum Expected {
     /// What the place asks for.
     Wanted(Want),
-    /// The word with other arguments, in this form.
-    Form(&'static str),
+    /// The word with other arguments, in a form that it has.
+    Form(Shown),
     /// This key, which isn't there.
     Key(&'static str),
     /// A name that no class has yet.
@@ -39,19 +49,28 @@ pub enum Expected {
     FewTicks,
 }
 
+const NAME: &str = "a name: a text of 1 to 32 of A to Z, a to z, 0 to 9 and _";
+
+fn found_text(object: Object) -> &'static str {
+    match object {
+        Object::Deferred => {
+            "the name of a Deferred: a text of 1 to 32 of A to Z, a to z, 0 to 9 and _, or \"@\""
+        }
+        Object::Pool => {
+            "the name of a pool that the key `pools` declares: a text of 1 to 32 of A to Z, a to z, 0 to 9 and _"
+        }
+        Object::Class => {
+            "the name of a class: one that every script has, or one that the key `classes` declares"
+        }
+        Object::Lock | Object::Queue | Object::Call | Object::Loop | Object::Task => NAME,
+    }
+}
+
 fn leaf_text(leaf: Leaf) -> &'static str {
     match leaf {
         Leaf::Text => "a text",
-        Leaf::Name => "a name: a text of 1 to 32 of A to Z, a to z, 0 to 9 and _",
-        Leaf::Deferred => {
-            "the name of a Deferred: a text of 1 to 32 of A to Z, a to z, 0 to 9 and _, or \"@\""
-        }
-        Leaf::Pool => {
-            "the name of a pool that the key `pools` declares: a text of 1 to 32 of A to Z, a to z, 0 to 9 and _"
-        }
-        Leaf::Class => {
-            "the name of a class: one that every script has, or one that the key `classes` declares"
-        }
+        Leaf::New(_) => NAME,
+        Leaf::Found(object) => found_text(object),
         Leaf::Integer => "an integer of 64 bits",
         Leaf::Number(_, _) => "an integer",
         Leaf::Boolean => "true or false",
@@ -155,12 +174,20 @@ fn write_want(text: &mut String, want: Want) -> Result<(), AllocError> {
     text.push_str(want_text(want))
 }
 
+fn write_forms(text: &mut String, shown: Shown) -> Result<(), AllocError> {
+    let first = shown.first;
+    match shown.second {
+        Some(second) => write!(text, "the form {first} or {second}"),
+        None => write!(text, "the form {first}"),
+    }
+}
+
 impl Expected {
     /// Adds it to the text, as one sentence without its full stop.
     pub fn write(self, text: &mut String) -> Result<(), AllocError> {
         match self {
             Expected::Wanted(want) => write_want(text, want),
-            Expected::Form(shown) => write!(text, "the form {shown}"),
+            Expected::Form(shown) => write_forms(text, shown),
             Expected::Key(key) => write!(text, "an object that has the key `{key}`"),
             Expected::FreeClass => text.push_str("the name of a class that no class has yet"),
             Expected::Parent => text.push_str(
@@ -182,10 +209,52 @@ impl Expected {
     }
 }
 
-/// The form of the word with which a call begins, if it is one that may stand there.
-fn form_in(call: Call, json: &Json) -> Option<Form> {
+/// How the forms of a word among these are shown, if it has any.
+fn shown_in<W: Copy>(forms: &'static [Form<W>], word: &str) -> Option<Shown> {
+    let mut found: Option<Shown> = None;
+    for form in forms {
+        if form.1 == word {
+            found = Some(match found {
+                None => Shown {
+                    first: form.3,
+                    second: None,
+                },
+                Some(shown) => Shown {
+                    first: shown.first,
+                    second: Some(form.3),
+                },
+            });
+        }
+    }
+    found
+}
+
+fn own_shown(call: Call, word: &str) -> Option<Shown> {
+    match call {
+        Call::Event => shown_in(&EVENT_FORMS, word),
+        Call::Action => shown_in(&ACTION_FORMS, word),
+        Call::Statement => shown_in(&STATEMENT_FORMS, word),
+        Call::End => shown_in(&END_FORMS, word),
+        Call::Leaving => shown_in(&LEAVING_FORMS, word),
+        Call::Work => shown_in(&WORK_FORMS, word),
+    }
+}
+
+/// How the forms of a word are shown that may stand at such a place.
+fn shown_of(call: Call, word: &str) -> Option<Shown> {
+    if let Some(shown) = own_shown(call, word) {
+        return Some(shown);
+    }
+    match narrower(call) {
+        Some(inner) => own_shown(inner, word),
+        None => None,
+    }
+}
+
+/// The forms of the word with which a call begins, if it is one that may stand there.
+fn forms_in(call: Call, json: &Json) -> Option<Shown> {
     match call_in(json) {
-        Ok((word, arguments)) => call.form(word, arguments.len()),
+        Ok((word, _)) => shown_of(call, word),
         Err(_) => None,
     }
 }
@@ -209,8 +278,8 @@ impl Expected {
     /// What is expected at a place that asks for this, where this stands.
     pub fn at(want: Want, found: &Json) -> Expected {
         match want {
-            Want::Call(call) => match form_in(call, found) {
-                Some(form) => Expected::Form(form.shown),
+            Want::Call(call) => match forms_in(call, found) {
+                Some(shown) => Expected::Form(shown),
                 None => Expected::Wanted(want),
             },
             Want::Keyed(keyed) => match (found, missing_key(keyed, found)) {

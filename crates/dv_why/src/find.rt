@@ -9,11 +9,12 @@ ghost use Rattle.dv_why.specs.AllSuit.{AllSuit, ItemsSuit, KnownSuit, OthersOf, 
 ghost use Rattle.dv_why.specs.Finds.{Finds};
 ghost use Rattle.dv_why.specs.Fits.{first_other, is_other, suits};
 ghost use Rattle.dv_why.specs.Places.{argument_want, call_want, nth, part_want};
-ghost use Rattle.dv_why.specs.Wants.{key_want};
+ghost use Rattle.dv_forms.specs.Wants.{key_want};
 
 use crate::misfit::{Misfit, Step};
 use crate::question::{Question, suits};
-use crate::want::{Call, Keyed, Want};
+use dv_forms::want::{Call, Keyed, Want};
+use dv_forms::words::wants_of;
 use serde_json::{Map, Value as Json};
 use std::alloc::{AllocError, Global};
 
@@ -51,8 +52,8 @@ fn argument_of(call: Call, json: &Json, number: usize) -> Option<Want>
     ensures { result ≡ argument_want call (view json.now) number }
 {
     let (word, arguments) = call_in(json)?;
-    let form = call.form(word, arguments.len())?;
-    nth(form.wants, number)
+    let wants = wants_of(call, word, arguments.len())?;
+    nth(wants, number)
 }
 
 /// What the place of this part of a call asks for: first its word.
@@ -73,7 +74,7 @@ fn part_of(want: Want, json: &Json, number: usize) -> Option<Want>
     match want {
         Want::Value => Some(Want::Value),
         Want::Call(call) => part_of_call(call, json, number),
-        Want::Pair(pair) => nth(pair.form().wants, number),
+        Want::Pair(pair) => nth(pair.wants(), number),
         Want::Array(item) => Some(item.want()),
         Want::Leaf(_) | Want::Keyed(_) | Want::Word(_) | Want::Other(_) => None,
     }

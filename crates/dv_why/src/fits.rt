@@ -6,8 +6,12 @@ ghost use Rattle.serde_json.specs.Find.{as_str, as_array};
 ghost use Rattle.dv_why.specs.Fits.{value_fits, begins_well, parts_fit, array_fits, are_two, word_fits, has_keys, fits};
 
 use crate::leaf::leaf_fits;
-use crate::want::{Call, Keyed, Want};
+use dv_forms::want::{Call, Keyed, Want};
+use dv_forms::words::{may_stand, wants_of};
 use serde_json::Value as Json;
+
+/// The last version of the language.
+pub const LAST_VERSION: u32 = 2;
 
 fn value_fits(json: &Json) -> bool
     ensures { result ≡ value_fits (view json.now) }
@@ -23,10 +27,9 @@ fn begins_well(call: Call, first: &Json, given: usize) -> bool
     ensures { result ≡ begins_well call (as_str (view first.now)) given }
 {
     match first.as_str() {
-        Some(word) => match call.form(word, given) {
-            Some(form) => form.wants.len() == given,
-            None => true,
-        },
+        Some(word) => {
+            !may_stand(call, word, LAST_VERSION) || wants_of(call, word, given).is_some()
+        }
         None => true,
     }
 }
@@ -70,7 +73,7 @@ fn word_fits(version: u32, call: Call, json: &Json) -> bool
     ensures { result ≡ word_fits version call (as_str (view json.now)) }
 {
     match json.as_str() {
-        Some(word) => !(version == 1 && word == "threadIn") && call.form(word, 0).is_some(),
+        Some(word) => may_stand(call, word, version),
         None => false,
     }
 }

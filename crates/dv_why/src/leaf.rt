@@ -5,7 +5,7 @@ ghost use Rattle.serde_json.specs.View.{view};
 ghost use Rattle.dv_forms.specs.Parts.{number_at, bound_at, list_flag_at, gather_flag_at};
 ghost use Rattle.dv_why.specs.Fits.{leaf_fits};
 
-use crate::want::Leaf;
+use dv_forms::want::Leaf;
 use dv_script::limits::MOST_PLACES;
 use serde_json::Value as Json;
 
@@ -53,9 +53,7 @@ pub fn leaf_fits(leaf: Leaf, json: &Json) -> bool
     ensures { result ≡ leaf_fits leaf (view json.now) }
 {
     match leaf {
-        Leaf::Text | Leaf::Name | Leaf::Deferred | Leaf::Pool | Leaf::Class => {
-            json.as_str().is_some()
-        }
+        Leaf::Text | Leaf::New(_) | Leaf::Found(_) => json.as_str().is_some(),
         Leaf::Integer => json.as_i64().is_some(),
         Leaf::Number(low, high) => is_number(json, low, high),
         Leaf::Boolean => json.as_bool().is_some(),

@@ -1,6 +1,6 @@
 ghost use Rattle.std.specs.Prelude.{◌≡◌, [], ◌∷◌, IfOk};
 
-use crate::want::Want;
+use dv_forms::want::Want;
 use serde_json::Value as Json;
 use std::alloc::{AllocError, Global};
 

@@ -7,13 +7,13 @@ ghost use Rattle.dv_why.specs.Documents.{AreDistinct, PoolsDistinct, first_text,
 ghost use Rattle.dv_why.specs.Finds.{Leads};
 ghost use Rattle.dv_why.specs.Fits.{is_given};
 ghost use Rattle.dv_why.specs.Places.{to_key};
-ghost use Rattle.dv_why.specs.Wants.{all_pools};
+ghost use Rattle.dv_forms.specs.Wants.{all_pools};
 ghost use Rattle.dv_why.specs.Wrong.{IsGivenTwice};
 
 use crate::document::version_of;
 use crate::misfit::{Misfit, Step};
 use crate::question::is_declared;
-use crate::want::{Leaf, Want};
+use dv_forms::want::{Leaf, Object, Want};
 use serde_json::Value as Json;
 use std::alloc::{AllocError, Global};
 
@@ -47,7 +47,7 @@ fn in_pools(alloc: Global, pools: &Json) -> Result<Option<Misfit<'_>>, AllocErro
         if let Some(pool) = pools.get(number)
             && let Some(name) = second_name(&items[..number], pool)
         {
-            let misfit = Misfit::here(alloc, Want::Leaf(Leaf::Name), name);
+            let misfit = Misfit::here(alloc, Want::Leaf(Leaf::New(Object::Pool)), name);
             return Ok(Some(misfit.under(Step::Item(0))?.under(Step::Item(number))?));
         }
     }

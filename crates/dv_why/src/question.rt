@@ -1,10 +1,10 @@
 ghost use Rattle.std.specs.Prelude.{◌≡◌, option_and_then};
 ghost use Rattle.serde_json.specs.View.{view};
 ghost use Rattle.serde_json.specs.Find.{as_str, at};
-ghost use Rattle.dv_why.specs.Fits.{is_named, is_class, is_pool, has_name, is_declared, name_suits, leaf_suits, names_suit, suits};
+ghost use Rattle.dv_why.specs.Fits.{is_found_named, is_named, is_class, is_pool, has_name, is_declared, name_suits, leaf_suits, names_suit, suits};
 
 use crate::fits::fits;
-use crate::want::{Leaf, Want};
+use dv_forms::want::{Leaf, Object, Want};
 use dv_reader::names::{is_name, names_one};
 use dv_value::classes::Classes;
 use serde_json::Value as Json;
@@ -22,14 +22,24 @@ pub enum Question<'q> {
     Pools(&'q [Json]),
 }
 
+fn is_found_named(object: Object, name: &str) -> bool
+    ensures { result ≡ is_found_named object name.now }
+{
+    match object {
+        Object::Deferred => names_one(name),
+        Object::Class => true,
+        Object::Lock | Object::Queue | Object::Call | Object::Loop | Object::Task | Object::Pool =>
+            is_name(name),
+    }
+}
+
 fn is_named(leaf: Leaf, name: &str) -> bool
     ensures { result ≡ is_named leaf name.now }
 {
     match leaf {
-        Leaf::Name | Leaf::Pool => is_name(name),
-        Leaf::Deferred => names_one(name),
+        Leaf::New(_) => is_name(name),
+        Leaf::Found(object) => is_found_named(object, name),
         Leaf::Text
-        | Leaf::Class
         | Leaf::Integer
         | Leaf::Number(_, _)
         | Leaf::Boolean
@@ -43,11 +53,18 @@ fn is_class(leaf: Leaf) -> bool
     ensures { result ≡ is_class leaf }
 {
     match leaf {
-        Leaf::Class => true,
+        Leaf::Found(object) => match object {
+            Object::Class => true,
+            Object::Deferred
+            | Object::Lock
+            | Object::Queue
+            | Object::Call
+            | Object::Loop
+            | Object::Task
+            | Object::Pool => false,
+        },
         Leaf::Text
-        | Leaf::Name
-        | Leaf::Deferred
-        | Leaf::Pool
+        | Leaf::New(_)
         | Leaf::Integer
         | Leaf::Number(_, _)
         | Leaf::Boolean
@@ -61,11 +78,18 @@ fn is_pool(leaf: Leaf) -> bool
     ensures { result ≡ is_pool leaf }
 {
     match leaf {
-        Leaf::Pool => true,
+        Leaf::Found(object) => match object {
+            Object::Pool => true,
+            Object::Deferred
+            | Object::Lock
+            | Object::Queue
+            | Object::Call
+            | Object::Loop
+            | Object::Task
+            | Object::Class => false,
+        },
         Leaf::Text
-        | Leaf::Name
-        | Leaf::Deferred
-        | Leaf::Class
+        | Leaf::New(_)
         | Leaf::Integer
         | Leaf::Number(_, _)
         | Leaf::Boolean

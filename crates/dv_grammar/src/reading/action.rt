@@ -2,16 +2,20 @@ ghost use Rattle.std.specs.Prelude.{option_map};
 ghost use Rattle.serde_json.specs.View.{view, items_view};
 ghost use Rattle.dv_clock.specs.declared.limits.TheConstants.{MOST_DELAY};
 ghost use Rattle.dv_forms.specs.Answer.{Reads};
-ghost use Rattle.dv_forms.specs.Parts.{text_at, number_at, list_at, two_of, pair, triple, each, if_there};
-ghost use Rattle.dv_grammar.specs.Shape.{action_at, action_of, with_body, new_deferred_of, loop_of, nesting_of, body_at, statement_at};
+ghost use Rattle.dv_forms.specs.Parts.{text_at, number_at, list_at, pair, triple, each, if_there};
+ghost use Rattle.dv_grammar.specs.Shape.{action_at, action_of, new_deferred_of, loop_of, body_at, statement_at};
 
 use crate::reading::body::{bodies, body};
-use crate::reading::plain::{name_of, names_of, plain_of};
 use crate::reading::statement::statements;
-use crate::words::{ActionWord, BodyWord, NestingWord};
+use crate::reading::work::{named_work, thread_in};
 use dv_clock::limits::MOST_DELAY;
+use dv_forms::arguments::{
+    named_bounds, named_delay, named_failure, named_gathering, named_list, named_places,
+    named_value, one_text, two_texts,
+};
 use dv_forms::leaf::{array, boolean, call, five, number, one_or_two, text, three, two};
 use dv_forms::stop::Stop;
+use dv_forms::words::ActionWord;
 use dv_script::action::Action;
 use dv_script::body::{Body, Statement};
 use dv_value::classes::Classes;
@@ -62,68 +66,108 @@ fn action_of(
     ensures { Reads result (action_of classes.now (body_at classes.now levels) (statement_at classes.now levels) word (items_view arguments.now)) }
 {
     match word {
-        ActionWord::OfName(word) => name_of(alloc, word, arguments),
-        ActionWord::OfNames(word) => names_of(alloc, word, arguments),
-        ActionWord::OfBody(word) => body_of(alloc, classes, levels, word, arguments),
-        ActionWord::Plain(word) => plain_of(alloc, classes, word, arguments),
-        ActionWord::Nesting(word) => nesting_of(alloc, classes, levels, word, arguments),
-    }
-}
-
-/// An action with a name and a body.
-#[cycle(shape)]
-fn body_of(
-    alloc: Global,
-    classes: &Classes,
-    levels: u32,
-    word: BodyWord,
-    arguments: &[Json],
-) -> Result<Action, Stop>
-    ensures { Reads result (two_of text_at (body_at classes.now levels) (with_body word) (items_view arguments.now)) }
-{
-    let (name, body) = named_body(alloc, classes, levels, arguments)?;
-    match word {
-        BodyWord::AddCallback => Ok(Action::AddCallback(name, body)),
-        BodyWord::AddErrback => Ok(Action::AddErrback(name, body)),
-        BodyWord::AddBoth => Ok(Action::AddBoth(name, body)),
-        BodyWord::Maybe => Ok(Action::Maybe(name, body)),
-    }
-}
-
-#[cycle(shape)]
-#[tactic(auto, unfolding(crate::specs::Shape::nesting_of))]
-fn nesting_of(
-    alloc: Global,
-    classes: &Classes,
-    levels: u32,
-    word: NestingWord,
-    arguments: &[Json],
-) -> Result<Action, Stop>
-    ensures { Reads result (nesting_of (body_at classes.now levels) (statement_at classes.now levels) word (items_view arguments.now)) }
-{
-    match word {
-        NestingWord::Deferred => new_deferred(alloc, classes, levels, arguments),
-        NestingWord::AddCallbacks => {
+        ActionWord::Deferred => new_deferred(alloc, classes, levels, arguments),
+        ActionWord::Callback => {
+            let (name, value) = named_value(alloc, arguments)?;
+            Ok(Action::Callback(name, value))
+        }
+        ActionWord::Errback => {
+            let (name, class, message) = named_failure(alloc, classes, arguments)?;
+            Ok(Action::Errback(name, class, message))
+        }
+        ActionWord::AddCallback => {
+            let (name, body) = named_body(alloc, classes, levels, arguments)?;
+            Ok(Action::AddCallback(name, body))
+        }
+        ActionWord::AddErrback => {
+            let (name, body) = named_body(alloc, classes, levels, arguments)?;
+            Ok(Action::AddErrback(name, body))
+        }
+        ActionWord::AddBoth => {
+            let (name, body) = named_body(alloc, classes, levels, arguments)?;
+            Ok(Action::AddBoth(name, body))
+        }
+        ActionWord::AddCallbacks => {
             let (name, callback, errback) = named_sides(alloc, classes, levels, arguments)?;
             Ok(Action::AddCallbacks(name, callback, errback))
         }
-        NestingWord::RunWith => {
+        ActionWord::Chain => {
+            let (name, other) = two_texts(alloc, arguments)?;
+            Ok(Action::Chain(name, other))
+        }
+        ActionWord::Pause => Ok(Action::Pause(one_text(alloc, arguments)?)),
+        ActionWord::Unpause => Ok(Action::Unpause(one_text(alloc, arguments)?)),
+        ActionWord::Cancel => Ok(Action::Cancel(one_text(alloc, arguments)?)),
+        ActionWord::AddTimeout => {
+            let (name, delay) = named_delay(alloc, arguments)?;
+            Ok(Action::AddTimeout(name, delay))
+        }
+        ActionWord::Note => Ok(Action::Note(one_text(alloc, arguments)?)),
+        ActionWord::List => {
+            let (name, children, flags) = named_list(alloc, arguments)?;
+            Ok(Action::List(name, children, flags))
+        }
+        ActionWord::Gather => {
+            let (name, children, flags) = named_gathering(alloc, arguments)?;
+            Ok(Action::Gather(name, children, flags))
+        }
+        ActionWord::Maybe => {
+            let (name, body) = named_body(alloc, classes, levels, arguments)?;
+            Ok(Action::Maybe(name, body))
+        }
+        ActionWord::Lock => Ok(Action::Lock(one_text(alloc, arguments)?)),
+        ActionWord::Semaphore => {
+            let (name, places) = named_places(alloc, arguments)?;
+            Ok(Action::Semaphore(name, places))
+        }
+        ActionWord::Acquire => {
+            let (name, lock) = two_texts(alloc, arguments)?;
+            Ok(Action::Acquire(name, lock))
+        }
+        ActionWord::Release => Ok(Action::Release(one_text(alloc, arguments)?)),
+        ActionWord::RunWith => {
             let (name, lock, body) = locked_body(alloc, classes, levels, arguments)?;
             Ok(Action::RunWith(name, lock, body))
         }
-        NestingWord::Later => {
+        ActionWord::Queue => {
+            let (name, size, backlog) = named_bounds(alloc, arguments)?;
+            Ok(Action::Queue(name, size, backlog))
+        }
+        ActionWord::Put => {
+            let (name, value) = named_value(alloc, arguments)?;
+            Ok(Action::Put(name, value))
+        }
+        ActionWord::Get => {
+            let (name, queue) = two_texts(alloc, arguments)?;
+            Ok(Action::Get(name, queue))
+        }
+        ActionWord::Later => {
             let (name, delay, body) = delayed_body(alloc, classes, levels, arguments)?;
             Ok(Action::Later(name, delay, body))
         }
-        NestingWord::Loop => loop_of(alloc, classes, levels, arguments),
-        NestingWord::Cooperate => {
+        ActionWord::CancelCall => Ok(Action::CancelCall(one_text(alloc, arguments)?)),
+        ActionWord::Loop => loop_of(alloc, classes, levels, arguments),
+        ActionWord::StopLoop => Ok(Action::StopLoop(one_text(alloc, arguments)?)),
+        ActionWord::Cooperate => {
             let (name, bodies) = named_bodies(alloc, classes, levels, arguments)?;
             Ok(Action::Cooperate(name, bodies))
         }
-        NestingWord::Inline => {
+        ActionWord::WhenDone => {
+            let (name, task) = two_texts(alloc, arguments)?;
+            Ok(Action::WhenDone(name, task))
+        }
+        ActionWord::PauseTask => Ok(Action::PauseTask(one_text(alloc, arguments)?)),
+        ActionWord::StopTask => Ok(Action::StopTask(one_text(alloc, arguments)?)),
+        ActionWord::ResumeTask => Ok(Action::ResumeTask(one_text(alloc, arguments)?)),
+        ActionWord::Inline => {
             let (name, statements) = named_statements(alloc, classes, levels, arguments)?;
             Ok(Action::Inline(name, statements))
         }
+        ActionWord::Thread => {
+            let (name, delay, work) = named_work(alloc, classes, arguments)?;
+            Ok(Action::Thread(name, delay, work))
+        }
+        ActionWord::ThreadIn => thread_in(alloc, classes, arguments),
     }
 }
 

@@ -2,11 +2,11 @@ ghost use Rattle.serde_json.specs.View.{view, items_view};
 ghost use Rattle.dv_forms.specs.Answer.{Reads};
 ghost use Rattle.dv_grammar.specs.Shape.{end_at, end_of, leave_at};
 
-use crate::words::EndWord;
 use dv_forms::arguments::{class_and_message, classes_and_value, one_integer, one_text, one_value};
 use dv_forms::leaf::{call, none};
 use dv_forms::leaving::may_leave;
 use dv_forms::stop::Stop;
+use dv_forms::words::EndWord;
 use dv_script::body::End;
 use dv_value::boxed::Boxed;
 use dv_value::classes::Classes;

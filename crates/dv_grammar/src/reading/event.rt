@@ -4,11 +4,11 @@ ghost use Rattle.dv_forms.specs.Parts.{each};
 ghost use Rattle.dv_grammar.specs.Shape.{event_at, event_of, other_event};
 
 use crate::reading::action::action;
-use crate::words::EventWord;
 use dv_clock::limits::MOST_TICKS;
 use dv_forms::arguments::{one_number, one_small};
 use dv_forms::leaf::call;
 use dv_forms::stop::Stop;
+use dv_forms::words::EventWord;
 use dv_script::event::Event;
 use dv_script::limits::{MOST_DRAINED, MOST_LEVELS};
 use dv_value::classes::Classes;

@@ -5,10 +5,10 @@ ghost use Rattle.dv_grammar.specs.Shape.{action_at, statement_at, statement_of};
 
 use crate::reading::action::action;
 use crate::reading::end::leave;
-use crate::words::StatementWord;
 use dv_forms::arguments::one_text;
 use dv_forms::leaf::{array, call, classes_in, one, three};
 use dv_forms::stop::Stop;
+use dv_forms::words::StatementWord;
 use dv_script::body::Statement;
 use dv_value::class_id::ClassId;
 use dv_value::classes::Classes;

@@ -4,11 +4,11 @@ ghost use Rattle.dv_forms.specs.Answer.{Reads};
 ghost use Rattle.dv_forms.specs.Parts.{text_at, number_at, triple};
 ghost use Rattle.dv_grammar.specs.Shape.{work_at, work_of, thread_in_of};
 
-use crate::words::WorkWord;
 use dv_clock::limits::MOST_DELAY;
 use dv_forms::arguments::{class_and_message, one_small, one_value};
 use dv_forms::leaf::{call, four, number, text, three};
 use dv_forms::stop::Stop;
+use dv_forms::words::WorkWord;
 use dv_script::action::Action;
 use dv_script::limits::MOST_SUM;
 use dv_script::work::Work;

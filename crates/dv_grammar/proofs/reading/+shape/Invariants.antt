@@ -14,9 +14,6 @@ decreases-action::action_of l = 16 * l.levels + 4
 abbrev pub decreases-action::actions : goal.decreases-action::actions
 decreases-action::actions l = 16 * l.levels + 6
 
-abbrev pub decreases-action::body_of : goal.decreases-action::body_of
-decreases-action::body_of l = 16 * l.levels + 3
-
 abbrev pub decreases-action::canceller : goal.decreases-action::canceller
 decreases-action::canceller l = 16 * l.levels + 1
 
@@ -40,9 +37,6 @@ decreases-action::named_sides l = 16 * l.levels + 1
 
 abbrev pub decreases-action::named_statements : goal.decreases-action::named_statements
 decreases-action::named_statements l = 16 * l.levels + 2
-
-abbrev pub decreases-action::nesting_of : goal.decreases-action::nesting_of
-decreases-action::nesting_of l = 16 * l.levels + 3
 
 abbrev pub decreases-action::new_deferred : goal.decreases-action::new_deferred
 decreases-action::new_deferred l = 16 * l.levels + 2

@@ -7,9 +7,9 @@ use Rattle.serde_json.specs.Find.{at, get}
 use Rattle.serde_json.specs.View.{view, members_view}
 use Rattle.serde_json.proofs.Views.{view-Array, view-Object}
 use Rattle.dv_grammar.proofs.Steps.{some_injective}
-use Rattle.dv_why.specs.declared.want.Want.{Want}
-use Rattle.dv_why.specs.declared.want.Want.TheVariants as want
-use Rattle.dv_why.specs.Wants.{key_want, keys_in}
+use Rattle.dv_forms.specs.declared.want.Want.{Want}
+use Rattle.dv_forms.specs.declared.want.Want.TheVariants as want
+use Rattle.dv_forms.specs.Wants.{key_want, keys_in}
 use Rattle.dv_why.specs.Fits.{first_other, suits}
 use Rattle.dv_why.specs.AllSuit.{AllSuit, OthersOf, OthersSuit}
 use Rattle.dv_why.proofs.Asked.{last_suits, no_parts_suit, object_suits, array_suits, item_below, value_below, first_is, none_is, no_keys, no_others, others_by, values_suit, item_within, has_items, has_no_parts}

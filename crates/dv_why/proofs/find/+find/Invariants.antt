@@ -2,8 +2,8 @@ use Rattle.std.proofs.Common.{◌≡◌, ℕ, ◌+◌, ◌*◌, ◌<◌, ◌≤�
 use Rattle.serde_json.specs.Data.{Data, depth}
 use Rattle.serde_json.specs.Find.{at, get}
 use Rattle.serde_json.specs.View.{view}
-use Rattle.dv_why.specs.declared.want.Want.{Want}
-use Rattle.dv_why.specs.Wants.{key_want, keys_in}
+use Rattle.dv_forms.specs.declared.want.Want.{Want}
+use Rattle.dv_forms.specs.Wants.{key_want, keys_in}
 use Rattle.dv_why.specs.Places.{part_want}
 use Rattle.dv_why.specs.AllSuit.{AllSuit}
 use Rattle.dv_why.proofs.find.+find.Given as goal

@@ -1,24 +1,35 @@
 //! What a place of a script asks for.
 
 ghost use Rattle.std.specs.Prelude.{◌≡◌, map};
-ghost use Rattle.dv_why.specs.Wants.{item_want, key_want, keys_in, script_want, cooperator_want, body_want};
+ghost use Rattle.dv_forms.specs.Wants.{item_want, key_want, keys_in, script_want, cooperator_want, body_want, pair_wants};
 
 use dv_clock::limits::MOST_DELAY;
-use dv_script::limits::{MOST_LIMIT, MOST_UNITS};
+use dv_script::limits::{MOST_LIMIT, MOST_UNITS, MOST_WORKERS};
+
+/// What has a name.
+#[derive(Clone, Copy, Drop)]
+pub enum Object {
+    Deferred,
+    /// A lock or a semaphore.
+    Lock,
+    Queue,
+    /// A delayed call.
+    Call,
+    Loop,
+    Task,
+    Pool,
+    Class,
+}
 
 /// What stands at a place, where nothing is looked for in it.
 #[derive(Clone, Copy, Drop)]
 pub enum Leaf {
     /// Any text.
     Text,
-    /// The name of an object, or of a class that is declared.
-    Name,
-    /// The name of a Deferred that is there.
-    Deferred,
-    /// The name of a pool.
-    Pool,
-    /// The name of a class.
-    Class,
+    /// A name that is made here.
+    New(Object),
+    /// A name that is looked up.
+    Found(Object),
     /// An integer of 64 bits.
     Integer,
     /// An integer from the first to the second.
@@ -102,12 +113,27 @@ impl Item {
             Item::Statement => Want::Call(Call::Statement),
             Item::Body => Want::Keyed(Keyed::Body),
             Item::Caller => Want::Array(Item::Body),
-            Item::Deferred => Want::Leaf(Leaf::Deferred),
-            Item::Class => Want::Leaf(Leaf::Class),
+            Item::Deferred => Want::Leaf(Leaf::Found(Object::Deferred)),
+            Item::Class => Want::Leaf(Leaf::Found(Object::Class)),
             Item::ListFlag => Want::Leaf(Leaf::ListFlag),
             Item::GatherFlag => Want::Leaf(Leaf::GatherFlag),
             Item::Declaration => Want::Pair(Pair::Declaration),
             Item::Pool => Want::Pair(Pair::Pool),
+        }
+    }
+}
+
+impl Pair {
+    /// What the places of its two parts ask for.
+    pub fn wants(self) -> &'static [Want]
+        ensures { result.now ≡ pair_wants self }
+    {
+        match self {
+            Pair::Declaration => &[Want::Leaf(Leaf::New(Object::Class)), Want::Leaf(Leaf::Text)],
+            Pair::Pool => &[
+                Want::Leaf(Leaf::New(Object::Pool)),
+                Want::Leaf(Leaf::Number(0, MOST_WORKERS as u64)),
+            ],
         }
     }
 }

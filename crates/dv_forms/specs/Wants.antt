@@ -1,0 +1,109 @@
+-- What the parts of what a place asks for are asked to be, but for the arguments of words.
+use Rattle.std.specs.Prelude.{ℕ, nat_eq, if◌then◌else◌, List, [], ◌∷◌, bytes_eq, codes}
+use Rattle.dv_forms.specs.declared.want.Object.TheVariants as object
+use Rattle.dv_forms.specs.declared.want.Leaf.TheVariants as leaf
+use Rattle.dv_forms.specs.declared.want.Call.TheVariants as call
+use Rattle.dv_forms.specs.declared.want.Pair.{Pair}
+use Rattle.dv_forms.specs.declared.want.Pair.TheVariants as pair
+use Rattle.dv_forms.specs.declared.want.Keyed.{Keyed}
+use Rattle.dv_forms.specs.declared.want.Keyed.TheVariants as keyed
+use Rattle.dv_forms.specs.declared.want.Item.{Item}
+use Rattle.dv_forms.specs.declared.want.Item.TheVariants as item
+use Rattle.dv_forms.specs.declared.want.Want.{Want}
+use Rattle.dv_forms.specs.declared.want.Want.TheVariants as want
+use Rattle.dv_clock.specs.declared.limits.TheConstants.{MOST_DELAY}
+use Rattle.dv_script.specs.declared.limits.TheConstants.{MOST_LIMIT, MOST_UNITS, MOST_WORKERS}
+
+-- the name of a Deferred that is looked up
+abbrev pub a_deferred : Want
+a_deferred = want.Leaf (leaf.Found object.Deferred)
+
+-- the name of a pool that is looked up
+abbrev pub a_pool : Want
+a_pool = want.Leaf (leaf.Found object.Pool)
+
+-- the name of a class that is looked up
+abbrev pub a_class : Want
+a_class = want.Leaf (leaf.Found object.Class)
+
+-- any text
+abbrev pub a_text : Want
+a_text = want.Leaf leaf.Text
+
+-- a body
+abbrev pub a_body : Want
+a_body = want.Keyed keyed.Body
+
+-- what each item of an array is
+abbrev pub item_want : Item → Want
+item_want item.Value = want.Value
+item_want item.Event = want.Call call.Event
+item_want item.Action = want.Call call.Action
+item_want item.Statement = want.Call call.Statement
+item_want item.Body = a_body
+item_want item.Caller = want.Array item.Body
+item_want item.Deferred = a_deferred
+item_want item.Class = a_class
+item_want item.ListFlag = want.Leaf leaf.ListFlag
+item_want item.GatherFlag = want.Leaf leaf.GatherFlag
+item_want item.Declaration = want.Pair pair.Declaration
+item_want item.Pool = want.Pair pair.Pool
+
+-- what the value of a script's key is
+abbrev pub script_want : ℕ → List ℕ → Want
+script_want version key =
+    if bytes_eq key (codes "version") then want.Leaf (leaf.Number 1 2) else
+    if bytes_eq key (codes "events") then want.Array item.Event else
+    if bytes_eq key (codes "limit") then want.Leaf (leaf.Number 0 MOST_LIMIT) else
+    if bytes_eq key (codes "classes") then want.Array item.Declaration else
+    if bytes_eq key (codes "cooperator") then want.Keyed keyed.Cooperator else
+    if bytes_eq key (codes "callers") then want.Array item.Caller else
+    if bytes_eq key (codes "pools") then (if nat_eq version 1 then want.Other (keyed.Script version) else want.Array item.Pool) else
+    want.Other (keyed.Script version)
+
+-- what the value of a cooperator's key is
+abbrev pub cooperator_want : List ℕ → Want
+cooperator_want key =
+    if bytes_eq key (codes "units") then want.Leaf (leaf.Number 1 MOST_UNITS) else
+    if bytes_eq key (codes "delay") then want.Leaf (leaf.Number 1 MOST_DELAY) else want.Other keyed.Cooperator
+
+-- what the value of a body's key is
+abbrev pub body_want : List ℕ → Want
+body_want key =
+    if bytes_eq key (codes "do") then want.Array item.Action else
+    if bytes_eq key (codes "end") then want.Call call.End else want.Other keyed.Body
+
+-- what the value of an object's key is
+abbrev pub key_want : Keyed → List ℕ → Want
+key_want (keyed.Script version) key = script_want version key
+key_want keyed.Cooperator key = cooperator_want key
+key_want keyed.Body key = body_want key
+
+-- the keys that an object may have, in the order in which they are looked at
+abbrev pub keys_in : Keyed → List (List ℕ)
+keys_in (keyed.Script version) =
+    codes "version" ∷ codes "limit" ∷ codes "cooperator" ∷ (if nat_eq version 1 then codes "classes" ∷ codes "callers" ∷ codes "events" ∷ []
+    else codes "pools" ∷ codes "classes" ∷ codes "callers" ∷ codes "events" ∷ [])
+keys_in keyed.Cooperator = codes "units" ∷ codes "delay" ∷ []
+keys_in keyed.Body = codes "do" ∷ codes "end" ∷ []
+
+-- the parts of a pair
+abbrev pub pair_wants : Pair → List Want
+pair_wants pair.Declaration = want.Leaf (leaf.New object.Class) ∷ a_text ∷ []
+pair_wants pair.Pool = want.Leaf (leaf.New object.Pool) ∷ want.Leaf (leaf.Number 0 MOST_WORKERS) ∷ []
+
+-- the callers of a script
+abbrev pub all_callers : Want
+all_callers = want.Array item.Caller
+
+-- its pools
+abbrev pub all_pools : Want
+all_pools = want.Array item.Pool
+
+-- the classes that it declares
+abbrev pub all_classes : Want
+all_classes = want.Array item.Declaration
+
+-- one of them
+abbrev pub one_class : Want
+one_class = want.Pair pair.Declaration

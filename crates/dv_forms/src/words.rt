@@ -1,0 +1,680 @@
+//! The words of the language: where each may stand, what comes with it, and since which version.
+
+ghost use Rattle.std.specs.Prelude.{◌≡◌, option_map, map};
+ghost use Rattle.dv_forms.specs.Words.{action_word, end_word, event_word, has_word, may_stand, narrower, own_forms, seen, statement_word, wants_in, wants_of, work_word};
+
+use crate::want::{Call, Item, Keyed, Leaf, Object, Want};
+use dv_clock::limits::{MOST_DELAY, MOST_TICKS};
+use dv_script::limits::{MOST_DRAINED, MOST_PLACES, MOST_SUM};
+
+/// The word of an action.
+#[derive(Clone, Copy, Drop)]
+pub enum ActionWord {
+    Deferred,
+    Callback,
+    Errback,
+    AddCallback,
+    AddErrback,
+    AddBoth,
+    AddCallbacks,
+    Chain,
+    Pause,
+    Unpause,
+    Cancel,
+    AddTimeout,
+    Note,
+    List,
+    Gather,
+    Maybe,
+    Lock,
+    Semaphore,
+    Acquire,
+    Release,
+    RunWith,
+    Queue,
+    Put,
+    Get,
+    Later,
+    CancelCall,
+    Loop,
+    StopLoop,
+    Cooperate,
+    WhenDone,
+    PauseTask,
+    StopTask,
+    ResumeTask,
+    Inline,
+    Thread,
+    ThreadIn,
+}
+
+/// The word of an event that is no action.
+#[derive(Clone, Copy, Drop)]
+pub enum EventWord {
+    Advance,
+    Drain,
+}
+
+/// The word of a statement.
+#[derive(Clone, Copy, Drop)]
+pub enum StatementWord {
+    Do,
+    Await,
+    Try,
+    End,
+}
+
+/// The word of an end.
+#[derive(Clone, Copy, Drop)]
+pub enum EndWord {
+    Return,
+    Pass,
+    Plus,
+    Raise,
+    Trap,
+    Wait,
+}
+
+/// The word of a work.
+#[derive(Clone, Copy, Drop)]
+pub enum WorkWord {
+    Value,
+    Raise,
+    Sum,
+}
+
+/// A form of a word: the word, its text, what each argument has to be, the form as the tables of the language show it, and the first version
+/// that has it. A word with an argument that may be left out has two forms.
+pub type Form<W> = (W, &'static str, &'static [Want], &'static str, u32);
+
+const NEW_DEFERRED: Want = Want::Leaf(Leaf::New(Object::Deferred));
+
+const DEFERRED: Want = Want::Leaf(Leaf::Found(Object::Deferred));
+
+const NEW_LOCK: Want = Want::Leaf(Leaf::New(Object::Lock));
+
+const LOCK: Want = Want::Leaf(Leaf::Found(Object::Lock));
+
+const NEW_QUEUE: Want = Want::Leaf(Leaf::New(Object::Queue));
+
+const QUEUE: Want = Want::Leaf(Leaf::Found(Object::Queue));
+
+const NEW_CALL: Want = Want::Leaf(Leaf::New(Object::Call));
+
+const CALL: Want = Want::Leaf(Leaf::Found(Object::Call));
+
+const NEW_LOOP: Want = Want::Leaf(Leaf::New(Object::Loop));
+
+const LOOP: Want = Want::Leaf(Leaf::Found(Object::Loop));
+
+const NEW_TASK: Want = Want::Leaf(Leaf::New(Object::Task));
+
+const TASK: Want = Want::Leaf(Leaf::Found(Object::Task));
+
+const POOL: Want = Want::Leaf(Leaf::Found(Object::Pool));
+
+const CLASS: Want = Want::Leaf(Leaf::Found(Object::Class));
+
+const TEXT: Want = Want::Leaf(Leaf::Text);
+
+const VALUE: Want = Want::Value;
+
+const DELAY: Want = Want::Leaf(Leaf::Number(0, MOST_DELAY));
+
+const INTERVAL: Want = Want::Leaf(Leaf::Number(1, MOST_DELAY));
+
+const PLACES: Want = Want::Leaf(Leaf::Number(1, MOST_PLACES as u64));
+
+const BOUND: Want = Want::Leaf(Leaf::Bound);
+
+const BOOLEAN: Want = Want::Leaf(Leaf::Boolean);
+
+const DEFERREDS: Want = Want::Array(Item::Deferred);
+
+const CLASSES: Want = Want::Array(Item::Class);
+
+const BODY: Want = Want::Keyed(Keyed::Body);
+
+const BODIES: Want = Want::Array(Item::Body);
+
+const STATEMENTS: Want = Want::Array(Item::Statement);
+
+const WORK: Want = Want::Call(Call::Work);
+
+/// The forms of the actions.
+pub const ACTION_FORMS: [Form<ActionWord>; 37] = [
+    (
+        ActionWord::Deferred,
+        "deferred",
+        &[NEW_DEFERRED],
+        "[\"deferred\",D]",
+        1,
+    ),
+    (
+        ActionWord::Deferred,
+        "deferred",
+        &[NEW_DEFERRED, BODY],
+        "[\"deferred\",D,BODY]",
+        1,
+    ),
+    (
+        ActionWord::Callback,
+        "callback",
+        &[DEFERRED, VALUE],
+        "[\"callback\",D,VALUE]",
+        1,
+    ),
+    (
+        ActionWord::Errback,
+        "errback",
+        &[DEFERRED, CLASS, TEXT],
+        "[\"errback\",D,CLASS,TEXT]",
+        1,
+    ),
+    (
+        ActionWord::AddCallback,
+        "addCallback",
+        &[DEFERRED, BODY],
+        "[\"addCallback\",D,BODY]",
+        1,
+    ),
+    (
+        ActionWord::AddErrback,
+        "addErrback",
+        &[DEFERRED, BODY],
+        "[\"addErrback\",D,BODY]",
+        1,
+    ),
+    (
+        ActionWord::AddBoth,
+        "addBoth",
+        &[DEFERRED, BODY],
+        "[\"addBoth\",D,BODY]",
+        1,
+    ),
+    (
+        ActionWord::AddCallbacks,
+        "addCallbacks",
+        &[DEFERRED, BODY, BODY],
+        "[\"addCallbacks\",D,BODY,BODY]",
+        1,
+    ),
+    (
+        ActionWord::Chain,
+        "chain",
+        &[DEFERRED, DEFERRED],
+        "[\"chain\",D,E]",
+        1,
+    ),
+    (ActionWord::Pause, "pause", &[DEFERRED], "[\"pause\",D]", 1),
+    (
+        ActionWord::Unpause,
+        "unpause",
+        &[DEFERRED],
+        "[\"unpause\",D]",
+        1,
+    ),
+    (
+        ActionWord::Cancel,
+        "cancel",
+        &[DEFERRED],
+        "[\"cancel\",D]",
+        1,
+    ),
+    (
+        ActionWord::AddTimeout,
+        "addTimeout",
+        &[DEFERRED, DELAY],
+        "[\"addTimeout\",D,N]",
+        1,
+    ),
+    (ActionWord::Note, "note", &[TEXT], "[\"note\",TEXT]", 1),
+    (
+        ActionWord::List,
+        "list",
+        &[NEW_DEFERRED, DEFERREDS, Want::Array(Item::ListFlag)],
+        "[\"list\",D,[D..],[FLAG..]]",
+        1,
+    ),
+    (
+        ActionWord::Gather,
+        "gather",
+        &[NEW_DEFERRED, DEFERREDS, Want::Array(Item::GatherFlag)],
+        "[\"gather\",D,[D..],[FLAG..]]",
+        1,
+    ),
+    (
+        ActionWord::Maybe,
+        "maybe",
+        &[NEW_DEFERRED, BODY],
+        "[\"maybe\",D,BODY]",
+        1,
+    ),
+    (ActionWord::Lock, "lock", &[NEW_LOCK], "[\"lock\",L]", 1),
+    (
+        ActionWord::Semaphore,
+        "semaphore",
+        &[NEW_LOCK, PLACES],
+        "[\"semaphore\",L,N]",
+        1,
+    ),
+    (
+        ActionWord::Acquire,
+        "acquire",
+        &[NEW_DEFERRED, LOCK],
+        "[\"acquire\",D,L]",
+        1,
+    ),
+    (
+        ActionWord::Release,
+        "release",
+        &[LOCK],
+        "[\"release\",L]",
+        1,
+    ),
+    (
+        ActionWord::RunWith,
+        "runWith",
+        &[NEW_DEFERRED, LOCK, BODY],
+        "[\"runWith\",D,L,BODY]",
+        1,
+    ),
+    (
+        ActionWord::Queue,
+        "queue",
+        &[NEW_QUEUE, BOUND, BOUND],
+        "[\"queue\",Q,SIZE,BACKLOG]",
+        1,
+    ),
+    (
+        ActionWord::Put,
+        "put",
+        &[QUEUE, VALUE],
+        "[\"put\",Q,VALUE]",
+        1,
+    ),
+    (
+        ActionWord::Get,
+        "get",
+        &[NEW_DEFERRED, QUEUE],
+        "[\"get\",D,Q]",
+        1,
+    ),
+    (
+        ActionWord::Later,
+        "later",
+        &[NEW_CALL, DELAY, BODY],
+        "[\"later\",C,N,BODY]",
+        1,
+    ),
+    (
+        ActionWord::CancelCall,
+        "cancelCall",
+        &[CALL],
+        "[\"cancelCall\",C]",
+        1,
+    ),
+    (
+        ActionWord::Loop,
+        "loop",
+        &[NEW_LOOP, NEW_DEFERRED, INTERVAL, BOOLEAN, BODY],
+        "[\"loop\",P,D,N,NOW,BODY]",
+        1,
+    ),
+    (
+        ActionWord::StopLoop,
+        "stopLoop",
+        &[LOOP],
+        "[\"stopLoop\",P]",
+        1,
+    ),
+    (
+        ActionWord::Cooperate,
+        "cooperate",
+        &[NEW_TASK, BODIES],
+        "[\"cooperate\",T,[BODY..]]",
+        1,
+    ),
+    (
+        ActionWord::WhenDone,
+        "whenDone",
+        &[NEW_DEFERRED, TASK],
+        "[\"whenDone\",D,T]",
+        1,
+    ),
+    (
+        ActionWord::PauseTask,
+        "pauseTask",
+        &[TASK],
+        "[\"pauseTask\",T]",
+        1,
+    ),
+    (
+        ActionWord::StopTask,
+        "stopTask",
+        &[TASK],
+        "[\"stopTask\",T]",
+        1,
+    ),
+    (
+        ActionWord::ResumeTask,
+        "resumeTask",
+        &[TASK],
+        "[\"resumeTask\",T]",
+        1,
+    ),
+    (
+        ActionWord::Inline,
+        "inline",
+        &[NEW_DEFERRED, STATEMENTS],
+        "[\"inline\",D,[STATEMENT..]]",
+        1,
+    ),
+    (
+        ActionWord::Thread,
+        "thread",
+        &[NEW_DEFERRED, DELAY, WORK],
+        "[\"thread\",D,N,WORK]",
+        1,
+    ),
+    (
+        ActionWord::ThreadIn,
+        "threadIn",
+        &[NEW_DEFERRED, POOL, DELAY, WORK],
+        "[\"threadIn\",D,POOL,N,WORK]",
+        2,
+    ),
+];
+
+/// The forms of the events that are no actions.
+pub const EVENT_FORMS: [Form<EventWord>; 2] = [
+    (
+        EventWord::Advance,
+        "advance",
+        &[Want::Leaf(Leaf::Number(0, MOST_TICKS))],
+        "[\"advance\",N]",
+        1,
+    ),
+    (
+        EventWord::Drain,
+        "drain",
+        &[Want::Leaf(Leaf::Number(0, MOST_DRAINED as u64))],
+        "[\"drain\",N]",
+        1,
+    ),
+];
+
+/// The forms of the statements of inline bodies.
+pub const STATEMENT_FORMS: [Form<StatementWord>; 4] = [
+    (
+        StatementWord::Do,
+        "do",
+        &[Want::Call(Call::Action)],
+        "[\"do\",ACTION]",
+        1,
+    ),
+    (
+        StatementWord::Await,
+        "await",
+        &[DEFERRED],
+        "[\"await\",D]",
+        1,
+    ),
+    (
+        StatementWord::Try,
+        "try",
+        &[STATEMENTS, CLASSES, STATEMENTS],
+        "[\"try\",[STATEMENT..],[CLASS..],[STATEMENT..]]",
+        1,
+    ),
+    (
+        StatementWord::End,
+        "end",
+        &[Want::Call(Call::Leaving)],
+        "[\"end\",END]",
+        1,
+    ),
+];
+
+/// The forms of the ends by which an inline body may be left.
+pub const LEAVING_FORMS: [Form<EndWord>; 4] = [
+    (EndWord::Return, "return", &[VALUE], "[\"return\",VALUE]", 1),
+    (EndWord::Pass, "pass", &[], "[\"pass\"]", 1),
+    (
+        EndWord::Plus,
+        "plus",
+        &[Want::Leaf(Leaf::Integer)],
+        "[\"plus\",N]",
+        1,
+    ),
+    (
+        EndWord::Raise,
+        "raise",
+        &[CLASS, TEXT],
+        "[\"raise\",CLASS,TEXT]",
+        1,
+    ),
+];
+
+/// The forms of the other ends.
+pub const END_FORMS: [Form<EndWord>; 2] = [
+    (
+        EndWord::Trap,
+        "trap",
+        &[CLASSES, VALUE],
+        "[\"trap\",[CLASS..],VALUE]",
+        1,
+    ),
+    (EndWord::Wait, "wait", &[DEFERRED], "[\"wait\",D]", 1),
+];
+
+/// The forms of the works of threads.
+pub const WORK_FORMS: [Form<WorkWord>; 3] = [
+    (WorkWord::Value, "value", &[VALUE], "[\"value\",VALUE]", 1),
+    (
+        WorkWord::Raise,
+        "raise",
+        &[CLASS, TEXT],
+        "[\"raise\",CLASS,TEXT]",
+        1,
+    ),
+    (
+        WorkWord::Sum,
+        "sum",
+        &[Want::Leaf(Leaf::Number(0, MOST_SUM as u64))],
+        "[\"sum\",N]",
+        1,
+    ),
+];
+
+/// The narrower place whose words may stand at such a place, too: an action is an event, for one.
+pub fn narrower(call: Call) -> Option<Call>
+    ensures { result ≡ narrower call }
+{
+    match call {
+        Call::Event => Some(Call::Action),
+        Call::End => Some(Call::Leaving),
+        Call::Action | Call::Statement | Call::Leaving | Call::Work => None,
+    }
+}
+
+fn wants_in<W: Copy>(forms: &'static [Form<W>], word: &str, given: usize) -> Option<&'static [Want]>
+    ensures { option_map (λ wants. wants.now) result ≡ wants_in (map seen forms.now) word.now given }
+{
+    for form in forms {
+        if form.1 == word && form.2.len() == given {
+            return Some(form.2);
+        }
+    }
+    None
+}
+
+/// What the so many arguments of a word have to be that has a form with so many at such a place, and at none narrower.
+fn own_wants(call: Call, word: &str, given: usize) -> Option<&'static [Want]>
+    ensures { option_map (λ wants. wants.now) result ≡ wants_in (own_forms call) word.now given }
+{
+    match call {
+        Call::Event => wants_in(&EVENT_FORMS, word, given),
+        Call::Action => wants_in(&ACTION_FORMS, word, given),
+        Call::Statement => wants_in(&STATEMENT_FORMS, word, given),
+        Call::End => wants_in(&END_FORMS, word, given),
+        Call::Leaving => wants_in(&LEAVING_FORMS, word, given),
+        Call::Work => wants_in(&WORK_FORMS, word, given),
+    }
+}
+
+/// What the arguments of a word have to be, where it may stand at such a place and has a form with so many arguments.
+pub fn wants_of(call: Call, word: &str, given: usize) -> Option<&'static [Want]>
+    ensures { option_map (λ wants. wants.now) result ≡ wants_of call word.now given }
+{
+    if let Some(wants) = own_wants(call, word, given) {
+        return Some(wants);
+    }
+    match narrower(call) {
+        Some(inner) => own_wants(inner, word, given),
+        None => None,
+    }
+}
+
+fn has_word<W: Copy>(forms: &'static [Form<W>], word: &str, version: u32) -> bool
+    ensures { result ≡ has_word (map seen forms.now) word.now version }
+{
+    for form in forms {
+        if form.1 == word && form.4 <= version {
+            return true;
+        }
+    }
+    false
+}
+
+fn may_stand_itself(call: Call, word: &str, version: u32) -> bool
+    ensures { result ≡ has_word (own_forms call) word.now version }
+{
+    match call {
+        Call::Event => has_word(&EVENT_FORMS, word, version),
+        Call::Action => has_word(&ACTION_FORMS, word, version),
+        Call::Statement => has_word(&STATEMENT_FORMS, word, version),
+        Call::End => has_word(&END_FORMS, word, version),
+        Call::Leaving => has_word(&LEAVING_FORMS, word, version),
+        Call::Work => has_word(&WORK_FORMS, word, version),
+    }
+}
+
+/// Whether a word may stand at such a place in a script of this version, whatever comes with it.
+pub fn may_stand(call: Call, word: &str, version: u32) -> bool
+    ensures { result ≡ may_stand call word.now version }
+{
+    if may_stand_itself(call, word, version) {
+        return true;
+    }
+    match narrower(call) {
+        Some(inner) => may_stand_itself(inner, word, version),
+        None => false,
+    }
+}
+
+impl ActionWord {
+    /// The action that this text names, letter for letter, whatever comes with it.
+    pub fn named(text: &str) -> Option<ActionWord>
+        ensures { result ≡ action_word text.now }
+    {
+        match text {
+            "deferred" => Some(ActionWord::Deferred),
+            "callback" => Some(ActionWord::Callback),
+            "errback" => Some(ActionWord::Errback),
+            "addCallback" => Some(ActionWord::AddCallback),
+            "addErrback" => Some(ActionWord::AddErrback),
+            "addBoth" => Some(ActionWord::AddBoth),
+            "addCallbacks" => Some(ActionWord::AddCallbacks),
+            "chain" => Some(ActionWord::Chain),
+            "pause" => Some(ActionWord::Pause),
+            "unpause" => Some(ActionWord::Unpause),
+            "cancel" => Some(ActionWord::Cancel),
+            "addTimeout" => Some(ActionWord::AddTimeout),
+            "note" => Some(ActionWord::Note),
+            "list" => Some(ActionWord::List),
+            "gather" => Some(ActionWord::Gather),
+            "maybe" => Some(ActionWord::Maybe),
+            "lock" => Some(ActionWord::Lock),
+            "semaphore" => Some(ActionWord::Semaphore),
+            "acquire" => Some(ActionWord::Acquire),
+            "release" => Some(ActionWord::Release),
+            "runWith" => Some(ActionWord::RunWith),
+            "queue" => Some(ActionWord::Queue),
+            "put" => Some(ActionWord::Put),
+            "get" => Some(ActionWord::Get),
+            "later" => Some(ActionWord::Later),
+            "cancelCall" => Some(ActionWord::CancelCall),
+            "loop" => Some(ActionWord::Loop),
+            "stopLoop" => Some(ActionWord::StopLoop),
+            "cooperate" => Some(ActionWord::Cooperate),
+            "whenDone" => Some(ActionWord::WhenDone),
+            "pauseTask" => Some(ActionWord::PauseTask),
+            "stopTask" => Some(ActionWord::StopTask),
+            "resumeTask" => Some(ActionWord::ResumeTask),
+            "inline" => Some(ActionWord::Inline),
+            "thread" => Some(ActionWord::Thread),
+            "threadIn" => Some(ActionWord::ThreadIn),
+            _ => None,
+        }
+    }
+}
+
+impl EventWord {
+    /// The event that is no action that this text names, letter for letter, whatever comes with it.
+    pub fn named(text: &str) -> Option<EventWord>
+        ensures { result ≡ event_word text.now }
+    {
+        match text {
+            "advance" => Some(EventWord::Advance),
+            "drain" => Some(EventWord::Drain),
+            _ => None,
+        }
+    }
+}
+
+impl StatementWord {
+    /// The statement that this text names, letter for letter, whatever comes with it.
+    pub fn named(text: &str) -> Option<StatementWord>
+        ensures { result ≡ statement_word text.now }
+    {
+        match text {
+            "do" => Some(StatementWord::Do),
+            "await" => Some(StatementWord::Await),
+            "try" => Some(StatementWord::Try),
+            "end" => Some(StatementWord::End),
+            _ => None,
+        }
+    }
+}
+
+impl EndWord {
+    /// The end that this text names, letter for letter, whatever comes with it.
+    pub fn named(text: &str) -> Option<EndWord>
+        ensures { result ≡ end_word text.now }
+    {
+        match text {
+            "return" => Some(EndWord::Return),
+            "pass" => Some(EndWord::Pass),
+            "plus" => Some(EndWord::Plus),
+            "raise" => Some(EndWord::Raise),
+            "trap" => Some(EndWord::Trap),
+            "wait" => Some(EndWord::Wait),
+            _ => None,
+        }
+    }
+}
+
+impl WorkWord {
+    /// The work that this text names, letter for letter, whatever comes with it.
+    pub fn named(text: &str) -> Option<WorkWord>
+        ensures { result ≡ work_word text.now }
+    {
+        match text {
+            "value" => Some(WorkWord::Value),
+            "raise" => Some(WorkWord::Raise),
+            "sum" => Some(WorkWord::Sum),
+            _ => None,
+        }
+    }
+}
