@@ -2,7 +2,6 @@ ghost use Rattle.std.specs.Prelude.{◌≡◌, OnOk};
 ghost use Rattle.dv_frames.specs.Bounds.{Bounded};
 ghost use Rattle.dv_definition.specs.Definition as page;
 ghost use Rattle.dv_definition.specs.Rule.{after};
-ghost use Rattle.dv_bodies.specs.Inlining.{await_bound};
 ghost use Rattle.dv_value.specs.Builtin.{name_error};
 ghost use Rattle.dv_value.specs.Failure.{fault as fault_of};
 ghost use Rattle.dv_objects.specs.declared.performed.Performed.TheVariants.{Done};
@@ -165,7 +164,7 @@ fn add<'s>(
     body: InlineBody<'s>,
 ) -> Result<(), AllocError>
     requires done { turn.old.performed ≡ Done }
-    ensures { OnOk result (turn.new ≡ after (await_bound inline awaited body.entry) turn.old) }
+    ensures { OnOk result (turn.new ≡ after (page.await_found inline awaited body.entry) turn.old) }
 {
     let Inline { id, of } = inline;
     if turn.world.begin_await(Inline { id, of }, awaited).is_err() {

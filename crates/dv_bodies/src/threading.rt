@@ -2,8 +2,7 @@ ghost use Rattle.std.specs.Prelude.{◌≡◌, OnOk};
 ghost use Rattle.dv_frames.specs.Bounds.{Bounded};
 ghost use Rattle.dv_definition.specs.Definition as page;
 ghost use Rattle.dv_definition.specs.Rule.{after};
-ghost use Rattle.dv_bodies.specs.Threading.{begin_job, delivered};
-ghost use Rattle.dv_frames.specs.Turn.{◌onto◌};
+ghost use Rattle.dv_definition.specs.Words.{fire_with};
 ghost use Rattle.dv_objects.specs.declared.performed.Performed.TheVariants.{Done};
 
 use dv_frames::following::fire_and_settle;
@@ -46,7 +45,7 @@ fn begin_job<'s>(
     work: WorkRef<'s>,
 ) -> Result<(), AllocError>
     requires done { turn.old.performed ≡ Done }
-    ensures { OnOk result (turn.new ≡ after (begin_job id pool.entry delay work.entry) turn.old) }
+    ensures { OnOk result (turn.new ≡ after (page.begin_job id pool.entry delay work.entry) turn.old) }
 {
     let job = turn.world.works().len() as u32;
     turn.world.submit(id, pool, work)?;
@@ -61,7 +60,7 @@ pub fn deliver<'s>(
     value: Option<Value>,
 ) -> Result<(), AllocError>
     requires done { turn.old.performed ≡ Done }
-    ensures { OnOk result (turn.new ≡ delivered id value turn.old.world onto turn.old) }
+    ensures { OnOk result (turn.new ≡ after (fire_with id value) turn.old) }
 {
     match value {
         None => Ok(()),

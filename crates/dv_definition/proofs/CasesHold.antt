@@ -1,6 +1,6 @@
 -- The telling cases, each worked out.
 use Rattle.std.proofs.Common.{◌≡◌, ℕ, false, [], Option, None, Some, refl}
-use Rattle.dv_definition.specs.Cases.{TokensAreWaitedFor, FullQueuesRefuse, FiredListsStay, TurnsFollow, EndedTasksStay, NameErrorsAreThrown, ManyJobsAreRefused, FailuresOfCallsAreTold}
+use Rattle.dv_definition.specs.Cases.{TokensAreWaitedFor, FullQueuesRefuse, FiredListsStay, TurnsFollow, EndedTasksStay, NameErrorsAreThrown, ErrbacksAreForFailures, ManyJobsAreRefused, FailuresOfCallsAreTold}
 use Rattle.dv_definition.specs.Rule.{Finds, Fires, run}
 use Rattle.dv_definition.specs.Words.{finished, if_unfired}
 use Rattle.dv_objects.specs.declared.performed.Performed.TheVariants.{Done}
@@ -30,6 +30,9 @@ ended_tasks_stay t e w over = rw over refl
 
 pub name_errors_are_thrown : NameErrorsAreThrown
 name_errors_are_thrown i name p w none = rw none refl
+
+pub errbacks_are_for_failures : ErrbacksAreForFailures
+errbacks_are_for_failures itself name body d w is = rw is refl
 
 pub many_jobs_are_refused : ManyJobsAreRefused
 many_jobs_are_refused name pool delay work w full = rw full refl

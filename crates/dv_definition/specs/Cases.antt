@@ -1,14 +1,15 @@
 -- The telling case of each section of the page: what its rule leaves there, worked out by hand.
-use Rattle.std.specs.Prelude.{◌≡◌, ℕ, true, false, List, [], ◌∷◌, length, Option, None, Some, slice_get}
+use Rattle.std.specs.Prelude.{◌≡◌, ℕ, true, false, List, [], ◌∷◌, ◌++◌, length, Option, None, Some, slice_get}
 use Rattle.dv_clock.specs.declared.due.Due.TheVariants as what
-use Rattle.dv_definition.specs.Definition.{add, cancel_reached, acquire, put_in, deferred_of, report, add_timeout, end_turn, is_over, step_ended, await, thread, settle_by, run_next}
+use Rattle.dv_definition.specs.Definition.{add, cancel_reached, acquire, put_in, deferred_of, run_with, report, add_timeout, end_turn, step_ended, await, thread, settle_by, carry_out, act, perform_rest, run_next}
 use Rattle.dv_definition.specs.Rule.{Fires, run, ◌after_which◌}
+use Rattle.dv_definition.specs.Words.{goes_through, is_over}
 use Rattle.dv_frames.specs.Turn.{rest_of}
 use Rattle.dv_frames.specs.declared.frame.Frame.TheVariants as frame
 use Rattle.dv_frames.specs.declared.frame.Inlining.TheVariants.{Goes}
 use Rattle.dv_frames.specs.declared.frame.Purpose.TheVariants.{Named}
 use Rattle.dv_inline.specs.Position.{Position, answered}
-use Rattle.dv_objects.specs.Pair.{Pair, timing, ending}
+use Rattle.dv_objects.specs.Pair.{Pair, errback, holding, timing, ending}
 use Rattle.dv_objects.specs.Refusals.{overflow}
 use Rattle.dv_objects.specs.Works.{is_full}
 use Rattle.dv_objects.specs.declared.canceller.Canceller.TheVariants.{Token}
@@ -19,7 +20,10 @@ use Rattle.dv_objects.specs.declared.performed.Performed.TheVariants.{Done, Gave
 use Rattle.dv_objects.specs.declared.reached.Reached.TheVariants as reached
 use Rattle.dv_prims.specs.Queue.{Queue, may_put}
 use Rattle.dv_prims.specs.Tokens.{Semaphore, has_free}
+use Rattle.dv_script.specs.declared.action.Action.{Action}
+use Rattle.dv_script.specs.declared.action.Action.TheOpen.{Action-F}
 use Rattle.dv_script.specs.declared.body.Body.{Body}
+use Rattle.dv_script.specs.declared.body.End.{End}
 use Rattle.dv_script.specs.declared.work.Work.{Work}
 use Rattle.dv_store.specs.declared.store.Step.TheVariants.{Handed}
 use Rattle.dv_value.specs.Builtin.{name_error}
@@ -51,6 +55,11 @@ FullQueuesRefuse = (k : ℕ) (v : Value) (w : World) (q : Queue) → slice_get w
 abbrev pub FailuresAreKept : Type 0
 FailuresAreKept = (name : List ℕ) (failure : Failure) (w : World) → run (deferred_of (Named name) (Raised failure)) w ≡ run (Fires (length w.records) (Fault failure) after_which []) (make (Some name) None w)
 
+-- who asks for a token to perform a body with gets the pair that performs it
+abbrev pub BodiesWaitForTokens : Type 0
+BodiesWaitForTokens =
+    (name : List ℕ) (l : ℕ) (body : Body) (w : World) → (let asked = run (acquire name l) w in run (run_with name l body) w ≡ (asked.0 ++ frame.Add (length w.records) (holding l body) ∷ [], asked.1, asked.2))
+
 -- a list that somebody has fired is fired by no child
 abbrev pub FiredListsStay : Type 0
 FiredListsStay =
@@ -80,6 +89,18 @@ NameErrorsAreThrown =
 abbrev pub ManyJobsAreRefused : Type 0
 ManyJobsAreRefused =
     (name : List ℕ) (pool : Option (List ℕ)) (delay : ℕ) (work : Work) (w : World) → is_full w.works ≡ true → run (thread name pool delay work) w ≡ ([], Raised too_many_jobs, w)
+
+-- an errback is added for failures
+abbrev pub ErrbacksAreForFailures : Type 0
+ErrbacksAreForFailures =
+    (itself : Option ℕ) (name : List ℕ) (body : Body) (d : ℕ) (w : World) → deferred_at itself name w ≡ Some d
+    → run (carry_out itself (Action-F.AddErrback name body)) w ≡ (frame.Settle d ∷ [], Done, world.append d (errback body) w)
+
+-- the actions that are left of a body follow the first
+abbrev pub BodiesGoOn : Type 0
+BodiesGoOn =
+    (itself : Option ℕ) (action : Action) (rest : List Action) (end : End) (input : Value) (w : World)
+    → (let first = run (act itself action) w in run (perform_rest itself (action ∷ rest) end input) w ≡ (first.0 ++ goes_through itself rest end input, first.1, first.2))
 
 -- who got a value by a hand-over is settled before who gave it
 abbrev pub ReceiversComeFirst : Type 0

@@ -1,9 +1,9 @@
 -- What a script means: a rule for each action, in the order of docs/SCRIPT.md. `step next rule` is read "the step, and then the rule";
 -- `rule after_which called`, "the rule, and after it these"; `word λ x. rule`, "with the word's x, the rule". A step logs its entry, if it
 -- has one, and then makes its change (`Steps`). What else rules are made of is in `Rule` and, with sections 1 to 4, in `Words`.
-use Rattle.std.specs.Prelude.{ℕ, zero, suc, ◌+◌, ◌-◌, ◌*◌, ◌/◌, min, pos, nat_eq, nat_lt, Bool, true, false, not, ◌&&◌, ◌||◌, if◌then◌else◌, List, [], ◌∷◌, length}
+use Rattle.std.specs.Prelude.{ℕ, zero, suc, ◌+◌, ◌-◌, ◌*◌, ◌/◌, min, nat_eq, nat_lt, Bool, false, not, ◌&&◌, ◌||◌, if◌then◌else◌, List, [], ◌∷◌, length}
 use Rattle.std.specs.Prelude.{Option, None, Some, is_none, is_some, option_and_then, slice_get, slice_set}
-use Rattle.std.specs.Option.{option_map, option_map_or}
+use Rattle.std.specs.Option.{option_map}
 use Rattle.std.specs.Ordering.{is_gt, nat_cmp, ordering_then}
 use Rattle.dv_clock.specs.Clock.{Clock, Upcoming, upcoming}
 use Rattle.dv_clock.specs.Turns.{Turns}
@@ -11,10 +11,10 @@ use Rattle.dv_clock.specs.declared.call.Call.{Call}
 use Rattle.dv_clock.specs.declared.due.Due.{Due}
 use Rattle.dv_clock.specs.declared.due.Due.TheVariants as what
 use Rattle.dv_definition.specs.Flags.{list_flags, gather_flags}
-use Rattle.dv_definition.specs.Rule.{Rule, Ends, By, If, Finds, Asks, Fires, Unpauses, found, ◌next◌, ◌after_which◌}
-use Rattle.dv_definition.specs.Steps.{Make, Name, Append, FireGuarded, Pause, Note, TellTurn, NewLock, NewSemaphore, Ask, Release, Forget, NewQueue, Withdraw, NewList, StartTimer, EndTimer, CallLater, NewLoop, ScheduleTurn, StopLoop, EndLoop, NewTask, AwaitTask, PauseTask, ResumeTask, HoldTask, KeepTick, BeginTick, EndTick, AddInline, BeginAwait, Submit, DeliverLater, Put, PutDeferred, ComeDue, Moves, Cancel, PutInto, GetFrom, CameTo, CancelCall, TakeStep, EndTask, ComeToInline, EndAwait}
-use Rattle.dv_definition.specs.Words.{finished, give, raise, give_end, ◌and◌, calls, settles, places, performs, goes_through, cancels, ends_canceller, makes_deferred, adds, gives, notifies, ends_step, takes_steps, goes_on, goes_on_with_answer, awaits, tells_failure, runs_due}
-use Rattle.dv_definition.specs.Words.{next_deferred, next_list, next_loop, next_call, next_inline_body, next_job, the_lock, the_queue, the_loop, the_task, the_job, the_body, what_is_awaited, its_value, all_jobs, the_clock, steps_of_a_tick, all_classes, its_time_is_over, if_unfired}
+use Rattle.dv_definition.specs.Rule.{Rule, Ends, By, If, Finds, Asks, Fires, Unpauses, settles, found, ◌next◌, ◌after_which◌}
+use Rattle.dv_definition.specs.Steps.{Step, Make, Name, Append, FireGuarded, Pause, Note, TellTurn, NewLock, NewSemaphore, Ask, Release, Forget, NewQueue, Withdraw, NewList, StartTimer, EndTimer, CallLater, NewLoop, ScheduleTurn, StopLoop, EndLoop, NewTask, AwaitTask, PauseTask, ResumeTask, HoldTask, KeepTick, BeginTick, EndTick, AddInline, BeginAwait, Submit, DeliverLater, Put, PutDeferred, ComeDue, Moves, Cancel, PutInto, GetFrom, CameTo, CancelCall, TakeStep, EndTask, ComeToInline, EndAwait}
+use Rattle.dv_definition.specs.Words.{finished, give, raise, give_end, ◌and◌, calls, places, performs, goes_through, cancels, ends_canceller, makes_deferred, adds, gives, notifies, ends_step, takes_steps, goes_on, goes_on_with_answer, awaits, tells_failure, runs_due}
+use Rattle.dv_definition.specs.Words.{next_deferred, next_list, next_loop, next_call, next_inline_body, next_job, the_lock, the_queue, the_loop, the_task, the_job, the_body, what_is_awaited, its_value, all_jobs, the_clock, steps_of_a_tick, all_classes, its_time_is_over, if_unfired, if_over, fire_if, fire_with}
 use Rattle.dv_definition.specs.Words.{deferred_or, on_deferred, on_all, on_lock, on_queue, on_call, on_loop, on_task}
 use Rattle.dv_frames.specs.declared.frame.Frame.{Frame}
 use Rattle.dv_frames.specs.declared.frame.Purpose.{Purpose}
@@ -45,7 +45,7 @@ use Rattle.dv_objects.specs.declared.reached.Reached.{Reached}
 use Rattle.dv_objects.specs.declared.reached.Reached.TheVariants as reached
 use Rattle.dv_objects.specs.declared.task.TaskEnd.{TaskEnd}
 use Rattle.dv_objects.specs.declared.task.TaskEnd.TheVariants.{Finished, Stopped, Failed}
-use Rattle.dv_prims.specs.DeferredList.{Gather, count_missing, first_failure, seconds_of}
+use Rattle.dv_prims.specs.DeferredList.{Gather, count_missing, first_failure, first_success, kept_of, seconds_of, succeeded}
 use Rattle.dv_prims.specs.Queue.{may_put, may_get}
 use Rattle.dv_prims.specs.Tokens.{has_free, is_unheld, first_waiting}
 use Rattle.dv_prims.specs.declared.gather.Flags.{Flags}
@@ -77,7 +77,7 @@ add d pair = Append d pair next calls (settles d)
 
 -- after the canceller of d: raises its failure to the caller of the cancel; else fires d with CancelledError, if d is unfired
 abbrev pub after_canceller : ℕ → Performed → Rule
-after_canceller d p = Finds (failed_with p) (if_unfired d (Fires d cancelled) finished) raise
+after_canceller d p = Finds (failed_with p) (if_unfired d (Fires d cancelled) finished) λ failure. raise failure
 
 -- cancels the children of a list in order, and logs as unhandled what the cancel of a child raises (Twisted: `DeferredList.cancel`)
 abbrev pub cancel_children : List ℕ → List Frame
@@ -133,14 +133,19 @@ cancel d = Asks (Cancel d) cancel_reached
 abbrev pub grant : Option ℕ → List ℕ → Rule
 grant who name = Finds who finished λ d. Fires d (Text name)
 
--- makes a Deferred that asks a lock for a token, and gets it if one is free; else it waits
+-- d asks a lock for a token, and gets it if one is free; else it waits. The lock is looked at before it is asked
+abbrev pub ask_lock : ℕ → ℕ → Rule
+ask_lock l d =
+    the_lock l λ s.
+    Ask l d next
+    grant (if has_free s then Some d else None) s.name
+
+-- makes a Deferred that asks a lock for a token
 abbrev pub acquire : List ℕ → ℕ → Rule
 acquire name l =
     next_deferred λ d.
     Make (Some name) (Some (canceller.Token l)) next
-    the_lock l λ s.
-    Ask l d next
-    grant (if has_free s then Some d else None) s.name
+    ask_lock l d
 
 -- raises AssertionError if no token is given. Else gives one back, and the first that waits gets it
 abbrev pub release : ℕ → Rule
@@ -150,18 +155,26 @@ release l =
 
 -- 8. Queues (Twisted: `DeferredQueue`).
 
--- raises QueueOverflow if the queue is full. Else puts a value into it, and the first that waits is fired with it
+-- fires whoever got a value with it
+abbrev pub hand_out : Option (ℕ × Value) → Rule
+hand_out who = Finds who finished λ (d, v). Fires d v
+
+-- raises QueueOverflow if a queue is full. Else puts a value into it, and the first that waits is fired with it
 abbrev pub put_in : ℕ → Value → Rule
 put_in k v =
     the_queue k λ q.
-    If (may_put q) (Asks (PutInto k v) λ who. Finds who finished λ (d, v). Fires d v) (raise overflow)
+    If (not (may_put q)) (raise overflow) (Asks (PutInto k v) hand_out)
 
--- raises QueueUnderflow if as many wait as may. Else makes a Deferred, which is fired with the oldest stored value, or waits
+-- d asks a queue for a value, and is fired with the oldest that is stored; else it waits
+abbrev pub ask_queue : ℕ → ℕ → Rule
+ask_queue k d = Asks (GetFrom k d) λ got. fire_with d got
+
+-- raises QueueUnderflow if as many wait for a value as may. Else makes a Deferred that asks a queue for a value
 abbrev pub get_out : List ℕ → ℕ → Rule
 get_out name k =
     next_deferred λ d.
     the_queue k λ q.
-    If (may_get q) (Make (Some name) (Some (canceller.Item k)) next Asks (GetFrom k d) λ got. Finds got finished λ v. Fires d v) (raise underflow)
+    If (not (may_get q)) (raise underflow) (Make (Some name) (Some (canceller.Item k)) next ask_queue k d)
 
 -- 9. Bodies whose result is a Deferred (Twisted: `maybeDeferred`).
 
@@ -185,7 +198,7 @@ made_with purpose v =
     Make (name_for purpose) None next
     Fires d v after_which used_for purpose d
 
--- gives a Deferred that a body gave the name, or uses it as it is
+-- a body gave a Deferred: that gets the name, or is used as it is
 abbrev pub taken_for : Purpose → ℕ → Rule
 taken_for (Named name) e = Name e name next finished
 taken_for (Holding l) e = calls (used_for (Holding l) e)
@@ -212,7 +225,7 @@ maybe name body = as_deferred (Named name) body
 abbrev pub run_with : List ℕ → ℕ → Body → Rule
 run_with name l body = next_deferred λ d. acquire name l after_which adds d (holding l body)
 
--- performs a body with a token, which is given back once the Deferred of what the body gave has a result
+-- performs a body with a token. What it gives becomes a Deferred, and once that has a result, the token is given back
 abbrev pub hold : ℕ → Body → Rule
 hold l body = as_deferred (Holding l) body
 
@@ -230,7 +243,7 @@ has_all_at_once (c ∷ cs) flags = false
 
 -- fires the list at once where that is due, and adds the pairs of its children
 abbrev pub list_begun : ℕ → ℕ → List ℕ → Flags → Rule
-list_begun l d children flags = (If (has_all_at_once children flags) (Fires d (value.List [])) finished) after_which add_children l d 0 children
+list_begun l d children flags = fire_if (has_all_at_once children flags) d (value.List []) after_which add_children l d 0 children
 
 -- makes a list of children
 abbrev pub list : List ℕ → List ℕ → Flags → Rule
@@ -255,18 +268,24 @@ all_came places = if nat_eq (count_missing places) 0 then Some (value.List place
 abbrev pub list_fires_with : ℕ → Value → Gather → Option Value
 list_fires_with i v g =
     if g.fired then None else
-    if g.flags.fire_on_one_callback && not (is_fault v) then Some (value.List (v ∷ value.Int (pos i) ∷ [])) else
+    if g.flags.fire_on_one_callback && succeeded v then Some (first_success i v) else
     found (if g.flags.fire_on_one_errback then failure_in v else None)
-    (all_came (slice_set g.places i (value.List (value.Bool (not (is_fault v)) ∷ v ∷ [])))) λ failure.
+    (all_came (slice_set g.places i (kept_of v))) λ failure.
     Some (first_failure i failure)
 
--- reports the result of a child to its list, which is fired if that is due and nobody has fired it. The child keeps its result; under
--- `consumeErrors` a failure becomes null
+-- fires the Deferred of a list with what is due, if something is and nobody has fired it
+abbrev pub fire_list : ℕ → Option Value → Rule
+fire_list d due = Finds due finished λ v. if_unfired d (Fires d v) finished
+
+-- reports the result of a child to its list, which is fired with what is due. The child keeps its result; under `consumeErrors` a failure
+-- becomes null
 abbrev pub report : Child → Value → Rule
-report child input =
-    Asks (CameTo child.list child.place input) λ came.
-    (Finds came.fire finished λ v. if_unfired child.of (Fires child.of v) finished)
-    after_which gives (Gave came.pass)
+report child input = Asks (CameTo child.list child.place input) λ came. fire_list child.of came.fire after_which gives (Gave came.pass)
+
+-- gives what the children gave, from the result of their list; raises TypeError if that isn't such a result (Twisted: `gatherResults`, but
+-- `gather-fired-by-hand`)
+abbrev pub give_gathered : Value → Rule
+give_gathered input = Finds (seconds_of input) (raise not_gathered) give
 
 -- 12. Time-outs (Twisted: `Deferred.addTimeout`).
 
@@ -289,14 +308,27 @@ next_turn_at x c = let start = min x.start c.time in start + ((c.time - start) /
 abbrev pub turn : ℕ → Body → Rule
 turn l body = as_deferred (Turning l) body
 
--- makes a loop with its Deferred; its first turn is taken at once, or scheduled (Twisted: `LoopingCall.start`)
+-- takes the first turn of a loop at once
+abbrev pub first_turn : List ℕ → ℕ → Body → Rule
+first_turn name l body = TellTurn name next turn l body
+
+-- makes a loop whose Deferred is d; its first turn is taken at once, or scheduled
+abbrev pub begin_loop : List ℕ → ℕ → ℕ → Bool → Body → Rule
+begin_loop name d interval at_once body =
+    next_loop λ l.
+    NewLoop name d interval body next
+    If at_once (first_turn name l body) (ScheduleTurn l next finished)
+
+-- makes a loop with its Deferred (Twisted: `LoopingCall.start`)
 abbrev pub loop : List ℕ → List ℕ → ℕ → Bool → Body → Rule
 loop name of interval at_once body =
     next_deferred λ d.
     Make (Some of) None next
-    next_loop λ l.
-    NewLoop name d interval body next
-    If at_once (TellTurn name next turn l body) (ScheduleTurn l next finished)
+    begin_loop name d interval at_once body
+
+-- takes the turn of a loop that is due
+abbrev pub take_turn : ℕ → Rule
+take_turn l = the_loop l λ x. turn l x.body
 
 -- a turn has ended: schedules the next if the loop runs; else fires its Deferred with its name (Twisted: `LoopingCall`, but
 -- `loop-fired-by-hand`)
@@ -318,7 +350,7 @@ abbrev pub stop_loop : ℕ → Rule
 stop_loop l =
     the_loop l λ x.
     the_clock λ clock.
-    If (not x.running) (raise not_running) (StopLoop l next If (is_scheduled x clock) (Fires x.of (Text x.name)) finished)
+    If (not x.running) (raise not_running) (StopLoop l next fire_if (is_scheduled x clock) x.of (Text x.name))
 
 -- 14. Tasks of the Cooperator (Twisted: `Cooperator`, `CooperativeTask`).
 
@@ -335,9 +367,10 @@ abbrev pub notify_all : ℕ → List ℕ → List Frame
 notify_all t [] = []
 notify_all t (d ∷ ds) = notifies d t and tells_failure and notify_all t ds
 
--- ends a task, unless it has ended, and fires who waits for its end
+-- ends a task, unless it has ended, and fires who waits for its end. `KeepTick` has the next tick scheduled while a task takes turns, and
+-- no tick while none does
 abbrev pub end_task : ℕ → TaskEnd → Rule
-end_task t end = Asks (EndTask t end) λ ds. KeepTick next calls (notify_all t ds)
+end_task t end = Asks (EndTask t end) λ waiting. KeepTick next calls (notify_all t waiting)
 
 -- makes a Deferred that is fired when a task ends, at once if it has ended (Twisted: `CooperativeTask.whenDone`)
 abbrev pub when_done : List ℕ → ℕ → Rule
@@ -367,14 +400,6 @@ resume_task t =
     the_task t λ x.
     If (nat_eq x.pauses 0) (raise not_paused) (ResumeTask t next KeepTick next finished)
 
--- whether a task has ended; true if there is no such task
-abbrev pub is_over : ℕ → World → Bool
-is_over t w = option_map_or (λ x. is_some x.end) (slice_get w.objects.cooperator.tasks t) true
-
--- the first if a task has ended, and else the second
-abbrev pub if_over : ℕ → Rule → Rule → Rule
-if_over t one other = By λ w. If (is_over t w) one other
-
 -- the Deferred that a task waited for has a value: resumes the task, unless it has ended (Twisted: `CooperativeTask`, but
 -- `hold-on-an-ended-task`)
 abbrev pub resume_held : ℕ → Rule
@@ -401,18 +426,23 @@ abbrev pub task_in_turn : Turns → Option ℕ
 task_in_turn t = slice_get t.tasks (if nat_lt t.position (length t.tasks) then t.position else 0)
 
 -- a step of a task: performs its next body, or ends it
-abbrev pub take_step : ℕ → Option Body → Rule
-take_step t next_body = Finds next_body (end_task t Finished) λ body. calls (performs None body Null and ends_step t)
+abbrev pub perform_next : ℕ → Option Body → Rule
+perform_next t next_body = Finds next_body (end_task t Finished) λ body. calls (performs None body Null and ends_step t)
 
 -- ends a tick, and schedules the next if a task takes turns (Twisted: `Cooperator`, but `tick-scheduled-in-a-tick`)
 abbrev pub tick_ended : Rule
 tick_ended = EndTick next KeepTick next finished
 
+-- whoever's turn it is takes a step, and then so many more are taken; the tick ends if no task takes turns
+abbrev pub step_of_tick : ℕ → Rule
+step_of_tick left =
+    Asks TakeStep λ whose.
+    Finds whose tick_ended λ (t, next_body).
+    perform_next t next_body after_which takes_steps left
+
 -- takes so many steps, and no more once no task takes turns (Twisted: `Cooperator`, but `ticks-by-the-clock`)
 abbrev pub tick : ℕ → Rule
-tick units =
-    If (nat_eq units 0) tick_ended
-    (Asks TakeStep λ taken. Finds taken tick_ended λ (t, next_body). take_step t next_body after_which takes_steps (units - 1))
+tick units = If (nat_eq units 0) tick_ended (step_of_tick (units - 1))
 
 -- 15. Inline bodies (Twisted: `inlineCallbacks`).
 
@@ -431,7 +461,7 @@ caught_by classes failure None = None
 caught_by classes failure (Some catch) = option_map (λ class. catch.second) (check classes (class_of failure) catch.classes)
 
 -- where a body goes on when a failure is thrown: in the innermost `try` that catches it, with its second statements, on null. If none does,
--- the body ends with the failure. `answered` goes by this
+-- the body ends with the failure. `answered` goes by this (Twisted: `inlineCallbacks`, but `end-in-a-try`)
 abbrev pub thrown : List Class → Failure → List Open → Position → Position
 thrown classes failure [] p = record p { tries = []; value = Null; result = Some (Fault failure) }
 thrown classes failure (around ∷ tries) p =
@@ -442,7 +472,7 @@ thrown classes failure (around ∷ tries) p =
 abbrev pub go_with : Inline → Value → Position → Rule
 go_with i answer p = all_classes λ classes. calls (goes_on i (answered classes answer p))
 
--- the same, if there is an answer
+-- goes on so, if there is an answer; else nothing is done
 abbrev pub go_where : Inline → Option (Position × Value) → Rule
 go_where i came = Finds came finished λ (p, answer). go_with i answer p
 
@@ -450,12 +480,17 @@ go_where i came = Finds came finished λ (p, answer). go_with i answer p
 abbrev pub resume : Inline → Value → Rule
 resume i input = Asks (ComeToInline i.id input) (go_where i)
 
--- awaits the Deferred of a name: adds to it the pair that resumes the body. A name that isn't bound throws NameError in the body
+-- awaits e: adds to it the pair that resumes the body
+abbrev pub await_found : Inline → ℕ → Position → Rule
+await_found i e p =
+    BeginAwait i e next
+    add e (continuing i) after_which awaits i e p
+
+-- awaits the Deferred of a name. A name that isn't bound throws NameError in the body
 abbrev pub await : Inline → List ℕ → Position → Rule
 await i name p =
     deferred_or (Some i.of) name (go_with i (fault name_error name) p) λ e.
-    BeginAwait i e next
-    add e (continuing i) after_which awaits i e p
+    await_found i e p
 
 -- after the pair was added: if it has run already, the body goes on at once
 abbrev pub after_awaiting : Inline → ℕ → Position → Rule
@@ -470,20 +505,28 @@ answer_of (Awaits e) = Null
 
 -- 16. Jobs of threads (Twisted: `deferToThread`, `deferToThreadPool`, but `results-at-their-times`).
 
--- raises RuntimeError if the run has as many jobs as it may. Else makes a Deferred, submits a job for it to a pool, and schedules the
--- delivery of its result for so many ticks later
+-- submits a job for d to a pool, and schedules the delivery of its result for so many ticks later
+abbrev pub begin_job : ℕ → Option (List ℕ) → ℕ → Work → Rule
+begin_job d pool delay work =
+    next_job λ job.
+    Submit d pool work next
+    DeliverLater job d delay next
+    finished
+
+-- raises RuntimeError if the run has as many jobs as it may. Else makes a Deferred, and begins a job for it
 abbrev pub thread : List ℕ → Option (List ℕ) → ℕ → Work → Rule
 thread name pool delay work =
     next_deferred λ d.
     all_jobs λ jobs.
     If (is_full jobs) (raise too_many_jobs)
-    (Make (Some name) None next next_job λ job. Submit d pool work next DeliverLater job d delay next finished)
+    (Make (Some name) None next begin_job d pool delay work)
 
 -- fires d with the value of the work that was submitted for it
 abbrev pub deliver : ℕ → ℕ → Rule
 deliver job d = the_job job λ work. Fires d (work_value work)
 
--- 17. Settling: the pairs of a Deferred are used in order, each on what the one before left (Twisted: `Deferred._runCallbacks`).
+-- 17. Settling: the pairs of a Deferred are used in order, each on what the one before left (Twisted: `Deferred._runCallbacks`, but
+-- `abandoned-chain`).
 
 -- whether the next item of a Deferred may be used: it was fired, none of its sides runs, it isn't paused, and it waits for no other. The
 -- step `Moves` uses one then (Twisted: `Deferred._runCallbacks`, but `pause-in-own-side`, `paused-receiver`)
@@ -495,7 +538,7 @@ may_be_used r = r.fired && not r.running && nat_eq r.pauses 0 && is_none r.waits
 abbrev pub has_to_wait : ℕ → ℕ → Record Pair Canceller → Bool
 has_to_wait d e r = nat_eq d e || not r.fired || not (nat_eq r.pauses 0) || is_some r.waits_for
 
--- a side of d on its input; a missing one passes the input on
+-- a side of d on its input; a missing one passes the input on (Twisted: what adds the pair)
 abbrev pub run_side : ℕ → Option Side → Value → Rule
 run_side d None input = give input
 run_side d (Some (side.Body body)) input = calls (performs (Some d) body input)
@@ -503,7 +546,7 @@ run_side d (Some (side.Fire e)) input = Fires e input
 run_side d (Some (side.Timed t)) input = all_classes λ classes. its_time_is_over t λ is_over. give (timed classes is_over input)
 run_side d (Some (side.EndTimer t)) input = EndTimer t next give input
 run_side d (Some (side.Come child)) input = report child input
-run_side d (Some side.Results) input = Finds (seconds_of input) (raise not_gathered) give
+run_side d (Some side.Results) input = give_gathered input
 run_side d (Some (side.Hold l body)) input = hold l body
 run_side d (Some (side.Release l)) input = release l after_which gives (Gave input)
 run_side d (Some (side.NextTurn l)) input = end_turn l
@@ -512,12 +555,16 @@ run_side d (Some (side.ResumeTask t)) input = resume_held t
 run_side d (Some (side.FailTask t)) input = fail_task t (failure_in input)
 run_side d (Some (side.Resume i)) input = resume i input
 
--- puts what a side of d gave in place: null, its value, the failure that it raised, or the Deferred; and settles d
+-- the step that puts what a side of d gave in place: null, its value, the failure that it raised, or the Deferred
+abbrev pub placing : ℕ → Performed → Step
+placing d Done = Put d Null
+placing d (Gave v) = Put d v
+placing d (Raised failure) = Put d (Fault failure)
+placing d (Awaits e) = PutDeferred d e
+
+-- puts what a side of d gave in place, and settles d
 abbrev pub put_in_place : ℕ → Performed → Rule
-put_in_place d Done = Put d Null next calls (settles d)
-put_in_place d (Gave v) = Put d v next calls (settles d)
-put_in_place d (Raised failure) = Put d (Fault failure) next calls (settles d)
-put_in_place d (Awaits e) = PutDeferred d e next calls (settles d)
+put_in_place d p = placing d p next calls (settles d)
 
 -- by the first unused item of d. None that may be used: nothing is done. A pair that the value passes by: d is settled again. A side that
 -- runs: what it gives for the value of d is put in place. A hand-over, by which c got the value of d: c is settled, and then d
@@ -590,7 +637,7 @@ do_wanted i None p = finished
 do_wanted i (Some (Do action)) p = act (Some i.of) action after_which goes_on_with_answer i p
 do_wanted i (Some (Await name)) p = await i name p
 
--- the same, but an inline body that is over fires its Deferred with its result
+-- goes on with an inline body: `come` moves it up to what it wants, or to its end, where it fires its Deferred with its result
 abbrev pub go_on : Inline → Position → Rule
 go_on i p =
     let now = come p in
@@ -612,12 +659,16 @@ first_call number (call ∷ calls) =
 abbrev pub next_due : World → Option Upcoming
 next_due w = found (first_call 0 w.objects.clock.calls) None λ call. if nat_lt w.objects.clock.time call.due then None else Some call
 
+-- performs the body of a delayed call, logs its failure as unhandled, and runs what is due after it
+abbrev pub run_call : ℕ → Rule
+run_call key = the_body key (calls runs_due) λ body. calls (performs None body Null and tells_failure and runs_due)
+
 -- runs what is due next, and then what is due after it; logs as unhandled a failure of a call, a delivery or a time-out (Twisted:
 -- `Clock.advance`, but `error-leaves-advance`)
 abbrev pub run_next : Option Due → Rule
 run_next None = finished
-run_next (Some (what.Call name key)) = the_body key (calls runs_due) λ body. calls (performs None body Null and tells_failure and runs_due)
-run_next (Some (what.Turn name key)) = the_loop key (λ x. turn key x.body) after_which runs_due
+run_next (Some (what.Call name key)) = run_call key
+run_next (Some (what.Turn name key)) = take_turn key after_which runs_due
 run_next (Some what.Tick) = steps_of_a_tick λ units. BeginTick next calls (takes_steps units and runs_due)
 run_next (Some (what.Delivery job d)) = deliver job d after_which tells_failure and runs_due
 run_next (Some (what.Timeout d)) = calls (cancels d and tells_failure and runs_due)

@@ -3,7 +3,7 @@
 use Rattle.std.specs.Prelude.{ℕ, nat_eq, Bool, false, not, if◌then◌else◌, List, [], ◌∷◌, ◌++◌, Option, None, Some, slice_get, codes}
 use Rattle.std.specs.Option.{option_map_or}
 use Rattle.dv_definition.specs.Steps.{Step, stepped, Question, Reply, asked}
-use Rattle.dv_frames.specs.Turn.{Turned, settle_next, ◌onto◌}
+use Rattle.dv_frames.specs.Turn.{Turned, settle_next, ◌onto◌, ◌over◌}
 use Rattle.dv_frames.specs.declared.frame.Frame.{Frame}
 use Rattle.dv_frames.specs.declared.frame.Frame.TheVariants as frame
 use Rattle.dv_frames.specs.declared.turn.Turn.{Turn}
@@ -11,6 +11,7 @@ use Rattle.dv_objects.specs.declared.performed.Performed.{Performed}
 use Rattle.dv_objects.specs.declared.performed.Performed.TheVariants.{Done, Raised}
 use Rattle.dv_value.specs.Builtin.{assertion_error, already_called_error}
 use Rattle.dv_value.specs.Failure.{plain_failure}
+use Rattle.dv_value.specs.declared.failure.Failure.{Failure}
 use Rattle.dv_value.specs.declared.value.Value.{Value}
 use Rattle.dv_world.specs.World as world
 use Rattle.dv_world.specs.World.{World}
@@ -60,6 +61,17 @@ infixl 9 ◌after_which◌
 abbrev pub ◌after_which◌ : Rule → List Frame → Rule
 rule after_which frames = Over rule frames
 
+-- d is settled (section 17). What else rules call for is in `Words`
+abbrev pub settles : ℕ → List Frame
+settles d = frame.Settle d ∷ []
+
+-- what a second firing and an unpausing too many raise
+abbrev pub refused_firing : Failure
+refused_firing = plain_failure already_called_error []
+
+abbrev pub refused_unpausing : Failure
+refused_unpausing = plain_failure assertion_error (codes "not paused")
+
 -- What a rule says.
 
 -- what a frame means, on what the one before it gave
@@ -69,7 +81,7 @@ Meant = Frame → Performed → World → Answer
 -- frames in order, each on what the one before gave
 abbrev pub through : Meant → List Frame → Performed → World → Answer
 through go [] p w = Some (p, w)
-through go (frame ∷ frames) p w = go frame p w and_then λ r. through go frames r.0 r.1
+through go (frame ∷ frames) p w = go frame p w and_then λ (p, w). through go frames p w
 
 -- whether d was fired (Twisted: `Deferred.called`)
 abbrev pub is_fired : ℕ → World → Bool
@@ -83,11 +95,11 @@ swallows d w = option_map_or (λ r. r.swallows) (slice_get w.records d) false
 -- firing is swallowed where that is due, and else raises AlreadyCalledError (Twisted: `Deferred.callback`, `Deferred.errback`)
 abbrev pub fires : Meant → ℕ → Value → World → Answer
 fires go d v w =
-    let after = (world.fire d v w).1 in
+    let (follow, after) = world.fire d v w in
     if after.stopped then Some (Done, after) else
-    if not (is_fired d w) then through go (frame.Settle d ∷ []) Done after else
+    if not (is_fired d w) then through go (settles d) Done after else
     if swallows d w then Some (Done, after) else
-    Some (Raised (plain_failure already_called_error []), after)
+    Some (Raised refused_firing, after)
 
 -- whether d isn't paused
 abbrev pub is_unpaused : ℕ → World → Bool
@@ -97,10 +109,10 @@ is_unpaused d w = option_map_or (λ r. nat_eq r.pauses 0) (slice_get w.records d
 -- `unpause-at-zero`)
 abbrev pub unpauses : Meant → ℕ → World → Answer
 unpauses go d w =
-    let after = (world.unpause d w).1 in
+    let (follow, after) = world.unpause d w in
     if after.stopped then Some (Done, after) else
-    if is_unpaused d w then Some (Raised (plain_failure assertion_error (codes "not paused")), after) else
-    through go (frame.Settle d ∷ []) Done after
+    if is_unpaused d w then Some (Raised refused_unpausing, after) else
+    through go (settles d) Done after
 
 -- a rule, where what it calls for is done inside it
 abbrev pub say : Meant → Rule → World → Answer
@@ -109,10 +121,10 @@ say go (By rule) w = say go (rule w) w
 say go (If b one other) w = if b then say go one w else say go other w
 say go (Finds o none some) w = found o (say go none w) (λ a. say go (some a) w)
 say go (Then step rule) w = say go rule (stepped step w)
-say go (Asks question rule) w = let answer = asked question w in say go (rule answer.0) answer.1
+say go (Asks question rule) w = let (reply, after) = asked question w in say go (rule reply) after
 say go (Fires d v) w = fires go d v w
 say go (Unpauses d) w = unpauses go d w
-say go (Over rule frames) w = say go rule w and_then λ r. through go frames r.0 r.1
+say go (Over rule frames) w = say go rule w and_then λ (p, w). through go frames p w
 
 -- The frames that a rule leaves, what it gave so far, and the world: what is called for is put off, and the code goes on with it.
 abbrev pub run : Rule → World → Turned
@@ -121,10 +133,10 @@ run (By rule) w = run (rule w) w
 run (If b one other) w = if b then run one w else run other w
 run (Finds o none some) w = found o (run none w) (λ a. run (some a) w)
 run (Then step rule) w = run rule (stepped step w)
-run (Asks question rule) w = let answer = asked question w in run (rule answer.0) answer.1
-run (Fires d v) w = settle_next d (world.fire d v w).0 (world.fire d v w).1
-run (Unpauses d) w = settle_next d (world.unpause d w).0 (world.unpause d w).1
-run (Over rule frames) w = let t = run rule w in (t.0 ++ frames, t.1, t.2)
+run (Asks question rule) w = let (reply, after) = asked question w in run (rule reply) after
+run (Fires d v) w = let (follow, after) = world.fire d v w in settle_next d follow after
+run (Unpauses d) w = let (follow, after) = world.unpause d w in settle_next d follow after
+run (Over rule frames) w = run rule w over frames
 
 -- what the code works on, after a rule
 abbrev pub after : Rule → Turn → Turn

@@ -74,9 +74,9 @@ pub data Occurrence : Type 0 where
   Occurs : (event : Event) → Occurrence
   Comes : (posted : Posted) (body : Body) → Occurrence
 
--- Performs an action, in which `@` isn't bound. Sets the time forward, and runs what is due. Logs a drain; how many posts it takes at most
--- decides which batches fit the script. Performs the body of a post, in which `@` isn't bound. Logs a failure of an action or body as
--- unhandled
+-- An action is performed, in which `@` isn't bound; a failure that it raises is logged as unhandled. An advance sets the time forward, and
+-- runs what is due. A drain is logged; its posts occur after it, and `most` decides which batches fit the script. A post is logged, and its
+-- body performed, in which `@` isn't bound; a failure that it raises is logged as unhandled
 abbrev pub happens : Occurrence → Rule
 happens (Occurs (event.Action action)) = act None action after_which tells_failure
 happens (Occurs (event.Advance ticks)) = Advance ticks next calls runs_due

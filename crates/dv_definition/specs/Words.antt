@@ -1,7 +1,8 @@
 -- The words of rules: what a rule gives, what it calls for, what it reads of the world, and the objects of names.
-use Rattle.std.specs.Prelude.{ℕ, Bool, List, [], ◌∷◌, ◌++◌, length, Option, slice_get}
+use Rattle.std.specs.Prelude.{ℕ, Bool, true, List, [], ◌∷◌, ◌++◌, length, Option, is_some, slice_get}
+use Rattle.std.specs.Option.{option_map_or}
 use Rattle.dv_clock.specs.Clock.{Clock}
-use Rattle.dv_definition.specs.Rule.{Rule, Ends, By, If, Finds, ◌after_which◌}
+use Rattle.dv_definition.specs.Rule.{Rule, Ends, By, If, Finds, Fires, ◌after_which◌}
 use Rattle.dv_frames.specs.Turn.{rest_of}
 use Rattle.dv_frames.specs.declared.frame.Frame.{Frame}
 use Rattle.dv_frames.specs.declared.frame.Frame.TheVariants as frame
@@ -27,7 +28,7 @@ use Rattle.dv_value.specs.declared.failure.Failure.{Failure}
 use Rattle.dv_value.specs.declared.value.Value.{Value}
 use Rattle.dv_world.specs.Ending.{ended}
 use Rattle.dv_world.specs.Found.{deferreds_at}
-use Rattle.dv_world.specs.World.{deferred_at, is_unfired, awaited_in, has_timed_out, value_of}
+use Rattle.dv_world.specs.World.{World, deferred_at, is_unfired, awaited_in, has_timed_out, value_of}
 use Rattle.dv_world.specs.declared.found.Found.{Found}
 use Rattle.dv_world.specs.declared.found.Found.TheVariants.{All, Unbound}
 
@@ -49,7 +50,7 @@ raise failure = Ends (Raised failure)
 abbrev pub give_end : Option ℕ → End → Value → Rule
 give_end itself end input = By λ w. Ends (ended itself end input w)
 
--- 2. What a rule calls for, which is done inside it. Each may lie in itself without end.
+-- 2. What a rule calls for, which is done inside it. Each may lie in itself without end. One more stands in `Rule`: `settles`.
 
 infixr 11 ◌and◌
 -- one after the other
@@ -59,10 +60,6 @@ first and second = first ++ second
 -- these are done, and nothing before them
 abbrev pub calls : List Frame → Rule
 calls frames = finished after_which frames
-
--- d is settled (section 17)
-abbrev pub settles : ℕ → List Frame
-settles d = frame.Settle d ∷ []
 
 -- what a side of d gave is put in its place (17)
 abbrev pub places : ℕ → List Frame
@@ -76,10 +73,11 @@ performs itself body input = frame.Rest (rest_of itself body input) ∷ []
 abbrev pub goes_through : Option ℕ → List Action → End → Value → List Frame
 goes_through itself actions end input = frame.Rest (record { itself = itself; actions = actions; end = end; input = input }) ∷ []
 
--- d is cancelled; and what its canceller gave counts (6)
+-- d is cancelled (6)
 abbrev pub cancels : ℕ → List Frame
 cancels d = frame.Cancel d ∷ []
 
+-- after the canceller of d: its failure is raised, or d is fired if it is unfired (6)
 abbrev pub ends_canceller : ℕ → List Frame
 ends_canceller d = frame.Canceller d ∷ []
 
@@ -99,20 +97,23 @@ gives given = frame.Give given ∷ []
 abbrev pub notifies : ℕ → ℕ → List Frame
 notifies d t = frame.Notify d t ∷ []
 
--- what a step of a task gave counts; and so many steps of a tick are taken (14)
+-- what a step of a task gave counts (14)
 abbrev pub ends_step : ℕ → List Frame
 ends_step t = frame.Stepped t ∷ []
 
+-- so many steps of a tick are taken (14)
 abbrev pub takes_steps : ℕ → List Frame
 takes_steps units = frame.Tick units ∷ []
 
--- an inline body goes on; it goes on with the answer to an action; or goes on after its pair was added to what it awaits (15, 20)
+-- an inline body goes on (20)
 abbrev pub goes_on : Inline → Position → List Frame
 goes_on i p = frame.Inline (Goes i p) ∷ []
 
+-- an inline body goes on with the answer to its action (15)
 abbrev pub goes_on_with_answer : Inline → Position → List Frame
 goes_on_with_answer i p = frame.Inline (Acted i p) ∷ []
 
+-- an inline body awaits e, to which its pair was added; it goes on at once if that has run already (15)
 abbrev pub awaits : Inline → ℕ → Position → List Frame
 awaits i e p = frame.Inline (Awaited i e p) ∷ []
 
@@ -193,6 +194,22 @@ its_time_is_over t rule = By λ w. rule (has_timed_out t w)
 -- the first where d may still be fired, and else the second
 abbrev pub if_unfired : ℕ → Rule → Rule → Rule
 if_unfired d one other = By λ w. If (is_unfired d w) one other
+
+-- whether a task has ended; true if there is no such task
+abbrev pub is_over : ℕ → World → Bool
+is_over t w = option_map_or (λ x. is_some x.end) (slice_get w.objects.cooperator.tasks t) true
+
+-- the first if a task has ended, and else the second
+abbrev pub if_over : ℕ → Rule → Rule → Rule
+if_over t one other = By λ w. If (is_over t w) one other
+
+-- fires d with a value, if this holds
+abbrev pub fire_if : Bool → ℕ → Value → Rule
+fire_if b d v = If b (Fires d v) finished
+
+-- fires d with the value that is found, if one is
+abbrev pub fire_with : ℕ → Option Value → Rule
+fire_with d o = Finds o finished λ v. Fires d v
 
 -- 4. Names. The names that an action uses are looked up from left to right before anything else.
 

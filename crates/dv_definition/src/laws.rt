@@ -1,6 +1,6 @@
 //! Laws of the page, each a function with an empty body whose clauses are the law.
 
-ghost use Rattle.dv_definition.specs.Cases.{CancelsReachChildren, EndedTasksStay, FailuresAreKept, FailuresOfCallsAreTold, FiredListsStay, FiringsEndTimers, FullQueuesRefuse, ManyJobsAreRefused, NameErrorsAreThrown, PairsAreUsed, ReceiversComeFirst, TokensAreWaitedFor, TurnsFollow};
+ghost use Rattle.dv_definition.specs.Cases.{BodiesGoOn, BodiesWaitForTokens, CancelsReachChildren, EndedTasksStay, ErrbacksAreForFailures, FailuresAreKept, FailuresOfCallsAreTold, FiredListsStay, FiringsEndTimers, FullQueuesRefuse, ManyJobsAreRefused, NameErrorsAreThrown, PairsAreUsed, ReceiversComeFirst, TokensAreWaitedFor, TurnsFollow};
 ghost use Rattle.dv_definition.specs.Conditions.{CallsComeInTurn, CancelsReach, DeferredsWaitWhenTheyHaveTo, FailuresAreThrown, ItemsAreUsedWhenTheyMay, ListsFire, TasksTakeTurns, TurnsAreDue};
 ghost use Rattle.dv_definition.specs.Law.{FramesSayTheRule, FramesSayWhatHappens};
 
@@ -33,6 +33,7 @@ pub fn rules_decide_their_cases()
     ensures locks { TokensAreWaitedFor }
     ensures queues { FullQueuesRefuse }
     ensures results { FailuresAreKept }
+    ensures bodies { BodiesWaitForTokens }
     ensures lists { FiredListsStay }
     ensures timeouts { FiringsEndTimers }
     ensures loops { TurnsFollow }
@@ -40,5 +41,7 @@ pub fn rules_decide_their_cases()
     ensures inline { NameErrorsAreThrown }
     ensures jobs { ManyJobsAreRefused }
     ensures settling { ReceiversComeFirst }
+    ensures actions { ErrbacksAreForFailures }
+    ensures rest { BodiesGoOn }
     ensures calls { FailuresOfCallsAreTold }
 {}

@@ -19,6 +19,7 @@ use Rattle.dv_frames.specs.Bounds.{all_pauses, Bounded}
 use Rattle.dv_performing.proofs.Kept.{Both, Kind, telling_of, Kept, every_step}
 use Rattle.dv_performing.proofs.Lasting.{Lasting}
 use Rattle.dv_performing.proofs.Tally.{tally_set, tally_changing, length_changing}
+use Rattle.dv_performing.proofs.Weights.{weighs_one}
 use Rattle.dv_world.specs.World.{World, Records, state_of}
 use Rattle.dv_objects.specs.Refusals.{cancelled}
 
@@ -60,7 +61,7 @@ fine = record {
   news = λ name canceller s h.
       let more : Records = new_record name canceller ∷ [] in
       told_fine (entry.New (length s.0) name) _ s h (omega arith) (omega (arith, length-append s.0 more, sum_by-append pauses_in s.0 more));
-  asides = λ e s a h. told_fine e s.0 s h (omega arith) (omega arith);
+  asides = λ e s a h. told_fine e s.0 s h (weighs_one e) (omega arith);
   refuses = λ d r s h g f. told_fine (entry.Refuse d) s.0 s h (omega arith) (omega arith);
   swallows = λ d r s h g f. let changed = firing.with_guard false r in told_fine (entry.Swallow d) _ s h (omega arith) (omega (arith, length-set s.0 d changed, tally_set pauses_in s.0 d r changed g));
   cancels = λ d s h. told_fine (entry.Cancel d) s.0 s h (omega arith) (omega arith);

@@ -23,6 +23,7 @@ use Rattle.dv_store.specs.declared.store.Step.TheVariants.{Nothing}
 use Rattle.dv_performing.proofs.Kept.{Both, Kind, telling_of, Kept, every_step}
 use Rattle.dv_performing.proofs.Lasting.{Lasting}
 use Rattle.dv_performing.proofs.Tally.{tally_set, tally_changing}
+use Rattle.dv_performing.proofs.Weights.{weighs_one}
 use Rattle.dv_objects.specs.Pair.{passes}
 use Rattle.dv_objects.specs.Objects.{Objects}
 use Rattle.dv_world.specs.World.{World, Records, aside, state_of, moved, step, cancel, reached_from}
@@ -54,7 +55,7 @@ kept = record {
   joins = λ s t u p q. record { pays = omega (arith, p.pays, q.pays) };
   drops = λ d r pair rest s g e. record { pays = omega (arith, tally_set items_of s.0 d r (record r { items = rest }) g, ap length e) };
   news = λ name canceller s h. told_pays (entry.New (length s.0) name) _ s h (omega arith) (omega (arith, sum_by-append items_of s.0 (new_record name canceller ∷ [])));
-  asides = λ e s a h. told_pays e s.0 s h (omega arith) (omega arith);
+  asides = λ e s a h. told_pays e s.0 s h (weighs_one e) (omega arith);
   refuses = λ d r s h g f. told_pays (entry.Refuse d) s.0 s h (omega arith) (omega arith);
   swallows = λ d r s h g f. told_pays (entry.Swallow d) _ s h (omega arith) (omega (arith, tally_set items_of s.0 d r (firing.with_guard false r) g));
   cancels = λ d s h. told_pays (entry.Cancel d) s.0 s h (omega arith) (omega arith);
@@ -180,7 +181,7 @@ paid_where_told : (e : Entry) (change : Objects → Objects) (w : World) (b : Bo
     → (let t = cond b (record w { objects = change w.objects; journal = with_entry w.journal e }) (record w { stopped = true }) in
     t.stopped ≡ false → budget (state_of t) + 1 ≤ budget (state_of w))
 unfolding budget
-paid_where_told e change w true x h = omega (arith, total_weight_push w.journal.entries e, leb-true (total_weight w.journal.entries + weight_of e) w.journal.limit x)
+paid_where_told e change w true x h = omega (arith, total_weight_push w.journal.entries e, leb-true (total_weight w.journal.entries + weight_of e) w.journal.limit x, weighs_one e)
 paid_where_told e change w false x h = absurd cc
 
 paid_where_going : (e : Entry) (change : Objects → Objects) (w : World) (b : Bool) → w.stopped ≡ b

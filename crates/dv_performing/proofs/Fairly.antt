@@ -263,10 +263,10 @@ release : (m l : ℕ) → 0 < m → Within m (page.release l)
 release m l q = λ w. (tt, λ s e. (tt, (tt, λ d k. q)))
 
 put_in : (m k : ℕ) (v : Value) → 0 < m → Within m (page.put_in k v)
-put_in m k v q = λ w. (tt, λ s e. ((λ a known. Light (tt, λ given k. q)), tt))
+put_in m k v q = λ w. (tt, λ s e. (tt, λ a known. Light (tt, λ given k. q)))
 
 get_out : (m : ℕ) (name : List ℕ) (k : ℕ) → 0 < m → Within m (page.get_out name k)
-get_out m name k q = λ w u. (tt, λ s e. ((λ a known. Light (tt, λ v j. q)), tt))
+get_out m name k q = λ w u. (tt, λ s e. (tt, λ a known. Light (tt, λ v j. q)))
 
 used_lighter : (purpose : Purpose) (d : ℕ) → Lighter 2 (page.used_for purpose d)
 used_lighter (Named name) d = tt
@@ -319,7 +319,7 @@ after_step m t (Gave v) q = (tt, λ failure e. end_task m t (Failed failure) q)
 after_step m t (Raised failure) q = end_task m t (Failed failure) q
 after_step m t (Awaits e) q = (tt, (q, tt))
 
-tick_taken : (m left : ℕ) (o : Option (ℕ × Option Body)) → Or (1 ≤ one_if_some o) (Within m (Finds o page.tick_ended (λ now. Over (page.take_step now.0 now.1) (frame.Tick left ∷ []))))
+tick_taken : (m left : ℕ) (o : Option (ℕ × Option Body)) → Or (1 ≤ one_if_some o) (Within m (Finds o page.tick_ended (λ now. Over (page.perform_next now.0 now.1) (frame.Tick left ∷ []))))
 tick_taken m left None = Light (tt, λ now e. absurd cc)
 tick_taken m left (Some now) = Pays (omega arith)
 

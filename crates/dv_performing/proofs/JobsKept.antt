@@ -17,7 +17,8 @@ use Rattle.dv_performing.proofs.FairTurns.{happening_comes, turned_fair}
 use Rattle.dv_performing.proofs.Lasting.{Lasting}
 use Rattle.dv_definition.specs.Rule as rule
 use Rattle.dv_definition.specs.Scripts.{Occurrence, happens, rule_of}
-use Rattle.dv_bodies.specs.Threading.{GoesOn, delivered, job_result}
+use Rattle.dv_bodies.specs.Threading.{GoesOn, job_result}
+use Rattle.dv_definition.specs.Words.{fire_with}
 use Rattle.dv_performing.specs.TurnEnds.{ended_with, ending}
 use Rattle.dv_performing.specs.declared.turn_end.TurnEnd.{TurnEnd}
 use Rattle.dv_performing.specs.declared.turn_end.TurnEnd.TheVariants.{Came, Delivers}
@@ -132,7 +133,7 @@ settle_same d follow.Settle w = refl
 settle_same d follow.Nothing w = refl
 settle_same d (follow.Raise failure) w = refl
 
-delivered_same : (d : ℕ) (o : Option Value) (w : World) → (delivered d o w).2.works ≡ w.works
+delivered_same : (d : ℕ) (o : Option Value) (w : World) → (rule.run (fire_with d o) w).2.works ≡ w.works
 delivered_same d None w = refl
 delivered_same d (Some value) w = ap (λ (u : World). u.works) (settle_same d (fire d value w).0 (fire d value w).1) ∙ fire_same d value w
 
@@ -140,11 +141,11 @@ ended_same : (end : TurnEnd) (p : Performed) (w : World) → (ended_with end p w
 ended_same Came p w = refl
 ended_same (Delivers job d) p w = delivered_same d (job_result job w.works) w
 
-delivered_works : (d : ℕ) (o : Option Value) (old new : Turn) → new ≡ (delivered d o old.world onto old) → new.world.works ≡ old.world.works
+delivered_works : (d : ℕ) (o : Option Value) (old new : Turn) → new ≡ rule.after (fire_with d o) old → new.world.works ≡ old.world.works
 delivered_works d o old new e = subst (λ (turn : Turn). turn.world.works ≡ old.world.works) (sym e) (delivered_same d o old.world)
 
 -- so it is where that is the last step
-pub delivers_works : (r : Result (Unit {0}) AllocError) (d : ℕ) (o : Option Value) (works : List Work) (old new : Turn) → works ≡ old.world.works → OnOk r (new ≡ (delivered d o old.world onto old)) → OnOk r (works ≡ new.world.works)
+pub delivers_works : (r : Result (Unit {0}) AllocError) (d : ℕ) (o : Option Value) (works : List Work) (old new : Turn) → works ≡ old.world.works → OnOk r (new ≡ rule.after (fire_with d o) old) → OnOk r (works ≡ new.world.works)
 delivers_works (Ok _) d o works old new e h = e ∙ sym (delivered_works d o old new h)
 delivers_works (Err _) d o works old new e h = h
 

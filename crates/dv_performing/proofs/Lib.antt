@@ -5,6 +5,7 @@ pub mod Kept
 pub mod Sizes
 pub mod InlineSizes
 pub mod Tally
+pub mod Weights
 pub mod Budget
 pub mod BoundsKept
 pub mod StepsCome

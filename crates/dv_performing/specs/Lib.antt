@@ -1,6 +1,5 @@
 pub mod Acting
 pub mod Beginning
-pub mod ComingDue
 pub mod TurnEnds
 pub mod Settling
 pub mod Turning

@@ -4,19 +4,16 @@ use Rattle.dv_frames.specs.Turn.{Turned}
 use Rattle.dv_objects.specs.Pair.{Pair}
 use Rattle.dv_objects.specs.declared.pair.Side.{Side}
 use Rattle.dv_objects.specs.declared.performed.Performed.{Performed}
-use Rattle.dv_objects.specs.declared.performed.Performed.TheVariants.{Done, Gave, Raised, Awaits}
 use Rattle.dv_definition.specs.Definition as page
 use Rattle.dv_definition.specs.Rule.{run}
+use Rattle.dv_definition.specs.Steps.{stepped}
 use Rattle.dv_store.specs.declared.store.Step.{Step}
-use Rattle.dv_value.specs.declared.value.Value.{Value, Null, Fault}
-use Rattle.dv_world.specs.World.{World, put, put_deferred}
+use Rattle.dv_value.specs.declared.value.Value.{Value}
+use Rattle.dv_world.specs.World.{World}
 
--- what a side gave is put in place: null, its result, the failure that it raised, or the Deferred that it gave
+-- the world, once what a side of d gave is put in place
 abbrev pub place : ℕ → Performed → World → World
-place d Done w = put d Null w
-place d (Gave value) w = put d value w
-place d (Raised failure) w = put d (Fault failure) w
-place d (Awaits e) w = put_deferred d e w
+place d p w = stepped (page.placing d p) w
 
 abbrev pub side_begun : ℕ → Option Side → Value → World → Turned
 side_begun d o input w = run (page.run_side d o input) w

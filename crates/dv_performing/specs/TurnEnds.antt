@@ -1,6 +1,8 @@
 -- How a turn ends, and what that goes on with.
 use Rattle.std.specs.Prelude.{[], Result, Ok, Err}
-use Rattle.dv_bodies.specs.Threading.{delivered, job_result}
+use Rattle.dv_bodies.specs.Threading.{job_result}
+use Rattle.dv_definition.specs.Rule.{run}
+use Rattle.dv_definition.specs.Words.{fire_with}
 use Rattle.dv_frames.specs.Turn.{Turned, ◌onto◌}
 use Rattle.dv_frames.specs.declared.turn.Turn.{Turn}
 use Rattle.dv_objects.specs.declared.performed.Performed.{Performed}
@@ -11,7 +13,7 @@ use Rattle.dv_world.specs.World.{World}
 -- it gave this, or a Deferred is fired with the result of its job
 abbrev pub ended_with : TurnEnd → Performed → World → Turned
 ended_with Came p w = ([], p, w)
-ended_with (Delivers job d) p w = delivered d (job_result job w.works) w
+ended_with (Delivers job d) p w = run (fire_with d (job_result job w.works)) w
 
 -- what a rule worked on, once what the turn ends with is done
 abbrev pub ending : TurnEnd → Turn → Turn

@@ -1,9 +1,8 @@
 ghost use Rattle.std.specs.Prelude.{◌≡◌, Some, IfOk, OnOk};
 ghost use Rattle.dv_definition.specs.Definition as page;
 ghost use Rattle.dv_definition.specs.Rule.{after};
-ghost use Rattle.dv_definition.specs.Words.{calls, cancels, runs_due, tells_failure, ◌and◌};
+ghost use Rattle.dv_clock.specs.declared.due.Due.TheVariants.{Timeout};
 ghost use Rattle.dv_objects.specs.declared.performed.Performed.TheVariants.{Done};
-ghost use Rattle.dv_performing.specs.ComingDue.{call_body};
 ghost use Rattle.dv_performing.specs.TurnEnds.{ending};
 
 use crate::turn_end::{TurnEnd, came};
@@ -14,7 +13,6 @@ use dv_frames::frame::Frame;
 use dv_frames::turn::Turn;
 use dv_journal::deferred_id::DeferredId;
 use dv_objects::input::Input;
-use dv_script::lent::BodyRef;
 use dv_timing::looping::take_turn;
 use std::alloc::AllocError;
 
@@ -38,8 +36,7 @@ fn run_what(turn: &mut Turn<'_>, what: Due) -> Result<TurnEnd, AllocError>
     match what {
         Due::Call(name, key) => {
             drop(name);
-            let body = turn.world.body(key);
-            came(run_call(turn, body))
+            came(run_call(turn, key))
         }
         Due::Turn(name, key) => {
             drop(name);
@@ -60,12 +57,12 @@ fn run_what(turn: &mut Turn<'_>, what: Due) -> Result<TurnEnd, AllocError>
 }
 
 /// The body of a delayed call is to be performed, and then what is due next.
-fn run_call<'s>(turn: &mut Turn<'s>, body: Option<BodyRef<'s>>) -> Result<(), AllocError>
+fn run_call(turn: &mut Turn<'_>, key: u32) -> Result<(), AllocError>
     requires done { turn.old.performed ≡ Done }
-    ensures { OnOk result (turn.new ≡ after (call_body body.entry) turn.old) }
+    ensures { OnOk result (turn.new ≡ after (page.run_call key) turn.old) }
 {
     turn.stack.push(Frame::Due)?;
-    match body {
+    match turn.world.body(key) {
         None => Ok(()),
         Some(body) => {
             turn.stack.push(Frame::Tell)?;
@@ -78,7 +75,7 @@ fn run_call<'s>(turn: &mut Turn<'s>, body: Option<BodyRef<'s>>) -> Result<(), Al
 /// Cancels a Deferred whose time is over, logs what that raises, and goes on with what is due next.
 fn time_out(turn: &mut Turn<'_>, id: DeferredId) -> Result<(), AllocError>
     requires done { turn.old.performed ≡ Done }
-    ensures { OnOk result (turn.new ≡ after (calls (cancels id and tells_failure and runs_due)) turn.old) }
+    ensures { OnOk result (turn.new ≡ after (page.run_next (Some (Timeout id))) turn.old) }
 {
     turn.stack.push(Frame::Due)?;
     turn.stack.push(Frame::Tell)?;

@@ -124,10 +124,7 @@ fn begin<'s>(
             drop(input);
             end_turn(turn, looping)
         }
-        Side::EndLoop(looping) => {
-            turn.world.end_loop(looping);
-            fail_turn(turn, looping, input)
-        }
+        Side::EndLoop(looping) => fail_turn(turn, looping, input),
         Side::ResumeTask(task) => {
             drop(input);
             end_hold(turn, task)

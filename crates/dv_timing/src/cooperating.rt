@@ -3,8 +3,7 @@ ghost use Rattle.dv_frames.specs.Bounds.{Bounded};
 ghost use Rattle.dv_definition.specs.Definition as page;
 ghost use Rattle.dv_definition.specs.Rule.{after, ◌next◌};
 ghost use Rattle.dv_definition.specs.Steps.{KeepTick, NewTask};
-ghost use Rattle.dv_definition.specs.Words.{finished, on_task};
-ghost use Rattle.dv_timing.specs.Cooperating.{step_of_tick};
+ghost use Rattle.dv_definition.specs.Words.{finished, is_over, on_task};
 ghost use Rattle.dv_objects.specs.declared.performed.Performed.TheVariants.{Done, Awaits};
 
 use dv_clock::task_id::TaskId;
@@ -253,7 +252,7 @@ fn hold<'s>(turn: &mut Turn<'s>, task: TaskId, id: DeferredId) -> Result<(), All
 
 /// Whether a task has ended, or there is none of that id.
 fn has_ended<'s>(world: &World<'s>, task: TaskId) -> bool
-    ensures { result ≡ page.is_over task world.now }
+    ensures { result ≡ is_over task world.now }
 {
     match world.task(task) {
         None => true,
@@ -275,7 +274,7 @@ pub fn go_on_ticking<'s>(turn: &mut Turn<'s>, units: u32) -> Result<(), AllocErr
 /// A step is taken, and then so many more.
 fn take_step<'s>(turn: &mut Turn<'s>, left: u32) -> Result<(), AllocError>
     requires done { turn.old.performed ≡ Done }
-    ensures { OnOk result (turn.new ≡ after (step_of_tick left) turn.old) }
+    ensures { OnOk result (turn.new ≡ after (page.step_of_tick left) turn.old) }
 {
     match turn.world.take_step()? {
         None => end_tick(turn),
@@ -293,7 +292,7 @@ fn begin_step<'s>(
     body: Option<BodyRef<'s>>,
 ) -> Result<(), AllocError>
     requires done { turn.old.performed ≡ Done }
-    ensures { OnOk result (turn.new ≡ after (page.take_step task body.entry) turn.old) }
+    ensures { OnOk result (turn.new ≡ after (page.perform_next task body.entry) turn.old) }
 {
     match body {
         None => end(turn, task, TaskEnd::Finished),

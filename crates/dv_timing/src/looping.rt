@@ -2,9 +2,9 @@ ghost use Rattle.std.specs.Prelude.{◌≡◌, OnOk};
 ghost use Rattle.dv_frames.specs.Bounds.{Bounded};
 ghost use Rattle.dv_definition.specs.Definition as page;
 ghost use Rattle.dv_definition.specs.Rule.{after};
-ghost use Rattle.dv_definition.specs.Words.{on_loop, the_loop};
-ghost use Rattle.dv_timing.specs.Looping.{begin_loop, end_where, fire_failed, first_turn};
+ghost use Rattle.dv_definition.specs.Words.{fire_if, on_loop};
 ghost use Rattle.dv_objects.specs.declared.performed.Performed.TheVariants.{Done};
+ghost use Rattle.dv_value.specs.declared.value.Value.{Text as TextValue};
 
 use dv_clock::loop_id::LoopId;
 use dv_frames::following::{fire_and_settle, unbound};
@@ -48,7 +48,7 @@ fn begin_loop<'s>(
     body: BodyRef<'s>,
 ) -> Result<(), AllocError>
     requires done { turn.old.performed ≡ Done }
-    ensures { OnOk result (turn.new ≡ after (begin_loop name.entry of interval at_once body.entry) turn.old) }
+    ensures { OnOk result (turn.new ≡ after (page.begin_loop name.entry of interval at_once body.entry) turn.old) }
 {
     let shown = name.as_str();
     let body = body.get();
@@ -70,7 +70,7 @@ fn begin_at_once<'s>(
     body: BodyRef<'s>,
 ) -> Result<(), AllocError>
     requires done { turn.old.performed ≡ Done }
-    ensures { OnOk result (turn.new ≡ after (first_turn name.now looping body.entry) turn.old) }
+    ensures { OnOk result (turn.new ≡ after (page.first_turn name.now looping body.entry) turn.old) }
 {
     turn.world.tell(Entry::Turn(Text::of(turn.alloc, name)?))?;
     perform_for(turn, Purpose::Turning(looping), body)
@@ -79,7 +79,7 @@ fn begin_at_once<'s>(
 /// The body of a loop is to be performed, as a turn of it.
 pub fn take_turn(turn: &mut Turn<'_>, looping: LoopId) -> Result<(), AllocError>
     requires done { turn.old.performed ≡ Done }
-    ensures { OnOk result (turn.new ≡ after (the_loop looping λ x. page.turn looping x.body) turn.old) }
+    ensures { OnOk result (turn.new ≡ after (page.take_turn looping) turn.old) }
 {
     match turn.world.looping(looping) {
         None => Ok(()),
@@ -107,11 +107,12 @@ pub fn end_turn<'s>(turn: &mut Turn<'s>, looping: LoopId) -> Result<(), AllocErr
     fire_and_settle(turn, of, Value::Text(name))
 }
 
-/// A turn of a loop has failed, and its Deferred is fired with the failure.
+/// A turn of a loop has failed: the loop ends, and its Deferred is fired with the failure.
 pub fn fail_turn<'s>(turn: &mut Turn<'s>, looping: LoopId, failure: Value) -> Result<(), AllocError>
     requires done { turn.old.performed ≡ Done }
-    ensures { OnOk result (turn.new ≡ after (fire_failed looping failure) turn.old) }
+    ensures { OnOk result (turn.new ≡ after (page.fail_turn looping failure) turn.old) }
 {
+    turn.world.end_loop(looping);
     let Some(found) = turn.world.looping(looping) else {
         drop(failure);
         return Ok(());
@@ -159,7 +160,7 @@ fn end_where<'s>(
     name: Text,
 ) -> Result<(), AllocError>
     requires done { turn.old.performed ≡ Done }
-    ensures { OnOk result (turn.new ≡ after (end_where ended of name) turn.old) }
+    ensures { OnOk result (turn.new ≡ after (fire_if ended of (TextValue name)) turn.old) }
 {
     if ended {
         fire_and_settle(turn, of, Value::Text(name))

@@ -1,11 +1,13 @@
-ghost use Rattle.std.specs.Prelude.{◌≡◌, ◌++◌, length, OnOk};
+ghost use Rattle.std.specs.Prelude.{◌≡◌, ◌++◌, [], length, Some, OnOk};
 ghost use Rattle.dv_frames.specs.Bounds.{Bounded};
 ghost use Rattle.dv_definition.specs.Definition as page;
-ghost use Rattle.dv_definition.specs.Rule.{after};
-ghost use Rattle.dv_definition.specs.Words.{on_all};
-ghost use Rattle.dv_waiting.specs.Listing.{fire_at_once, fire_by_child, results, with_listed};
+ghost use Rattle.dv_definition.specs.Rule.{after, ◌next◌};
+ghost use Rattle.dv_definition.specs.Steps.{Make, NewList};
+ghost use Rattle.dv_definition.specs.Words.{calls, fire_if, on_all};
 ghost use Rattle.dv_definition.specs.Flags.{list_flags, gather_flags};
+ghost use Rattle.dv_objects.specs.declared.canceller.Canceller.TheVariants.{Children};
 ghost use Rattle.dv_objects.specs.declared.performed.Performed.TheVariants.{Done};
+ghost use Rattle.dv_value.specs.declared.value.Value.TheVariants.{List as ListValue};
 
 use crate::flags::{gather_flags, list_flags};
 use dv_frames::following::{fire_and_settle, unbound};
@@ -110,10 +112,8 @@ fn begin<'s>(
     flags: Flags,
 ) -> Result<(), AllocError>
     requires bounded { Bounded turn.old.world }
-    ensures { OnOk result (turn.new ≡ record turn.old {
-      world = with_listed name.entry children flags turn.old.world;
-      stack = page.add_children (length turn.old.world.objects.lists) id 0 children ++ turn.old.stack;
-    }) }
+    requires done { turn.old.performed ≡ Done }
+    ensures { OnOk result (turn.new ≡ after (NewList (length children) flags next Make (Some name.entry) (Some (Children children)) next calls (page.add_children (length turn.old.world.objects.lists) id 0 children)) turn.old) }
 {
     let list = turn.world.make_list(children.as_slice().len(), flags)?;
     add_to_children(&mut turn.stack, list, id, children.as_slice())?;
@@ -149,7 +149,7 @@ fn add_to_children<'s>(
 /// Fires a DeferredList that has all at once with nothing.
 fn fire_at_once<'s>(turn: &mut Turn<'s>, id: DeferredId, at_once: bool) -> Result<(), AllocError>
     requires done { turn.old.performed ≡ Done }
-    ensures { OnOk result (turn.new ≡ after (fire_at_once id at_once) turn.old) }
+    ensures { OnOk result (turn.new ≡ after (fire_if at_once id (ListValue [])) turn.old) }
 {
     if !at_once {
         return Ok(());
@@ -178,7 +178,7 @@ fn fire_by_child<'s>(
     due: Option<Value>,
 ) -> Result<(), AllocError>
     requires done { turn.old.performed ≡ Done }
-    ensures { OnOk result (turn.new ≡ after (fire_by_child id due) turn.old) }
+    ensures { OnOk result (turn.new ≡ after (page.fire_list id due) turn.old) }
 {
     let Some(value) = due else {
         return Ok(());
@@ -193,7 +193,7 @@ fn fire_by_child<'s>(
 /// What the children of a DeferredList gave, from its result. TypeError where the value is no such result.
 pub fn results<'s>(turn: &mut Turn<'s>, value: Value) -> Result<(), AllocError>
     requires done { turn.old.performed ≡ Done }
-    ensures { OnOk result (turn.new ≡ after (results value) turn.old) }
+    ensures { OnOk result (turn.new ≡ after (page.give_gathered value) turn.old) }
 {
     let seconds = seconds(turn.alloc, &value);
     drop(value);

@@ -3,7 +3,6 @@ ghost use Rattle.dv_frames.specs.Bounds.{Bounded};
 ghost use Rattle.dv_definition.specs.Definition as page;
 ghost use Rattle.dv_definition.specs.Rule.{after};
 ghost use Rattle.dv_definition.specs.Words.{on_lock};
-ghost use Rattle.dv_waiting.specs.Locking.{ask};
 ghost use Rattle.dv_objects.specs.declared.performed.Performed.TheVariants.{Done};
 
 use dv_frames::following::{fire_and_settle, unbound};
@@ -70,7 +69,7 @@ fn acquire_found<'s>(turn: &mut Turn<'s>, name: TextRef<'s>, lock: LockId) -> Re
 /// A Deferred asks a lock for a token, and is fired at once where it gets one.
 fn ask<'s>(turn: &mut Turn<'s>, lock: LockId, id: DeferredId) -> Result<(), AllocError>
     requires done { turn.old.performed ≡ Done }
-    ensures { OnOk result (turn.new ≡ after (ask lock id) turn.old) }
+    ensures { OnOk result (turn.new ≡ after (page.ask_lock lock id) turn.old) }
 {
     let Some(semaphore) = turn.world.lock(lock) else {
         return Ok(());

@@ -2,8 +2,7 @@ ghost use Rattle.std.specs.Prelude.{◌≡◌, OnOk};
 ghost use Rattle.dv_frames.specs.Bounds.{Bounded};
 ghost use Rattle.dv_definition.specs.Definition as page;
 ghost use Rattle.dv_definition.specs.Rule.{after};
-ghost use Rattle.dv_definition.specs.Words.{on_queue};
-ghost use Rattle.dv_waiting.specs.Queueing.{ask, give, hand_out};
+ghost use Rattle.dv_definition.specs.Words.{fire_with, on_queue};
 ghost use Rattle.dv_objects.specs.declared.performed.Performed.TheVariants.{Done};
 
 use dv_frames::following::{fire_and_settle, unbound};
@@ -60,7 +59,7 @@ fn hand_out<'s>(
     received: Option<(DeferredId, Value)>,
 ) -> Result<(), AllocError>
     requires done { turn.old.performed ≡ Done }
-    ensures { OnOk result (turn.new ≡ after (hand_out received) turn.old) }
+    ensures { OnOk result (turn.new ≡ after (page.hand_out received) turn.old) }
 {
     match received {
         None => Ok(()),
@@ -106,7 +105,7 @@ fn get_where_it_may<'s>(
 /// A Deferred asks a queue for a value, and is fired at once where it gets one.
 fn ask<'s>(turn: &mut Turn<'s>, queue: QueueId, id: DeferredId) -> Result<(), AllocError>
     requires done { turn.old.performed ≡ Done }
-    ensures { OnOk result (turn.new ≡ after (ask queue id) turn.old) }
+    ensures { OnOk result (turn.new ≡ after (page.ask_queue queue id) turn.old) }
 {
     let value = turn.world.get_from(queue, id)?;
     give(turn, id, value)
@@ -115,7 +114,7 @@ fn ask<'s>(turn: &mut Turn<'s>, queue: QueueId, id: DeferredId) -> Result<(), Al
 /// Fires a Deferred with the value that it got, if it did.
 fn give<'s>(turn: &mut Turn<'s>, id: DeferredId, value: Option<Value>) -> Result<(), AllocError>
     requires done { turn.old.performed ≡ Done }
-    ensures { OnOk result (turn.new ≡ after (give id value) turn.old) }
+    ensures { OnOk result (turn.new ≡ after (fire_with id value) turn.old) }
 {
     match value {
         None => Ok(()),

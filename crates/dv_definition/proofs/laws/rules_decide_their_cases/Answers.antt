@@ -1,5 +1,5 @@
 use Rattle.std.proofs.Common.{refl}
-use Rattle.dv_definition.proofs.CasesHold.{tokens_are_waited_for, full_queues_refuse, fired_lists_stay, turns_follow, ended_tasks_stay, name_errors_are_thrown, many_jobs_are_refused, failures_of_calls_are_told}
+use Rattle.dv_definition.proofs.CasesHold.{tokens_are_waited_for, full_queues_refuse, fired_lists_stay, turns_follow, ended_tasks_stay, name_errors_are_thrown, errbacks_are_for_failures, many_jobs_are_refused, failures_of_calls_are_told}
 use Rattle.dv_definition.proofs.laws.rules_decide_their_cases.Goals as goal
 
 pub returns-clause-deferreds : goal.returns-clause-deferreds
@@ -16,6 +16,9 @@ returns-clause-queues c = full_queues_refuse
 
 pub returns-clause-results : goal.returns-clause-results
 returns-clause-results c = λ name failure w. refl
+
+pub returns-clause-bodies : goal.returns-clause-bodies
+returns-clause-bodies c = λ name l body w. refl
 
 pub returns-clause-lists : goal.returns-clause-lists
 returns-clause-lists c = fired_lists_stay
@@ -37,6 +40,12 @@ returns-clause-jobs c = many_jobs_are_refused
 
 pub returns-clause-settling : goal.returns-clause-settling
 returns-clause-settling c = λ d e w. refl
+
+pub returns-clause-actions : goal.returns-clause-actions
+returns-clause-actions c = errbacks_are_for_failures
+
+pub returns-clause-rest : goal.returns-clause-rest
+returns-clause-rest c = λ itself action rest end input w. refl
 
 pub returns-clause-calls : goal.returns-clause-calls
 returns-clause-calls c = failures_of_calls_are_told
