@@ -4,7 +4,8 @@ VERSION, as 0.1.0, has to have its section in CHANGELOG.md. The gate proves the 
 `release/x86_64-linux` beside its SHA-256 and the checksum of its sources. A wheel and a Debian package are made in `dist`.
 
 `--check` says whether the release is whole, and names one version and its own sources. Where a program is built here of the sources
-of the release, it has to be the released one, byte for byte. `--stamp` has the program say, by `--version`, of which sources it is.
+of the release, by the kit that it names, it has to be the released one, byte for byte: another kit may compile the same sources to
+other bytes. `--stamp` has the program say, by `--version`, of which sources it is.
 
 Status 0: made, or nothing is wrong; 1: something is wrong; 64: the words are wrong; 70: a tool is missing or failed.
 """
@@ -124,11 +125,11 @@ def faults() -> List[str]:
         found.append(f"CHANGELOG.md has no section for {stamped.version}")
     if f'version = "{stamped.version}"' not in text_of(PYPROJECT):
         found.append(f"pyproject.toml has another version than {stamped.version}")
-    return found + faults_of_program(here)
+    return found + faults_of_program(here, stamped.kit)
 
 
-def faults_of_program(here: str) -> List[str]:
-    """What is wrong with the released program, a line each."""
+def faults_of_program(here: str, kit: str) -> List[str]:
+    """What is wrong with the released program, which this kit has built of sources, a line each."""
     program, of_sources, sums = (RELEASED / name for name in ("deferreds", "sources", "SHA256SUMS"))
     for path in (program, of_sources, sums):
         if not path.is_file():
@@ -140,6 +141,9 @@ def faults_of_program(here: str) -> List[str]:
         return []
     if not BUILT.is_file() or output_of([str(TOP / "deferreds"), "--program"]) != str(BUILT):
         print("make_release: no program is built here, so none is compared with it")
+        return []
+    if output_of(["rt", "version"]) != kit:
+        print(f"make_release: it is of {kit}, and the program that is built here of another kit, so their bytes aren't compared")
         return []
     if not filecmp.cmp(BUILT, program, shallow=False):
         return ["the program that is built here isn't the released one, though the release says that it is of these sources"]

@@ -1,6 +1,6 @@
-"""The language as data (docs/LANGUAGE.md): its words, its keys, the lines of the journal.
+"""The language as `./deferreds --language` prints it (docs/LANGUAGE.md): its words, its keys, the lines of the journal.
 
-All that Python knows of the forms is read off `language.json`.
+`language.json` is that output, and all that Python knows of the forms is read off it.
 """
 
 from __future__ import annotations

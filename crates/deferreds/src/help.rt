@@ -3,6 +3,7 @@ pub const HELP: &str = "\
 deferreds [WORKERS] [FILE]         runs a script, and prints its journal and the outcome of each Deferred
 deferreds --json [WORKERS] [FILE]  prints the run as JSON Lines, for tools
 deferreds --why [FILE]             prints, as a line of JSON, where a script is refused, and why
+deferreds --language               prints the language as JSON: its words, its keys, the lines of the journal
 deferreds --version                prints the version, the checksum of the sources, and the kit that proved them
 deferreds --help                   prints this
 

@@ -15,6 +15,7 @@ use crate::performing::perform;
 use crate::version::VERSION;
 use dv_journal::io_sink::IoSink;
 use dv_journal::sink::{Sink, write_all};
+use dv_language::language::print_language;
 use dv_run::{Asked, Input, IoSource, RunFault, asked_of, exit_of};
 use std::alloc::AllocGlobal;
 use std::io::IsTerminal;
@@ -52,6 +53,10 @@ fn main(rt: HostRuntime) -> ExitCode {
                         Exit::plain((4, ""))
                     }
                 }
+            }
+            Some(Asked::Language) => {
+                let mut writer = IoSink::new(rt.stdout());
+                Exit::plain(dv_language::language::exit_of(print_language(rt.alloc(), &mut writer)))
             }
             Some(Asked::Version) => print(&mut IoSink::new(rt.stdout()), VERSION),
             Some(Asked::Help) => print(&mut IoSink::new(rt.stdout()), HELP),

@@ -63,12 +63,13 @@ alone asked (word ∷ words) = None
 
 -- the option that a word is
 abbrev pub flag_in : List ℕ → Option Flag
-flag_in word = if bytes_eq word (codes "--json") then Some flag.Json else if bytes_eq word (codes "--why") then Some flag.Why else if bytes_eq word (codes "--version") then Some flag.Version else if bytes_eq word (codes "--help") then Some flag.Help else None
+flag_in word = if bytes_eq word (codes "--json") then Some flag.Json else if bytes_eq word (codes "--why") then Some flag.Why else if bytes_eq word (codes "--language") then Some flag.Language else if bytes_eq word (codes "--version") then Some flag.Version else if bytes_eq word (codes "--help") then Some flag.Help else None
 
 -- what an option asks for, with the words after it
 abbrev pub asked_by : Flag → List (List ℕ) → Option Asked
 asked_by flag.Json words = run_in form.Json words
 asked_by flag.Why words = why_in words
+asked_by flag.Language words = alone asked.Language words
 asked_by flag.Version words = alone asked.Version words
 asked_by flag.Help words = alone asked.Help words
 
@@ -89,5 +90,6 @@ HasFewWorkers task.Why = ⊤
 -- no more workers than a run may have, where a run is asked for
 abbrev pub AsksFew : Asked → Type 0
 AsksFew (asked.Script task input) = HasFewWorkers task
+AsksFew asked.Language = ⊤
 AsksFew asked.Version = ⊤
 AsksFew asked.Help = ⊤

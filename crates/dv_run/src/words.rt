@@ -38,6 +38,8 @@ pub enum Task {
 pub enum Asked {
     /// To do this with a script.
     Script(Task, Input),
+    /// To print the language as JSON.
+    Language,
     /// To print which program it is.
     Version,
     /// To print how it is used.
@@ -49,6 +51,7 @@ pub enum Asked {
 pub enum Flag {
     Json,
     Why,
+    Language,
     Version,
     Help,
 }
@@ -77,6 +80,7 @@ fn asked_by(flag: Flag, words: &[String]) -> Option<Asked>
     match flag {
         Flag::Json => run_in(Form::Json, words),
         Flag::Why => why_in(words),
+        Flag::Language => alone(Asked::Language, words),
         Flag::Version => alone(Asked::Version, words),
         Flag::Help => alone(Asked::Help, words),
     }
@@ -89,6 +93,8 @@ fn flag_in(word: &str) -> Option<Flag>
         Some(Flag::Json)
     } else if word == "--why" {
         Some(Flag::Why)
+    } else if word == "--language" {
+        Some(Flag::Language)
     } else if word == "--version" {
         Some(Flag::Version)
     } else if word == "--help" {

@@ -1,0 +1,47 @@
+-- The keys of objects, as JSON.
+use Rattle.std.specs.Prelude.{ℕ, Bool, true, false, ◌||◌, bytes_eq, List, [], ◌∷◌, ◌++◌, map, codes}
+use Rattle.serde_json.specs.Data.{Data, unsigned, number, boolean, string, array, object, member, no_members}
+use Rattle.serde_json.specs.View.{items_of}
+use Rattle.dv_forms.specs.declared.want.Keyed.{Keyed}
+use Rattle.dv_forms.specs.declared.want.Keyed.TheVariants as keyed
+use Rattle.dv_forms.specs.declared.want.Want.{Want}
+use Rattle.dv_forms.specs.declared.want.Want.TheVariants as want
+use Rattle.dv_forms.specs.Wants.{key_want, keys_in}
+use Rattle.dv_language.specs.Wants.{keyed_name, want_data}
+
+-- whether an object has to have a key
+abbrev pub is_needed : Keyed → List ℕ → Bool
+is_needed (keyed.Script version) key = bytes_eq key (codes "version") || bytes_eq key (codes "events")
+is_needed keyed.Cooperator key = true
+is_needed keyed.Body key = false
+
+-- 1, or 2 where a script of version 1 may not have the key
+abbrev pub since_by : Want → ℕ
+since_by (want.Leaf l) = 1
+since_by want.Value = 1
+since_by (want.Call c) = 1
+since_by (want.Pair p) = 1
+since_by (want.Keyed k) = 1
+since_by (want.Array i) = 1
+since_by (want.Word c) = 1
+since_by (want.Other k) = 2
+
+-- the first version in which an object may have a key
+abbrev pub since : Keyed → List ℕ → ℕ
+since (keyed.Script version) key = since_by (key_want (keyed.Script 1) key)
+since keyed.Cooperator key = 1
+since keyed.Body key = 1
+
+-- a key
+abbrev pub key_data : Keyed → List ℕ → Data
+key_data k key =
+    object (member (codes "key") (string key) (member (codes "needed") (boolean (is_needed k key)) (member (codes "of") (string (keyed_name k))
+    (member (codes "since") (number (unsigned (since k key))) (member (codes "value") (want_data (key_want k key)) no_members)))))
+
+-- the keys that an object may have
+abbrev pub keys_of : Keyed → List Data
+keys_of k = map (key_data k) (keys_in k)
+
+-- the keys of a script, of its cooperator and of a body, as the last version has them
+abbrev pub keys_data : Data
+keys_data = array (items_of (keys_of (keyed.Script 2) ++ (keys_of keyed.Cooperator ++ keys_of keyed.Body)))

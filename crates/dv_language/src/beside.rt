@@ -1,0 +1,169 @@
+//! What readers need beside words and lines, as JSON: classes, limits, what stands where a script leaves it out, refusals, statuses.
+
+ghost use Rattle.std.specs.Prelude.{◌≡◌, IfOk, map, option_map};
+ghost use Rattle.serde_json.specs.Data.{array};
+ghost use Rattle.serde_json.specs.View.{items_of, view};
+ghost use Rattle.dv_language.specs.Beside.{class_data, classes_data, limits_data, usual_data, refusal_data, refusals_data, status_data, statuses_data};
+
+use dv_clock::limits::MOST_TICKS;
+use dv_script::limits::{
+    MOST_BYTES, MOST_CALLERS, MOST_CLASSES, MOST_LEVELS, MOST_NODES, MOST_POOLS, MOST_POSTS,
+    USUAL_LIMIT,
+};
+use dv_script::work::MOST_JOBS;
+use serde_json::{Value as Json, json, push};
+use std::alloc::{AllocError, Global};
+
+/// The classes that every script has, each after its parent.
+pub const CLASSES: [(&str, Option<&str>); 21] = [
+    ("Exception", None),
+    ("ValueError", Some("Exception")),
+    ("TypeError", Some("Exception")),
+    ("NameError", Some("Exception")),
+    ("AssertionError", Some("Exception")),
+    ("OverflowError", Some("Exception")),
+    ("RuntimeError", Some("Exception")),
+    ("AlreadyCalledError", Some("Exception")),
+    ("CancelledError", Some("Exception")),
+    ("FirstError", Some("Exception")),
+    ("QueueOverflow", Some("Exception")),
+    ("QueueUnderflow", Some("Exception")),
+    ("SchedulerError", Some("Exception")),
+    ("AlreadyCalled", Some("ValueError")),
+    ("AlreadyCancelled", Some("ValueError")),
+    ("TaskFinished", Some("SchedulerError")),
+    ("NotPaused", Some("SchedulerError")),
+    ("TaskDone", Some("TaskFinished")),
+    ("TaskStopped", Some("TaskFinished")),
+    ("TaskFailed", Some("TaskFinished")),
+    ("TimeoutError", Some("Exception")),
+];
+
+/// The refusals, by number.
+pub const REFUSALS: [(u32, &str); 9] = [
+    (1, "TooLong"),
+    (2, "NotJson"),
+    (3, "BadVersion"),
+    (4, "BadShape"),
+    (5, "TooMany"),
+    (6, "BadName"),
+    (7, "BadClass"),
+    (8, "OutOfMemory"),
+    (9, "BadPool"),
+];
+
+/// The exit statuses of the program, and when it ends with each.
+pub const STATUSES: [(u32, &str); 6] = [
+    (0, "all events were performed, or the script is accepted"),
+    (1, "the run stopped at the limit of its journal"),
+    (2, "the script is refused: --why says where"),
+    (3, "out of memory"),
+    (4, "a read or a write failed"),
+    (64, "the words are wrong"),
+];
+
+/// The most characters of a name.
+const MOST_NAME: u32 = 32;
+
+fn class_json(
+    alloc: Global,
+    class: &(&'static str, Option<&'static str>),
+) -> Result<Json, AllocError>
+    ensures { IfOk result (λ json. view json ≡ class_data class.now.0.now (option_map (λ parent. parent.now) class.now.1)) }
+{
+    match class.1 {
+        None => json!(in alloc; {"class": class.0, "parent": null}),
+        Some(parent) => json!(in alloc; {"class": class.0, "parent": parent}),
+    }
+}
+
+fn class_rows(
+    alloc: Global,
+    classes: &[(&'static str, Option<&'static str>)],
+) -> Result<Json, AllocError>
+    ensures { IfOk result (λ json. view json ≡ array (items_of (map (λ class. class_data class.0.now (option_map (λ parent. parent.now) class.1)) classes.now))) }
+{
+    let mut rows = Vec::new(alloc);
+    for class in classes {
+        push(&mut rows, class_json(alloc, class)?)?;
+    }
+    Ok(Json::Array(rows))
+}
+
+/// The classes that are built in, with their parents.
+pub fn classes_json(alloc: Global) -> Result<Json, AllocError>
+    ensures { IfOk result (λ json. view json ≡ classes_data) }
+{
+    class_rows(alloc, &CLASSES)
+}
+
+/// The most that there may be.
+pub fn limits_json(alloc: Global) -> Result<Json, AllocError>
+    ensures { IfOk result (λ json. view json ≡ limits_data) }
+{
+    json!(in alloc; {
+        "bytes": MOST_BYTES,
+        "depth": MOST_LEVELS,
+        "nodes": MOST_NODES,
+        "classes": MOST_CLASSES,
+        "pools": MOST_POOLS,
+        "callers": MOST_CALLERS,
+        "posts": MOST_POSTS,
+        "time": MOST_TICKS,
+        "jobs": MOST_JOBS,
+        "name": MOST_NAME,
+    })
+}
+
+/// What stands where a script leaves it out.
+pub fn usual_json(alloc: Global) -> Result<Json, AllocError>
+    ensures { IfOk result (λ json. view json ≡ usual_data) }
+{
+    json!(in alloc; {"limit": USUAL_LIMIT, "units": 1u32, "delay": 1u32})
+}
+
+fn refusal_json(alloc: Global, refusal: &(u32, &'static str)) -> Result<Json, AllocError>
+    ensures { IfOk result (λ json. view json ≡ refusal_data refusal.now.0 refusal.now.1.now) }
+{
+    json!(in alloc; {"refusal": refusal.0, "name": refusal.1})
+}
+
+fn refusal_rows(alloc: Global, refusals: &[(u32, &'static str)]) -> Result<Json, AllocError>
+    ensures { IfOk result (λ json. view json ≡ array (items_of (map (λ refusal. refusal_data refusal.0 refusal.1.now) refusals.now))) }
+{
+    let mut rows = Vec::new(alloc);
+    for refusal in refusals {
+        push(&mut rows, refusal_json(alloc, refusal)?)?;
+    }
+    Ok(Json::Array(rows))
+}
+
+/// The refusals.
+pub fn refusals_json(alloc: Global) -> Result<Json, AllocError>
+    ensures { IfOk result (λ json. view json ≡ refusals_data) }
+{
+    refusal_rows(alloc, &REFUSALS)
+}
+
+fn status_json(alloc: Global, status: &(u32, &'static str)) -> Result<Json, AllocError>
+    ensures { IfOk result (λ json. view json ≡ status_data status.now.0 status.now.1.now) }
+{
+    json!(in alloc; {"status": status.0, "when": status.1})
+}
+
+fn status_rows(alloc: Global, statuses: &[(u32, &'static str)]) -> Result<Json, AllocError>
+    ensures { IfOk result (λ json. view json ≡ array (items_of (map (λ status. status_data status.0 status.1.now) statuses.now))) }
+{
+    let mut rows = Vec::new(alloc);
+    for status in statuses {
+        push(&mut rows, status_json(alloc, status)?)?;
+    }
+    Ok(Json::Array(rows))
+}
+
+/// The exit statuses.
+pub fn statuses_json(alloc: Global) -> Result<Json, AllocError>
+    ensures { IfOk result (λ json. view json ≡ statuses_data) }
+{
+    status_rows(alloc, &STATUSES)
+}

@@ -1,0 +1,71 @@
+//! The keys of objects, as JSON.
+
+ghost use Rattle.std.specs.Prelude.{◌≡◌, ◌++◌, IfOk, OnOk, map};
+ghost use Rattle.serde_json.specs.View.{view};
+ghost use Rattle.dv_language.specs.Keys.{is_needed, since, key_data, keys_of, keys_data};
+
+use crate::wants::{keyed_name, want_json};
+use dv_forms::want::{Keyed, Want};
+use serde_json::{Value as Json, json, push};
+use std::alloc::{AllocError, Global};
+
+/// Whether an object has to have a key.
+fn is_needed(keyed: Keyed, key: &str) -> bool
+    ensures { result ≡ is_needed keyed key.now }
+{
+    match keyed {
+        Keyed::Script(_) => key == "version" || key == "events",
+        Keyed::Cooperator => true,
+        Keyed::Body => false,
+    }
+}
+
+/// The first version in which an object may have a key that it may have in the last one.
+fn since(keyed: Keyed, key: &str) -> u32
+    ensures { result ≡ since keyed key.now }
+{
+    match keyed {
+        Keyed::Script(_) => {
+            if matches!(Keyed::Script(1).want(key), Want::Other(_)) {
+                2
+            } else {
+                1
+            }
+        }
+        Keyed::Cooperator | Keyed::Body => 1,
+    }
+}
+
+fn key_json(alloc: Global, keyed: Keyed, key: &'static str) -> Result<Json, AllocError>
+    ensures { IfOk result (λ json. view json ≡ key_data keyed key.now) }
+{
+    json!(in alloc; {
+        "of": keyed_name(keyed),
+        "key": key,
+        "needed": is_needed(keyed, key),
+        "since": since(keyed, key),
+        "value": want_json(alloc, keyed.want(key))?,
+    })
+}
+
+/// Adds the keys that an object may have.
+fn push_keys(alloc: Global, rows: &mut Vec<Json>, keyed: Keyed) -> Result<(), AllocError>
+    ensures { OnOk result (map view rows.new.items ≡ map view rows.old.items ++ keys_of keyed) }
+{
+    let keys = keyed.keys();
+    for key in keys {
+        push(rows, key_json(alloc, keyed, *key)?)?;
+    }
+    Ok(())
+}
+
+/// The keys of a script, of its `cooperator` and of a body, as the last version has them.
+pub fn keys_json(alloc: Global) -> Result<Json, AllocError>
+    ensures { IfOk result (λ json. view json ≡ keys_data) }
+{
+    let mut rows = Vec::new(alloc);
+    push_keys(alloc, &mut rows, Keyed::Script(2))?;
+    push_keys(alloc, &mut rows, Keyed::Cooperator)?;
+    push_keys(alloc, &mut rows, Keyed::Body)?;
+    Ok(Json::Array(rows))
+}

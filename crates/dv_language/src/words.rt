@@ -1,0 +1,69 @@
+//! The words, as JSON: where each may stand, what comes with it, and since which version.
+
+ghost use Rattle.std.specs.Prelude.{◌≡◌, ◌++◌, IfOk, OnOk, map};
+ghost use Rattle.serde_json.specs.View.{view};
+ghost use Rattle.dv_forms.specs.Words.{seen};
+ghost use Rattle.dv_language.specs.Words.{form_data, places_data, words_data};
+
+use crate::wants::wants_json;
+use dv_forms::want::Call;
+use dv_forms::words::{
+    ACTION_FORMS, END_FORMS, EVENT_FORMS, Form, LEAVING_FORMS, STATEMENT_FORMS, WORK_FORMS,
+};
+use serde_json::{Value as Json, json, push};
+use std::alloc::{AllocError, Global};
+
+/// The places where the words of such a place may stand.
+fn places_json(alloc: Global, call: Call) -> Result<Json, AllocError>
+    ensures { IfOk result (λ json. view json ≡ places_data call) }
+{
+    match call {
+        Call::Event => json!(in alloc; ["event"]),
+        Call::Action => json!(in alloc; ["event", "action"]),
+        Call::Statement => json!(in alloc; ["statement"]),
+        Call::End => json!(in alloc; ["end"]),
+        Call::Leaving => json!(in alloc; ["end", "leaving"]),
+        Call::Work => json!(in alloc; ["work"]),
+    }
+}
+
+fn form_json<W: Copy>(alloc: Global, call: Call, form: &Form<W>) -> Result<Json, AllocError>
+    ensures { IfOk result (λ json. view json ≡ form_data call (seen form.now)) }
+{
+    json!(in alloc; {
+        "word": form.1,
+        "where": places_json(alloc, call)?,
+        "arguments": wants_json(alloc, form.2)?,
+        "text": form.3,
+        "since": form.4,
+    })
+}
+
+/// Adds the forms of the words of a place.
+fn push_forms<W: Copy>(
+    alloc: Global,
+    rows: &mut Vec<Json>,
+    call: Call,
+    forms: &'static [Form<W>],
+) -> Result<(), AllocError>
+    ensures { OnOk result (map view rows.new.items ≡ map view rows.old.items ++ map (form_data call) (map seen forms.now)) }
+{
+    for form in forms {
+        push(rows, form_json(alloc, call, form)?)?;
+    }
+    Ok(())
+}
+
+/// The words, those of each place together.
+pub fn words_json(alloc: Global) -> Result<Json, AllocError>
+    ensures { IfOk result (λ json. view json ≡ words_data) }
+{
+    let mut rows = Vec::new(alloc);
+    push_forms(alloc, &mut rows, Call::Event, &EVENT_FORMS)?;
+    push_forms(alloc, &mut rows, Call::Action, &ACTION_FORMS)?;
+    push_forms(alloc, &mut rows, Call::Statement, &STATEMENT_FORMS)?;
+    push_forms(alloc, &mut rows, Call::Leaving, &LEAVING_FORMS)?;
+    push_forms(alloc, &mut rows, Call::End, &END_FORMS)?;
+    push_forms(alloc, &mut rows, Call::Work, &WORK_FORMS)?;
+    Ok(Json::Array(rows))
+}
