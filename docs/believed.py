@@ -30,7 +30,7 @@ IN_MUTUAL = re.compile(r"^  (?:pub )?(\S+) : ")
 CONSTRUCTOR = re.compile(r"^ +(\S+) : ")
 IMPORT = re.compile(r"^(?:pub )?use Rattle\.(\w+)\.specs\.(\w+)(?: as (\w+)|\.\{(.*)\})$")
 WORD = re.compile(r"[^\s(){};,.λ]+(?:\.\w+)?")
-LOCAL = re.compile(r"\blet (\w+) =")
+LOCAL = re.compile(r"\blet (?:(\w+)|\(([\w, ]+)\)) =")
 
 
 @dataclass
@@ -125,7 +125,7 @@ def rests_on(name: Name) -> set[Name]:
     """The definitions that the text of one names. A name that the text itself gives to something is none of them."""
     module = name[:2]
     text = "\n".join(read(module).texts[name[2]])
-    local = set(LOCAL.findall(text))
+    local = {name for one, several in LOCAL.findall(text) for name in (one, *several.split(", "))}
     words = [word for word in WORD.findall(text) if word.partition(".")[0] not in local]
     return {found for found in (resolve(module, word) for word in words) if found}
 
