@@ -6,9 +6,13 @@ ghost use Rattle.dv_run.specs.Words.{HasFewWorkers};
 ghost use Rattle.dv_script.specs.declared.limits.TheConstants.{MOST_WORKERS};
 
 use crate::exit::Exit;
+use dv_forms::stop::Stop;
 use dv_jobs::gate::PlainGate;
 use dv_journal::sink::Sink;
-use dv_run::{Form, Kept, Source, Task, exit_of, run_and_keep};
+use dv_orders::reading::read_batches;
+use dv_replay::error::ReplayFault;
+use dv_replay::running::replay;
+use dv_run::{Form, Kept, RunFault, Source, Task, exit_of, run_and_keep};
 use dv_why::explaining::explain;
 use std::alloc::AllocGlobal;
 use std::mem;
@@ -16,9 +20,15 @@ use std::random::RandomSource;
 use std::sync::Wait;
 use std::thread::Threads;
 
-/// Does this with the script of the reader, and returns how the program ends.
+/// Does this with the script of the reader, in the batches that a word says where they are given, and returns how the program ends.
 #[tactic(auto, using(crate::proofs::Endings::endings))]
-pub fn perform<S, R, W>(rt: &S, task: Task, reader: &mut R, writer: &mut W) -> Exit
+pub fn perform<S, R, W>(
+    rt: &S,
+    task: Task,
+    batches: &str,
+    reader: &mut R,
+    writer: &mut W,
+) -> Exit
 where
     S: Threads + Wait + RandomSource + AllocGlobal + Sync,
     R: Source,
@@ -31,7 +41,48 @@ where
         Task::Run(Form::Json, workers) => end_of_run(dv_json::exit_of(dv_json::run(
             rt, reader, writer, workers, &PlainGate,
         ))),
+        Task::Replay(form, workers) => replay_word(rt, form, workers, batches, reader, writer),
         Task::Why => Exit::plain(dv_why::explaining::exit_of(explain(rt.alloc(), reader, writer))),
+    }
+}
+
+/// Runs the script in the batches that a word says. Where it says none, the words are wrong.
+fn replay_word<S, R, W>(
+    rt: &S,
+    form: Form,
+    workers: u32,
+    batches: &str,
+    reader: &mut R,
+    writer: &mut W,
+) -> Exit
+where
+    S: Threads + Wait + RandomSource + AllocGlobal + Sync,
+    R: Source,
+    W: Sink,
+    requires { workers ≤ MOST_WORKERS }
+{
+    match read_batches(rt.alloc(), batches) {
+        Ok(batches) => match form {
+            Form::Lines => end_of_replay(replay(rt, reader, writer, workers, &PlainGate, batches.as_slice())),
+            Form::Json => Exit::wrong_words(&[]),
+        },
+        Err(Stop::BadShape) => Exit::wrong_batches(),
+        Err(Stop::OutOfMemory) => Exit::plain(exit_of(&Err(RunFault::OutOfMemory))),
+    }
+}
+
+/// How a run in given batches ends.
+fn end_of_replay(ended: Result<Kept, ReplayFault>) -> Exit {
+    match ended {
+        Ok(Kept { script, report }) => {
+            mem::forget(script);
+            let ended = Ok(report);
+            let exit = exit_of(&ended);
+            mem::forget(ended);
+            end_of_run(exit)
+        }
+        Err(ReplayFault::Run(fault)) => end_of_run(exit_of(&Err(fault))),
+        Err(ReplayFault::BatchesRefused(fault)) => Exit::refused(fault),
     }
 }
 
@@ -50,6 +101,7 @@ fn end_of_run(ended: (u8, &'static str)) -> Exit
         } else {
             ""
         },
+        refused: None,
     }
 }
 
