@@ -536,7 +536,7 @@ class Observer:
         self.act(Action(("deferred", record)), self.made, deferred, record)
 
     def made(self, deferred: Deferred[Any], record: Record, kind: str = "", by_twisted: bool = False) -> None:
-        """A Deferred was made, maybe by Twisted's own code while that performs an action: it gets its name, and is told."""
+        """Records a Deferred that was made, maybe by Twisted's own code inside an action, and gives it its name."""
         frame = self.frame
         expected = self._next_expected() if frame.expected else None
         if frame.anonymous:
