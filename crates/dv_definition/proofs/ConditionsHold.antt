@@ -1,23 +1,22 @@
 -- The conditions on the page are those of the crates' steps.
-use Rattle.std.proofs.Common.{◌≡◌, ℕ, zero, suc, ◌+◌, Bool, true, false, ◌&&◌, cond, if◌then◌else◌, List, [], ◌∷◌, length, Option, None, Some, option_and_then, slice_get, slice_set, nat_eq, nat_lt, refl, ap, sym, ◌∙◌}
+use Rattle.std.proofs.Common.{◌≡◌, ℕ, zero, suc, ◌+◌, Bool, true, false, ◌&&◌, if◌then◌else◌, List, [], ◌∷◌, length, Option, None, Some, slice_get, slice_set, nat_eq, nat_lt, refl, ap, ◌∙◌}
 use Rattle.std.specs.Option.{option_map, option_map_or}
-use Rattle.dv_clock.specs.Clock.{Upcoming, due_at, first_from, first_of, next_call, upcoming}
+use Rattle.dv_clock.specs.Clock.{Upcoming, due_at, first_from, first_of, upcoming}
 use Rattle.dv_clock.specs.declared.call.Call.{Call}
 use Rattle.dv_definition.specs.Conditions.{CallsComeInTurn, CancelsReach, FailuresAreThrown, ListsFire}
-use Rattle.dv_definition.specs.Definition.{all_came, caught_by, earlier, end_of_waiting, first_call, list_fires_with, reached_by, thrown, waited_for}
+use Rattle.dv_definition.specs.Definition.{all_came, caught_by, earlier, end_of_waiting, first_call, reached_by}
 use Rattle.dv_definition.specs.Rule.{found}
 use Rattle.dv_inline.specs.Position.{Position, class_caught, second_for, thrown_from, thrown_to}
 use Rattle.dv_inline.specs.declared.open.Catch.{Catch}
 use Rattle.dv_inline.specs.declared.open.Open.{Open}
 use Rattle.dv_objects.specs.Pair.{Pair}
-use Rattle.dv_objects.specs.Reached.{reached_at, reached_unfired}
+use Rattle.dv_objects.specs.Reached.{reached_unfired}
 use Rattle.dv_objects.specs.declared.canceller.Canceller.{Canceller}
 use Rattle.dv_objects.specs.declared.canceller.Canceller.TheVariants as canceller
-use Rattle.dv_objects.specs.declared.reached.Reached.{Reached}
 use Rattle.dv_objects.specs.declared.reached.Reached.TheVariants as reached
 use Rattle.dv_prims.specs.DeferredList.{Gather, count_missing, due, due_at_last, due_by_failure, due_when_kept, first_failure, first_success, kept_of, succeeded, without_places}
 use Rattle.dv_script.specs.declared.body.Statement.{Statement}
-use Rattle.dv_store.specs.Cancelling.{end_of_chain, link, walk}
+use Rattle.dv_store.specs.Cancelling.{link, walk}
 use Rattle.dv_store.specs.declared.record.Record.{Record}
 use Rattle.dv_value.specs.Failure.{failure_in}
 use Rattle.dv_value.specs.declared.classes.Class.{Class}

@@ -1,6 +1,6 @@
 -- What a rule is, and its two readings: what it says, which is what a script means, and the frames that it leaves, which is what the code
 -- does. `a and_then λ x. b` is read "a, and with its result x, b".
-use Rattle.std.specs.Prelude.{ℕ, nat_eq, Bool, false, not, if◌then◌else◌, List, [], ◌∷◌, ◌++◌, Option, None, Some, slice_get, codes}
+use Rattle.std.specs.Prelude.{ℕ, nat_eq, Bool, false, not, if◌then◌else◌, List, [], ◌∷◌, Option, None, Some, slice_get, codes}
 use Rattle.std.specs.Option.{option_map_or}
 use Rattle.dv_definition.specs.Steps.{Step, stepped, Question, Reply, asked}
 use Rattle.dv_frames.specs.Turn.{Turned, settle_next, ◌onto◌, ◌over◌}

@@ -13,7 +13,7 @@ use Rattle.dv_objects.specs.declared.follow.Follow.TheVariants as follow
 use Rattle.dv_objects.specs.declared.performed.Performed.{Performed}
 use Rattle.dv_objects.specs.declared.performed.Performed.TheVariants.{Done, Raised}
 
--- what is to follow, in order; what was come to so far; and the world
+-- what is to follow, in order; what was given so far; and the world
 abbrev pub Turned : Type 0
 Turned = List Frame × Performed × World
 

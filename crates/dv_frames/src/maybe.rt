@@ -1,7 +1,7 @@
-ghost use Rattle.std.specs.Prelude.{◌≡◌, OnOk};
-ghost use Rattle.dv_frames.specs.Maybe.{body_for};
-ghost use Rattle.dv_frames.specs.Turn.{◌onto◌};
-ghost use Rattle.dv_objects.specs.declared.performed.Performed.TheVariants.{Done};
+ghost use Rattle.std.specs.Prelude.{◌≡◌, ◌∷◌, None, OnOk};
+ghost use Rattle.dv_frames.specs.Turn.{rest_of};
+ghost use Rattle.dv_frames.specs.declared.frame.Frame.TheVariants.{Maybe, Rest as RestFrame};
+ghost use Rattle.dv_value.specs.declared.value.Value.{Null};
 
 use crate::following::whole;
 use crate::frame::{Frame, Purpose};
@@ -16,8 +16,7 @@ pub fn perform_for<'s>(
     purpose: Purpose<'s>,
     body: BodyRef<'s>,
 ) -> Result<(), AllocError>
-    requires done { turn.old.performed ≡ Done }
-    ensures { OnOk result (turn.new ≡ (body_for purpose.entry body.entry, Done, turn.old.world) onto turn.old) }
+    ensures { OnOk result (turn.new ≡ record turn.old { stack = RestFrame (rest_of None body.entry Null) ∷ Maybe purpose.entry ∷ turn.old.stack }) }
 {
     turn.stack.push(Frame::Maybe(purpose))?;
     turn.stack

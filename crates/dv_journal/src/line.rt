@@ -143,15 +143,25 @@ fn write_words(
 ) -> Result<(), AllocError>
     ensures { OnOk result (string_bytes out.new ≡ string_bytes out.old ++ words_of classes.now entry.now) }
 {
-    match entry {
-        Entry::New(id, name) => write_id_and_name(out, "new #", *id, name),
-        Entry::Add(id) => write_id(out, "add #", *id),
-        Entry::Run(id) => write_id(out, "run #", *id),
-        Entry::Cancel(id) => write_id(out, "cancel #", *id),
-        Entry::Fire(id, value) => write_id_and_outcome(alloc, classes, out, "fire #", *id, value),
-        Entry::Set(id, value) => write_id_and_outcome(alloc, classes, out, "set #", *id, value),
-        _ => write_by_parts(alloc, classes, out, entry),
+    if let Entry::New(id, name) = entry {
+        return write_id_and_name(out, "new #", *id, name);
     }
+    if let Entry::Add(id) = entry {
+        return write_id(out, "add #", *id);
+    }
+    if let Entry::Run(id) = entry {
+        return write_id(out, "run #", *id);
+    }
+    if let Entry::Cancel(id) = entry {
+        return write_id(out, "cancel #", *id);
+    }
+    if let Entry::Fire(id, value) = entry {
+        return write_id_and_outcome(alloc, classes, out, "fire #", *id, value);
+    }
+    if let Entry::Set(id, value) = entry {
+        return write_id_and_outcome(alloc, classes, out, "set #", *id, value);
+    }
+    write_by_parts(alloc, classes, out, entry)
 }
 
 /// Adds the line of an entry. After an error, `out` ends anyhow.

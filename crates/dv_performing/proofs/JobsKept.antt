@@ -22,7 +22,7 @@ use Rattle.dv_definition.specs.Words.{fire_with}
 use Rattle.dv_performing.specs.TurnEnds.{ended_with, ending}
 use Rattle.dv_performing.specs.declared.turn_end.TurnEnd.{TurnEnd}
 use Rattle.dv_performing.specs.declared.turn_end.TurnEnd.TheVariants.{Came, Delivers}
-use Rattle.dv_frames.specs.Turn.{◌onto◌, settle_next}
+use Rattle.dv_frames.specs.Turn.{settle_next}
 use Rattle.dv_frames.specs.declared.turn.Turn.{Turn}
 use Rattle.dv_frames.specs.declared.frame.Frame.{Frame}
 use Rattle.dv_objects.specs.Works.{is_full}
