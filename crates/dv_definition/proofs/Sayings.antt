@@ -1,13 +1,14 @@
 -- For every rule: its frames lead where it says, whatever frames mean. By the form of a rule alone.
 use Rattle.std.proofs.Common.{◌≡◌, ℕ, Bool, true, false, not, if◌then◌else◌, Option, None, Some, refl}
 use Rattle.dv_frames.specs.Turn.{Turned, settle_next}
+use Rattle.dv_objects.specs.Refusals.{refused_firing, refused_unpausing}
 use Rattle.dv_objects.specs.declared.follow.Follow.{Follow}
 use Rattle.dv_objects.specs.declared.performed.Performed.TheVariants.{Done, Raised}
 use Rattle.dv_definition.proofs.Through.{here, over_all}
 use Rattle.dv_definition.proofs.Fires.{Fires as FiresBy, stopped, set, swallowed, refused, fires as fires_by, Unpauses as UnpausesBy, halted, unheld, less, unpauses as unpauses_by}
 use Rattle.dv_definition.specs.Law.{FramesSayTheRule, FramesSayWhatHappens}
 use Rattle.dv_definition.specs.Scripts.{happens, rule_of}
-use Rattle.dv_definition.specs.Rule.{Answer, found, through, Rule, Ends, By, If, Finds, Then, Asks, Fires, Unpauses, Over, run, say, Meant, settles, refused_firing, refused_unpausing}
+use Rattle.dv_definition.specs.Rule.{Answer, found, through, Rule, Ends, By, If, Finds, Then, Asks, Fires, Unpauses, Over, run, say, Meant, settles}
 use Rattle.dv_definition.specs.Steps.{stepped, asked}
 use Rattle.dv_world.specs.World as world
 use Rattle.dv_world.specs.World.{World}

@@ -1,17 +1,15 @@
 -- What a rule is, and its two readings: what it says, which is what a script means, and the frames that it leaves, which is what the code
 -- does. `a and_then λ x. b` is read "a, and with its result x, b".
-use Rattle.std.specs.Prelude.{ℕ, nat_eq, Bool, false, not, if◌then◌else◌, List, [], ◌∷◌, Option, None, Some, slice_get, codes}
+use Rattle.std.specs.Prelude.{ℕ, nat_eq, Bool, false, not, if◌then◌else◌, List, [], ◌∷◌, Option, None, Some, slice_get}
 use Rattle.std.specs.Option.{option_map_or}
 use Rattle.dv_definition.specs.Steps.{Step, stepped, Question, Reply, asked}
 use Rattle.dv_frames.specs.Turn.{Turned, settle_next, ◌onto◌, ◌over◌}
 use Rattle.dv_frames.specs.declared.frame.Frame.{Frame}
 use Rattle.dv_frames.specs.declared.frame.Frame.TheVariants as frame
 use Rattle.dv_frames.specs.declared.turn.Turn.{Turn}
+use Rattle.dv_objects.specs.Refusals.{refused_firing, refused_unpausing}
 use Rattle.dv_objects.specs.declared.performed.Performed.{Performed}
 use Rattle.dv_objects.specs.declared.performed.Performed.TheVariants.{Done, Raised}
-use Rattle.dv_value.specs.Builtin.{assertion_error, already_called_error}
-use Rattle.dv_value.specs.Failure.{plain_failure}
-use Rattle.dv_value.specs.declared.failure.Failure.{Failure}
 use Rattle.dv_value.specs.declared.value.Value.{Value}
 use Rattle.dv_world.specs.World as world
 use Rattle.dv_world.specs.World.{World}
@@ -64,13 +62,6 @@ rule after_which frames = Over rule frames
 -- d is settled (section 17). What else rules call for is in `Words`
 abbrev pub settles : ℕ → List Frame
 settles d = frame.Settle d ∷ []
-
--- what a second firing and an unpausing too many raise
-abbrev pub refused_firing : Failure
-refused_firing = plain_failure already_called_error []
-
-abbrev pub refused_unpausing : Failure
-refused_unpausing = plain_failure assertion_error (codes "not paused")
 
 -- What a rule says.
 

@@ -11,7 +11,7 @@ ghost use Rattle.dv_objects.specs.declared.canceller.Canceller.TheVariants.{Body
 ghost use Rattle.dv_world.specs.World.{fire};
 
 use crate::cancelling::cancel;
-use dv_frames::following::{add_and_settle, fire_and_settle, settle_next, unbound};
+use dv_frames::following::{add_and_settle, fire_and_settle, settle_next};
 use dv_frames::frame::Purpose;
 use dv_frames::maybe::perform_for;
 use dv_frames::turn::Turn;
@@ -79,16 +79,12 @@ pub fn fire<'s>(
     requires done { turn.old.performed ≡ Done }
     ensures { OnOk result (turn.new ≡ after (on_deferred itself name.now λ d. Fires d given.entry) turn.old) }
 {
-    match turn.world.find(itself, name) {
-        None => {
-            drop(given);
-            unbound(turn, name)
-        }
-        Some(id) => {
-            let kept = kept(turn.alloc, &turn.world, id, given)?;
-            fire_and_settle(turn, id, kept)
-        }
-    }
+    let Some(id) = turn.find(itself, name)? else {
+        drop(given);
+        return Ok(());
+    };
+    let kept = kept(turn.alloc, &turn.world, id, given)?;
+    fire_and_settle(turn, id, kept)
 }
 
 /// The value that a Deferred is to be fired with; null where the firing is refused or swallowed, since no value is kept
@@ -120,13 +116,11 @@ pub fn add<'s>(
     requires done { turn.old.performed ≡ Done }
     ensures { OnOk result (turn.new ≡ after (on_deferred itself name.now λ d. page.add d pair.entry) turn.old) }
 {
-    match turn.world.find(itself, name) {
-        None => {
-            drop(pair);
-            unbound(turn, name)
-        }
-        Some(id) => add_and_settle(turn, id, pair),
-    }
+    let Some(id) = turn.find(itself, name)? else {
+        drop(pair);
+        return Ok(());
+    };
+    add_and_settle(turn, id, pair)
 }
 
 /// Adds a pair to a Deferred that fires another, both by their names (Twisted: `Deferred.chainDeferred`).
@@ -140,10 +134,10 @@ pub fn chain<'s>(
     ensures { OnOk result (turn.new ≡ after (on_deferred itself name.now λ d. on_deferred itself other.now λ e. page.add d (chain e)) turn.old) }
 {
     let bound = &itself;
-    match turn.world.find(*bound, name) {
-        None => unbound(turn, name),
-        Some(id) => chain_found(turn, id, bound, other),
-    }
+    let Some(id) = turn.find(*bound, name)? else {
+        return Ok(());
+    };
+    chain_found(turn, id, bound, other)
 }
 
 /// Adds a pair to a Deferred that fires another, which is given by its name.
@@ -156,10 +150,10 @@ fn chain_found<'s>(
     requires done { turn.old.performed ≡ Done }
     ensures { OnOk result (turn.new ≡ after (on_deferred itself.now other.now λ e. page.add id (chain e)) turn.old) }
 {
-    match turn.world.find(*itself, other) {
-        None => unbound(turn, other),
-        Some(to) => add_and_settle(turn, id, Pair::chain(to)),
-    }
+    let Some(to) = turn.find(*itself, other)? else {
+        return Ok(());
+    };
+    add_and_settle(turn, id, Pair::chain(to))
 }
 
 /// Pauses a Deferred by its name (Twisted: `Deferred.pause`).
@@ -173,10 +167,10 @@ pub fn pause<'s>(
     requires done { turn.old.performed ≡ Done }
     ensures { OnOk result (turn.new ≡ after (on_deferred itself name.now λ d. Pause d next finished) turn.old) }
 {
-    match turn.world.find(itself, name) {
-        None => unbound(turn, name),
-        Some(id) => turn.world.pause(id),
-    }
+    let Some(id) = turn.find(itself, name)? else {
+        return Ok(());
+    };
+    turn.world.pause(id)
 }
 
 /// Unpauses a Deferred by its name (Twisted: `Deferred.unpause`).
@@ -188,13 +182,11 @@ pub fn unpause<'s>(
     requires done { turn.old.performed ≡ Done }
     ensures { OnOk result (turn.new ≡ after (on_deferred itself name.now Unpauses) turn.old) }
 {
-    match turn.world.find(itself, name) {
-        None => unbound(turn, name),
-        Some(id) => {
-            let unpaused = turn.world.unpause(id)?;
-            settle_next(turn, id, unpaused)
-        }
-    }
+    let Some(id) = turn.find(itself, name)? else {
+        return Ok(());
+    };
+    let unpaused = turn.world.unpause(id)?;
+    settle_next(turn, id, unpaused)
 }
 
 /// Cancels a Deferred by its name (Twisted: `Deferred.cancel`).
@@ -206,8 +198,8 @@ pub fn cancel_named<'s>(
     requires done { turn.old.performed ≡ Done }
     ensures { OnOk result (turn.new ≡ after (on_deferred itself name.now page.cancel) turn.old) }
 {
-    match turn.world.find(itself, name) {
-        None => unbound(turn, name),
-        Some(id) => cancel(turn, id),
-    }
+    let Some(id) = turn.find(itself, name)? else {
+        return Ok(());
+    };
+    cancel(turn, id)
 }

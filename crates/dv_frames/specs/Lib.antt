@@ -2,3 +2,4 @@ pub mod Turn
 pub mod Bounds
 pub mod Raising
 pub mod Frames
+pub mod Finding

@@ -1,6 +1,7 @@
 //! The frames, and what follows from a firing and from what is raised.
 #![tactic(auto)]
 
+pub mod finding;
 pub mod following;
 pub mod frame;
 pub mod frames;

@@ -1,6 +1,6 @@
 -- What is raised where something is refused.
 use Rattle.std.specs.Prelude.{ℕ, List, [], codes}
-use Rattle.dv_value.specs.Builtin.{name_error, assertion_error, cancelled_error, type_error, queue_overflow, queue_underflow}
+use Rattle.dv_value.specs.Builtin.{name_error, assertion_error, already_called_error, cancelled_error, type_error, queue_overflow, queue_underflow}
 use Rattle.dv_value.specs.Failure.{plain_failure}
 use Rattle.dv_value.specs.declared.failure.Failure.{Failure}
 use Rattle.dv_value.specs.declared.value.Value.{Value, Fault}
@@ -10,6 +10,14 @@ use Rattle.dv_objects.specs.declared.performed.Performed.TheVariants.{Raised}
 -- what a Deferred is fired with that is cancelled
 abbrev pub cancelled : Value
 cancelled = Fault (plain_failure cancelled_error [])
+
+-- what a second firing of a Deferred raises
+abbrev pub refused_firing : Failure
+refused_firing = plain_failure already_called_error []
+
+-- what the unpausing of a Deferred raises that isn't paused
+abbrev pub refused_unpausing : Failure
+refused_unpausing = plain_failure assertion_error (codes "not paused")
 
 -- what the gathering of what isn't the result of a list raises
 abbrev pub not_gathered : Failure

@@ -1,7 +1,6 @@
 //! What is raised where something is refused.
 ghost use Rattle.std.specs.Prelude.{◌≡◌, IfOk};
-ghost use Rattle.dv_value.specs.Failure.{plain_failure};
-ghost use Rattle.dv_objects.specs.Refusals.{cancelled, unbound, not_held, not_gathered, overflow, underflow};
+ghost use Rattle.dv_objects.specs.Refusals.{cancelled, refused_firing, refused_unpausing, unbound, not_held, not_gathered, overflow, underflow};
 ghost use Rattle.dv_objects.specs.declared.performed.Performed.TheVariants.{Raised};
 ghost use Rattle.dv_objects.specs.declared.follow.Follow.TheVariants.{Raise};
 
@@ -52,11 +51,18 @@ pub fn not_gathered<'s>(alloc: Global) -> Result<Performed<'s>, AllocError>
     Ok(Performed::Raised(failure))
 }
 
-/// What a change that is refused raises.
-pub fn refused(alloc: Global, class: ClassId, message: &str) -> Result<Follow, AllocError>
-    ensures { IfOk result (λ f. f ≡ Raise (plain_failure class message.now)) }
+/// What a second firing of a Deferred raises.
+pub fn refused_firing(alloc: Global) -> Result<Follow, AllocError>
+    ensures { IfOk result (λ f. f ≡ Raise refused_firing) }
 {
-    Ok(Follow::Raise(failure(alloc, class, message)?))
+    Ok(Follow::Raise(failure(alloc, ClassId::ALREADY_CALLED_ERROR, "")?))
+}
+
+/// What the unpausing of a Deferred raises that isn't paused.
+pub fn refused_unpausing(alloc: Global) -> Result<Follow, AllocError>
+    ensures { IfOk result (λ f. f ≡ Raise refused_unpausing) }
+{
+    Ok(Follow::Raise(failure(alloc, ClassId::ASSERTION_ERROR, "not paused")?))
 }
 
 /// What a Deferred is fired with that is cancelled.

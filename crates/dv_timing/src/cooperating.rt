@@ -7,7 +7,7 @@ ghost use Rattle.dv_definition.specs.Words.{finished, is_over, on_task};
 ghost use Rattle.dv_objects.specs.declared.performed.Performed.TheVariants.{Done, Awaits};
 
 use dv_clock::task_id::TaskId;
-use dv_frames::following::{fire_and_settle, unbound, whole};
+use dv_frames::following::{fire_and_settle, whole};
 use dv_frames::frame::Frame;
 use dv_frames::frames::Frames;
 use dv_frames::turn::Turn;
@@ -42,10 +42,10 @@ pub fn when_done<'s>(turn: &mut Turn<'s>, name: TextRef<'s>, task: &str) -> Resu
     requires done { turn.old.performed ≡ Done }
     ensures { OnOk result (turn.new ≡ after (on_task task.now λ t. page.when_done name.entry t) turn.old) }
 {
-    match turn.world.find_task(task) {
-        None => unbound(turn, task),
-        Some(found) => ask_when(turn, name, found),
-    }
+    let Some(found) = turn.find_task(task)? else {
+        return Ok(());
+    };
+    ask_when(turn, name, found)
 }
 
 /// Makes a Deferred that is fired when a task ends, at once where it has ended.
@@ -61,7 +61,7 @@ fn ask_when<'s>(turn: &mut Turn<'s>, name: TextRef<'s>, task: TaskId) -> Result<
     notify(turn, id, task)
 }
 
-/// Fires a Deferred with what a task has come to, if it has ended.
+/// Fires a Deferred with how a task has ended, if it has.
 pub fn notify<'s>(turn: &mut Turn<'s>, id: DeferredId, task: TaskId) -> Result<(), AllocError>
     requires done { turn.old.performed ≡ Done }
     ensures { OnOk result (turn.new ≡ after (page.notify id task) turn.old) }
@@ -81,10 +81,10 @@ pub fn pause_task<'s>(turn: &mut Turn<'s>, name: &str) -> Result<(), AllocError>
     requires done { turn.old.performed ≡ Done }
     ensures { OnOk result (turn.new ≡ after (on_task name.now page.pause_task) turn.old) }
 {
-    match turn.world.find_task(name) {
-        None => unbound(turn, name),
-        Some(task) => pause(turn, task),
-    }
+    let Some(task) = turn.find_task(name)? else {
+        return Ok(());
+    };
+    pause(turn, task)
 }
 
 /// Pauses a task, unless it has ended.
@@ -110,10 +110,10 @@ pub fn resume_task<'s>(turn: &mut Turn<'s>, name: &str) -> Result<(), AllocError
     requires done { turn.old.performed ≡ Done }
     ensures { OnOk result (turn.new ≡ after (on_task name.now page.resume_task) turn.old) }
 {
-    match turn.world.find_task(name) {
-        None => unbound(turn, name),
-        Some(task) => resume(turn, task),
-    }
+    let Some(task) = turn.find_task(name)? else {
+        return Ok(());
+    };
+    resume(turn, task)
 }
 
 /// Resumes a task, which is to be paused.
@@ -137,10 +137,10 @@ pub fn stop_task<'s>(turn: &mut Turn<'s>, name: &str) -> Result<(), AllocError>
     requires done { turn.old.performed ≡ Done }
     ensures { OnOk result (turn.new ≡ after (on_task name.now page.stop_task) turn.old) }
 {
-    match turn.world.find_task(name) {
-        None => unbound(turn, name),
-        Some(task) => stop(turn, task),
-    }
+    let Some(task) = turn.find_task(name)? else {
+        return Ok(());
+    };
+    stop(turn, task)
 }
 
 /// Stops a task, unless it has ended.
@@ -185,7 +185,7 @@ fn notify_all<'s>(
     Ok(())
 }
 
-/// What a task waited for has come to a value: the task is resumed, unless it has ended.
+/// Resumes a task when what it waited for has a value, unless the task has ended.
 pub fn end_hold<'s>(turn: &mut Turn<'s>, task: TaskId) -> Result<(), AllocError>
     requires done { turn.old.performed ≡ Done }
     ensures { OnOk result (turn.new ≡ after (page.resume_held task) turn.old) }
@@ -260,7 +260,7 @@ fn has_ended<'s>(world: &World<'s>, task: TaskId) -> bool
     }
 }
 
-/// A tick goes on: a step is taken, while one is left and somebody takes turns; else the next tick is scheduled.
+/// Goes on with a tick: takes a step, while one is left and a task takes turns; else the next tick is scheduled.
 pub fn go_on_ticking<'s>(turn: &mut Turn<'s>, units: u32) -> Result<(), AllocError>
     requires done { turn.old.performed ≡ Done }
     ensures { OnOk result (turn.new ≡ after (page.tick units) turn.old) }

@@ -7,7 +7,7 @@ ghost use Rattle.dv_objects.specs.declared.performed.Performed.TheVariants.{Done
 ghost use Rattle.dv_value.specs.declared.value.Value.{Text as TextValue};
 
 use dv_clock::loop_id::LoopId;
-use dv_frames::following::{fire_and_settle, unbound};
+use dv_frames::following::fire_and_settle;
 use dv_frames::frame::Purpose;
 use dv_frames::maybe::perform_for;
 use dv_frames::turn::Turn;
@@ -127,10 +127,10 @@ pub fn stop_loop<'s>(turn: &mut Turn<'s>, name: &str) -> Result<(), AllocError>
     requires done { turn.old.performed ≡ Done }
     ensures { OnOk result (turn.new ≡ after (on_loop name.now page.stop_loop) turn.old) }
 {
-    match turn.world.find_loop(name) {
-        None => unbound(turn, name),
-        Some(looping) => stop(turn, looping),
-    }
+    let Some(looping) = turn.find_loop(name)? else {
+        return Ok(());
+    };
+    stop(turn, looping)
 }
 
 /// Stops a loop, where it runs.

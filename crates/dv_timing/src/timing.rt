@@ -5,7 +5,7 @@ ghost use Rattle.dv_definition.specs.Steps.{CancelCall};
 ghost use Rattle.dv_definition.specs.Words.{on_call, on_deferred};
 ghost use Rattle.dv_objects.specs.declared.performed.Performed.TheVariants.{Done};
 
-use dv_frames::following::{add_and_settle, unbound};
+use dv_frames::following::add_and_settle;
 use dv_frames::frame::Frame;
 use dv_frames::turn::Turn;
 use dv_journal::deferred_id::DeferredId;
@@ -17,13 +17,11 @@ pub fn cancel_call<'s>(turn: &mut Turn<'s>, name: &str) -> Result<(), AllocError
     requires done { turn.old.performed ≡ Done }
     ensures { OnOk result (turn.new ≡ after (on_call name.now λ number. Asks (CancelCall number) Ends) turn.old) }
 {
-    match turn.world.find_call(name) {
-        None => unbound(turn, name),
-        Some(call) => {
-            turn.performed = turn.world.cancel_call(call)?;
-            Ok(())
-        }
-    }
+    let Some(call) = turn.find_call(name)? else {
+        return Ok(());
+    };
+    turn.performed = turn.world.cancel_call(call)?;
+    Ok(())
 }
 
 /// Gives a Deferred so many ticks, by its name, after which it is cancelled (Twisted: `Deferred.addTimeout`).
@@ -36,10 +34,10 @@ pub fn add_timeout<'s>(
     requires done { turn.old.performed ≡ Done }
     ensures { OnOk result (turn.new ≡ after (on_deferred itself name.now λ d. page.add_timeout d delay) turn.old) }
 {
-    match turn.world.find(itself, name) {
-        None => unbound(turn, name),
-        Some(id) => begin_timer(turn, id, delay),
-    }
+    let Some(id) = turn.find(itself, name)? else {
+        return Ok(());
+    };
+    begin_timer(turn, id, delay)
 }
 
 /// Starts a timer of a Deferred, and adds the two pairs that go with it.

@@ -5,7 +5,7 @@ ghost use Rattle.dv_definition.specs.Rule.{after};
 ghost use Rattle.dv_definition.specs.Words.{on_lock};
 ghost use Rattle.dv_objects.specs.declared.performed.Performed.TheVariants.{Done};
 
-use dv_frames::following::{fire_and_settle, unbound};
+use dv_frames::following::fire_and_settle;
 use dv_frames::frame::Frame;
 use dv_frames::turn::Turn;
 use dv_journal::deferred_id::DeferredId;
@@ -25,10 +25,10 @@ pub fn acquire<'s>(turn: &mut Turn<'s>, name: TextRef<'s>, lock: &str) -> Result
     requires done { turn.old.performed ≡ Done }
     ensures { OnOk result (turn.new ≡ after (on_lock lock.now λ l. page.acquire name.entry l) turn.old) }
 {
-    match turn.world.find_lock(lock) {
-        None => unbound(turn, lock),
-        Some(found) => acquire_found(turn, name, found),
-    }
+    let Some(found) = turn.find_lock(lock)? else {
+        return Ok(());
+    };
+    acquire_found(turn, name, found)
 }
 
 /// Performs a body with a token of a lock, and gives the token back once what the body gave is fired; the lock and the
@@ -44,14 +44,12 @@ pub fn run_with<'s>(
     requires done { turn.old.performed ≡ Done }
     ensures { OnOk result (turn.new ≡ after (on_lock lock.now λ l. page.run_with name.entry l body.entry) turn.old) }
 {
-    match turn.world.find_lock(lock) {
-        None => unbound(turn, lock),
-        Some(found) => {
-            let id = turn.world.next_id();
-            turn.stack.push(Frame::Add(id, Pair::holding(found, body)))?;
-            acquire_found(turn, name, found)
-        }
-    }
+    let Some(found) = turn.find_lock(lock)? else {
+        return Ok(());
+    };
+    let id = turn.world.next_id();
+    turn.stack.push(Frame::Add(id, Pair::holding(found, body)))?;
+    acquire_found(turn, name, found)
 }
 
 /// Makes a Deferred that asks a lock for a token.
@@ -85,13 +83,13 @@ pub fn release<'s>(turn: &mut Turn<'s>, lock: &str) -> Result<(), AllocError>
     requires done { turn.old.performed ≡ Done }
     ensures { OnOk result (turn.new ≡ after (on_lock lock.now page.release) turn.old) }
 {
-    match turn.world.find_lock(lock) {
-        None => unbound(turn, lock),
-        Some(found) => give_back(turn, found),
-    }
+    let Some(found) = turn.find_lock(lock)? else {
+        return Ok(());
+    };
+    give_back(turn, found)
 }
 
-/// Gives a token back to a lock, where one is given, and fires the first that waits, where somebody does.
+/// Gives a token back to a lock, where one is given, and fires the first that waits, where one does.
 pub fn give_back<'s>(turn: &mut Turn<'s>, lock: LockId) -> Result<(), AllocError>
     requires done { turn.old.performed ≡ Done }
     ensures { OnOk result (turn.new ≡ after (page.release lock) turn.old) }
@@ -109,7 +107,7 @@ pub fn give_back<'s>(turn: &mut Turn<'s>, lock: LockId) -> Result<(), AllocError
     grant(turn, to, name)
 }
 
-/// Fires whoever has got a token with the name of its lock.
+/// Fires the one that has got a token with the name of its lock.
 fn grant<'s>(turn: &mut Turn<'s>, to: Option<DeferredId>, name: Text) -> Result<(), AllocError>
     requires done { turn.old.performed ≡ Done }
     ensures { OnOk result (turn.new ≡ after (page.grant to name) turn.old) }

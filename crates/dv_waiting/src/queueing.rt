@@ -5,7 +5,7 @@ ghost use Rattle.dv_definition.specs.Rule.{after};
 ghost use Rattle.dv_definition.specs.Words.{fire_with, on_queue};
 ghost use Rattle.dv_objects.specs.declared.performed.Performed.TheVariants.{Done};
 
-use dv_frames::following::{fire_and_settle, unbound};
+use dv_frames::following::fire_and_settle;
 use dv_frames::turn::Turn;
 use dv_journal::deferred_id::DeferredId;
 use dv_objects::canceller::Canceller;
@@ -21,16 +21,14 @@ pub fn put<'s>(turn: &mut Turn<'s>, queue: &str, given: Given<'s>) -> Result<(),
     requires done { turn.old.performed ≡ Done }
     ensures { OnOk result (turn.new ≡ after (on_queue queue.now λ k. page.put_in k given.entry) turn.old) }
 {
-    match turn.world.find_queue(queue) {
-        None => {
-            drop(given);
-            unbound(turn, queue)
-        }
-        Some(found) => put_where_it_may_be(turn, found, given),
-    }
+    let Some(found) = turn.find_queue(queue)? else {
+        drop(given);
+        return Ok(());
+    };
+    put_where_it_may_be(turn, found, given)
 }
 
-/// Puts a value into a queue, where it may be, and fires whoever gets it.
+/// Puts a value into a queue, where it may be, and fires the one that gets it.
 fn put_where_it_may_be<'s>(
     turn: &mut Turn<'s>,
     queue: QueueId,
@@ -53,7 +51,7 @@ fn put_where_it_may_be<'s>(
     hand_out(turn, received)
 }
 
-/// Fires whoever gets a value with it.
+/// Fires the one that gets a value with it.
 fn hand_out<'s>(
     turn: &mut Turn<'s>,
     received: Option<(DeferredId, Value)>,
@@ -73,10 +71,10 @@ pub fn get<'s>(turn: &mut Turn<'s>, name: TextRef<'s>, queue: &str) -> Result<()
     requires done { turn.old.performed ≡ Done }
     ensures { OnOk result (turn.new ≡ after (on_queue queue.now λ k. page.get_out name.entry k) turn.old) }
 {
-    match turn.world.find_queue(queue) {
-        None => unbound(turn, queue),
-        Some(found) => get_where_it_may(turn, name, found),
-    }
+    let Some(found) = turn.find_queue(queue)? else {
+        return Ok(());
+    };
+    get_where_it_may(turn, name, found)
 }
 
 /// Makes a Deferred that asks a queue for a value, where it may.

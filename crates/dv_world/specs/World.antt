@@ -1,7 +1,7 @@
 -- The world of a run: its Deferreds, their names, the classes of failures and the journal, and one step of each kind.
 use Rattle.std.specs.Prelude.{ℕ, ◌+◌, min, Bool, true, false, not, if◌then◌else◌, List, [], ◌∷◌, ◌++◌, length, Option, None, Some, Result, Ok, Err, slice_get, bytes_eq, codes}
 use Rattle.std.specs.Option.{option_map_or}
-use Rattle.dv_value.specs.Builtin.{assertion_error, runtime_error, already_called_error, already_called, already_cancelled, not_paused as paused_not}
+use Rattle.dv_value.specs.Builtin.{assertion_error, runtime_error, already_called, already_cancelled, not_paused as paused_not}
 use Rattle.dv_value.specs.Failure.{plain_failure}
 use Rattle.dv_value.specs.declared.classes.Class.{Class}
 use Rattle.dv_value.specs.declared.failure.Failure.{Failure}
@@ -50,7 +50,7 @@ use Rattle.dv_objects.specs.Names.{number_of}
 use Rattle.dv_objects.specs.Objects.{Objects, no_objects, naming_where, with_list, with_new_call, with_delivery, with_timer, with_ended_call, with_time, with_lock, lock_changed, with_queue, queue_changed, cooperating, with_tick, without_tick, inlining, with_new_inline}
 use Rattle.dv_objects.specs.Pair.{passes}
 use Rattle.dv_objects.specs.Reached.{reached_at}
-use Rattle.dv_objects.specs.Refusals.{cancelled}
+use Rattle.dv_objects.specs.Refusals.{cancelled, refused_firing, refused_unpausing}
 use Rattle.dv_objects.specs.Works.{is_full}
 use Rattle.dv_objects.specs.declared.canceller.Canceller.{Canceller}
 use Rattle.dv_objects.specs.declared.canceller.Canceller.TheVariants as canceller
@@ -71,7 +71,7 @@ use Rattle.dv_objects.specs.declared.reached.Reached.TheVariants as reached
 abbrev pub Records : Type 0
 Records = List (Record Pair Canceller)
 
--- what a run has made so far and what it has told; once an entry didn't fit it has stopped
+-- what a run has made so far and its journal; once an entry didn't fit it has stopped
 pub record World : Type 0 where
   pub classes : List Class
   pub objects : Objects
@@ -82,7 +82,7 @@ pub record World : Type 0 where
   pub journal : Written
   pub stopped : Bool
 
--- nothing is made and nothing is told at first
+-- nothing is made and nothing is logged at first
 abbrev pub first_world : List Class → ℕ → Settings → World
 first_world classes limit settings = record { classes = classes; objects = no_objects settings; works = []; pools = []; records = []; journal = empty limit; stopped = false }
 
@@ -106,12 +106,12 @@ value_of d w = option_map_or (λ r. r.value) (slice_get w.records d) Null
 abbrev pub deferred_at : Option ℕ → List ℕ → World → Option ℕ
 deferred_at self name w = if bytes_eq name (codes "@") then self else number_of name w.objects.names
 
--- a change that was told is made; one that can't be told stops the run
+-- a change that was logged is made; one that can't be logged stops the run
 abbrev pub after : {A : Type 0} → Result A Stop → State Pair Canceller → World → World
 after (Ok done) s w = with_state s w
 after (Err stop) s w = with_stop (with_state s w)
 
--- the move that was made; one that can't be told stops the run, and is none
+-- the move that was made; one that can't be logged stops the run, and is none
 abbrev pub moved : Result (Step Pair) Stop → State Pair Canceller → World → Step Pair × World
 moved (Ok move) s w = (move, with_state s w)
 moved (Err stop) s w = (Nothing, with_stop (with_state s w))
@@ -157,11 +157,11 @@ make name canceller w =
     if w.stopped then w else
     let told = records.make name canceller (state_of w) in named name told.0 told.1 w
 
--- a further firing raises, unless it is swallowed; one that can't be told stops the run
+-- a further firing raises, unless it is swallowed; one that can't be logged stops the run
 abbrev pub fired : Result Fired (Fault AlreadyCalled) → State Pair Canceller → World → Follow × World
 fired (Ok Set) s w = (follow.Settle, with_state s w)
 fired (Ok Swallowed) s w = (follow.Nothing, with_state s w)
-fired (Err (fault.Refused already)) s w = (follow.Raise (plain_failure already_called_error []), with_state s w)
+fired (Err (fault.Refused already)) s w = (follow.Raise refused_firing, with_state s w)
 fired (Err fault.Limit) s w = (follow.Nothing, with_stop (with_state s w))
 fired (Err fault.OutOfMemory) s w = (follow.Nothing, with_stop (with_state s w))
 
@@ -171,7 +171,7 @@ fire d value w =
     if w.stopped then (follow.Nothing, w) else
     let told = firing.fire d value (state_of w) in fired told.0 told.1 w
 
--- once its firing is told, the next one is swallowed; a firing that can't be told stops the run
+-- once its firing is logged, the next one is swallowed; a firing that can't be logged stops the run
 abbrev pub guarded : ℕ → Result Fired (Fault AlreadyCalled) → State Pair Canceller → World → World
 guarded d (Ok Set) s w = with_state (guard d s.0, s.1) w
 guarded d (Ok Swallowed) s w = with_state s w
@@ -189,10 +189,10 @@ fire_guarded d w =
 abbrev pub is_unfired : ℕ → World → Bool
 is_unfired d w = option_map_or (λ r. not r.fired) (slice_get w.records d) false
 
--- an unpausing of what isn't paused raises; one that can't be told stops the run
+-- an unpausing of what isn't paused raises; one that can't be logged stops the run
 abbrev pub unpaused : Result Unit (Fault NotPaused) → State Pair Canceller → World → Follow × World
 unpaused (Ok done) s w = (follow.Settle, with_state s w)
-unpaused (Err (fault.Refused already)) s w = (follow.Raise (plain_failure assertion_error (codes "not paused")), with_state s w)
+unpaused (Err (fault.Refused already)) s w = (follow.Raise refused_unpausing, with_state s w)
 unpaused (Err fault.Limit) s w = (follow.Nothing, with_stop (with_state s w))
 unpaused (Err fault.OutOfMemory) s w = (follow.Nothing, with_stop (with_state s w))
 
@@ -216,7 +216,7 @@ end_reached (Some end) rs = record_reached end (slice_get rs end)
 abbrev pub reached_from : ℕ → Records → Reached
 reached_from d rs = end_reached (end_of_chain d rs) rs
 
--- a cancel of d is told, and then reaches whom it reaches; one that can't be told stops the run
+-- a cancel of d is logged, and then reaches whom it reaches; one that can't be logged stops the run
 unfoldable pub cancel : ℕ → World → Reached × World
 cancel d w =
     if w.stopped then (reached.Nothing, w) else
@@ -224,21 +224,21 @@ cancel d w =
     then (reached_from d w.records, record w { journal = with_entry w.journal (entry.Cancel d) })
     else (reached.Nothing, with_stop w)
 
--- an entry that tells of no Deferred's change is written, and what stands beside the Deferreds changes; one that doesn't fit stops the run
+-- an entry is written by which no Deferred changes, and what stands beside the Deferreds changes; one that doesn't fit stops the run
 unfoldable pub aside : Entry → (Objects → Objects) → World → World
 aside entry change w =
     if w.stopped then w else
     if fits w.journal entry then record w { objects = change w.objects; journal = with_entry w.journal entry } else with_stop w
 
--- what stands beside the Deferreds changes, which isn't told
+-- what stands beside the Deferreds changes, which isn't logged
 unfoldable pub arrange : (Objects → Objects) → World → World
 arrange change w = if w.stopped then w else record w { objects = change w.objects }
 
--- an entry that tells of no change
+-- an entry by which nothing changes
 abbrev pub tell : Entry → World → World
 tell entry w = aside entry (λ objects. objects) w
 
--- the lock that is found changes, which its entry tells; an id of no lock changes nothing
+-- the lock that is found changes, which its entry logs; an id of no lock changes nothing
 abbrev pub lock_told : ℕ → (Semaphore → Entry) → (Semaphore → Semaphore) → Option Semaphore → World → World
 lock_told l entry change None w = w
 lock_told l entry change (Some s) w = aside (entry s) (with_lock l (change s)) w
@@ -287,16 +287,16 @@ get_from k d w = get_from_found k d (slice_get w.objects.queues k) w
 abbrev pub withdraw : ℕ → ℕ → World → World
 withdraw k d w = arrange (λ objects. queue_changed k (withdrawn d) (slice_get objects.queues k) objects) w
 
--- a child comes to the list that is found, and what follows is answered; an id of no list fires nothing
+-- a child reports to the list that is found, and what follows is answered; an id of no list fires nothing
 abbrev pub came_to_found : ℕ → ℕ → Value → Option Gather → World → Came × World
 came_to_found l i v None w = (record { fire = None; pass = v }, w)
 came_to_found l i v (Some g) w = ((came i v g).0, arrange (with_list l (came i v g).1) w)
 
--- a child comes to a list with its value, which isn't told; to a stopped run nothing comes
+-- a child reports to a list with its value, which isn't logged; in a stopped run none does
 unfoldable pub came_to : ℕ → ℕ → Value → World → Came × World
 came_to l i v w = if w.stopped then (record { fire = None; pass = v }, w) else came_to_found l i v (slice_get w.objects.lists l) w
 
--- a job is submitted to a pool, whose result is for d, and told; one more than a run has isn't, and one that can't be told stops the run
+-- a job is submitted to a pool, whose result is for d, and logged; one more than a run has isn't, and one that can't be logged stops the run
 unfoldable pub submit : ℕ → Option (List ℕ) → Work → World → World
 submit d pool work w =
     if w.stopped then w else
@@ -324,7 +324,7 @@ start_timer d delay w = let due = w.objects.clock.time + min delay MOST_DELAY in
 abbrev pub has_timed_out : ℕ → World → Bool
 has_timed_out t w = has_run t w.objects.clock.calls
 
--- a timer ends, where its time hasn't come, which isn't told
+-- a timer ends, where its time hasn't come, which isn't logged
 abbrev pub end_timer : ℕ → World → World
 end_timer t w = arrange (with_ended_call t call_state.Dropped) w
 
@@ -388,7 +388,7 @@ loop_stopped l (Some x) w = aside (entry.Stop x.name) (with_stopped l x) w
 abbrev pub stop_loop : ℕ → World → World
 stop_loop l w = loop_stopped l (slice_get w.objects.loops l) w
 
--- a loop runs no more, which isn't told
+-- a loop runs no more, which isn't logged
 abbrev pub end_loop : ℕ → World → World
 end_loop l w = arrange (λ objects. with_ended l (slice_get objects.loops l) objects) w
 
@@ -396,7 +396,7 @@ end_loop l w = arrange (λ objects. with_ended l (slice_get objects.loops l) obj
 abbrev pub not_running : Failure
 not_running = plain_failure assertion_error (codes "not running")
 
--- the task that is found changes, which its entry tells; an id of no task changes nothing
+-- the task that is found changes, which its entry logs; an id of no task changes nothing
 abbrev pub task_told : (Task → Entry) → (Task → Cooperator → Cooperator) → Option Task → World → World
 task_told entry change None w = w
 task_told entry change (Some x) w = aside (entry x) (cooperating (change x)) w
@@ -422,7 +422,7 @@ abbrev pub step_taken : ℕ → Option Task → World → Option (ℕ × Option 
 step_taken t None w = (None, w)
 step_taken t (Some x) w = unless_stopped (Some (t, slice_get x.bodies 0)) (aside (entry.Step x.name) (cooperating (with_step t x)) w)
 
--- whoever's turn it is takes the next step
+-- the task whose turn it is takes the next step
 abbrev pub turn_taken : Option ℕ → World → Option (ℕ × Option Body) × World
 turn_taken None w = (None, w)
 turn_taken (Some t) w = step_taken t (slice_get w.objects.cooperator.tasks t) w
@@ -452,7 +452,7 @@ abbrev pub tick_dropped : Option ℕ → World → World
 tick_dropped None w = w
 tick_dropped (Some number) w = arrange (without_tick number) w
 
--- outside of ticks, a tick is scheduled while somebody takes turns, and none while nobody does
+-- outside of ticks, a tick is scheduled while a task takes turns, and none while none does
 abbrev pub keep_tick : World → World
 keep_tick w = if wants_tick w.objects.cooperator then schedule_tick w else tick_dropped (idle_tick w.objects.cooperator) w
 
@@ -467,7 +467,7 @@ end_tick w = arrange (cooperating (λ c. record c { ticking = false })) w
 abbrev pub not_paused : Failure
 not_paused = plain_failure paused_not []
 
--- an inline body is made, which waits for nothing, and isn't told
+-- an inline body is made, which waits for nothing, and isn't logged
 abbrev pub add_inline : World → World
 add_inline w = arrange with_new_inline w
 

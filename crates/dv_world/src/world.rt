@@ -16,7 +16,7 @@ use dv_objects::looping_call::LoopingCall;
 use dv_objects::names::Names;
 use dv_objects::pair::Pair;
 use dv_objects::reached::Reached;
-use dv_objects::refusals::{cancelled, refused};
+use dv_objects::refusals::{cancelled, refused_firing, refused_unpausing};
 use dv_objects::stopping::stopped;
 use dv_objects::task::Task;
 use dv_objects::works::Works;
@@ -32,7 +32,6 @@ use dv_script::script::Cooperator as Settings;
 use dv_store::error::{AlreadyCalled, NotPaused};
 use dv_store::record::Record;
 use dv_store::store::{Fired, Step, Store};
-use dv_value::class_id::ClassId;
 use dv_value::classes::Classes;
 use dv_value::text::Text;
 use dv_value::value::Value;
@@ -76,7 +75,7 @@ pub struct World<'s> {
     stopped: bool,
 }
 
-/// What a world has when it is let go: its journal, and all that was made.
+/// What a world has when it is dropped: its journal, and all that was made.
 #[derive(Drop)]
 pub struct Parts<'s> {
     pub journal: Journal,
@@ -315,11 +314,7 @@ impl<'s> World<'s> {
         match self.store.fire(&mut self.journal, id, value) {
             Ok(Fired::Set) => Ok(Follow::Settle),
             Ok(Fired::Swallowed) => Ok(Follow::Nothing),
-            Err(Fault::Refused(AlreadyCalled)) => refused(
-                self.alloc,
-                ClassId::ALREADY_CALLED_ERROR,
-                "",
-            ),
+            Err(Fault::Refused(AlreadyCalled)) => refused_firing(self.alloc),
             Err(Fault::Limit) => {
                 self.stopped = true;
                 Ok(Follow::Nothing)
@@ -415,11 +410,7 @@ impl<'s> World<'s> {
         }
         match self.store.unpause(&mut self.journal, id) {
             Ok(()) => Ok(Follow::Settle),
-            Err(Fault::Refused(NotPaused)) => refused(
-                self.alloc,
-                ClassId::ASSERTION_ERROR,
-                "not paused",
-            ),
+            Err(Fault::Refused(NotPaused)) => refused_unpausing(self.alloc),
             Err(Fault::Limit) => {
                 self.stopped = true;
                 Ok(Follow::Nothing)
@@ -428,7 +419,7 @@ impl<'s> World<'s> {
         }
     }
 
-    /// Writes an entry that tells of no Deferred's change.
+    /// Writes an entry by which no Deferred changes.
     #[tactic(auto, unfolding(crate::specs::World::aside))]
     pub fn tell(&mut self, entry: Entry) -> Result<(), AllocError>
         ensures { OnOk result (self.new ≡ tell entry self.old) }
@@ -443,7 +434,7 @@ impl<'s> World<'s> {
         }
     }
 
-    /// Binds a name to a Deferred that was made already, and tells of it.
+    /// Binds a name to a Deferred that was made already, and logs it.
     #[tactic(auto, unfolding(crate::specs::World::aside))]
     pub fn rename(&mut self, name: &str, id: DeferredId) -> Result<(), AllocError>
         ensures { OnOk result (self.new ≡ aside (entry.Name id (Some name.now)) (naming name.now id) self.old) }
@@ -487,7 +478,7 @@ impl<'s> World<'s> {
         }
     }
 
-    /// Adds a lock that was told, and binds its name to it.
+    /// Adds a lock that was logged, and binds its name to it.
     fn add_lock(&mut self, name: &str, lock: Semaphore) -> Result<(), AllocError>
         ensures { OnOk result (self.new ≡ record self.old { objects = with_added_lock name.now lock self.old.objects }) }
     {
@@ -533,7 +524,7 @@ impl<'s> World<'s> {
         }
     }
 
-    /// A token is given back to a lock, which gives it to the first that waits, where somebody does.
+    /// Gives a token back to a lock, which gives it to the first that waits, where one does.
     #[tactic(auto, unfolding(crate::specs::World::aside))]
     pub fn release(&mut self, lock: LockId) -> Result<(), AllocError>
         ensures { OnOk result (self.new ≡ release lock self.old) }
@@ -588,7 +579,7 @@ impl<'s> World<'s> {
         }
     }
 
-    /// Adds a queue that was told, and binds its name to it.
+    /// Adds a queue that was logged, and binds its name to it.
     fn add_queue(&mut self, name: &str, queue: Queue) -> Result<(), AllocError>
         ensures { OnOk result (self.new ≡ record self.old { objects = with_added_queue name.now queue self.old.objects }) }
     {
@@ -612,7 +603,7 @@ impl<'s> World<'s> {
         self.queues.get(queue.number())
     }
 
-    /// A value is put into a queue, where it may be: whoever waits first gets it, and both are answered, or it is stored.
+    /// Puts a value into a queue, where it may be: the first that waits gets it, and both are returned, or it is stored.
     #[tactic(auto, unfolding(crate::specs::World::aside))]
     pub fn put_into(
         &mut self,
@@ -671,7 +662,7 @@ impl<'s> World<'s> {
         }
     }
 
-    /// Makes what a DeferredList of so many children has of them, which isn't told.
+    /// Makes what a DeferredList of so many children has of them, which isn't logged.
     #[tactic(auto, unfolding(crate::specs::World::arrange))]
     pub fn make_list(&mut self, children: usize, flags: Flags) -> Result<ListId, AllocError>
         ensures list { OnOk result (self.new ≡ arrange (with_new_list children flags) self.old) }
@@ -684,7 +675,7 @@ impl<'s> World<'s> {
         Ok(list)
     }
 
-    /// A child comes to a DeferredList with its value, and what follows is answered.
+    /// Reports a child to its DeferredList with its value, and returns what follows.
     #[tactic(auto, unfolding(crate::specs::World::came_to, crate::specs::World::arrange))]
     pub fn come(&mut self, list: ListId, place: u32, value: Value) -> Result<Came, AllocError>
         ensures { IfOk result (λ came. (came, self.new) ≡ came_to list place value self.old) }
@@ -704,7 +695,7 @@ impl<'s> World<'s> {
         }
     }
 
-    /// What a change that couldn't be told answers: the run stops, and it is this, or memory was refused.
+    /// Returns this for a change that couldn't be logged, and stops the run; AllocError where memory was refused.
     fn stopped_by<T: Drop>(&mut self, stop: Stop, otherwise: T) -> Result<T, AllocError>
         ensures stopped { OnOk result ((stop ≡ Stop.Limit) × (self.new ≡ with_stop self.old)) }
         ensures value { IfOk result (λ x. x ≡ otherwise) }
@@ -734,7 +725,7 @@ impl<'s> World<'s> {
         (journal, stopped, store.into_records())
     }
 
-    /// Lets it go, and tells all that it had, but for names, bodies, lists and works.
+    /// Drops it, and returns all that it had, but for names, bodies, lists and works.
     pub fn into_all(self) -> Parts<'s>
         ensures journal { result.journal ≡ self.entry.journal }
         ensures stopped { result.stopped ≡ self.entry.stopped }
