@@ -22,6 +22,7 @@ use serde_json::Value as Json;
 use std::alloc::Global;
 
 /// A text alone.
+#[inline(always)]
 #[tactic(auto, unfolding(crate::specs::Parts::sole))]
 pub fn one_text(alloc: Global, arguments: &[Json]) -> Result<Text, Stop>
     ensures { Reads result (sole text_at (items_view arguments.now)) }

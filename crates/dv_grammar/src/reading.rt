@@ -5,6 +5,7 @@ mod body;
 mod cooperator;
 mod end;
 mod event;
+mod plain;
 pub mod script;
 mod statement;
 mod work;

@@ -5,7 +5,10 @@ use Rattle.serde_json.specs.View.{items_of}
 use Rattle.dv_clock.specs.declared.limits.TheConstants.{MOST_TICKS}
 use Rattle.dv_script.specs.declared.limits.TheConstants.{MOST_BYTES, MOST_CALLERS, MOST_CLASSES, MOST_LEVELS, MOST_NODES, MOST_POOLS, MOST_POSTS, USUAL_LIMIT}
 use Rattle.dv_script.specs.declared.work.TheConstants.{MOST_JOBS}
-use Rattle.dv_language.specs.declared.beside.TheConstants.{CLASSES, REFUSALS, STATUSES, MOST_NAME}
+use Rattle.dv_reader.specs.declared.error.ScriptFault.{ScriptFault}
+use Rattle.dv_reader.specs.declared.error.TheConstants.{REFUSALS}
+use Rattle.dv_reader.specs.Texts.{refusal_name, refusal_number}
+use Rattle.dv_language.specs.declared.beside.TheConstants.{CLASSES, STATUSES, MOST_NAME}
 
 -- the parent of a class, null of the first
 abbrev pub parent_data : Option (List ℕ) → Data
@@ -37,11 +40,12 @@ usual_data =
     object (member (codes "delay") (count 1) (member (codes "limit") (count USUAL_LIMIT) (member (codes "units") (count 1) no_members)))
 
 -- a refusal, by its number and its name
-abbrev pub refusal_data : ℕ → List ℕ → Data
-refusal_data refusal name = object (member (codes "name") (string name) (member (codes "refusal") (count refusal) no_members))
+abbrev pub refusal_data : ScriptFault → Data
+refusal_data refusal =
+    object (member (codes "name") (string (refusal_name refusal)) (member (codes "refusal") (count (refusal_number refusal)) no_members))
 
 abbrev pub refusals_data : Data
-refusals_data = array (items_of (map (λ refusal. refusal_data refusal.0 refusal.1.now) REFUSALS))
+refusals_data = array (items_of (map refusal_data REFUSALS))
 
 -- an exit status, and when the program ends with it
 abbrev pub status_data : ℕ → List ℕ → Data

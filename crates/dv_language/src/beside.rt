@@ -6,6 +6,7 @@ ghost use Rattle.serde_json.specs.View.{items_of, view};
 ghost use Rattle.dv_language.specs.Beside.{class_data, classes_data, limits_data, usual_data, refusal_data, refusals_data, status_data, statuses_data};
 
 use dv_clock::limits::MOST_TICKS;
+use dv_reader::error::{REFUSALS, ScriptFault, refusal_name, refusal_number};
 use dv_script::limits::{
     MOST_BYTES, MOST_CALLERS, MOST_CLASSES, MOST_LEVELS, MOST_NODES, MOST_POOLS, MOST_POSTS,
     USUAL_LIMIT,
@@ -37,19 +38,6 @@ pub const CLASSES: [(&str, Option<&str>); 21] = [
     ("TaskStopped", Some("TaskFinished")),
     ("TaskFailed", Some("TaskFinished")),
     ("TimeoutError", Some("Exception")),
-];
-
-/// The refusals, by number.
-pub const REFUSALS: [(u32, &str); 9] = [
-    (1, "TooLong"),
-    (2, "NotJson"),
-    (3, "BadVersion"),
-    (4, "BadShape"),
-    (5, "TooMany"),
-    (6, "BadName"),
-    (7, "BadClass"),
-    (8, "OutOfMemory"),
-    (9, "BadPool"),
 ];
 
 /// The exit statuses of the program, and when it ends with each.
@@ -122,18 +110,18 @@ pub fn usual_json(alloc: Global) -> Result<Json, AllocError>
     json!(in alloc; {"limit": USUAL_LIMIT, "units": 1u32, "delay": 1u32})
 }
 
-fn refusal_json(alloc: Global, refusal: &(u32, &'static str)) -> Result<Json, AllocError>
-    ensures { IfOk result (λ json. view json ≡ refusal_data refusal.now.0 refusal.now.1.now) }
+fn refusal_json(alloc: Global, refusal: ScriptFault) -> Result<Json, AllocError>
+    ensures { IfOk result (λ json. view json ≡ refusal_data refusal) }
 {
-    json!(in alloc; {"refusal": refusal.0, "name": refusal.1})
+    json!(in alloc; {"refusal": refusal_number(refusal), "name": refusal_name(refusal)})
 }
 
-fn refusal_rows(alloc: Global, refusals: &[(u32, &'static str)]) -> Result<Json, AllocError>
-    ensures { IfOk result (λ json. view json ≡ array (items_of (map (λ refusal. refusal_data refusal.0 refusal.1.now) refusals.now))) }
+fn refusal_rows(alloc: Global, refusals: &[ScriptFault]) -> Result<Json, AllocError>
+    ensures { IfOk result (λ json. view json ≡ array (items_of (map refusal_data refusals.now))) }
 {
     let mut rows = Vec::new(alloc);
     for refusal in refusals {
-        push(&mut rows, refusal_json(alloc, refusal)?)?;
+        push(&mut rows, refusal_json(alloc, *refusal)?)?;
     }
     Ok(Json::Array(rows))
 }

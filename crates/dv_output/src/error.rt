@@ -8,7 +8,7 @@ use thiserror::Error;
 #[derive(Clone, Copy, Debug, PartialEq, Eq, Drop, Error)]
 pub enum RunFault {
     /// The input says no script. Nothing was written.
-    #[error("script refused: {0}")]
+    #[error("{0}")]
     ScriptRefused(ScriptFault),
     /// Memory was refused. A prefix of the text was written.
     #[error("out of memory")]

@@ -1,16 +1,32 @@
 -- How refusals are told.
-use Rattle.std.specs.Prelude.{ℕ, List, codes}
+use Rattle.std.specs.Prelude.{ℕ, List, ◌++◌, codes, decimal}
 use Rattle.dv_reader.specs.declared.error.ScriptFault.{ScriptFault}
-use Rattle.dv_reader.specs.declared.error.ScriptFault.TheVariants as script
+use Rattle.dv_reader.specs.declared.error.ScriptFault.TheVariants.{TooLong, NotJson, BadVersion, BadShape, TooMany, BadName, BadClass, OutOfMemory, BadPool}
 
--- each refusal by its number and its name
+-- the number of a refusal
+abbrev pub refusal_number : ScriptFault → ℕ
+refusal_number TooLong = 1
+refusal_number NotJson = 2
+refusal_number BadVersion = 3
+refusal_number BadShape = 4
+refusal_number TooMany = 5
+refusal_number BadName = 6
+refusal_number BadClass = 7
+refusal_number OutOfMemory = 8
+refusal_number BadPool = 9
+
+-- the name of a refusal
+abbrev pub refusal_name : ScriptFault → List ℕ
+refusal_name TooLong = codes "TooLong"
+refusal_name NotJson = codes "NotJson"
+refusal_name BadVersion = codes "BadVersion"
+refusal_name BadShape = codes "BadShape"
+refusal_name TooMany = codes "TooMany"
+refusal_name BadName = codes "BadName"
+refusal_name BadClass = codes "BadClass"
+refusal_name OutOfMemory = codes "OutOfMemory"
+refusal_name BadPool = codes "BadPool"
+
+-- the line of a refusal
 abbrev pub refusal_text : ScriptFault → List ℕ
-refusal_text script.TooLong = codes "script refused: 1 TooLong"
-refusal_text script.NotJson = codes "script refused: 2 NotJson"
-refusal_text script.BadVersion = codes "script refused: 3 BadVersion"
-refusal_text script.BadShape = codes "script refused: 4 BadShape"
-refusal_text script.TooMany = codes "script refused: 5 TooMany"
-refusal_text script.BadName = codes "script refused: 6 BadName"
-refusal_text script.BadClass = codes "script refused: 7 BadClass"
-refusal_text script.OutOfMemory = codes "script refused: 8 OutOfMemory"
-refusal_text script.BadPool = codes "script refused: 9 BadPool"
+refusal_text refusal = codes "script refused: " ++ decimal (refusal_number refusal) ++ codes " " ++ refusal_name refusal

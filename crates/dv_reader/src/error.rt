@@ -1,40 +1,32 @@
 ghost use Rattle.std.specs.Prelude.{◌≡◌};
-ghost use Rattle.dv_reader.specs.Texts.{refusal_text};
+ghost use Rattle.dv_reader.specs.Texts.{refusal_number, refusal_name, refusal_text};
 
 use dv_forms::stop::Stop;
 use thiserror::Error;
 
 /// Why a script is refused: the least of these of which the condition holds.
 #[derive(Clone, Copy, Debug, PartialEq, Eq, Drop, Error)]
+#[error("{}", refusal_text(*self))]
 pub enum ScriptFault {
     /// It has more than 1,048,576 bytes.
-    #[error("1 TooLong")]
     TooLong,
     /// It isn't JSON in UTF-8, or it nests too deeply.
-    #[error("2 NotJson")]
     NotJson,
     /// It isn't an object, or its `version` is absent or isn't the integer 1 or 2.
-    #[error("3 BadVersion")]
     BadVersion,
     /// It is outside the grammar, or a number is outside its range.
-    #[error("4 BadShape")]
     BadShape,
     /// It has more than 65,536 nodes (each array, object and scalar is one), 256 classes, 4 pools, 8 callers or 256 posts of a
     /// caller, or its advances sum to more than 10^15.
-    #[error("5 TooMany")]
     TooMany,
     /// A name of an object, of a pool or of a declared class isn't of 1 to 32 of A to Z, a to z, 0 to 9 and `_`, nor `@` where a
     /// Deferred that is there is named.
-    #[error("6 BadName")]
     BadName,
     /// A declared class has a name that is taken; or a parent, or a class that is used, isn't in the table.
-    #[error("7 BadClass")]
     BadClass,
     /// Memory was refused: this may come in place of any other answer.
-    #[error("8 OutOfMemory")]
     OutOfMemory,
     /// A pool's name is given twice, or a pool that is used isn't declared.
-    #[error("9 BadPool")]
     BadPool,
 }
 
@@ -49,6 +41,53 @@ impl From<Stop> for ScriptFault {
             Stop::BadShape => ScriptFault::BadShape,
             Stop::OutOfMemory => ScriptFault::OutOfMemory,
         }
+    }
+}
+
+/// The refusals, by number.
+pub const REFUSALS: [ScriptFault; 9] = [
+    ScriptFault::TooLong,
+    ScriptFault::NotJson,
+    ScriptFault::BadVersion,
+    ScriptFault::BadShape,
+    ScriptFault::TooMany,
+    ScriptFault::BadName,
+    ScriptFault::BadClass,
+    ScriptFault::OutOfMemory,
+    ScriptFault::BadPool,
+];
+
+/// The number of a refusal.
+pub fn refusal_number(refusal: ScriptFault) -> u32
+    ensures { result ≡ refusal_number refusal }
+{
+    match refusal {
+        ScriptFault::TooLong => 1,
+        ScriptFault::NotJson => 2,
+        ScriptFault::BadVersion => 3,
+        ScriptFault::BadShape => 4,
+        ScriptFault::TooMany => 5,
+        ScriptFault::BadName => 6,
+        ScriptFault::BadClass => 7,
+        ScriptFault::OutOfMemory => 8,
+        ScriptFault::BadPool => 9,
+    }
+}
+
+/// The name of a refusal.
+pub fn refusal_name(refusal: ScriptFault) -> &'static str
+    ensures { result.now ≡ refusal_name refusal }
+{
+    match refusal {
+        ScriptFault::TooLong => "TooLong",
+        ScriptFault::NotJson => "NotJson",
+        ScriptFault::BadVersion => "BadVersion",
+        ScriptFault::BadShape => "BadShape",
+        ScriptFault::TooMany => "TooMany",
+        ScriptFault::BadName => "BadName",
+        ScriptFault::BadClass => "BadClass",
+        ScriptFault::OutOfMemory => "OutOfMemory",
+        ScriptFault::BadPool => "BadPool",
     }
 }
 

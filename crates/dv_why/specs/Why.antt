@@ -11,36 +11,13 @@ use Rattle.dv_script.specs.declared.script.Script.{Script}
 use Rattle.dv_reader.specs.declared.error.ScriptFault.{ScriptFault}
 use Rattle.dv_reader.specs.declared.error.ScriptFault.TheVariants.{TooLong, NotJson, BadVersion, BadShape, TooMany, BadName, BadClass, OutOfMemory, BadPool}
 use Rattle.dv_reader.specs.Refusal.{Says, Refuses}
+use Rattle.dv_reader.specs.Texts.{refusal_name, refusal_number}
 use Rattle.dv_why.specs.declared.line.TheConstants.{MOST_SHOWN}
 use Rattle.dv_why.specs.declared.misfit.Misfit.{Misfit}
 use Rattle.dv_why.specs.Documents.{script_in}
 use Rattle.dv_why.specs.Finds.{Leads}
 use Rattle.dv_why.specs.Wrong.{IsWrong}
 use Rattle.dv_why.specs.Pointers.{pointer_text}
-
--- the number of a refusal
-abbrev pub number_of : ScriptFault → ℕ
-number_of TooLong = 1
-number_of NotJson = 2
-number_of BadVersion = 3
-number_of BadShape = 4
-number_of TooMany = 5
-number_of BadName = 6
-number_of BadClass = 7
-number_of OutOfMemory = 8
-number_of BadPool = 9
-
--- the name of a refusal
-abbrev pub name_of : ScriptFault → List ℕ
-name_of TooLong = codes "TooLong"
-name_of NotJson = codes "NotJson"
-name_of BadVersion = codes "BadVersion"
-name_of BadShape = codes "BadShape"
-name_of TooMany = codes "TooMany"
-name_of BadName = codes "BadName"
-name_of BadClass = codes "BadClass"
-name_of OutOfMemory = codes "OutOfMemory"
-name_of BadPool = codes "BadPool"
 
 -- what is told of a script that is accepted
 abbrev pub accepted : Data
@@ -50,14 +27,14 @@ accepted = object (member (codes "accepted") (boolean true) no_members)
 abbrev pub refused : ScriptFault → List ℕ → List ℕ → List ℕ → Data
 refused fault at expected found =
     object (member (codes "at") (string at) (member (codes "expected") (string expected) (member (codes "found") (string found)
-    (member (codes "name") (string (name_of fault)) (member (codes "refusal") (number (unsigned (number_of fault))) no_members)))))
+    (member (codes "name") (string (refusal_name fault)) (member (codes "refusal") (number (unsigned (refusal_number fault))) no_members)))))
 
 -- what is told of a text that is no JSON
 abbrev pub refused_text : ScriptFault → ℕ → ℕ → List ℕ → List ℕ → Data
 refused_text fault line column expected found =
     object (member (codes "at") (string []) (member (codes "column") (number (unsigned column)) (member (codes "expected") (string expected)
-    (member (codes "found") (string found) (member (codes "line") (number (unsigned line)) (member (codes "name") (string (name_of fault))
-    (member (codes "refusal") (number (unsigned (number_of fault))) no_members)))))))
+    (member (codes "found") (string found) (member (codes "line") (number (unsigned line)) (member (codes "name") (string (refusal_name fault))
+    (member (codes "refusal") (number (unsigned (refusal_number fault))) no_members)))))))
 
 -- as many characters of a text as are shown, from its front
 unfoldable pub first_characters : List ℕ → List ℕ

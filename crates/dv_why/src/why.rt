@@ -15,12 +15,12 @@ use crate::counts::{items_of, too_many};
 use crate::document::{script_of, value_of, version_of, whole};
 use crate::expected::Expected;
 use crate::find::find;
-use crate::line::{name_of, number_of, shown_bytes, shown_json};
+use crate::line::{shown_bytes, shown_json};
 use crate::misfit::Misfit;
 use crate::place::pointer_of;
 use crate::pools::second_pool;
 use crate::question::Question;
-use dv_reader::error::ScriptFault;
+use dv_reader::error::{ScriptFault, refusal_name, refusal_number};
 use dv_reader::read_script::ReadScript;
 use dv_script::limits::MOST_LEVELS;
 use dv_script::script::Script;
@@ -98,8 +98,8 @@ fn refused(
     ensures { IfOk result (λ told. view told ≡ refused fault at.now expected.now found.now) }
 {
     json!(in alloc; {
-        "refusal": number_of(fault),
-        "name": name_of(fault),
+        "refusal": refusal_number(fault),
+        "name": refusal_name(fault),
         "at": at,
         "expected": expected,
         "found": found,
@@ -153,8 +153,8 @@ fn of_place(
     ensures { IfOk result (λ told. view told ≡ refused_text NotJson line column expected.now found.now) }
 {
     json!(in alloc; {
-        "refusal": number_of(ScriptFault::NotJson),
-        "name": name_of(ScriptFault::NotJson),
+        "refusal": refusal_number(ScriptFault::NotJson),
+        "name": refusal_name(ScriptFault::NotJson),
         "at": "",
         "line": line,
         "column": column,

@@ -2,22 +2,19 @@ ghost use Rattle.std.specs.Prelude.{option_map};
 ghost use Rattle.serde_json.specs.View.{view, items_view};
 ghost use Rattle.dv_clock.specs.declared.limits.TheConstants.{MOST_DELAY};
 ghost use Rattle.dv_forms.specs.Answer.{Reads};
-ghost use Rattle.dv_forms.specs.Parts.{text_at, number_at, list_at, pair, triple, each, if_there};
-ghost use Rattle.dv_grammar.specs.Shape.{action_at, action_of, new_deferred_of, loop_of, body_at, statement_at};
+ghost use Rattle.dv_forms.specs.Parts.{text_at, number_at, list_at, two_of, three_of, pair, each, if_there};
+ghost use Rattle.dv_grammar.specs.Shape.{action_at, new_deferred_of, loop_of, body_at, statement_at};
 
 use crate::reading::body::{bodies, body};
+use crate::reading::plain;
 use crate::reading::statement::statements;
-use crate::reading::work::{named_work, thread_in};
+use crate::reading::work::{thread, thread_in};
 use dv_clock::limits::MOST_DELAY;
-use dv_forms::arguments::{
-    named_bounds, named_delay, named_failure, named_gathering, named_list, named_places,
-    named_value, one_text, two_texts,
-};
 use dv_forms::leaf::{array, boolean, call, five, number, one_or_two, text, three, two};
 use dv_forms::stop::Stop;
 use dv_forms::words::ActionWord;
 use dv_script::action::Action;
-use dv_script::body::{Body, Statement};
+use dv_script::body::Body;
 use dv_value::classes::Classes;
 use dv_value::items::Items;
 use dv_value::text::Text;
@@ -25,15 +22,54 @@ use serde_json::Value as Json;
 use std::alloc::Global;
 
 /// An action, in which bodies and statements nest to `levels`.
+///
+/// Each word has a reader of its own, which isn't inlined: the room of what all of them read would be cleared here for every action.
 #[cycle(shape)]
-#[tactic(auto, unfolding(crate::specs::Shape::action_by))]
+#[tactic(auto, unfolding(crate::specs::Shape::action_by, crate::specs::Shape::action_of))]
 pub fn action(alloc: Global, classes: &Classes, levels: u32, json: &Json) -> Result<Action, Stop>
     ensures { Reads result (action_at classes.now levels (view json.now)) }
 {
     let (word, arguments) = call(json)?;
-    match ActionWord::named(word) {
-        Some(word) => action_of(alloc, classes, levels, word, arguments),
-        None => Err(Stop::BadShape),
+    let Some(word) = ActionWord::named(word) else {
+        return Err(Stop::BadShape);
+    };
+    match word {
+        ActionWord::Deferred => deferred(alloc, classes, levels, arguments),
+        ActionWord::Callback => plain::callback(alloc, arguments),
+        ActionWord::Errback => plain::errback(alloc, classes, arguments),
+        ActionWord::AddCallback => add_callback(alloc, classes, levels, arguments),
+        ActionWord::AddErrback => add_errback(alloc, classes, levels, arguments),
+        ActionWord::AddBoth => add_both(alloc, classes, levels, arguments),
+        ActionWord::AddCallbacks => add_callbacks(alloc, classes, levels, arguments),
+        ActionWord::Chain => plain::chain(alloc, arguments),
+        ActionWord::Pause => plain::pause(alloc, arguments),
+        ActionWord::Unpause => plain::unpause(alloc, arguments),
+        ActionWord::Cancel => plain::cancel(alloc, arguments),
+        ActionWord::AddTimeout => plain::add_timeout(alloc, arguments),
+        ActionWord::Note => plain::note(alloc, arguments),
+        ActionWord::List => plain::list(alloc, arguments),
+        ActionWord::Gather => plain::gather(alloc, arguments),
+        ActionWord::Maybe => maybe(alloc, classes, levels, arguments),
+        ActionWord::Lock => plain::lock(alloc, arguments),
+        ActionWord::Semaphore => plain::semaphore(alloc, arguments),
+        ActionWord::Acquire => plain::acquire(alloc, arguments),
+        ActionWord::Release => plain::release(alloc, arguments),
+        ActionWord::RunWith => run_with(alloc, classes, levels, arguments),
+        ActionWord::Queue => plain::queue(alloc, arguments),
+        ActionWord::Put => plain::put(alloc, arguments),
+        ActionWord::Get => plain::get(alloc, arguments),
+        ActionWord::Later => later(alloc, classes, levels, arguments),
+        ActionWord::CancelCall => plain::cancel_call(alloc, arguments),
+        ActionWord::Loop => loop_of(alloc, classes, levels, arguments),
+        ActionWord::StopLoop => plain::stop_loop(alloc, arguments),
+        ActionWord::Cooperate => cooperate(alloc, classes, levels, arguments),
+        ActionWord::WhenDone => plain::when_done(alloc, arguments),
+        ActionWord::PauseTask => plain::pause_task(alloc, arguments),
+        ActionWord::StopTask => plain::stop_task(alloc, arguments),
+        ActionWord::ResumeTask => plain::resume_task(alloc, arguments),
+        ActionWord::Inline => inline(alloc, classes, levels, arguments),
+        ActionWord::Thread => thread(alloc, classes, arguments),
+        ActionWord::ThreadIn => thread_in(alloc, classes, arguments),
     }
 }
 
@@ -55,125 +91,9 @@ pub fn actions(
 }
 
 #[cycle(shape)]
-#[tactic(auto, unfolding(crate::specs::Shape::action_of))]
-fn action_of(
-    alloc: Global,
-    classes: &Classes,
-    levels: u32,
-    word: ActionWord,
-    arguments: &[Json],
-) -> Result<Action, Stop>
-    ensures { Reads result (action_of classes.now (body_at classes.now levels) (statement_at classes.now levels) word (items_view arguments.now)) }
-{
-    match word {
-        ActionWord::Deferred => new_deferred(alloc, classes, levels, arguments),
-        ActionWord::Callback => {
-            let (name, value) = named_value(alloc, arguments)?;
-            Ok(Action::Callback(name, value))
-        }
-        ActionWord::Errback => {
-            let (name, class, message) = named_failure(alloc, classes, arguments)?;
-            Ok(Action::Errback(name, class, message))
-        }
-        ActionWord::AddCallback => {
-            let (name, body) = named_body(alloc, classes, levels, arguments)?;
-            Ok(Action::AddCallback(name, body))
-        }
-        ActionWord::AddErrback => {
-            let (name, body) = named_body(alloc, classes, levels, arguments)?;
-            Ok(Action::AddErrback(name, body))
-        }
-        ActionWord::AddBoth => {
-            let (name, body) = named_body(alloc, classes, levels, arguments)?;
-            Ok(Action::AddBoth(name, body))
-        }
-        ActionWord::AddCallbacks => {
-            let (name, callback, errback) = named_sides(alloc, classes, levels, arguments)?;
-            Ok(Action::AddCallbacks(name, callback, errback))
-        }
-        ActionWord::Chain => {
-            let (name, other) = two_texts(alloc, arguments)?;
-            Ok(Action::Chain(name, other))
-        }
-        ActionWord::Pause => Ok(Action::Pause(one_text(alloc, arguments)?)),
-        ActionWord::Unpause => Ok(Action::Unpause(one_text(alloc, arguments)?)),
-        ActionWord::Cancel => Ok(Action::Cancel(one_text(alloc, arguments)?)),
-        ActionWord::AddTimeout => {
-            let (name, delay) = named_delay(alloc, arguments)?;
-            Ok(Action::AddTimeout(name, delay))
-        }
-        ActionWord::Note => Ok(Action::Note(one_text(alloc, arguments)?)),
-        ActionWord::List => {
-            let (name, children, flags) = named_list(alloc, arguments)?;
-            Ok(Action::List(name, children, flags))
-        }
-        ActionWord::Gather => {
-            let (name, children, flags) = named_gathering(alloc, arguments)?;
-            Ok(Action::Gather(name, children, flags))
-        }
-        ActionWord::Maybe => {
-            let (name, body) = named_body(alloc, classes, levels, arguments)?;
-            Ok(Action::Maybe(name, body))
-        }
-        ActionWord::Lock => Ok(Action::Lock(one_text(alloc, arguments)?)),
-        ActionWord::Semaphore => {
-            let (name, places) = named_places(alloc, arguments)?;
-            Ok(Action::Semaphore(name, places))
-        }
-        ActionWord::Acquire => {
-            let (name, lock) = two_texts(alloc, arguments)?;
-            Ok(Action::Acquire(name, lock))
-        }
-        ActionWord::Release => Ok(Action::Release(one_text(alloc, arguments)?)),
-        ActionWord::RunWith => {
-            let (name, lock, body) = locked_body(alloc, classes, levels, arguments)?;
-            Ok(Action::RunWith(name, lock, body))
-        }
-        ActionWord::Queue => {
-            let (name, size, backlog) = named_bounds(alloc, arguments)?;
-            Ok(Action::Queue(name, size, backlog))
-        }
-        ActionWord::Put => {
-            let (name, value) = named_value(alloc, arguments)?;
-            Ok(Action::Put(name, value))
-        }
-        ActionWord::Get => {
-            let (name, queue) = two_texts(alloc, arguments)?;
-            Ok(Action::Get(name, queue))
-        }
-        ActionWord::Later => {
-            let (name, delay, body) = delayed_body(alloc, classes, levels, arguments)?;
-            Ok(Action::Later(name, delay, body))
-        }
-        ActionWord::CancelCall => Ok(Action::CancelCall(one_text(alloc, arguments)?)),
-        ActionWord::Loop => loop_of(alloc, classes, levels, arguments),
-        ActionWord::StopLoop => Ok(Action::StopLoop(one_text(alloc, arguments)?)),
-        ActionWord::Cooperate => {
-            let (name, bodies) = named_bodies(alloc, classes, levels, arguments)?;
-            Ok(Action::Cooperate(name, bodies))
-        }
-        ActionWord::WhenDone => {
-            let (name, task) = two_texts(alloc, arguments)?;
-            Ok(Action::WhenDone(name, task))
-        }
-        ActionWord::PauseTask => Ok(Action::PauseTask(one_text(alloc, arguments)?)),
-        ActionWord::StopTask => Ok(Action::StopTask(one_text(alloc, arguments)?)),
-        ActionWord::ResumeTask => Ok(Action::ResumeTask(one_text(alloc, arguments)?)),
-        ActionWord::Inline => {
-            let (name, statements) = named_statements(alloc, classes, levels, arguments)?;
-            Ok(Action::Inline(name, statements))
-        }
-        ActionWord::Thread => {
-            let (name, delay, work) = named_work(alloc, classes, arguments)?;
-            Ok(Action::Thread(name, delay, work))
-        }
-        ActionWord::ThreadIn => thread_in(alloc, classes, arguments),
-    }
-}
-
-#[cycle(shape)]
+#[inline(never)]
 #[tactic(auto, unfolding(crate::specs::Shape::new_deferred_of))]
-fn new_deferred(
+fn deferred(
     alloc: Global,
     classes: &Classes,
     levels: u32,
@@ -219,61 +139,108 @@ fn named_body(
     Ok((name, body))
 }
 
-/// A name, a callback, and an errback.
 #[cycle(shape)]
-#[tactic(auto, unfolding(dv_forms::specs::Parts::triple))]
-fn named_sides(
+#[inline(never)]
+fn add_callback(
     alloc: Global,
     classes: &Classes,
     levels: u32,
     arguments: &[Json],
-) -> Result<(Text, Body, Body), Stop>
-    ensures { Reads result (triple text_at (body_at classes.now levels) (body_at classes.now levels) (items_view arguments.now)) }
+) -> Result<Action, Stop>
+    ensures { Reads result (two_of text_at (body_at classes.now levels) Action.AddCallback (items_view arguments.now)) }
+{
+    let (name, body) = named_body(alloc, classes, levels, arguments)?;
+    Ok(Action::AddCallback(name, body))
+}
+
+#[cycle(shape)]
+#[inline(never)]
+fn add_errback(
+    alloc: Global,
+    classes: &Classes,
+    levels: u32,
+    arguments: &[Json],
+) -> Result<Action, Stop>
+    ensures { Reads result (two_of text_at (body_at classes.now levels) Action.AddErrback (items_view arguments.now)) }
+{
+    let (name, body) = named_body(alloc, classes, levels, arguments)?;
+    Ok(Action::AddErrback(name, body))
+}
+
+#[cycle(shape)]
+#[inline(never)]
+fn add_both(
+    alloc: Global,
+    classes: &Classes,
+    levels: u32,
+    arguments: &[Json],
+) -> Result<Action, Stop>
+    ensures { Reads result (two_of text_at (body_at classes.now levels) Action.AddBoth (items_view arguments.now)) }
+{
+    let (name, body) = named_body(alloc, classes, levels, arguments)?;
+    Ok(Action::AddBoth(name, body))
+}
+
+#[cycle(shape)]
+#[inline(never)]
+fn maybe(alloc: Global, classes: &Classes, levels: u32, arguments: &[Json]) -> Result<Action, Stop>
+    ensures { Reads result (two_of text_at (body_at classes.now levels) Action.Maybe (items_view arguments.now)) }
+{
+    let (name, body) = named_body(alloc, classes, levels, arguments)?;
+    Ok(Action::Maybe(name, body))
+}
+
+#[cycle(shape)]
+#[inline(never)]
+#[tactic(auto, unfolding(dv_forms::specs::Parts::triple))]
+fn add_callbacks(
+    alloc: Global,
+    classes: &Classes,
+    levels: u32,
+    arguments: &[Json],
+) -> Result<Action, Stop>
+    ensures { Reads result (three_of text_at (body_at classes.now levels) (body_at classes.now levels) Action.AddCallbacks (items_view arguments.now)) }
 {
     let (name, callback, errback) = three(arguments)?;
     let name = text(alloc, name)?;
     let callback = body(alloc, classes, levels, callback)?;
     let errback = body(alloc, classes, levels, errback)?;
-    Ok((name, callback, errback))
+    Ok(Action::AddCallbacks(name, callback, errback))
 }
 
-/// A name, that of a lock, and a body.
 #[cycle(shape)]
+#[inline(never)]
 #[tactic(auto, unfolding(dv_forms::specs::Parts::triple))]
-fn locked_body(
+fn run_with(
     alloc: Global,
     classes: &Classes,
     levels: u32,
     arguments: &[Json],
-) -> Result<(Text, Text, Body), Stop>
-    ensures { Reads result (triple text_at text_at (body_at classes.now levels) (items_view arguments.now)) }
+) -> Result<Action, Stop>
+    ensures { Reads result (three_of text_at text_at (body_at classes.now levels) Action.RunWith (items_view arguments.now)) }
 {
     let (name, lock, json) = three(arguments)?;
     let name = text(alloc, name)?;
     let lock = text(alloc, lock)?;
     let body = body(alloc, classes, levels, json)?;
-    Ok((name, lock, body))
+    Ok(Action::RunWith(name, lock, body))
 }
 
-/// A name, a delay, and a body.
 #[cycle(shape)]
+#[inline(never)]
 #[tactic(auto, unfolding(dv_forms::specs::Parts::triple))]
-fn delayed_body(
-    alloc: Global,
-    classes: &Classes,
-    levels: u32,
-    arguments: &[Json],
-) -> Result<(Text, u64, Body), Stop>
-    ensures { Reads result (triple text_at (number_at 0 MOST_DELAY) (body_at classes.now levels) (items_view arguments.now)) }
+fn later(alloc: Global, classes: &Classes, levels: u32, arguments: &[Json]) -> Result<Action, Stop>
+    ensures { Reads result (three_of text_at (number_at 0 MOST_DELAY) (body_at classes.now levels) Action.Later (items_view arguments.now)) }
 {
     let (name, delay, json) = three(arguments)?;
     let name = text(alloc, name)?;
     let delay = number(delay, 0, MOST_DELAY)?;
     let body = body(alloc, classes, levels, json)?;
-    Ok((name, delay, body))
+    Ok(Action::Later(name, delay, body))
 }
 
 #[cycle(shape)]
+#[inline(never)]
 #[tactic(auto, unfolding(crate::specs::Shape::loop_of))]
 fn loop_of(
     alloc: Global,
@@ -292,36 +259,31 @@ fn loop_of(
     Ok(Action::Loop(name, deferred, interval, at_once, body))
 }
 
-/// A name, and bodies.
 #[cycle(shape)]
+#[inline(never)]
 #[tactic(auto, unfolding(dv_forms::specs::Parts::pair))]
-fn named_bodies(
+fn cooperate(
     alloc: Global,
     classes: &Classes,
     levels: u32,
     arguments: &[Json],
-) -> Result<(Text, Items<Body>), Stop>
-    ensures { Reads result (pair text_at (list_at (body_at classes.now levels)) (items_view arguments.now)) }
+) -> Result<Action, Stop>
+    ensures { Reads result (two_of text_at (list_at (body_at classes.now levels)) Action.Cooperate (items_view arguments.now)) }
 {
     let (name, json) = two(arguments)?;
     let name = text(alloc, name)?;
     let bodies = bodies(alloc, classes, levels, array(json)?)?;
-    Ok((name, bodies))
+    Ok(Action::Cooperate(name, bodies))
 }
 
-/// A name, and statements.
 #[cycle(shape)]
+#[inline(never)]
 #[tactic(auto, unfolding(dv_forms::specs::Parts::pair))]
-fn named_statements(
-    alloc: Global,
-    classes: &Classes,
-    levels: u32,
-    arguments: &[Json],
-) -> Result<(Text, Items<Statement>), Stop>
-    ensures { Reads result (pair text_at (list_at (statement_at classes.now levels)) (items_view arguments.now)) }
+fn inline(alloc: Global, classes: &Classes, levels: u32, arguments: &[Json]) -> Result<Action, Stop>
+    ensures { Reads result (two_of text_at (list_at (statement_at classes.now levels)) Action.Inline (items_view arguments.now)) }
 {
     let (name, json) = two(arguments)?;
     let name = text(alloc, name)?;
     let statements = statements(alloc, classes, levels, array(json)?)?;
-    Ok((name, statements))
+    Ok(Action::Inline(name, statements))
 }

@@ -1,7 +1,7 @@
 ghost use Rattle.serde_json.specs.View.{view, items_view};
 ghost use Rattle.dv_clock.specs.declared.limits.TheConstants.{MOST_DELAY};
 ghost use Rattle.dv_forms.specs.Answer.{Reads};
-ghost use Rattle.dv_forms.specs.Parts.{text_at, number_at, triple};
+ghost use Rattle.dv_forms.specs.Parts.{text_at, number_at, three_of};
 ghost use Rattle.dv_grammar.specs.Shape.{work_at, work_of, thread_in_of};
 
 use dv_clock::limits::MOST_DELAY;
@@ -13,7 +13,6 @@ use dv_script::action::Action;
 use dv_script::limits::MOST_SUM;
 use dv_script::work::Work;
 use dv_value::classes::Classes;
-use dv_value::text::Text;
 use serde_json::Value as Json;
 use std::alloc::Global;
 
@@ -48,23 +47,21 @@ fn work_of(
     }
 }
 
-/// A name, a delay, and a thread's work.
+/// A work that a thread does.
+#[inline(never)]
 #[tactic(auto, unfolding(dv_forms::specs::Parts::triple))]
-pub fn named_work(
-    alloc: Global,
-    classes: &Classes,
-    arguments: &[Json],
-) -> Result<(Text, u64, Work), Stop>
-    ensures { Reads result (triple text_at (number_at 0 MOST_DELAY) (work_at classes.now) (items_view arguments.now)) }
+pub fn thread(alloc: Global, classes: &Classes, arguments: &[Json]) -> Result<Action, Stop>
+    ensures { Reads result (three_of text_at (number_at 0 MOST_DELAY) (work_at classes.now) Action.Thread (items_view arguments.now)) }
 {
     let (name, delay, json) = three(arguments)?;
     let name = text(alloc, name)?;
     let delay = number(delay, 0, MOST_DELAY)?;
     let work = work(alloc, classes, json)?;
-    Ok((name, delay, work))
+    Ok(Action::Thread(name, delay, work))
 }
 
 /// A work that a thread of a pool does.
+#[inline(never)]
 #[tactic(auto, unfolding(crate::specs::Shape::thread_in_of))]
 pub fn thread_in(alloc: Global, classes: &Classes, arguments: &[Json]) -> Result<Action, Stop>
     ensures { Reads result (thread_in_of classes.now (items_view arguments.now)) }

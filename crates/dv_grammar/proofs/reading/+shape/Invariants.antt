@@ -8,38 +8,47 @@ use Rattle.dv_grammar.proofs.reading.+shape.Given as goal
 abbrev pub decreases-action::action : goal.decreases-action::action
 decreases-action::action l = 16 * l.levels + 5
 
-abbrev pub decreases-action::action_of : goal.decreases-action::action_of
-decreases-action::action_of l = 16 * l.levels + 4
-
 abbrev pub decreases-action::actions : goal.decreases-action::actions
 decreases-action::actions l = 16 * l.levels + 6
+
+abbrev pub decreases-action::add_both : goal.decreases-action::add_both
+decreases-action::add_both l = 16 * l.levels + 3
+
+abbrev pub decreases-action::add_callback : goal.decreases-action::add_callback
+decreases-action::add_callback l = 16 * l.levels + 3
+
+abbrev pub decreases-action::add_callbacks : goal.decreases-action::add_callbacks
+decreases-action::add_callbacks l = 16 * l.levels + 3
+
+abbrev pub decreases-action::add_errback : goal.decreases-action::add_errback
+decreases-action::add_errback l = 16 * l.levels + 3
 
 abbrev pub decreases-action::canceller : goal.decreases-action::canceller
 decreases-action::canceller l = 16 * l.levels + 1
 
-abbrev pub decreases-action::delayed_body : goal.decreases-action::delayed_body
-decreases-action::delayed_body l = 16 * l.levels + 1
+abbrev pub decreases-action::cooperate : goal.decreases-action::cooperate
+decreases-action::cooperate l = 16 * l.levels + 3
 
-abbrev pub decreases-action::locked_body : goal.decreases-action::locked_body
-decreases-action::locked_body l = 16 * l.levels + 1
+abbrev pub decreases-action::deferred : goal.decreases-action::deferred
+decreases-action::deferred l = 16 * l.levels + 3
+
+abbrev pub decreases-action::inline : goal.decreases-action::inline
+decreases-action::inline l = 16 * l.levels + 3
+
+abbrev pub decreases-action::later : goal.decreases-action::later
+decreases-action::later l = 16 * l.levels + 3
 
 abbrev pub decreases-action::loop_of : goal.decreases-action::loop_of
-decreases-action::loop_of l = 16 * l.levels + 1
+decreases-action::loop_of l = 16 * l.levels + 3
 
-abbrev pub decreases-action::named_bodies : goal.decreases-action::named_bodies
-decreases-action::named_bodies l = 16 * l.levels + 2
+abbrev pub decreases-action::maybe : goal.decreases-action::maybe
+decreases-action::maybe l = 16 * l.levels + 3
 
 abbrev pub decreases-action::named_body : goal.decreases-action::named_body
 decreases-action::named_body l = 16 * l.levels + 1
 
-abbrev pub decreases-action::named_sides : goal.decreases-action::named_sides
-decreases-action::named_sides l = 16 * l.levels + 1
-
-abbrev pub decreases-action::named_statements : goal.decreases-action::named_statements
-decreases-action::named_statements l = 16 * l.levels + 2
-
-abbrev pub decreases-action::new_deferred : goal.decreases-action::new_deferred
-decreases-action::new_deferred l = 16 * l.levels + 2
+abbrev pub decreases-action::run_with : goal.decreases-action::run_with
+decreases-action::run_with l = 16 * l.levels + 3
 
 abbrev pub decreases-body::bodies : goal.decreases-body::bodies
 decreases-body::bodies l = 16 * l.levels + 1
