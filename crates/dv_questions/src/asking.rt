@@ -129,7 +129,8 @@ fn word_suits(
 fn keys_suit(question: &Question<'_>, levels: u32, keyed: Keyed, json: &Json) -> bool
     ensures { result ≡ keys_suit (all_suit (asked_by question.now) levels) keyed (view json.now) (keys_in keyed) }
 {
-    for key in keyed.keys() {
+    let keys = keyed.keys();
+    for key in keys {
         if !key_suits(question, levels, keyed, *key, json) {
             return false;
         }
