@@ -37,7 +37,6 @@ fn answers(question: &Question<'_>, json: &Json, draft: &Draft) -> bool
 }
 
 /// Whether the document answers all four questions well, which are asked in one pass.
-#[tactic(auto, using(crate::proofs::Sound::sound))]
 fn is_sound(json: &Json, draft: &Draft) -> bool
     ensures { result ≡ true → IsSound (view json.now) draft.now }
 {
