@@ -1,6 +1,6 @@
 //! The words of the language: where each may stand, what comes with it, and since which version.
 
-ghost use Rattle.std.specs.Prelude.{◌≡◌, option_map, map};
+ghost use Rattle.std.specs.Prelude.{◌≡◌, ◌≤◌, ℕ, true, option_map, map, IfSome};
 ghost use Rattle.dv_forms.specs.Words.{action_word, end_word, event_word, has_word, may_stand, narrower, own_forms, seen, statement_word, wants_in, wants_of, work_word};
 
 use crate::want::{Call, Item, Keyed, Leaf, Object, Want};
@@ -498,42 +498,59 @@ pub fn narrower(call: Call) -> Option<Call>
     }
 }
 
-fn wants_in<W: Copy>(forms: &'static [Form<W>], word: &str, given: usize) -> Option<&'static [Want]>
-    ensures { option_map (λ wants. wants.now) result ≡ wants_in (map seen forms.now) word.now given }
+/// What the so many arguments of a word have to be by the first of these forms that has so many, and the first version that has this form.
+fn form_in<W: Copy>(
+    forms: &'static [Form<W>],
+    word: &str,
+    given: usize,
+) -> Option<(&'static [Want], u32)>
+    ensures wants { option_map (λ form. form.0.now) result ≡ wants_in (map seen forms.now) word.now given }
+    ensures since { IfSome result (λ form. (version : ℕ) → form.1 ≤ version → has_word (map seen forms.now) word.now version ≡ true) }
 {
     for form in forms {
-        if form.1 == word && form.2.len() == given {
-            return Some(form.2);
+        if form.2.len() == given && form.1 == word {
+            return Some((form.2, form.4));
         }
     }
     None
 }
 
-/// What the so many arguments of a word have to be that has a form with so many at such a place, and at none narrower.
-fn own_wants(call: Call, word: &str, given: usize) -> Option<&'static [Want]>
-    ensures { option_map (λ wants. wants.now) result ≡ wants_in (own_forms call) word.now given }
+/// The same of the forms at such a place, and at none narrower.
+fn own_form(call: Call, word: &str, given: usize) -> Option<(&'static [Want], u32)>
+    ensures wants { option_map (λ form. form.0.now) result ≡ wants_in (own_forms call) word.now given }
+    ensures since { IfSome result (λ form. (version : ℕ) → form.1 ≤ version → has_word (own_forms call) word.now version ≡ true) }
 {
     match call {
-        Call::Event => wants_in(&EVENT_FORMS, word, given),
-        Call::Action => wants_in(&ACTION_FORMS, word, given),
-        Call::Statement => wants_in(&STATEMENT_FORMS, word, given),
-        Call::End => wants_in(&END_FORMS, word, given),
-        Call::Leaving => wants_in(&LEAVING_FORMS, word, given),
-        Call::Work => wants_in(&WORK_FORMS, word, given),
+        Call::Event => form_in(&EVENT_FORMS, word, given),
+        Call::Action => form_in(&ACTION_FORMS, word, given),
+        Call::Statement => form_in(&STATEMENT_FORMS, word, given),
+        Call::End => form_in(&END_FORMS, word, given),
+        Call::Leaving => form_in(&LEAVING_FORMS, word, given),
+        Call::Work => form_in(&WORK_FORMS, word, given),
     }
 }
 
-/// What the arguments of a word have to be, where it may stand at such a place and has a form with so many arguments.
+/// What the arguments of a word have to be, where it may stand at such a place and has a form with so many, and the first version that has
+/// this form.
+pub fn form_of(call: Call, word: &str, given: usize) -> Option<(&'static [Want], u32)>
+    ensures wants { option_map (λ form. form.0.now) result ≡ wants_of call word.now given }
+    ensures since { IfSome result (λ form. (version : ℕ) → form.1 ≤ version → may_stand call word.now version ≡ true) }
+{
+    if let Some(form) = own_form(call, word, given) {
+        return Some(form);
+    }
+    match narrower(call) {
+        Some(inner) => own_form(inner, word, given),
+        None => None,
+    }
+}
+
+/// What the arguments of a word have to be, where it may stand at such a place and has a form with so many.
 pub fn wants_of(call: Call, word: &str, given: usize) -> Option<&'static [Want]>
     ensures { option_map (λ wants. wants.now) result ≡ wants_of call word.now given }
 {
-    if let Some(wants) = own_wants(call, word, given) {
-        return Some(wants);
-    }
-    match narrower(call) {
-        Some(inner) => own_wants(inner, word, given),
-        None => None,
-    }
+    let (wants, _) = form_of(call, word, given)?;
+    Some(wants)
 }
 
 fn has_word<W: Copy>(forms: &'static [Form<W>], word: &str, version: u32) -> bool

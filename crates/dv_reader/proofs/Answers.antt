@@ -16,6 +16,7 @@ use Rattle.dv_reader.specs.Passes.{JudgedIn, Passes, is_version, shape_at}
 use Rattle.dv_grammar.proofs.Steps.{some_injective, bind}
 use Rattle.dv_grammar.proofs.Complete.{complete_script}
 use Rattle.dv_grammar.proofs.Sound.{sound_script}
+use Rattle.dv_reader.proofs.Accepted.{shape_found}
 use Rattle.dv_reader.proofs.Version.{version_is, no_version}
 use Rattle.dv_reader.proofs.Count.{events_few}
 
@@ -28,15 +29,11 @@ kept true a draft e = (refl, some_injective e)
 kept false a draft e = cc
 
 -- what is a draft is read as one that keeps to its version
-pub shape_is : (d : Data) (draft : Draft) → shape_at d ≡ Some draft → (script_at d ≡ Some draft) × (keeps_version draft ≡ true)
+pub shape_is : (d : Data) (draft : Draft) → shape_at d ≡ Some draft → (script_at d ≡ Some draft) × (keeps_version d draft ≡ true)
 shape_is d draft e =
     bind (script_at d) _ draft e (λ a a_is a_then.
-    let k = kept (keeps_version a) a draft a_then in
-    (a_is ∙ ap Some k.1, ap keeps_version (sym k.1) ∙ k.0))
-
--- what is read as a draft that keeps to its version is that draft
-pub shape_found : (d : Data) (draft : Draft) → script_at d ≡ Some draft → keeps_version draft ≡ true → shape_at d ≡ Some draft
-shape_found d draft is keeps = rw (is, keeps) refl
+    let k = kept (keeps_version d a) a draft a_then in
+    (a_is ∙ ap Some k.1, ap (keeps_version d) (sym k.1) ∙ k.0))
 
 -- what is read as a script has its shape
 pub shaped : (bytes : List ℕ) (d : Data) (draft : Draft) → IsDocument bytes d → is_version d ≡ true → shape_at d ≡ Some draft → HasShape bytes d draft

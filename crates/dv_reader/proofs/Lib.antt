@@ -3,6 +3,7 @@ pub mod Answers
 pub mod Count
 pub mod Documents
 pub mod Reasons
+pub mod Sound
 pub mod TableLemmas
 pub mod TimesKept
 pub mod Version

@@ -4,10 +4,10 @@ use Rattle.std.proofs.lemmas.Bool.Decides.{nat_tests}
 use Rattle.serde_json.specs.Data.{Data}
 use Rattle.dv_grammar.specs.Grammar.{IsScript}
 use Rattle.dv_grammar.specs.declared.draft.Draft.{Draft}
-use Rattle.dv_reader.proofs.Documents.{same_draft, same_value}
+use Rattle.dv_reader.proofs.Documents.{same_test, same_value}
 use Rattle.dv_reader.specs.Laws.{RefusedForOneReason}
 use Rattle.dv_reader.specs.Limits.{is_small}
-use Rattle.dv_reader.specs.Refusal.{are_known, are_named, are_pooled, HasShape, HasVersion, IsDocument, Refuses}
+use Rattle.dv_reader.specs.Refusal.{keeps_version, are_known, are_named, are_pooled, HasShape, HasVersion, IsDocument, Refuses}
 use Rattle.dv_reader.specs.declared.error.ScriptFault.{ScriptFault}
 use Rattle.dv_reader.specs.declared.error.ScriptFault.TheVariants.{TooLong, NotJson, BadVersion, BadShape, TooMany, BadName, BadClass, OutOfMemory, BadPool}
 use Rattle.dv_script.specs.declared.limits.TheConstants.{MOST_BYTES}
@@ -54,9 +54,9 @@ Passes (suc (suc zero)) bytes = (d : Data) × IsDocument bytes d
 Passes (suc (suc (suc zero))) bytes = (d : Data) × IsDocument bytes d × HasVersion d
 Passes (suc (suc (suc (suc zero)))) bytes = (d : Data) × (draft : Draft) × HasShape bytes d draft
 Passes (suc (suc (suc (suc (suc zero))))) bytes = (d : Data) × (draft : Draft) × HasShape bytes d draft × (is_small d draft ≡ true)
-Passes (suc (suc (suc (suc (suc (suc zero)))))) bytes = (d : Data) × (draft : Draft) × HasShape bytes d draft × (is_small d draft ≡ true) × (are_named draft ≡ true)
+Passes (suc (suc (suc (suc (suc (suc zero)))))) bytes = (d : Data) × (draft : Draft) × HasShape bytes d draft × (is_small d draft ≡ true) × (are_named d draft ≡ true)
 Passes (suc (suc (suc (suc (suc (suc (suc n))))))) bytes =
-    (d : Data) × (draft : Draft) × HasShape bytes d draft × (is_small d draft ≡ true) × (are_named draft ≡ true) × (are_known draft ≡ true)
+    (d : Data) × (draft : Draft) × HasShape bytes d draft × (is_small d draft ≡ true) × (are_named d draft ≡ true) × (are_known d draft ≡ true)
 
 -- and so one test fewer
 fewer : (n : ℕ) (bytes : List ℕ) → Passes (suc n) bytes → Passes n bytes
@@ -95,23 +95,22 @@ failed bytes TooLong low h p = omega (arith, h, p)
 failed bytes NotJson low h p = let unread = h.1 p.1.text in let is = p.1.is in cc
 failed bytes BadVersion low h p = h.2 (subst HasVersion (same_value bytes p.0 h.0 p.1 h.1) p.2)
 failed bytes BadShape low h p =
-    h.3 p.1 (subst (λ (x : Data). IsScript x p.1) (same_value bytes p.0 h.0 p.2.document h.1) p.2.shape) p.2.plain
+    h.3 p.1 (subst (λ (x : Data). IsScript x p.1) (same_value bytes p.0 h.0 p.2.document h.1) p.2.shape)
+    (subst (λ (x : Data). keeps_version x p.1 ≡ true) (same_value bytes p.0 h.0 p.2.document h.1) p.2.plain)
 failed bytes TooMany low h p =
-    let same : is_small p.0 p.1 ≡ is_small h.0 h.1 =
-    ap (λ (x : Data). is_small x p.1) (same_value bytes p.0 h.0 p.2.document h.2.document)
-    ∙ ap (is_small h.0) (same_draft bytes p.0 h.0 p.1 h.1 p.2 h.2) in
+    let same : is_small p.0 p.1 ≡ is_small h.0 h.1 = same_test is_small bytes p.0 h.0 p.1 h.1 p.2 h.2 in
     let good : is_small p.0 p.1 ≡ true = p.3 in
     let bad : is_small h.0 h.1 ≡ false = h.3 in
     cc
 failed bytes BadName low h p =
-    let same : are_named p.1 ≡ are_named h.1 = ap are_named (same_draft bytes p.0 h.0 p.1 h.1 p.2 h.2) in
-    let good : are_named p.1 ≡ true = p.4 in
-    let bad : are_named h.1 ≡ false = h.4 in
+    let same : are_named p.0 p.1 ≡ are_named h.0 h.1 = same_test are_named bytes p.0 h.0 p.1 h.1 p.2 h.2 in
+    let good : are_named p.0 p.1 ≡ true = p.4 in
+    let bad : are_named h.0 h.1 ≡ false = h.4 in
     cc
 failed bytes BadClass low h p =
-    let same : are_known p.1 ≡ are_known h.1 = ap are_known (same_draft bytes p.0 h.0 p.1 h.1 p.2 h.2) in
-    let good : are_known p.1 ≡ true = p.5 in
-    let bad : are_known h.1 ≡ false = h.5 in
+    let same : are_known p.0 p.1 ≡ are_known h.0 h.1 = same_test are_known bytes p.0 h.0 p.1 h.1 p.2 h.2 in
+    let good : are_known p.0 p.1 ≡ true = p.5 in
+    let bad : are_known h.0 h.1 ≡ false = h.5 in
     cc
 failed bytes BadPool low h p = absurd (omega (arith, low))
 failed bytes OutOfMemory low h p = absurd (omega (arith, low))

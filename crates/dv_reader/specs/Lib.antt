@@ -1,5 +1,3 @@
-pub mod Names
-pub mod Suits
 pub mod Limits
 pub mod Refusal
 pub mod Laws

@@ -11,7 +11,8 @@ use Rattle.dv_forms.specs.declared.stop.Stop.{Stop}
 use Rattle.dv_forms.specs.declared.stop.Stop.TheVariants as stop
 use Rattle.dv_grammar.specs.declared.draft.Draft.{Draft}
 use Rattle.dv_reader.specs.Limits.{is_small}
-use Rattle.dv_reader.specs.Refusal.{keeps_version, are_named, are_known, are_pooled}
+use Rattle.dv_reader.specs.Refusal.{answers, keeps_version, are_named, are_known, are_pooled}
+use Rattle.dv_questions.specs.Questions.{words, names, classes, pools}
 use Rattle.dv_grammar.specs.Shape.{script_at}
 
 -- the refusal of a reader that stops
@@ -30,40 +31,47 @@ is_version d = is_one_or_two (option_and_then as_u64 (option_and_then as_number 
 
 -- the draft that a JSON value is, where it keeps to its version
 abbrev pub shape_at : Data → Option Draft
-shape_at d = option_and_then (λ draft. if keeps_version draft then Some draft else None) (script_at d)
+shape_at d = option_and_then (λ draft. if keeps_version d draft then Some draft else None) (script_at d)
+
+-- the document answers each of the four questions well
+pub record IsSound (d : Data) (draft : Draft) : Type 0 where
+  pub words_suit : answers (words draft.version) d draft ≡ true
+  pub names_suit : answers names d draft ≡ true
+  pub classes_suit : answers (classes draft.script.classes) d draft ≡ true
+  pub pools_suit : answers (pools draft.script.pools) d draft ≡ true
 
 -- what the last passes find of a draft of a JSON value
 abbrev pub Accepts : Data → Draft → Result ⊤ ScriptFault → Type 0
-Accepts d draft (Ok t) = (is_small d draft ≡ true) × (are_named draft ≡ true) × (are_known draft ≡ true) × (are_pooled draft ≡ true)
+Accepts d draft (Ok t) = (keeps_version d draft ≡ true) × (is_small d draft ≡ true) × (are_named d draft ≡ true) × (are_known d draft ≡ true) × (are_pooled d draft ≡ true)
 Accepts d draft (Err TooLong) = ⊥
 Accepts d draft (Err NotJson) = ⊥
 Accepts d draft (Err BadVersion) = ⊥
-Accepts d draft (Err BadShape) = ⊥
-Accepts d draft (Err TooMany) = is_small d draft ≡ false
-Accepts d draft (Err BadName) = (is_small d draft ≡ true) × (are_named draft ≡ false)
-Accepts d draft (Err BadClass) = (is_small d draft ≡ true) × (are_named draft ≡ true) × (are_known draft ≡ false)
+Accepts d draft (Err BadShape) = keeps_version d draft ≡ false
+Accepts d draft (Err TooMany) = (keeps_version d draft ≡ true) × (is_small d draft ≡ false)
+Accepts d draft (Err BadName) = (keeps_version d draft ≡ true) × (is_small d draft ≡ true) × (are_named d draft ≡ false)
+Accepts d draft (Err BadClass) = (keeps_version d draft ≡ true) × (is_small d draft ≡ true) × (are_named d draft ≡ true) × (are_known d draft ≡ false)
 Accepts d draft (Err OutOfMemory) = ⊥
-Accepts d draft (Err BadPool) = (is_small d draft ≡ true) × (are_named draft ≡ true) × (are_known draft ≡ true) × (are_pooled draft ≡ false)
+Accepts d draft (Err BadPool) = (keeps_version d draft ≡ true) × (is_small d draft ≡ true) × (are_named d draft ≡ true) × (are_known d draft ≡ true) × (are_pooled d draft ≡ false)
 
 -- what the passes find of a JSON value
 abbrev pub Judged : Data → Result Script ScriptFault → Type 0
 Judged d (Ok s) =
     (draft : Draft) × (is_version d ≡ true) × (shape_at d ≡ Some draft) × (draft.script ≡ s)
-    × (is_small d draft ≡ true) × (are_named draft ≡ true) × (are_known draft ≡ true) × (are_pooled draft ≡ true)
+    × (is_small d draft ≡ true) × (are_named d draft ≡ true) × (are_known d draft ≡ true) × (are_pooled d draft ≡ true)
 Judged d (Err TooLong) = ⊥
 Judged d (Err NotJson) = ⊥
 Judged d (Err BadVersion) = is_version d ≡ false
 Judged d (Err BadShape) = (is_version d ≡ true) × (shape_at d ≡ None)
 Judged d (Err TooMany) = (draft : Draft) × (is_version d ≡ true) × (shape_at d ≡ Some draft) × (is_small d draft ≡ false)
 Judged d (Err BadName) =
-    (draft : Draft) × (is_version d ≡ true) × (shape_at d ≡ Some draft) × (is_small d draft ≡ true) × (are_named draft ≡ false)
+    (draft : Draft) × (is_version d ≡ true) × (shape_at d ≡ Some draft) × (is_small d draft ≡ true) × (are_named d draft ≡ false)
 Judged d (Err BadClass) =
-    (draft : Draft) × (is_version d ≡ true) × (shape_at d ≡ Some draft) × (is_small d draft ≡ true) × (are_named draft ≡ true)
-    × (are_known draft ≡ false)
+    (draft : Draft) × (is_version d ≡ true) × (shape_at d ≡ Some draft) × (is_small d draft ≡ true) × (are_named d draft ≡ true)
+    × (are_known d draft ≡ false)
 Judged d (Err OutOfMemory) = ⊤
 Judged d (Err BadPool) =
-    (draft : Draft) × (is_version d ≡ true) × (shape_at d ≡ Some draft) × (is_small d draft ≡ true) × (are_named draft ≡ true)
-    × (are_known draft ≡ true) × (are_pooled draft ≡ false)
+    (draft : Draft) × (is_version d ≡ true) × (shape_at d ≡ Some draft) × (is_small d draft ≡ true) × (are_named d draft ≡ true)
+    × (are_known d draft ≡ true) × (are_pooled d draft ≡ false)
 
 -- what they find of the value that the bytes are
 abbrev pub JudgedIn : List ℕ → Result Script ScriptFault → Type 0

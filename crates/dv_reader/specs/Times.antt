@@ -1,6 +1,6 @@
 -- The times of a script that is read. The steps of the world cut a delay, an interval and a time of the clock that is too long; none of these
 -- is, so that cutting changes nothing.
-use Rattle.std.specs.Prelude.{◌≡◌, ◌≤◌, ℕ, Bool, true, ◌&&◌, nat_eq, min, max, List}
+use Rattle.std.specs.Prelude.{◌≡◌, ◌≤◌, ℕ, Bool, true, ◌&&◌, nat_eq, min, max, List, Option, Some, None}
 use Rattle.std.specs.List.{list_all}
 use Rattle.dv_clock.specs.declared.limits.TheConstants.{MOST_DELAY, MOST_TICKS}
 use Rattle.dv_script.specs.declared.action.Action.{Action}
@@ -12,7 +12,11 @@ use Rattle.dv_script.specs.declared.event.Event.{Event}
 use Rattle.dv_script.specs.declared.event.Event.TheVariants as event
 use Rattle.dv_script.specs.declared.script.Script.{Script}
 use Rattle.dv_reader.specs.Limits.{ticks_in}
-use Rattle.dv_reader.specs.Suits.{or_absent}
+
+-- of a body that may be absent
+abbrev pub or_absent : Option Bool → Bool
+or_absent None = true
+or_absent (Some body) = body
 
 -- cut, a delay is what it was
 abbrev pub is_delay : ℕ → Bool

@@ -4,7 +4,5 @@
 pub mod error;
 pub mod laws;
 pub mod limits;
-pub mod names;
 mod passes;
 pub mod read_script;
-mod suits;

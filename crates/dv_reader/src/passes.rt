@@ -1,25 +1,20 @@
 //! The passes of the reader, in the order of the refusals that they find.
 
 ghost use Rattle.std.specs.Prelude.{◌≡◌, ◌≤◌, length, true, IfOk, IfErr};
-ghost use Rattle.std.specs.List.{list_all};
 ghost use Rattle.serde_json.specs.View.{view};
-ghost use Rattle.dv_forms.specs.Answer.{Reads};
 ghost use Rattle.dv_script.specs.declared.limits.TheConstants.{MOST_LIMIT, MOST_NODES, MOST_POOLS};
-ghost use Rattle.dv_reader.specs.Refusal.{keeps_version, is_named, names_pool, are_named, are_known, are_distinct, are_pooled, Says, Refuses};
-ghost use Rattle.dv_reader.specs.declared.suits.Wanted.TheVariants.{Pools};
-ghost use Rattle.dv_reader.specs.Suits.{suits_script};
-ghost use Rattle.dv_reader.specs.Passes.{is_version, shape_at, Accepts, Judged, Passes};
+ghost use Rattle.dv_questions.specs.Questions.{asked_by};
+ghost use Rattle.dv_reader.specs.Refusal.{answers, keeps_version, are_named, are_known, are_distinct, are_pooled, Says, Refuses};
+ghost use Rattle.dv_reader.specs.Passes.{is_version, Accepts, IsSound, Judged, Passes};
 
 use crate::error::ScriptFault;
 use crate::limits::is_small;
-use crate::names::is_name;
-use crate::suits::{Wanted, is_among, suits_script};
-use dv_forms::declaration::Declaration;
-use dv_forms::stop::Stop;
+use dv_forms::want::{Keyed, Want};
 use dv_grammar::draft::Draft;
 use dv_grammar::reading::script::shape;
-use dv_script::lent::PoolsRef;
-use dv_script::limits::MOST_BYTES;
+use dv_questions::asking::all_suit;
+use dv_questions::question::{Question, is_among};
+use dv_script::limits::{MOST_BYTES, MOST_LEVELS};
 use dv_script::script::{NamedPool, Script};
 use serde_json::Value as Json;
 use std::alloc::Global;
@@ -33,46 +28,42 @@ fn is_version(json: &Json) -> bool
     }
 }
 
-fn is_named(declaration: &Declaration) -> bool
-    ensures { result ≡ is_named declaration.now }
+/// Whether each text of the document answers the question well, as one of a script of its version.
+fn answers(question: &Question<'_>, json: &Json, draft: &Draft) -> bool
+    ensures { result ≡ answers (asked_by question.now) (view json.now) draft.now }
 {
-    is_name(declaration.name.as_str())
+    let script = Want::Keyed(Keyed::Script(draft.version));
+    all_suit(question, MOST_LEVELS + 1, script, json)
 }
 
-fn all_named(declared: &[Declaration]) -> bool
-    ensures { result ≡ list_all is_named declared.now }
+/// Whether the document answers all four questions well, which are asked in one pass.
+fn is_sound(json: &Json, draft: &Draft) -> bool
+    ensures { result ≡ true → IsSound (view json.now) draft.now }
 {
-    declared.iter().all(is_named)
+    let pools = draft.script.pools.as_slice();
+    let every = Question::Every(draft.version, &draft.script.classes, pools);
+    answers(&every, json, draft)
 }
 
-fn names_pool(pool: &NamedPool) -> bool
-    ensures { result ≡ names_pool pool.now }
+fn keeps_version(sound: bool, json: &Json, draft: &Draft) -> bool
+    requires { sound ≡ true → IsSound (view json.now) draft.now }
+    ensures { result ≡ keeps_version (view json.now) draft.now }
 {
-    is_name(pool.name.as_str())
+    sound || answers(&Question::Words(draft.version), json, draft)
 }
 
-fn all_pools_named(pools: &[NamedPool]) -> bool
-    ensures { result ≡ list_all names_pool pools.now }
+fn are_named(sound: bool, json: &Json, draft: &Draft) -> bool
+    requires { sound ≡ true → IsSound (view json.now) draft.now }
+    ensures { result ≡ are_named (view json.now) draft.now }
 {
-    pools.iter().all(names_pool)
+    sound || answers(&Question::Names, json, draft)
 }
 
-fn are_named(draft: &Draft) -> bool
-    ensures { result ≡ are_named draft.now }
+fn are_known(sound: bool, json: &Json, draft: &Draft) -> bool
+    requires { sound ≡ true → IsSound (view json.now) draft.now }
+    ensures { result ≡ are_known (view json.now) draft.now }
 {
-    all_named(draft.declared.as_slice())
-        && all_pools_named(draft.script.pools.as_slice())
-        && suits_script(&Wanted::Names, &draft.script)
-}
-
-fn are_known(draft: &Draft) -> bool
-    ensures { result ≡ are_known draft.now }
-{
-    draft.all_declared
-        && suits_script(
-            &Wanted::Classes(draft.script.classes.count()),
-            &draft.script,
-        )
+    draft.all_declared && (sound || answers(&Question::Classes(&draft.script.classes), json, draft))
 }
 
 fn are_distinct(pools: &[NamedPool]) -> bool
@@ -80,82 +71,51 @@ fn are_distinct(pools: &[NamedPool]) -> bool
 {
     match pools.split_first() {
         None => true,
-        Some((pool, rest)) => !is_among(&pool.name, rest) && are_distinct(rest),
+        Some((pool, rest)) => !is_among(pool.name.as_str(), rest) && are_distinct(rest),
     }
 }
 
-fn uses_only(pools: &[NamedPool], script: &Script) -> bool
-    ensures { result ≡ suits_script (Pools pools.now) script.now }
-{
-    suits_script(&Wanted::Pools(PoolsRef::new(pools)), script)
-}
-
-/// Whether no pool is named twice, and each that the script uses is declared. A script of version 1, which declares none, was asked that with
-/// its version.
-fn are_pooled(draft: &Draft) -> bool
-    requires plain { keeps_version draft.now ≡ true }
-    ensures { result ≡ are_pooled draft.now }
+fn are_pooled(sound: bool, json: &Json, draft: &Draft) -> bool
+    requires { sound ≡ true → IsSound (view json.now) draft.now }
+    ensures { result ≡ are_pooled (view json.now) draft.now }
 {
     let pools = draft.script.pools.as_slice();
-    if draft.version == 1 && pools.is_empty() {
-        return true;
-    }
-    are_distinct(pools) && uses_only(pools, &draft.script)
+    are_distinct(pools) && (sound || answers(&Question::Pools(pools), json, draft))
 }
 
-fn keeps_version(draft: &Draft) -> bool
-    ensures { result ≡ keeps_version draft.now }
-{
-    if draft.version == 1 {
-        uses_only(&[], &draft.script)
-    } else {
-        true
-    }
-}
-
-/// Whether a draft of this JSON value is small enough, named well and knows its classes and pools, or the least refusal.
+/// Whether a draft of this JSON value keeps to its version, is small enough, is named well and knows its classes and pools, or the least
+/// refusal. The questions are asked one by one only where the pass that asks all at once has failed.
 fn accept(json: &Json, draft: &Draft) -> Result<(), ScriptFault>
-    requires plain { keeps_version draft.now ≡ true }
     ensures { Accepts (view json.now) draft.now result }
 {
+    let sound = is_sound(json, draft);
+    if !keeps_version(sound, json, draft) {
+        return Err(ScriptFault::BadShape);
+    }
     if !is_small(json, draft) {
         return Err(ScriptFault::TooMany);
     }
-    if !are_named(draft) {
+    if !are_named(sound, json, draft) {
         return Err(ScriptFault::BadName);
     }
-    if !are_known(draft) {
+    if !are_known(sound, json, draft) {
         return Err(ScriptFault::BadClass);
     }
-    if !are_pooled(draft) {
+    if !are_pooled(sound, json, draft) {
         return Err(ScriptFault::BadPool);
     }
     Ok(())
 }
 
-/// The draft that a JSON value is, where it keeps to its version.
-fn shape_of(alloc: Global, json: &Json) -> Result<Draft, Stop>
-    ensures read { Reads result (shape_at (view json.now)) }
-    ensures plain { IfOk result (λ draft. keeps_version draft ≡ true) }
-{
-    let draft = shape(alloc, json)?;
-    if keeps_version(&draft) {
-        Ok(draft)
-    } else {
-        draft.discard();
-        Err(Stop::BadShape)
-    }
-}
-
 /// The script that a JSON value is, or the least refusal.
-#[tactic(auto, using(crate::proofs::Accepted::refused))]
+#[tactic(auto, using(crate::proofs::Accepted::accepted, crate::proofs::Accepted::refused))]
 fn judge(alloc: Global, json: &Json) -> Result<Script, ScriptFault>
     ensures { Judged (view json.now) result }
 {
     if !is_version(json) {
         return Err(ScriptFault::BadVersion);
     }
-    let draft = shape_of(alloc, json)?;
+    let draft = shape(alloc, json)?;
     match accept(json, &draft) {
         Ok(()) => Ok(draft.into_script()),
         Err(fault) => {

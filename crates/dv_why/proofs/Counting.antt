@@ -1,16 +1,12 @@
--- Items and wants, counted.
+-- Wants, counted.
 use Rattle.std.proofs.Common.{◌≡◌, ◌≢◌, ℕ, zero, suc, ◌-◌, ◌<◌, ◌≤◌, List, [], ◌∷◌, length, get_or, Some, None, refl, ap, arith}
 use Rattle.serde_json.specs.Data.{Data}
 use Rattle.serde_json.specs.View.{items_view}
 use Rattle.serde_json.specs.declared.value.Value.{Value}
 use Rattle.dv_forms.specs.declared.want.Want.{Want}
 use Rattle.dv_forms.specs.declared.want.Call.{Call}
-use Rattle.dv_why.specs.Places.{argument_want, call_want, count, nth}
-
--- there are as many items as values
-pub count_items : (vs : List Value) → count (items_view vs) ≡ length vs
-count_items [] = refl
-count_items (v ∷ vs) = ap suc (count_items vs)
+use Rattle.dv_why.specs.Places.{argument_want, call_want, nth}
+use Rattle.dv_questions.specs.Asking.{count}
 
 -- the item of a number below the length
 pub nth_within : (ws : List Want) (n : ℕ) (default : Want) → n < length ws → nth ws n ≡ Some (get_or ws n default)

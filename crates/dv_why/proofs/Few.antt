@@ -17,7 +17,7 @@ use Rattle.dv_forms.specs.Words.{action_words}
 use Rattle.dv_why.proofs.Actions.{action_begins}
 use Rattle.dv_why.proofs.Forms.{checked_word}
 use Rattle.dv_reader.specs.Limits.{nodes, ticks_of, ticks_in as draft_ticks, are_few, is_small}
-use Rattle.dv_why.specs.Places.{count}
+use Rattle.dv_questions.specs.Asking.{count}
 use Rattle.dv_why.specs.Documents.{or_no_items}
 use Rattle.dv_why.specs.Counts.{count_at, count_in, posts_of, ticks_by, ticks_at, ticks_among, ticks_in}
 

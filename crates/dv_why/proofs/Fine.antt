@@ -19,13 +19,14 @@ use Rattle.dv_forms.specs.declared.want.Item.{Item}
 use Rattle.dv_why.specs.declared.question.Question.TheVariants as question
 use Rattle.dv_forms.specs.Wants.{item_want}
 use Rattle.dv_forms.specs.Words.{may_stand, wants_of}
-use Rattle.dv_why.specs.Places.{count, nth, part_want, value_want}
+use Rattle.dv_why.specs.Places.{nth, part_want, value_want}
+use Rattle.dv_questions.specs.Asking.{count}
 use Rattle.dv_why.specs.declared.fits.TheConstants.{LAST_VERSION}
 use Rattle.dv_why.specs.Fits.{fits, word_fits}
 use Rattle.dv_why.specs.AllSuit.{AllSuit}
 use Rattle.dv_why.proofs.Asked.{item_below, value_below}
 use Rattle.dv_why.proofs.Forms.{last_too, wants_many}
-use Rattle.dv_why.proofs.Named.{here, part, value}
+use Rattle.dv_why.proofs.Parts.{here, part, value}
 
 -- each part of the value fits in a script of this version, and it nests to so many levels at most
 pub record IsFine (v n : ℕ) (w : Want) (d : Data) : Type 0 where

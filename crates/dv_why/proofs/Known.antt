@@ -1,63 +1,60 @@
 -- Where each class and each pool is as a question asks, the script knows its classes and its pools.
 use Rattle.std.proofs.Common.{◌≡◌, ◌≢◌, ℕ, zero, suc, ◌≤◌, ◌<◌, Bool, true, false, not, ◌||◌, nat_lt, nat_eq, List, [], ◌∷◌, length, Option, Some, None, is_some, option_and_then, unwrap_or, bytes_eq, refl, sym, ap, subst, ◌∙◌, arith, codes, inl, inr}
-use Rattle.std.proofs.lemmas.Bool.{and_parts, eqb-true, lt-ltb, leb-true}
+use Rattle.std.proofs.lemmas.Bool.{and_parts, leb-true}
 use Rattle.std.proofs.Math.Bool.{or-true}
-use Rattle.std.proofs.lemmas.List.Quantifiers.{position-Some}
 use Rattle.std.proofs.lemmas.Slice.Eq.{bytes_eq-Decides}
 use Rattle.serde_json.specs.Data.{Data, Items, no_items, item, depth}
 use Rattle.serde_json.specs.Find.{as_array, get, get_member}
 use Rattle.dv_value.specs.declared.classes.Class.{Class}
-use Rattle.dv_value.specs.Classes.{find_class}
 use Rattle.dv_script.specs.declared.script.NamedPool.{NamedPool}
 use Rattle.dv_script.specs.declared.limits.TheConstants.{MOST_CLASSES, MOST_LEVELS}
 use Rattle.dv_forms.specs.Forms.{Each, IsList, Field, place_of}
 use Rattle.dv_grammar.specs.declared.draft.Draft.{Draft}
 use Rattle.dv_grammar.specs.Grammar.{IsPool, pools, IsScript}
 use Rattle.dv_grammar.proofs.Steps.{some_injective}
-use Rattle.dv_reader.specs.declared.suits.Wanted.TheVariants as wanted
-use Rattle.dv_reader.specs.Suits.{is_among}
+use Rattle.dv_questions.specs.Questions.{Asked, words, names, classes, pools as pools_asked, is_known, is_pool, is_among}
 use Rattle.dv_reader.specs.Limits.{is_small}
-use Rattle.dv_reader.specs.Refusal.{keeps_version, are_named, are_known, are_distinct, are_pooled}
+use Rattle.dv_reader.specs.Refusal.{answers, keeps_version, are_named, are_known, are_distinct, are_pooled}
 use Rattle.dv_reader.specs.declared.error.ScriptFault.TheVariants.{BadShape, BadName, BadClass, BadPool}
-use Rattle.dv_why.specs.Fits.{word_fits}
+use Rattle.dv_why.specs.Fits.{is_declared}
 use Rattle.dv_why.specs.declared.question.Question.{Question}
 use Rattle.dv_why.specs.declared.question.Question.TheVariants as question
 use Rattle.dv_why.specs.AllSuit.{AllSuit}
+use Rattle.dv_questions.specs.Asking.{all_suit}
+use Rattle.serde_json.specs.View.{items_view}
+use Rattle.serde_json.specs.declared.value.Value.{Value}
 use Rattle.dv_why.specs.Declaring.{AllMayDeclare, table_in}
 use Rattle.dv_why.specs.Documents.{or_no_items, list_in, name_in, script_in, version_in, AreDistinct, PoolsDistinct}
 use Rattle.dv_why.specs.Finds.{Misfits}
 use Rattle.dv_why.specs.Reasons.{IsRefusedFor}
 use Rattle.dv_why.specs.Wrong.{IsMisshaped, IsMisnamed, IsBadClass, IsBadPool}
 use Rattle.dv_why.specs.declared.misfit.Misfit.{Misfit}
-use Rattle.dv_forms.specs.declared.want.Call.TheVariants as call_of
-use Rattle.dv_why.proofs.Named.{Asks, both}
+use Rattle.dv_forms.specs.declared.want.Want.TheVariants as want
+use Rattle.dv_forms.specs.declared.want.Keyed.TheVariants as keyed
+use Rattle.dv_why.proofs.Parts.{both}
+use Rattle.dv_why.proofs.Texts.{Tells, texts_suit}
 use Rattle.dv_why.proofs.Reading.{script_fine}
 use Rattle.dv_why.proofs.PoolNames.{declared_one}
-use Rattle.dv_why.proofs.Scripts.{named_script, first_has_no_pools, names_good, same_version}
+use Rattle.dv_why.proofs.Versions.{first_has_no_pools, same_version}
 use Rattle.dv_why.proofs.Suits.{IsOfClasses, IsOfPools, misnamed, misused_class, misused_pool}
 use Rattle.dv_why.proofs.Tables.{tables_same}
 
+-- where each part answers well, each text does
+answered : {q : Question} {a : Asked} (d : Data) (draft : Draft) → Tells q a → IsScript d draft → AllSuit q (script_in d) d → answers a d draft ≡ true
+answered {a = a} d draft t g h =
+    subst (λ (v : ℕ). all_suit a (suc MOST_LEVELS) (want.Keyed (keyed.Script v)) d ≡ true) (same_version d draft g) (texts_suit t (suc MOST_LEVELS) (script_in d) d h)
+
+-- ---- names
+
+names_asked : Tells question.Names names
+names_asked = record { leaf = λ l x h. h; word = λ c x h. refl }
+
 -- ---- classes
 
-find_within : (name : List ℕ) (table : List Class) (k : ℕ) → find_class name table ≡ Some k → k < length table
-find_within name table k is = (position-Some (λ (class : Class). bytes_eq class.name name) table k (record { name = []; parent = None }) is).0
-
-place_within : (name : List ℕ) (table : List Class) (o : Option ℕ) → find_class name table ≡ o → is_some o ≡ true → nat_lt (unwrap_or o (length table)) (length table) ≡ true
-place_within name table None is some = cc
-place_within name table (Some k) is some = lt-ltb k (length table) (find_within name table k is)
-
-known_place : (name : List ℕ) (table other : List Class) → other ≡ table → is_some (find_class name other) ≡ true → nat_lt (place_of name table) (length table) ≡ true
-known_place name table other same some = place_within name table (find_class name table) refl (ap (λ t. is_some (find_class name t)) (sym same) ∙ some)
-
-classes_asked : (q : Question) (d : Data) (table : List Class) → IsOfClasses d q → table_in d ≡ table → Asks q (wanted.Classes (length table)) table
+classes_asked : (q : Question) (d : Data) (table : List Class) → IsOfClasses d q → table_in d ≡ table → Tells q (classes table)
 classes_asked (question.Shape version) d table of same = absurd of
 classes_asked question.Names d table of same = absurd of
-classes_asked (question.Classes classes) d table of same = record {
-  name = λ l x is h. refl;
-  deferred = λ x h. refl;
-  pool = λ x word h. refl;
-  class = λ x h. known_place x table classes.now (of ∙ same) h;
-}
+classes_asked (question.Classes given) d table of same = record { leaf = λ l x h. ap (λ t. is_known t l x) (sym (of ∙ same)) ∙ h; word = λ c x h. refl }
 classes_asked (question.Pools ps) d table of same = absurd of
 
 few_declared : (d : Data) (draft : Draft) → is_small d draft ≡ true → length draft.declared ≤ MOST_CLASSES
@@ -69,13 +66,13 @@ few_declared d draft h =
     leb-true (length draft.declared) MOST_CLASSES (and_parts _ _ e.0).1
 
 -- a script in which each class may be declared and each that is used is in the table knows its classes
-pub classes_good : (q : Question) (d : Data) (draft : Draft) → IsOfClasses d q → AllMayDeclare (list_in (codes "classes") d) → IsScript d draft → is_small d draft ≡ true → AllSuit q (script_in d) d → are_known draft ≡ true
+pub classes_good : (q : Question) (d : Data) (draft : Draft) → IsOfClasses d q → AllMayDeclare (list_in (codes "classes") d) → IsScript d draft → is_small d draft ≡ true → AllSuit q (script_in d) d → are_known d draft ≡ true
 classes_good q d draft of may g small h =
     let value : get (codes "classes") d ≡ get_member (codes "classes") g.members = ap (get (codes "classes")) g.whole in
     let may_so : AllMayDeclare (or_no_items (option_and_then as_array (get_member (codes "classes") g.members))) = rw value at may in
     let same = tables_same (get_member (codes "classes") g.members) draft.declared g.declared (few_declared d draft small) may_so in
     let table : table_in d ≡ draft.script.classes = rw value (sym same.1 ∙ sym g.table) in
-    both (g.all_declared ∙ same.0) (named_script d draft (classes_asked q d draft.script.classes of table) g h)
+    both (g.all_declared ∙ same.0) (answered d draft (classes_asked q d draft.script.classes of table) g h)
 
 -- ---- pools
 
@@ -123,18 +120,23 @@ field_among : (o : Option Data) (ps : List NamedPool) → Field [] (IsList IsPoo
 field_among None ps g n name is = cc
 field_among (Some d) ps g n name is = among_some g.0 ps g.2 n name (rw (g.1) at is)
 
-pools_asked : (q : Question) (d : Data) (draft : Draft) → IsOfPools d q → IsScript d draft → Asks q (wanted.Pools draft.script.pools) draft.script.classes
-pools_asked (question.Shape version) d draft of g = absurd of
-pools_asked question.Names d draft of g = absurd of
-pools_asked (question.Classes classes) d draft of g = absurd of
-pools_asked (question.Pools ps) d draft of g = record {
-  name = λ l x is h. refl;
-  deferred = λ x h. refl;
-  pool = λ x word h.
-      let one = declared_one ps.now x h in
-      let value : list_in (codes "pools") d ≡ or_no_items (option_and_then as_array (get_member (codes "pools") g.members)) = ap (λ e. or_no_items (option_and_then as_array (get (codes "pools") e))) g.whole in
-      field_among (get_member (codes "pools") g.members) draft.script.pools g.pools one.0 x (ap (name_in one.0) (sym (of ∙ value)) ∙ one.1);
-  class = λ x h. refl;
+or_also : (a b c : Bool) → (b ≡ true → c ≡ true) → (a || b) ≡ true → (a || c) ≡ true
+or_also true b c k h = refl
+or_also false b c k h = k h
+
+among_declared : (d : Data) (draft : Draft) (ps : List Value) → items_view ps ≡ list_in (codes "pools") d → IsScript d draft → (x : List ℕ) → is_declared ps x ≡ true → is_among x draft.script.pools ≡ true
+among_declared d draft ps of g x h =
+    let one = declared_one ps x h in
+    let value : list_in (codes "pools") d ≡ or_no_items (option_and_then as_array (get_member (codes "pools") g.members)) = ap (λ e. or_no_items (option_and_then as_array (get (codes "pools") e))) g.whole in
+    field_among (get_member (codes "pools") g.members) draft.script.pools g.pools one.0 x (ap (name_in one.0) (sym (of ∙ value)) ∙ one.1)
+
+pools_tell : (q : Question) (d : Data) (draft : Draft) → IsOfPools d q → IsScript d draft → Tells q (pools_asked draft.script.pools)
+pools_tell (question.Shape version) d draft of g = absurd of
+pools_tell question.Names d draft of g = absurd of
+pools_tell (question.Classes given) d draft of g = absurd of
+pools_tell (question.Pools ps) d draft of g = record {
+  leaf = λ l x h. or_also (not (is_pool l)) (is_declared ps.now x) (is_among x draft.script.pools) (among_declared d draft ps.now of g x) h;
+  word = λ c x h. refl;
 }
 
 all_distinct : (d : Data) (draft : Draft) (b : Bool) → nat_eq (version_in d) 1 ≡ b → IsScript d draft → PoolsDistinct d → are_distinct draft.script.pools ≡ true
@@ -146,8 +148,8 @@ all_distinct d draft false two g h =
     field_distinct (get_member (codes "pools") g.members) draft.script.pools g.pools (subst AreDistinct value (h two))
 
 -- a script in which no name of a pool is given twice and each pool that is used is declared has its pools
-pub pools_good : (q : Question) (d : Data) (draft : Draft) → IsOfPools d q → PoolsDistinct d → IsScript d draft → AllSuit q (script_in d) d → are_pooled draft ≡ true
-pools_good q d draft of h g suit = both (all_distinct d draft (nat_eq (version_in d) 1) refl g h) (named_script d draft (pools_asked q d draft of g) g suit)
+pub pools_good : (q : Question) (d : Data) (draft : Draft) → IsOfPools d q → PoolsDistinct d → IsScript d draft → AllSuit q (script_in d) d → are_pooled d draft ≡ true
+pools_good q d draft of h g suit = both (all_distinct d draft (nat_eq (version_in d) 1) refl g h) (answered d draft (pools_tell q d draft of g) g suit)
 
 -- ---- what is found where a script is refused so
 
@@ -158,34 +160,22 @@ differs false is isnt = cc
 -- refused for a name, a name is found
 pub found_name : (d : Data) (m : Misfit) → IsRefusedFor BadName d → depth d ≤ MOST_LEVELS → Misfits question.Names d m → IsMisnamed m
 found_name d m h shallow (inl bad) = misnamed m bad
-found_name d m h shallow (inr whole) = differs (are_named h.0) (names_good d h.0 h.1.shape (whole.1 shallow)) h.3
+found_name d m h shallow (inr whole) = differs (are_named d h.0) (answered d h.0 names_asked h.1.shape (whole.1 shallow)) h.3
 
 -- refused for a class, a class is found, where each may be declared
 pub found_class : (q : Question) (d : Data) (m : Misfit) → IsOfClasses d q → AllMayDeclare (list_in (codes "classes") d) → IsRefusedFor BadClass d → depth d ≤ MOST_LEVELS → Misfits q d m → IsBadClass d m
 found_class q d m of may h shallow (inl bad) = misused_class q d m of bad
-found_class q d m of may h shallow (inr whole) = differs (are_known h.0) (classes_good q d h.0 of may h.1.shape h.2 (whole.1 shallow)) h.4
+found_class q d m of may h shallow (inr whole) = differs (are_known d h.0) (classes_good q d h.0 of may h.1.shape h.2 (whole.1 shallow)) h.4
 
 -- refused for a pool, a pool is found, where each is given once
 pub found_pool : (q : Question) (d : Data) (m : Misfit) → IsOfPools d q → PoolsDistinct d → IsRefusedFor BadPool d → depth d ≤ MOST_LEVELS → Misfits q d m → IsBadPool d m
 found_pool q d m of once h shallow (inl bad) = misused_pool q d m of bad
-found_pool q d m of once h shallow (inr whole) = differs (are_pooled h.0) (pools_good q d h.0 of once h.1.shape (whole.1 shallow)) h.5
+found_pool q d m of once h shallow (inr whole) = differs (are_pooled d h.0) (pools_good q d h.0 of once h.1.shape (whole.1 shallow)) h.5
 
 -- ---- shapes
 
--- in version 1 no thread is one of a pool
-shape_asked : (v : ℕ) (table : List Class) → nat_eq v 1 ≡ true → Asks (question.Shape v) (wanted.Pools []) table
-shape_asked v table one = record {
-  name = λ l x is h. refl;
-  deferred = λ x h. refl;
-  pool = λ x word h. let no : word_fits v call_of.Action (Some (codes "threadIn")) ≡ false = rw (eqb-true v 1 one) refl in differs (word_fits v call_of.Action (Some (codes "threadIn"))) word no;
-  class = λ x h. refl;
-}
-
-plain_by : (d : Data) (draft : Draft) (b : Bool) → nat_eq draft.version 1 ≡ b → IsScript d draft → AllSuit (question.Shape (version_in d)) (script_in d) d → keeps_version draft ≡ true
-plain_by d draft true one g suit =
-    let first : nat_eq (version_in d) 1 ≡ true = ap (λ v. nat_eq v 1) (same_version d draft g) ∙ one in
-    rw one (named_script d draft (shape_asked (version_in d) draft.script.classes first) g suit)
-plain_by d draft false two g suit = rw two refl
+shape_asked : (v w : ℕ) → v ≡ w → Tells (question.Shape v) (words w)
+shape_asked v w same = record { leaf = λ l x h. refl; word = λ c x h. rw (← same) h }
 
 -- refused for its shape, a part is found that doesn't fit
 pub found_shape : (d : Data) (m : Misfit) → IsRefusedFor BadShape d → depth d ≤ MOST_LEVELS → Misfits (question.Shape (version_in d)) d m → IsMisshaped d m
@@ -193,4 +183,4 @@ found_shape d m h shallow (inl bad) = bad
 found_shape d m h shallow (inr whole) =
     let suit = whole.1 shallow in
     let s = script_fine d suit in
-    absurd (h.1 s.0 s.1 (plain_by d s.0 (nat_eq s.0.version 1) refl s.1 suit))
+    absurd (h.1 s.0 s.1 (answered d s.0 (shape_asked (version_in d) s.0.version (same_version d s.0 s.1)) s.1 suit))

@@ -41,15 +41,16 @@ use Rattle.dv_why.specs.declared.question.Question.TheVariants as question
 use Rattle.dv_forms.specs.declared.want.Object.TheVariants as object
 use Rattle.dv_forms.specs.Wants.{a_deferred, a_class, a_text, a_body, item_want, key_want, keys_in}
 use Rattle.dv_forms.specs.Words.{own_forms, wants_in}
-use Rattle.dv_why.specs.Places.{count, nth}
+use Rattle.dv_why.specs.Places.{nth}
+use Rattle.dv_questions.specs.Asking.{count}
 use Rattle.dv_why.specs.Documents.{one_or_two, version_in, script_in}
 use Rattle.dv_why.specs.Fits.{fits, are_two}
 use Rattle.dv_why.specs.AllSuit.{AllSuit}
 use Rattle.dv_why.proofs.Asked.{EachKey, known_key}
 use Rattle.dv_why.proofs.Fine.{IsFine, fits_fine, inside, same, under, value_fine, text_of, integer_of, number_of, boolean_of, bound_of, list_flag_of, gather_flag_of, value_of, open_array, list_of, AreFine, are_fine, no_args, one_arg, more_args, open_call}
 use Rattle.dv_why.proofs.Forms.{EachForm, either_found, found_form}
-use Rattle.dv_why.proofs.Named.{both, here, value}
-use Rattle.dv_why.proofs.Scripts.{within_two}
+use Rattle.dv_why.proofs.Parts.{both, here, value}
+use Rattle.dv_why.proofs.Versions.{within_two}
 
 -- ---- texts and classes
 

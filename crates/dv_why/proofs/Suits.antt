@@ -15,7 +15,8 @@ use Rattle.dv_why.specs.declared.question.Question.{Question}
 use Rattle.dv_why.specs.declared.question.Question.TheVariants as question
 use Rattle.dv_why.specs.Declaring.{table_in}
 use Rattle.dv_why.specs.Documents.{list_in, name_in}
-use Rattle.dv_why.specs.Fits.{is_class, is_declared, is_pool, leaf_suits, name_suits, names_suit, suits}
+use Rattle.dv_questions.specs.Questions.{is_class, is_pool}
+use Rattle.dv_why.specs.Fits.{is_declared, leaf_suits, name_suits, names_suit, suits}
 use Rattle.dv_why.specs.Wrong.{IsMisnamed, IsBadClass, unknown_class, IsBadPool, unknown_pool}
 use Rattle.dv_why.proofs.PoolNames.{declared_none}
 

@@ -2,7 +2,7 @@
 use Rattle.std.specs.Prelude.{ℕ, ◌+◌, if◌then◌else◌, List, Option, Some, None, option_and_then, bytes_eq, codes}
 use Rattle.serde_json.specs.Data.{Data, Items, no_items, item}
 use Rattle.serde_json.specs.Find.{at, get_item, as_array, as_number, as_str, as_u64}
-use Rattle.dv_why.specs.Places.{count}
+use Rattle.dv_questions.specs.Asking.{count}
 use Rattle.dv_why.specs.Documents.{or_no_items, list_in}
 
 -- how many items there are in the array of a key

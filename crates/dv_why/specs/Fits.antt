@@ -5,11 +5,9 @@ use Rattle.serde_json.specs.Data.{Data, null, boolean, number, string, array, ob
 use Rattle.serde_json.specs.Find.{as_str, as_bool, as_array, as_object, as_i64, get, at}
 use Rattle.serde_json.specs.View.{view}
 use Rattle.serde_json.specs.declared.value.Value.{Value}
-use Rattle.dv_value.specs.Classes.{find_class}
 use Rattle.dv_forms.specs.Parts.{text_at, integer_at, number_at, bound_at, list_flag_at, gather_flag_at}
-use Rattle.dv_reader.specs.Names.{is_name, names_one}
-use Rattle.dv_forms.specs.declared.want.Object.{Object}
-use Rattle.dv_forms.specs.declared.want.Object.TheVariants as object
+use Rattle.dv_questions.specs.Asking.{count}
+use Rattle.dv_questions.specs.Questions.{is_known, is_named, is_pool}
 use Rattle.dv_forms.specs.declared.want.Leaf.{Leaf}
 use Rattle.dv_forms.specs.declared.want.Leaf.TheVariants as leaf
 use Rattle.dv_forms.specs.declared.want.Call.{Call}
@@ -22,7 +20,6 @@ use Rattle.dv_why.specs.declared.question.Question.TheVariants as question
 use Rattle.dv_forms.specs.Wants.{key_want}
 use Rattle.dv_forms.specs.Words.{may_stand, wants_of}
 use Rattle.dv_why.specs.declared.fits.TheConstants.{LAST_VERSION}
-use Rattle.dv_why.specs.Places.{count}
 
 -- a leaf reads as the grammar reads it
 abbrev pub leaf_fits : Leaf → Data → Bool
@@ -102,67 +99,6 @@ abbrev pub first_other : Keyed → Members → Option (List ℕ)
 first_other k no_members = None
 first_other k (member key d ms) = if is_other (key_want k key) then Some key else first_other k ms
 
--- whether a name that is looked up has the form that its place asks for
-abbrev pub is_found_named : Object → List ℕ → Bool
-is_found_named object.Deferred name = names_one name
-is_found_named object.Lock name = is_name name
-is_found_named object.Queue name = is_name name
-is_found_named object.Call name = is_name name
-is_found_named object.Loop name = is_name name
-is_found_named object.Task name = is_name name
-is_found_named object.Pool name = is_name name
-is_found_named object.Class name = true
-
--- whether a name has the form that its place asks for
-abbrev pub is_named : Leaf → List ℕ → Bool
-is_named leaf.Text name = true
-is_named (leaf.New o) name = is_name name
-is_named (leaf.Found o) name = is_found_named o name
-is_named leaf.Integer name = true
-is_named (leaf.Number low high) name = true
-is_named leaf.Boolean name = true
-is_named leaf.Bound name = true
-is_named leaf.ListFlag name = true
-is_named leaf.GatherFlag name = true
-
--- whether it names a class
-abbrev pub is_class : Leaf → Bool
-is_class leaf.Text = false
-is_class (leaf.New o) = false
-is_class (leaf.Found object.Deferred) = false
-is_class (leaf.Found object.Lock) = false
-is_class (leaf.Found object.Queue) = false
-is_class (leaf.Found object.Call) = false
-is_class (leaf.Found object.Loop) = false
-is_class (leaf.Found object.Task) = false
-is_class (leaf.Found object.Pool) = false
-is_class (leaf.Found object.Class) = true
-is_class leaf.Integer = false
-is_class (leaf.Number low high) = false
-is_class leaf.Boolean = false
-is_class leaf.Bound = false
-is_class leaf.ListFlag = false
-is_class leaf.GatherFlag = false
-
--- whether it names a pool
-abbrev pub is_pool : Leaf → Bool
-is_pool leaf.Text = false
-is_pool (leaf.New o) = false
-is_pool (leaf.Found object.Deferred) = false
-is_pool (leaf.Found object.Lock) = false
-is_pool (leaf.Found object.Queue) = false
-is_pool (leaf.Found object.Call) = false
-is_pool (leaf.Found object.Loop) = false
-is_pool (leaf.Found object.Task) = false
-is_pool (leaf.Found object.Pool) = true
-is_pool (leaf.Found object.Class) = false
-is_pool leaf.Integer = false
-is_pool (leaf.Number low high) = false
-is_pool leaf.Boolean = false
-is_pool leaf.Bound = false
-is_pool leaf.ListFlag = false
-is_pool leaf.GatherFlag = false
-
 -- whether a pool that is declared so has this name
 abbrev pub has_name : List ℕ → Option (List ℕ) → Bool
 has_name name None = false
@@ -181,7 +117,7 @@ is_given pools (Some name) = is_declared pools name
 abbrev pub name_suits : Question → Leaf → List ℕ → Bool
 name_suits (question.Shape version) l name = true
 name_suits question.Names l name = is_named l name
-name_suits (question.Classes classes) l name = not (is_class l) || is_some (find_class name classes.now)
+name_suits (question.Classes classes) l name = is_known classes.now l name
 name_suits (question.Pools pools) l name = not (is_pool l) || is_declared pools.now name
 
 -- whether a leaf is what is looked for, where it is a text

@@ -1,6 +1,6 @@
 -- Places in a JSON value, as JSON Pointers tell them (RFC 6901), and what the place asks for.
 use Rattle.std.specs.Prelude.{ℕ, zero, suc, List, [], ◌∷◌, map, Option, Some, None, option_and_then}
-use Rattle.serde_json.specs.Data.{Data, Items, no_items, item}
+use Rattle.serde_json.specs.Data.{Data}
 use Rattle.serde_json.specs.Find.{at, get}
 use Rattle.dv_forms.specs.Parts.{call_at}
 use Rattle.dv_why.specs.declared.misfit.Step.{Step}
@@ -10,6 +10,7 @@ use Rattle.dv_forms.specs.declared.want.Want.TheVariants as want
 use Rattle.dv_forms.specs.declared.want.Call.{Call}
 use Rattle.dv_forms.specs.Wants.{item_want, key_want, pair_wants}
 use Rattle.dv_forms.specs.Words.{wants_of}
+use Rattle.dv_questions.specs.Asking.{count}
 
 -- a step by itself: to the value of a key, or to the item of a number
 pub data Part : Type 0 where
@@ -44,11 +45,6 @@ abbrev pub nth : List Want → ℕ → Option Want
 nth [] n = None
 nth (w ∷ ws) zero = Some w
 nth (w ∷ ws) (suc n) = nth ws n
-
--- how many items there are
-abbrev pub count : Items → ℕ
-count no_items = 0
-count (item d ds) = suc (count ds)
 
 -- what the place of an argument asks for
 abbrev pub argument_want : Call → Data → ℕ → Option Want

@@ -11,7 +11,7 @@ use Rattle.dv_reader.specs.Refusal.{HasVersion, IsMisshapen, keeps_version, are_
 -- a document has the shape of this script
 pub record HasShapeOf (d : Data) (draft : Draft) : Type 0 where
   pub shape : IsScript d draft
-  pub plain : keeps_version draft ≡ true
+  pub plain : keeps_version d draft ≡ true
 
 -- what is so of the value of a document that is refused for this
 abbrev pub IsRefusedFor : ScriptFault → Data → Type 0
@@ -20,7 +20,7 @@ IsRefusedFor NotJson d = ⊤
 IsRefusedFor BadVersion d = HasVersion d → ⊥
 IsRefusedFor BadShape d = HasVersion d × IsMisshapen d
 IsRefusedFor TooMany d = (draft : Draft) × HasShapeOf d draft × (is_small d draft ≡ false)
-IsRefusedFor BadName d = (draft : Draft) × HasShapeOf d draft × (is_small d draft ≡ true) × (are_named draft ≡ false)
-IsRefusedFor BadClass d = (draft : Draft) × HasShapeOf d draft × (is_small d draft ≡ true) × (are_named draft ≡ true) × (are_known draft ≡ false)
+IsRefusedFor BadName d = (draft : Draft) × HasShapeOf d draft × (is_small d draft ≡ true) × (are_named d draft ≡ false)
+IsRefusedFor BadClass d = (draft : Draft) × HasShapeOf d draft × (is_small d draft ≡ true) × (are_named d draft ≡ true) × (are_known d draft ≡ false)
 IsRefusedFor OutOfMemory d = ⊤
-IsRefusedFor BadPool d = (draft : Draft) × HasShapeOf d draft × (is_small d draft ≡ true) × (are_named draft ≡ true) × (are_known draft ≡ true) × (are_pooled draft ≡ false)
+IsRefusedFor BadPool d = (draft : Draft) × HasShapeOf d draft × (is_small d draft ≡ true) × (are_named d draft ≡ true) × (are_known d draft ≡ true) × (are_pooled d draft ≡ false)

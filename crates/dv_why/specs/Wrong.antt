@@ -18,7 +18,8 @@ use Rattle.dv_forms.specs.Wants.{a_class, a_pool}
 use Rattle.dv_why.specs.Documents.{version_in, list_in, name_in}
 use Rattle.dv_why.specs.Counts.{count_in, posts_of, ticks_in}
 use Rattle.dv_why.specs.Declaring.{table_before, table_in}
-use Rattle.dv_why.specs.Fits.{fits, is_named}
+use Rattle.dv_questions.specs.Questions.{is_named}
+use Rattle.dv_why.specs.Fits.{fits}
 
 -- the place has this path
 abbrev pub IsAt : List Part → Misfit → Type 0

@@ -8,7 +8,8 @@ ghost use Rattle.dv_reader.specs.declared.error.ScriptFault.TheVariants.{TooMany
 ghost use Rattle.dv_why.specs.Counts.{count_at, count_in, posts_of, ticks_among, ticks_at};
 ghost use Rattle.dv_why.specs.Documents.{list_in, or_no_items, script_in};
 ghost use Rattle.dv_why.specs.Finds.{Leads};
-ghost use Rattle.dv_why.specs.Places.{count, to_item, to_key};
+ghost use Rattle.dv_why.specs.Places.{to_item, to_key};
+ghost use Rattle.dv_questions.specs.Asking.{count};
 ghost use Rattle.dv_why.specs.Reasons.{IsRefusedFor};
 ghost use Rattle.dv_forms.specs.Wants.{all_callers};
 ghost use Rattle.dv_why.specs.Wrong.{IsAt, IsTooMuch};
@@ -59,7 +60,7 @@ pub fn items_of<'j>(json: &'j Json, key: &str) -> &'j [Json]
     }
 }
 
-#[tactic(auto, using(crate::proofs::Counting::count_items))]
+#[tactic(auto, using(dv_questions::proofs::Counting::count_items))]
 fn is_long(json: &Json, key: &str, most: usize) -> bool
     ensures { result ≡ nat_lt most (count_in key.now (view json.now)) }
 {
@@ -87,7 +88,7 @@ fn busy_caller(alloc: Global, callers: &Json) -> Result<Option<Misfit<'_>>, Allo
     Ok(None)
 }
 
-#[tactic(auto, using(crate::proofs::Counting::count_items))]
+#[tactic(auto, using(dv_questions::proofs::Counting::count_items))]
 fn is_busy(posts: &Json) -> bool
     ensures { result ≡ nat_lt MOST_POSTS (count (or_no_items (as_array (view posts.now)))) }
 {

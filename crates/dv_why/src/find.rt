@@ -47,7 +47,7 @@ fn call_in(json: &Json) -> Option<(&str, &[Json])>
 }
 
 /// What the place of this argument of a call asks for.
-#[tactic(auto, using(crate::proofs::Counting::count_items))]
+#[tactic(auto, using(dv_questions::proofs::Counting::count_items))]
 fn argument_of(call: Call, json: &Json, number: usize) -> Option<Want>
     ensures { result ≡ argument_want call (view json.now) number }
 {

@@ -34,7 +34,7 @@ fn begins_well(call: Call, first: &Json, given: usize) -> bool
     }
 }
 
-#[tactic(auto, using(crate::proofs::Counting::count_items))]
+#[tactic(auto, using(dv_questions::proofs::Counting::count_items))]
 fn parts_fit(call: Call, parts: &[Json]) -> bool
     ensures { result ≡ parts_fit call (items_view parts.now) }
 {
@@ -53,7 +53,7 @@ fn call_fits(call: Call, json: &Json) -> bool
     }
 }
 
-#[tactic(auto, using(crate::proofs::Counting::count_items))]
+#[tactic(auto, using(dv_questions::proofs::Counting::count_items))]
 fn are_two(parts: &[Json]) -> bool
     ensures { result ≡ are_two (items_view parts.now) }
 {

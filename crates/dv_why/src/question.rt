@@ -1,11 +1,11 @@
 ghost use Rattle.std.specs.Prelude.{◌≡◌, option_and_then};
 ghost use Rattle.serde_json.specs.View.{view};
 ghost use Rattle.serde_json.specs.Find.{as_str, at};
-ghost use Rattle.dv_why.specs.Fits.{is_found_named, is_named, is_class, is_pool, has_name, is_declared, name_suits, leaf_suits, names_suit, suits};
+ghost use Rattle.dv_why.specs.Fits.{has_name, is_declared, name_suits, leaf_suits, names_suit, suits};
 
 use crate::fits::fits;
-use dv_forms::want::{Leaf, Object, Want};
-use dv_reader::names::{is_name, names_one};
+use dv_forms::want::{Leaf, Want};
+use dv_questions::question::{is_known, is_named, is_pool};
 use dv_value::classes::Classes;
 use serde_json::Value as Json;
 
@@ -20,83 +20,6 @@ pub enum Question<'q> {
     Classes(&'q Classes),
     /// A pool that isn't among these.
     Pools(&'q [Json]),
-}
-
-fn is_found_named(object: Object, name: &str) -> bool
-    ensures { result ≡ is_found_named object name.now }
-{
-    match object {
-        Object::Deferred => names_one(name),
-        Object::Class => true,
-        Object::Lock | Object::Queue | Object::Call | Object::Loop | Object::Task | Object::Pool =>
-            is_name(name),
-    }
-}
-
-fn is_named(leaf: Leaf, name: &str) -> bool
-    ensures { result ≡ is_named leaf name.now }
-{
-    match leaf {
-        Leaf::New(_) => is_name(name),
-        Leaf::Found(object) => is_found_named(object, name),
-        Leaf::Text
-        | Leaf::Integer
-        | Leaf::Number(_, _)
-        | Leaf::Boolean
-        | Leaf::Bound
-        | Leaf::ListFlag
-        | Leaf::GatherFlag => true,
-    }
-}
-
-fn is_class(leaf: Leaf) -> bool
-    ensures { result ≡ is_class leaf }
-{
-    match leaf {
-        Leaf::Found(object) => match object {
-            Object::Class => true,
-            Object::Deferred
-            | Object::Lock
-            | Object::Queue
-            | Object::Call
-            | Object::Loop
-            | Object::Task
-            | Object::Pool => false,
-        },
-        Leaf::Text
-        | Leaf::New(_)
-        | Leaf::Integer
-        | Leaf::Number(_, _)
-        | Leaf::Boolean
-        | Leaf::Bound
-        | Leaf::ListFlag
-        | Leaf::GatherFlag => false,
-    }
-}
-
-fn is_pool(leaf: Leaf) -> bool
-    ensures { result ≡ is_pool leaf }
-{
-    match leaf {
-        Leaf::Found(object) => match object {
-            Object::Pool => true,
-            Object::Deferred
-            | Object::Lock
-            | Object::Queue
-            | Object::Call
-            | Object::Loop
-            | Object::Task
-            | Object::Class => false,
-        },
-        Leaf::Text
-        | Leaf::New(_)
-        | Leaf::Integer
-        | Leaf::Number(_, _)
-        | Leaf::Boolean
-        | Leaf::Bound
-        | Leaf::ListFlag
-        | Leaf::GatherFlag => false,
-    }
 }
 
 fn has_name(name: &str, pool: &Json) -> bool
@@ -124,7 +47,7 @@ fn name_suits(question: Question<'_>, leaf: Leaf, name: &str) -> bool
     match question {
         Question::Shape(_) => true,
         Question::Names => is_named(leaf, name),
-        Question::Classes(classes) => !is_class(leaf) || classes.find(name).is_some(),
+        Question::Classes(classes) => is_known(classes, leaf, name),
         Question::Pools(pools) => !is_pool(leaf) || is_declared(pools, name),
     }
 }

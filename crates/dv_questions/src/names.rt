@@ -1,6 +1,6 @@
 ghost use Rattle.std.specs.Prelude.{◌≡◌};
 ghost use Rattle.std.specs.List.{list_all};
-ghost use Rattle.dv_reader.specs.Names.{is_letter, is_name, names_one};
+ghost use Rattle.dv_questions.specs.Names.{is_letter, is_name, names_one};
 
 fn is_letter(byte: u8) -> bool
     ensures { result ≡ is_letter byte }

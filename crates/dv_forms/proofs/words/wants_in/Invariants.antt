@@ -1,6 +1,0 @@
-use Rattle.std.proofs.Common.{◌≡◌, drop, map}
-use Rattle.dv_forms.specs.Words.{wants_in, seen}
-use Rattle.dv_forms.proofs.words.wants_in.Given as goal
-
-abbrev pub invariant-loop-form : goal.invariant-loop-form
-invariant-loop-form g l = wants_in (map seen (drop l.form-index l.forms)) l.word l.given ≡ wants_in (map seen l.forms) l.word l.given

@@ -1,0 +1,124 @@
+-- What may be asked of the texts of a script, each at a place that asks for a leaf or for a word.
+use Rattle.std.specs.Prelude.{ℕ, Bool, true, false, not, ◌&&◌, ◌||◌, List, is_some, bytes_eq}
+use Rattle.std.specs.List.{list_any}
+use Rattle.dv_value.specs.declared.classes.Class.{Class}
+use Rattle.dv_value.specs.Classes.{find_class}
+use Rattle.dv_script.specs.declared.script.NamedPool.{NamedPool}
+use Rattle.dv_forms.specs.declared.want.Object.{Object}
+use Rattle.dv_forms.specs.declared.want.Object.TheVariants as object
+use Rattle.dv_forms.specs.declared.want.Leaf.{Leaf}
+use Rattle.dv_forms.specs.declared.want.Leaf.TheVariants as leaf
+use Rattle.dv_forms.specs.declared.want.Call.{Call}
+use Rattle.dv_forms.specs.Words.{may_stand}
+use Rattle.dv_questions.specs.declared.question.Question.{Question}
+use Rattle.dv_questions.specs.declared.question.Question.TheVariants as question
+use Rattle.dv_questions.specs.Names.{is_name, names_one}
+
+-- whether a name that is looked up has the form that its place asks for
+abbrev pub is_found_named : Object → List ℕ → Bool
+is_found_named object.Deferred name = names_one name
+is_found_named object.Lock name = is_name name
+is_found_named object.Queue name = is_name name
+is_found_named object.Call name = is_name name
+is_found_named object.Loop name = is_name name
+is_found_named object.Task name = is_name name
+is_found_named object.Pool name = is_name name
+is_found_named object.Class name = true
+
+-- whether a name has the form that its place asks for
+abbrev pub is_named : Leaf → List ℕ → Bool
+is_named leaf.Text name = true
+is_named (leaf.New o) name = is_name name
+is_named (leaf.Found o) name = is_found_named o name
+is_named leaf.Integer name = true
+is_named (leaf.Number low high) name = true
+is_named leaf.Boolean name = true
+is_named leaf.Bound name = true
+is_named leaf.ListFlag name = true
+is_named leaf.GatherFlag name = true
+
+-- whether a class is looked up there
+abbrev pub is_class : Leaf → Bool
+is_class leaf.Text = false
+is_class (leaf.New o) = false
+is_class (leaf.Found object.Deferred) = false
+is_class (leaf.Found object.Lock) = false
+is_class (leaf.Found object.Queue) = false
+is_class (leaf.Found object.Call) = false
+is_class (leaf.Found object.Loop) = false
+is_class (leaf.Found object.Task) = false
+is_class (leaf.Found object.Pool) = false
+is_class (leaf.Found object.Class) = true
+is_class leaf.Integer = false
+is_class (leaf.Number low high) = false
+is_class leaf.Boolean = false
+is_class leaf.Bound = false
+is_class leaf.ListFlag = false
+is_class leaf.GatherFlag = false
+
+-- whether a pool is looked up there
+abbrev pub is_pool : Leaf → Bool
+is_pool leaf.Text = false
+is_pool (leaf.New o) = false
+is_pool (leaf.Found object.Deferred) = false
+is_pool (leaf.Found object.Lock) = false
+is_pool (leaf.Found object.Queue) = false
+is_pool (leaf.Found object.Call) = false
+is_pool (leaf.Found object.Loop) = false
+is_pool (leaf.Found object.Task) = false
+is_pool (leaf.Found object.Pool) = true
+is_pool (leaf.Found object.Class) = false
+is_pool leaf.Integer = false
+is_pool (leaf.Number low high) = false
+is_pool leaf.Boolean = false
+is_pool leaf.Bound = false
+is_pool leaf.ListFlag = false
+is_pool leaf.GatherFlag = false
+
+-- whether a class that is looked up is in this table
+abbrev pub is_known : List Class → Leaf → List ℕ → Bool
+is_known table l name = not (is_class l) || is_some (find_class name table)
+
+-- whether a pool of this name is among these
+abbrev pub is_among : List ℕ → List NamedPool → Bool
+is_among name pools = list_any (λ pool. bytes_eq pool.name name) pools
+
+-- whether a pool that is looked up is one of these
+abbrev pub is_pooled : List NamedPool → Leaf → List ℕ → Bool
+is_pooled pools l name = not (is_pool l) || is_among name pools
+
+-- a question: what it asks of a text at the place of a leaf, and of the word of a call
+pub record Asked : Type 0 where
+  pub of_leaf : Leaf → List ℕ → Bool
+  pub of_word : Call → List ℕ → Bool
+
+-- whether each word is one of this version
+abbrev pub words : ℕ → Asked
+words version = record { of_leaf = λ l name. true; of_word = λ c word. may_stand c word version }
+
+-- whether each name has its form
+abbrev pub names : Asked
+names = record { of_leaf = is_named; of_word = λ c word. true }
+
+-- whether each class that is used is in this table
+abbrev pub classes : List Class → Asked
+classes table = record { of_leaf = is_known table; of_word = λ c word. true }
+
+-- whether each pool that is used is one of these
+abbrev pub pools : List NamedPool → Asked
+pools declared = record { of_leaf = is_pooled declared; of_word = λ c word. true }
+
+-- all four
+abbrev pub every : ℕ → List Class → List NamedPool → Asked
+every version table declared = record {
+  of_leaf = λ l name. is_named l name && is_known table l name && is_pooled declared l name;
+  of_word = λ c word. may_stand c word version;
+}
+
+-- the question, as the code has it
+abbrev pub asked_by : Question → Asked
+asked_by (question.Words version) = words version
+asked_by question.Names = names
+asked_by (question.Classes table) = classes table.now
+asked_by (question.Pools declared) = pools declared.now
+asked_by (question.Every version table declared) = every version table.now declared.now

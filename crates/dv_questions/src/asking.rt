@@ -1,0 +1,149 @@
+//! Asks a question of each text of a JSON value, by the table of words.
+
+ghost use Rattle.std.specs.Prelude.{◌≡◌, ◌≤◌, ℕ, true, option_and_then};
+ghost use Rattle.serde_json.specs.View.{view, items_view};
+ghost use Rattle.serde_json.specs.Find.{as_array, as_str, get};
+ghost use Rattle.dv_forms.specs.Wants.{key_want, keys_in};
+ghost use Rattle.dv_forms.specs.Words.{may_stand};
+ghost use Rattle.dv_questions.specs.Asking.{all_suit, call_suits, each_item, if_there, keys_suit, one_for_one, word_suits};
+ghost use Rattle.dv_questions.specs.Questions.{asked_by};
+
+use crate::question::Question;
+use dv_forms::want::{Call, Keyed, Leaf, Want};
+use dv_forms::words::form_of;
+use serde_json::Value as Json;
+
+fn leaf_suits(question: &Question<'_>, leaf: Leaf, json: &Json) -> bool
+    ensures { result ≡ if_there ((asked_by question.now).of_leaf leaf) (as_str (view json.now)) }
+{
+    match json.as_str() {
+        Some(name) => question.of_leaf(leaf, name),
+        None => true,
+    }
+}
+
+fn first_suits(question: &Question<'_>, call: Call, json: &Json) -> bool
+    ensures { result ≡ if_there ((asked_by question.now).of_word call) (as_str (view json.now)) }
+{
+    match json.as_str() {
+        Some(word) => question.of_word(call, word),
+        None => true,
+    }
+}
+
+/// Whether each text of the value answers the question well, at a place that asks for this. Below so many levels nothing is asked.
+#[cycle(ask)]
+#[tactic(auto, unfolding(crate::specs::Asking::all_suit))]
+pub fn all_suit(question: &Question<'_>, levels: u32, want: Want, json: &Json) -> bool
+    ensures { result ≡ all_suit (asked_by question.now) levels want (view json.now) }
+{
+    if levels == 0 {
+        return true;
+    }
+    match want {
+        Want::Leaf(leaf) => leaf_suits(question, leaf, json),
+        Want::Value | Want::Other(_) => true,
+        Want::Call(call) => match json {
+            Json::Array(parts) => call_suits(question, levels - 1, call, parts.as_slice()),
+            Json::Null | Json::Bool(_) | Json::Number(_) | Json::String(_) | Json::Object(_) =>
+                true,
+        },
+        Want::Pair(pair) => match json {
+            Json::Array(parts) => one_for_one(question, levels - 1, pair.wants(), parts.as_slice()),
+            Json::Null | Json::Bool(_) | Json::Number(_) | Json::String(_) | Json::Object(_) =>
+                true,
+        },
+        Want::Keyed(keyed) => keys_suit(question, levels - 1, keyed, json),
+        Want::Array(item) => match json {
+            Json::Array(items) => { each_item(question, levels - 1, item.want(), items.as_slice()) }
+            Json::Null | Json::Bool(_) | Json::Number(_) | Json::String(_) | Json::Object(_) =>
+                true,
+        },
+        Want::Word(call) => first_suits(question, call, json),
+    }
+}
+
+#[cycle(ask)]
+fn each_item(question: &Question<'_>, levels: u32, want: Want, items: &[Json]) -> bool
+    ensures { result ≡ each_item (all_suit (asked_by question.now) levels want) (items_view items.now) }
+{
+    for item in items {
+        if !all_suit(question, levels, want, item) {
+            return false;
+        }
+    }
+    true
+}
+
+#[cycle(ask)]
+fn one_for_one(question: &Question<'_>, levels: u32, wants: &[Want], items: &[Json]) -> bool
+    ensures { result ≡ one_for_one (all_suit (asked_by question.now) levels) wants.now (items_view items.now) }
+{
+    let mut rest = items;
+    for want in wants {
+        let Some((item, after)) = rest.split_first() else {
+            return true;
+        };
+        if !all_suit(question, levels, *want, item) {
+            return false;
+        }
+        rest = after;
+    }
+    true
+}
+
+#[cycle(ask)]
+fn call_suits(question: &Question<'_>, levels: u32, call: Call, parts: &[Json]) -> bool
+    ensures { result ≡ call_suits (asked_by question.now) (all_suit (asked_by question.now) levels) call (items_view parts.now) }
+{
+    let Some((first, arguments)) = parts.split_first() else {
+        return true;
+    };
+    match first.as_str() {
+        Some(word) => word_suits(question, levels, call, word, arguments),
+        None => true,
+    }
+}
+
+#[cycle(ask)]
+#[tactic(auto, using(crate::proofs::Counting::count_items))]
+fn word_suits(
+    question: &Question<'_>,
+    levels: u32,
+    call: Call,
+    word: &str,
+    arguments: &[Json],
+) -> bool
+    ensures { result ≡ word_suits (asked_by question.now) (all_suit (asked_by question.now) levels) call (items_view arguments.now) word.now }
+{
+    match form_of(call, word, arguments.len()) {
+        Some((wants, since)) => {
+            question.of_word_since(call, word, since)
+                && one_for_one(question, levels, wants, arguments)
+        }
+        None => question.of_word(call, word),
+    }
+}
+
+#[cycle(ask)]
+fn keys_suit(question: &Question<'_>, levels: u32, keyed: Keyed, json: &Json) -> bool
+    ensures { result ≡ keys_suit (all_suit (asked_by question.now) levels) keyed (view json.now) (keys_in keyed) }
+{
+    let keys = keyed.keys();
+    for key in keys {
+        if !key_suits(question, levels, keyed, *key, json) {
+            return false;
+        }
+    }
+    true
+}
+
+#[cycle(ask)]
+fn key_suits(question: &Question<'_>, levels: u32, keyed: Keyed, key: &str, json: &Json) -> bool
+    ensures { result ≡ if_there (all_suit (asked_by question.now) levels (key_want keyed key.now)) (get key.now (view json.now)) }
+{
+    match json.get(key) {
+        Some(value) => all_suit(question, levels, keyed.want(key), value),
+        None => true,
+    }
+}

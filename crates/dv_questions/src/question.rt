@@ -1,0 +1,171 @@
+//! What may be asked of the texts of a script.
+
+ghost use Rattle.std.specs.Prelude.{◌≡◌, ◌≤◌, ℕ, true};
+ghost use Rattle.dv_forms.specs.Words.{may_stand};
+ghost use Rattle.dv_questions.specs.Questions.{is_found_named, is_named, is_class, is_pool, is_known, is_among, is_pooled, asked_by};
+
+use crate::names::{is_name, names_one};
+use dv_forms::want::{Call, Leaf, Object};
+use dv_forms::words::may_stand;
+use dv_script::script::NamedPool;
+use dv_value::classes::Classes;
+
+/// What is asked of the texts of a script.
+#[derive(Clone, Copy, Drop)]
+pub enum Question<'q> {
+    /// Whether each word is one of this version.
+    Words(u32),
+    /// Whether each name has its form.
+    Names,
+    /// Whether each class that is used is in this table.
+    Classes(&'q Classes),
+    /// Whether each pool that is used is one of these.
+    Pools(&'q [NamedPool]),
+    /// All four, of a script of this version with this table and these pools.
+    Every(u32, &'q Classes, &'q [NamedPool]),
+}
+
+fn is_found_named(object: Object, name: &str) -> bool
+    ensures { result ≡ is_found_named object name.now }
+{
+    match object {
+        Object::Deferred => names_one(name),
+        Object::Class => true,
+        Object::Lock | Object::Queue | Object::Call | Object::Loop | Object::Task | Object::Pool =>
+            is_name(name),
+    }
+}
+
+/// Whether a name has the form that its place asks for.
+pub fn is_named(leaf: Leaf, name: &str) -> bool
+    ensures { result ≡ is_named leaf name.now }
+{
+    match leaf {
+        Leaf::New(_) => is_name(name),
+        Leaf::Found(object) => is_found_named(object, name),
+        Leaf::Text
+        | Leaf::Integer
+        | Leaf::Number(_, _)
+        | Leaf::Boolean
+        | Leaf::Bound
+        | Leaf::ListFlag
+        | Leaf::GatherFlag => true,
+    }
+}
+
+/// Whether a class is looked up there.
+pub fn is_class(leaf: Leaf) -> bool
+    ensures { result ≡ is_class leaf }
+{
+    match leaf {
+        Leaf::Found(object) => match object {
+            Object::Class => true,
+            Object::Deferred
+            | Object::Lock
+            | Object::Queue
+            | Object::Call
+            | Object::Loop
+            | Object::Task
+            | Object::Pool => false,
+        },
+        Leaf::Text
+        | Leaf::New(_)
+        | Leaf::Integer
+        | Leaf::Number(_, _)
+        | Leaf::Boolean
+        | Leaf::Bound
+        | Leaf::ListFlag
+        | Leaf::GatherFlag => false,
+    }
+}
+
+/// Whether a pool is looked up there.
+pub fn is_pool(leaf: Leaf) -> bool
+    ensures { result ≡ is_pool leaf }
+{
+    match leaf {
+        Leaf::Found(object) => match object {
+            Object::Pool => true,
+            Object::Deferred
+            | Object::Lock
+            | Object::Queue
+            | Object::Call
+            | Object::Loop
+            | Object::Task
+            | Object::Class => false,
+        },
+        Leaf::Text
+        | Leaf::New(_)
+        | Leaf::Integer
+        | Leaf::Number(_, _)
+        | Leaf::Boolean
+        | Leaf::Bound
+        | Leaf::ListFlag
+        | Leaf::GatherFlag => false,
+    }
+}
+
+/// Whether a class that is looked up is in this table.
+pub fn is_known(classes: &Classes, leaf: Leaf, name: &str) -> bool
+    ensures { result ≡ is_known classes.now leaf name.now }
+{
+    !is_class(leaf) || classes.find(name).is_some()
+}
+
+/// Whether a pool of this name is among these.
+pub fn is_among(name: &str, pools: &[NamedPool]) -> bool
+    ensures { result ≡ is_among name.now pools.now }
+{
+    pools.iter().any(|pool| pool.name.as_str() == name)
+}
+
+/// Whether a pool that is looked up is one of these.
+fn is_pooled(pools: &[NamedPool], leaf: Leaf, name: &str) -> bool
+    ensures { result ≡ is_pooled pools.now leaf name.now }
+{
+    !is_pool(leaf) || is_among(name, pools)
+}
+
+impl Question<'_> {
+    /// Whether a text answers well at the place of a leaf.
+    pub fn of_leaf(&self, leaf: Leaf, name: &str) -> bool
+        ensures { result ≡ (asked_by self.now).of_leaf leaf name.now }
+    {
+        match self {
+            Question::Words(_) => true,
+            Question::Names => is_named(leaf, name),
+            Question::Classes(classes) => is_known(classes, leaf, name),
+            Question::Pools(pools) => is_pooled(pools, leaf, name),
+            Question::Every(_, classes, pools) => {
+                is_named(leaf, name)
+                    && is_known(classes, leaf, name)
+                    && is_pooled(pools, leaf, name)
+            }
+        }
+    }
+
+    /// Whether the word of a call answers well.
+    pub fn of_word(&self, call: Call, word: &str) -> bool
+        ensures { result ≡ (asked_by self.now).of_word call word.now }
+    {
+        match self {
+            Question::Words(version) | Question::Every(version, _, _) => {
+                may_stand(call, word, *version)
+            }
+            Question::Names | Question::Classes(_) | Question::Pools(_) => true,
+        }
+    }
+
+    /// Whether the word of a call answers well, where a form of it stands since this version.
+    pub fn of_word_since(&self, call: Call, word: &str, since: u32) -> bool
+        requires since { (version : ℕ) → since ≤ version → may_stand call word.now version ≡ true }
+        ensures { result ≡ (asked_by self.now).of_word call word.now }
+    {
+        match self {
+            Question::Words(version) | Question::Every(version, _, _) => {
+                since <= *version || may_stand(call, word, *version)
+            }
+            Question::Names | Question::Classes(_) | Question::Pools(_) => true,
+        }
+    }
+}
