@@ -15,6 +15,21 @@ use dv_prims::lock_id::LockId;
 use dv_prims::queue_id::QueueId;
 use std::alloc::AllocError;
 
+/// What was found by a name. NameError is raised where it is nothing.
+fn or_unbound<I: Copy>(
+    turn: &mut Turn<'_>,
+    found: Option<I>,
+    name: &str,
+) -> Result<Option<I>, AllocError>
+    ensures found { IfOk result (λ answer. answer ≡ found) }
+    ensures turn { IfOk result (λ answer. turn.new ≡ looked_up found name.now turn.old) }
+{
+    if found.is_none() {
+        unbound(turn, name)?;
+    }
+    Ok(found)
+}
+
 impl<'s> Turn<'s> {
     /// Looks up the Deferred of a name; `@` is the one that is given, where one is.
     pub fn find(
@@ -25,13 +40,8 @@ impl<'s> Turn<'s> {
         ensures found { IfOk result (λ found. found ≡ deferred_at itself name.now self.old.world) }
         ensures turn { IfOk result (λ found. self.new ≡ looked_up found name.now self.old) }
     {
-        match self.world.find(itself, name) {
-            None => {
-                unbound(self, name)?;
-                Ok(None)
-            }
-            Some(found) => Ok(Some(found)),
-        }
+        let found = self.world.find(itself, name);
+        or_unbound(self, found, name)
     }
 
     /// Looks up the lock or the semaphore of a name.
@@ -39,13 +49,8 @@ impl<'s> Turn<'s> {
         ensures found { IfOk result (λ found. found ≡ number_of name.now self.old.world.objects.locks) }
         ensures turn { IfOk result (λ found. self.new ≡ looked_up found name.now self.old) }
     {
-        match self.world.find_lock(name) {
-            None => {
-                unbound(self, name)?;
-                Ok(None)
-            }
-            Some(found) => Ok(Some(found)),
-        }
+        let found = self.world.find_lock(name);
+        or_unbound(self, found, name)
     }
 
     /// Looks up the queue of a name.
@@ -53,13 +58,8 @@ impl<'s> Turn<'s> {
         ensures found { IfOk result (λ found. found ≡ number_of name.now self.old.world.objects.queue_names) }
         ensures turn { IfOk result (λ found. self.new ≡ looked_up found name.now self.old) }
     {
-        match self.world.find_queue(name) {
-            None => {
-                unbound(self, name)?;
-                Ok(None)
-            }
-            Some(found) => Ok(Some(found)),
-        }
+        let found = self.world.find_queue(name);
+        or_unbound(self, found, name)
     }
 
     /// Looks up the delayed call of a name.
@@ -67,13 +67,8 @@ impl<'s> Turn<'s> {
         ensures found { IfOk result (λ found. found ≡ number_of name.now self.old.world.objects.call_names) }
         ensures turn { IfOk result (λ found. self.new ≡ looked_up found name.now self.old) }
     {
-        match self.world.find_call(name) {
-            None => {
-                unbound(self, name)?;
-                Ok(None)
-            }
-            Some(found) => Ok(Some(found)),
-        }
+        let found = self.world.find_call(name);
+        or_unbound(self, found, name)
     }
 
     /// Looks up the loop of a name.
@@ -81,13 +76,8 @@ impl<'s> Turn<'s> {
         ensures found { IfOk result (λ found. found ≡ number_of name.now self.old.world.objects.loop_names) }
         ensures turn { IfOk result (λ found. self.new ≡ looked_up found name.now self.old) }
     {
-        match self.world.find_loop(name) {
-            None => {
-                unbound(self, name)?;
-                Ok(None)
-            }
-            Some(found) => Ok(Some(found)),
-        }
+        let found = self.world.find_loop(name);
+        or_unbound(self, found, name)
     }
 
     /// Looks up the task of a name.
@@ -95,12 +85,7 @@ impl<'s> Turn<'s> {
         ensures found { IfOk result (λ found. found ≡ number_of name.now self.old.world.objects.cooperator.task_names) }
         ensures turn { IfOk result (λ found. self.new ≡ looked_up found name.now self.old) }
     {
-        match self.world.find_task(name) {
-            None => {
-                unbound(self, name)?;
-                Ok(None)
-            }
-            Some(found) => Ok(Some(found)),
-        }
+        let found = self.world.find_task(name);
+        or_unbound(self, found, name)
     }
 }
