@@ -3,9 +3,10 @@ use Rattle.std.proofs.Common.{ℕ, Option, None, refl}
 use Rattle.dv_frames.specs.declared.frame.Frame.{Frame}
 use Rattle.dv_journal.specs.declared.entry.Entry.TheVariants as entry
 use Rattle.dv_objects.specs.declared.performed.Performed.{Performed}
-use Rattle.dv_performing.proofs.Fair.{Fair, rank}
+use Rattle.dv_performing.proofs.Fair.{Fair}
 use Rattle.dv_performing.proofs.Fairly as fairly
 use Rattle.dv_performing.proofs.Lasting.{Comes}
+use Rattle.dv_performing.proofs.Lighter.{rank}
 use Rattle.dv_performing.proofs.RuleComes.{rule_comes}
 use Rattle.dv_performing.proofs.StepsCome.{by_aside}
 use Rattle.dv_performing.specs.Acting.{begun}

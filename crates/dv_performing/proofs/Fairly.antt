@@ -1,107 +1,59 @@
 -- Each rule leaves less to do, or less of each frame: what Fair proves, from the form of a rule.
-use Rattle.std.proofs.Common.{ℕ, ◌≡◌, ◌+◌, ◌-◌, ◌<◌, ◌≤◌, Bool, true, false, if◌then◌else◌, List, [], ◌∷◌, ◌++◌, Option, None, Some, slice_get, length, refl, ap, arith, subst}
+use Rattle.std.proofs.Common.{◌≡◌, ℕ, ◌+◌, ◌<◌, List, arith, ◌≤◌, [], ◌∷◌, Option, None, Some, refl, ap, subst, ◌-◌, Bool, true, false, if◌then◌else◌, ◌++◌, slice_get, length}
 use Rattle.dv_clock.specs.Clock.{Upcoming, next_call}
 use Rattle.dv_clock.specs.Due.{coming_due}
 use Rattle.dv_clock.specs.Turns.{turn_of}
 use Rattle.dv_clock.specs.declared.call.CallState.TheVariants as call_state
 use Rattle.dv_clock.specs.declared.due.Due.{Due}
+use Rattle.dv_definition.specs.Definition as page
 use Rattle.dv_definition.specs.Definition.{answer_of}
-use Rattle.dv_definition.specs.Rule.{found}
+use Rattle.dv_definition.specs.Rule.{found, Rule, Ends, By, If, Finds, Then, Asks, Fires, Unpauses, Over, run}
+use Rattle.dv_definition.specs.Scripts as scripts
+use Rattle.dv_definition.specs.Steps.{Question, stepped, asked, Cancel, PutInto, GetFrom, CameTo, CancelCall, TakeStep, EndTask, ComeToInline, EndAwait, ComeDue, Moves}
 use Rattle.dv_frames.specs.Turn.{Turned, settle_next, ◌over◌}
-use Rattle.dv_frames.specs.declared.frame.Frame.{Frame}
 use Rattle.dv_frames.specs.declared.frame.Frame.TheVariants as frame
-use Rattle.dv_frames.specs.declared.frame.Inlining.{Inlining}
+use Rattle.dv_frames.specs.declared.frame.Frame.{Frame}
 use Rattle.dv_frames.specs.declared.frame.Inlining.TheVariants.{Goes, Acted, Awaited}
-use Rattle.dv_frames.specs.declared.frame.Purpose.{Purpose}
+use Rattle.dv_frames.specs.declared.frame.Inlining.{Inlining}
 use Rattle.dv_frames.specs.declared.frame.Purpose.TheVariants.{Named, Holding, Turning}
-use Rattle.dv_frames.specs.declared.frame.Rest.{Rest}
+use Rattle.dv_frames.specs.declared.frame.Purpose.{Purpose}
 use Rattle.dv_inline.specs.Position.{Position, come, want_at}
-use Rattle.dv_inline.specs.declared.want.Want.{Want}
 use Rattle.dv_inline.specs.declared.want.Want.TheVariants.{Do, Await}
+use Rattle.dv_inline.specs.declared.want.Want.{Want}
 use Rattle.dv_journal.specs.Told.{change_of, Aside}
-use Rattle.dv_journal.specs.declared.entry.Entry.{Entry}
 use Rattle.dv_journal.specs.declared.entry.Entry.TheVariants as entry
+use Rattle.dv_journal.specs.declared.entry.Entry.{Entry}
 use Rattle.dv_objects.specs.Cooperator.{with_step}
 use Rattle.dv_objects.specs.Inlines.{Inlines, end_adding, end_adding_at}
 use Rattle.dv_objects.specs.Objects.{Objects, with_ended_call, cooperating, inlining}
 use Rattle.dv_objects.specs.Pair.{Pair}
 use Rattle.dv_objects.specs.Waiting.{added}
-use Rattle.dv_objects.specs.declared.follow.Follow.{Follow}
 use Rattle.dv_objects.specs.declared.follow.Follow.TheVariants as follow
+use Rattle.dv_objects.specs.declared.follow.Follow.{Follow}
 use Rattle.dv_objects.specs.declared.inline_id.Inline.{Inline}
-use Rattle.dv_objects.specs.declared.performed.Performed.{Performed}
 use Rattle.dv_objects.specs.declared.performed.Performed.TheVariants.{Done, Gave, Raised, Awaits}
-use Rattle.dv_objects.specs.declared.reached.Reached.{Reached}
-use Rattle.dv_objects.specs.declared.reached.Reached.TheVariants as reached
+use Rattle.dv_objects.specs.declared.performed.Performed.{Performed}
 use Rattle.dv_objects.specs.declared.task.Task.{Task}
-use Rattle.dv_objects.specs.declared.task.TaskEnd.{TaskEnd}
-use Rattle.dv_objects.specs.declared.task.TaskEnd.TheVariants.{Stopped, Failed}
-use Rattle.dv_objects.specs.declared.waiting.Waiting.{Waiting}
+use Rattle.dv_objects.specs.declared.task.TaskEnd.TheVariants.{Failed}
 use Rattle.dv_objects.specs.declared.waiting.Waiting.TheVariants as waits
-use Rattle.dv_performing.proofs.Budget.{reaches, step_took, cancel_took, aside_took}
-use Rattle.dv_performing.proofs.Fair.{can, pays, rank, Lighter, Falls, paid, lighter, Fair}
-use Rattle.dv_performing.proofs.InlineSizes.{text_of, waiting_by, waiting_text, come_text, answer_text, action_text}
-use Rattle.dv_performing.proofs.Sizes.{actions_size, body_size, body_size_out, begun_size, begun_fits}
-use Rattle.dv_prims.specs.declared.gather.Flags.{Flags}
-use Rattle.dv_script.specs.declared.action.Action.{Action, out-Action}
-use Rattle.dv_script.specs.declared.action.Action.TheOpen.{Action-F}
-use Rattle.dv_script.specs.declared.body.Body.{Body}
-use Rattle.dv_script.specs.declared.body.End.{End}
-use Rattle.dv_script.specs.declared.body.Statement.{Statement}
-use Rattle.dv_store.specs.Laws.{used}
-use Rattle.dv_store.specs.declared.store.Step.{Step as Move}
-use Rattle.dv_store.specs.declared.store.Step.TheVariants.{Nothing, Passed, Run, Handed}
-use Rattle.dv_definition.specs.Flags.{list_flags, gather_flags}
-use Rattle.dv_definition.specs.Definition as page
-use Rattle.dv_definition.specs.Scripts as scripts
-use Rattle.dv_definition.specs.Words as words
-use Rattle.dv_definition.specs.Rule.{Rule, Ends, By, If, Finds, Then, Asks, Fires, Unpauses, Over, run}
-use Rattle.dv_definition.specs.Steps.{Question, Reply, stepped, asked, Cancel, PutInto, GetFrom, CameTo, CancelCall, TakeStep, EndTask, ComeToInline, EndAwait, ComeDue, Moves}
+use Rattle.dv_objects.specs.declared.waiting.Waiting.{Waiting}
+use Rattle.dv_performing.proofs.Budget.{step_took, cancel_took, aside_took}
+use Rattle.dv_performing.proofs.Fair.{Fair, Falls, can, lighter, paid, pays}
+use Rattle.dv_performing.proofs.InlineSizes.{action_text, answer_text, come_text}
+use Rattle.dv_performing.proofs.Lighter.{IsSame, Known, Light, Lighter, Or, Pays, Within, actions_size, begun_fits, cancel, carry_out, end_task, notify, one_if_some, paid_by, rank, text_of, waiting_by, waiting_text}
 use Rattle.dv_performing.proofs.RuleComes.{rule_comes}
 use Rattle.dv_performing.proofs.StepsCome.{by_aside, step_comes, question_comes, due_aside}
+use Rattle.dv_script.specs.declared.action.Action.{Action, out-Action}
+use Rattle.dv_script.specs.declared.body.Body.{Body}
+use Rattle.dv_script.specs.declared.body.End.{End}
+use Rattle.dv_store.specs.Laws.{used}
+use Rattle.dv_store.specs.declared.store.Step.TheVariants.{Nothing, Passed, Run, Handed}
+use Rattle.dv_store.specs.declared.store.Step.{Step as Move}
 use Rattle.dv_value.specs.declared.value.Value.{Value, Null, Fault}
-use Rattle.dv_world.specs.Found.{deferreds_at}
 use Rattle.dv_world.specs.World as world
 use Rattle.dv_world.specs.World.{World, aside, arrange, step_taken, turn_taken, come_due_found, end_await}
-use Rattle.dv_world.specs.declared.found.Found.{Found}
-use Rattle.dv_world.specs.declared.found.Found.TheVariants.{All, Unbound}
 
--- 1. What a question's answer pays, and what is known of it.
-
-abbrev pub one_if_some : {A : Type 0} → Option A → ℕ
-one_if_some None = 0
-one_if_some (Some a) = 1
-
-abbrev pub paid_by : (question : Question) → Reply question → ℕ
-paid_by (Cancel d) a = reaches a
-paid_by (PutInto k v) a = 0
-paid_by (GetFrom k d) a = 0
-paid_by (CameTo l i v) a = 0
-paid_by (CancelCall number) a = 0
-paid_by TakeStep a = one_if_some a
-paid_by (EndTask t end) a = 0
-paid_by (ComeToInline i v) a = 0
-paid_by (EndAwait i e p) a = 0
-paid_by ComeDue a = one_if_some a
-paid_by (Moves d) a = used a
-
--- the body that goes on after its pair was added is the one that was to await
-abbrev pub IsSame : Position → Option (Position × Value) → Type 0
-IsSame p None = Unit {0}
-IsSame p (Some came) = came.0 ≡ p
-
-abbrev pub Known : (question : Question) → Reply question → Type 0
-Known (Cancel d) a = Unit {0}
-Known (PutInto k v) a = Unit {0}
-Known (GetFrom k d) a = Unit {0}
-Known (CameTo l i v) a = Unit {0}
-Known (CancelCall number) a = Unit {0}
-Known TakeStep a = Unit {0}
-Known (EndTask t end) a = Unit {0}
-Known (ComeToInline i v) a = Unit {0}
-Known (EndAwait i e p) a = IsSame p a
-Known ComeDue a = Unit {0}
-Known (Moves d) a = Unit {0}
+-- 1. A question's answer pays, and is known, as `Lighter` says.
 
 added_same : (e : ℕ) (p : Position) (waiting : Waiting Position) → IsSame p (added e p waiting).0
 added_same e p waits.Nothing = tt
@@ -166,23 +118,7 @@ asked_pays (EndAwait i e p) w = plain_pays (EndAwait i e p) w
 asked_pays ComeDue w = due_pays (next_call w.objects.clock) w
 asked_pays (Moves d) w = step_took d w
 
--- 2. The law.
-
-pub data Or (A B : Type 0) : Type 0 where
-  Pays : A → Or A B
-  Light : B → Or A B
-
--- a rule leaves frames that are lighter than this, unless an answer pays for whatever follows
-abbrev pub Within : ℕ → Rule → Type 0
-Within m (Ends p) = Unit {0}
-Within m (By rule) = (w : World) → Within m (rule w)
-Within m (If b one other) = Within m one × Within m other
-Within m (Finds {A} o none some) = Within m none × ((a : A) → o ≡ Some a → Within m (some a))
-Within m (Then step rule) = Within m rule
-Within m (Asks question rule) = (a : Reply question) → Known question a → Or (1 ≤ paid_by question a) (Within m (rule a))
-Within m (Fires d v) = 0 < m
-Within m (Unpauses d) = 0 < m
-Within m (Over rule frames) = Within m rule × Lighter m frames
+-- 2. A rule that leaves lighter frames is fair.
 
 then_falls : (n k m : ℕ) (t : Turned) → n ≤ k → Falls n m t → Falls k m t
 then_falls n k m t h (paid p) = paid (omega (arith, h, p))
@@ -232,41 +168,10 @@ rule_falls m (Over rule frames) w h = over_falls (can w) m (run rule w) frames h
 pub rule_fair : (m : ℕ) (rule : Rule) (w : World) → Within m rule → Fair w m (run rule w)
 rule_fair m rule w h = record { comes = rule_comes rule w; falls = rule_falls m rule w h }
 
--- 3. The page: each rule is as light as it is to be. Its names, tests and steps are one pattern.
-
-bound : (m : ℕ) (o : Option ℕ) (name : List ℕ) (r : ℕ → Rule) → ((d : ℕ) → Within m (r d)) → Within m (words.with_bound o name r)
-bound m o name r h = (tt, λ d e. h d)
-
-all_bound : (m : ℕ) (o : Found) (r : List ℕ → Rule) → ((ds : List ℕ) → Within m (r ds)) → Within m (words.on_found o r)
-all_bound m (All ds) r h = h ds
-all_bound m (Unbound name) r h = tt
-
-cancel_reached : (m d : ℕ) (r : Reached) → Or (1 ≤ paid_by (Cancel d) r) (Within m (page.cancel_reached r))
-cancel_reached m d reached.Nothing = Light tt
-cancel_reached m d (reached.Fire e) = Pays (omega arith)
-cancel_reached m d (reached.Run e body) = Pays (omega arith)
-cancel_reached m d (reached.ForToken e l) = Pays (omega arith)
-cancel_reached m d (reached.ForItem e k) = Pays (omega arith)
-cancel_reached m d (reached.Children children) = Pays (omega arith)
-cancel_reached m d (reached.Inline i) = Pays (omega arith)
-
-cancel : (m d : ℕ) → Within m (page.cancel d)
-cancel m d = λ r k. cancel_reached m d r
+-- 3. The page: each frame's rule is as light as it is to be.
 
 after_canceller : (m d : ℕ) (p : Performed) → 0 < m → Within m (page.after_canceller d p)
 after_canceller m d p q = ((λ w. (q, tt)), λ failure e. tt)
-
-acquire : (m : ℕ) (name : List ℕ) (l : ℕ) → 0 < m → Within m (page.acquire name l)
-acquire m name l q = λ w v. (tt, λ s e. (tt, λ d k. q))
-
-release : (m l : ℕ) → 0 < m → Within m (page.release l)
-release m l q = λ w. (tt, λ s e. (tt, (tt, λ d k. q)))
-
-put_in : (m k : ℕ) (v : Value) → 0 < m → Within m (page.put_in k v)
-put_in m k v q = λ w. (tt, λ s e. (tt, λ a known. Light (tt, λ given k. q)))
-
-get_out : (m : ℕ) (name : List ℕ) (k : ℕ) → 0 < m → Within m (page.get_out name k)
-get_out m name k q = λ w u. (tt, λ s e. (tt, λ a known. Light (tt, λ v j. q)))
 
 used_lighter : (purpose : Purpose) (d : ℕ) → Lighter 2 (page.used_for purpose d)
 used_lighter (Named name) d = tt
@@ -286,32 +191,6 @@ deferred_of purpose Done = made_with purpose Null
 deferred_of purpose (Gave v) = made_with purpose v
 deferred_of purpose (Raised failure) = made_with purpose (Fault failure)
 deferred_of purpose (Awaits e) = taken_for purpose e
-
-add_children : (m l d i : ℕ) (cs : List ℕ) → 1 < m → Lighter m (page.add_children l d i cs)
-add_children m l d i [] q = tt
-add_children m l d i (c ∷ cs) q = (q, add_children m l d (1 + i) cs q)
-
-list : (m : ℕ) (name children : List ℕ) (flags : Flags) → 1 < m → Within m (page.list name children flags)
-list m name children flags q = λ w v. ((omega (arith, q), tt), add_children m _ _ 0 children q)
-
-add_timeout : (m d delay : ℕ) → 1 < m → Within m (page.add_timeout d delay)
-add_timeout m d delay q = λ w. ((tt, (omega (arith, q), tt)), (q, tt))
-
-turn : (m l : ℕ) (body : Body) → 1 + body_size body < m → Within m (page.turn l body)
-turn m l body q = (tt, (omega (arith, q, body_size_out body), (omega (arith, q, body_size_out body), tt)))
-
-stop_loop : (m l : ℕ) → 0 < m → Within m (page.stop_loop l)
-stop_loop m l q = λ w. (tt, λ x e. λ v. (tt, (q, tt)))
-
-notify : (m d t : ℕ) → 0 < m → Within m (page.notify d t)
-notify m d t q = λ w. (tt, λ x e. (tt, λ end k. q))
-
-notify_all : (m t : ℕ) (ds : List ℕ) → 1 < m → Lighter m (page.notify_all t ds)
-notify_all m t [] q = tt
-notify_all m t (d ∷ ds) q = (q, (omega (arith, q), notify_all m t ds q))
-
-end_task : (m t : ℕ) (end : TaskEnd) → 1 < m → Within m (page.end_task t end)
-end_task m t end q = λ ds known. Light (tt, notify_all m t ds q)
 
 after_step : (m t : ℕ) (p : Performed) → 1 < m → Within m (page.after_step t p)
 after_step m t Done q = tt
@@ -336,45 +215,6 @@ go_where i p o h = (tt, λ now e. go_with (waiting_text p) i now.1 now.0 (omega 
 
 await : (m : ℕ) (i : Inline) (name : List ℕ) (p : Position) → waiting_text p < m → Within m (page.await i name p)
 await m i name p q = λ w. (go_with m i _ p (omega (arith, q)), λ e k. ((tt, (omega (arith, q), tt)), (q, tt)))
-
--- actions
-carry_out : (m : ℕ) (itself : Option ℕ) (action : Action-F Action Statement Body) → begun_size action < m → Within m (page.carry_out itself action)
-carry_out m itself (Action-F.Note text) q = tt
-carry_out m itself (Action-F.Deferred name canceller) q = tt
-carry_out m itself (Action-F.Callback name value) q = λ w. (tt, λ d e. omega (arith, q))
-carry_out m itself (Action-F.Errback name class message) q = λ w. (tt, λ d e. omega (arith, q))
-carry_out m itself (Action-F.AddCallback name body) q = λ w. (tt, λ d e. (tt, (omega (arith, q), tt)))
-carry_out m itself (Action-F.AddErrback name body) q = λ w. (tt, λ d e. (tt, (omega (arith, q), tt)))
-carry_out m itself (Action-F.AddBoth name body) q = λ w. (tt, λ d e. (tt, (omega (arith, q), tt)))
-carry_out m itself (Action-F.AddCallbacks name on_value on_failure) q = λ w. (tt, λ d e. (tt, (omega (arith, q), tt)))
-carry_out m itself (Action-F.Chain name after) q = λ w. (tt, λ d e. λ v. (tt, λ c k. (tt, (omega (arith, q), tt))))
-carry_out m itself (Action-F.Pause name) q = λ w. (tt, λ d e. tt)
-carry_out m itself (Action-F.Unpause name) q = λ w. (tt, λ d e. omega (arith, q))
-carry_out m itself (Action-F.Cancel name) q = λ w. (tt, λ d e. cancel m d)
-carry_out m itself (Action-F.AddTimeout name delay) q = λ w. (tt, λ d e. add_timeout m d delay (omega (arith, q)))
-carry_out m itself (Action-F.Lock name) q = tt
-carry_out m itself (Action-F.Semaphore name tokens) q = tt
-carry_out m itself (Action-F.Acquire name lock) q = λ w. (tt, λ l e. acquire m name l (omega (arith, q)))
-carry_out m itself (Action-F.RunWith name lock body) q = λ w. (tt, λ l e. λ v. (acquire m name l (omega (arith, q, body_size_out body)), (omega (arith, q, body_size_out body), tt)))
-carry_out m itself (Action-F.Release lock) q = λ w. (tt, λ l e. release m l (omega (arith, q)))
-carry_out m itself (Action-F.Maybe name body) q = (tt, (omega (arith, q, body_size_out body), (omega (arith, q, body_size_out body), tt)))
-carry_out m itself (Action-F.Queue name size backlog) q = tt
-carry_out m itself (Action-F.Put queue value) q = λ w. (tt, λ k e. put_in m k value (omega (arith, q)))
-carry_out m itself (Action-F.Get name queue) q = λ w. (tt, λ k e. get_out m name k (omega (arith, q)))
-carry_out m itself (Action-F.List name children flags) q = λ w. all_bound m (deferreds_at itself children w) _ (λ ds. list m name ds (list_flags flags) (omega (arith, q)))
-carry_out m itself (Action-F.Gather name children flags) q = λ w. all_bound m (deferreds_at itself children w) _ (λ ds. λ v. (list m name ds (gather_flags flags) (omega (arith, q)), (omega (arith, q), tt)))
-carry_out m itself (Action-F.Later name delay body) q = tt
-carry_out m itself (Action-F.CancelCall name) q = λ w. (tt, λ number e. λ a known. Light tt)
-carry_out m itself (Action-F.Loop name of interval at_once body) q = λ w v. (turn m 0 body (omega (arith, q)), tt)
-carry_out m itself (Action-F.StopLoop name) q = λ w. (tt, λ l e. stop_loop m l (omega (arith, q)))
-carry_out m itself (Action-F.Cooperate name bodies) q = tt
-carry_out m itself (Action-F.WhenDone name task) q = λ w. (tt, λ t e. λ v. notify m 0 t (omega (arith, q)))
-carry_out m itself (Action-F.PauseTask name) q = λ w. (tt, λ t e. λ v. (tt, λ x k. (tt, λ end j. tt)))
-carry_out m itself (Action-F.StopTask name) q = λ w. (tt, λ t e. λ v. (tt, λ x k. (end_task m t Stopped (omega (arith, q)), λ end j. tt)))
-carry_out m itself (Action-F.ResumeTask name) q = λ w. (tt, λ t e. λ v. (tt, λ x k. (tt, tt)))
-carry_out m itself (Action-F.Inline name statements) q = λ w v. (tt, (omega (arith, q), tt))
-carry_out m itself (Action-F.Thread name delay work) q = λ w v. (tt, λ u. tt)
-carry_out m itself (Action-F.ThreadIn name pool delay work) q = λ w v. (tt, λ u. tt)
 
 perform_rest : (itself : Option ℕ) (actions : List Action) (end : End) (input : Value) → Within (1 + actions_size actions) (page.perform_rest itself actions end input)
 perform_rest itself [] end input = λ w. tt
@@ -428,6 +268,6 @@ rule_within frame.Tell p = (tt, λ failure e. tt)
 rule_within frame.Due p = λ o known. run_next 0 o
 rule_within (frame.Inline x) p = inline_goes x p
 
--- as today
+-- each turn, by the rule of its frame
 pub turned_fair : (f : Frame) (p : Performed) (w : World) → Fair w (rank f) (run (scripts.rule_of f p) w)
 turned_fair f p w = rule_fair (rank f) (scripts.rule_of f p) w (rule_within f p)

@@ -4,7 +4,8 @@ use Rattle.dv_performing.specs.Turning.{turned}
 use Rattle.dv_frames.specs.Turn.{Turned, ◌over◌}
 use Rattle.dv_frames.specs.declared.frame.Frame.{Frame}
 use Rattle.dv_performing.proofs.Extends.{Ended}
-use Rattle.dv_performing.proofs.Fair.{can, pays, rank, Each, Lighter, Falls, paid, lighter}
+use Rattle.dv_performing.proofs.Fair.{can, pays, Falls, paid, lighter}
+use Rattle.dv_performing.proofs.Lighter.{rank, Each, Lighter}
 use Rattle.dv_performing.proofs.FairTurns.{turned_fair}
 use Rattle.dv_performing.proofs.Runs.{run}
 use Rattle.dv_world.specs.World.{World}

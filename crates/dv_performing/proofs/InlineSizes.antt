@@ -1,45 +1,20 @@
 -- How much text of an inline body is left: no move adds to it, and an answer takes from it.
-use Rattle.std.proofs.Common.{◌≡◌, ℕ, ◌+◌, ◌<◌, ◌≤◌, List, [], ◌∷◌, Option, None, Some, refl, arith, ap, subst}
+use Rattle.std.proofs.Common.{◌≡◌, ℕ, ◌+◌, ◌<◌, List, arith, ◌≤◌, [], ◌∷◌, Option, None, Some, refl, ap, subst}
 use Rattle.dv_inline.proofs.Moves.{come_kept}
 use Rattle.dv_inline.specs.Position.{Position, moved, moved_by, moved_in, moved_unless, outward, come, want_at, want_by, want_in, want_unless, answered, answered_to, went_on, thrown_from, thrown_to, second_for, class_caught}
 use Rattle.dv_inline.specs.declared.open.Catch.{Catch}
 use Rattle.dv_inline.specs.declared.open.Open.{Open}
-use Rattle.dv_inline.specs.declared.want.Want.{Want}
 use Rattle.dv_inline.specs.declared.want.Want.TheVariants.{Do, Await}
-use Rattle.dv_script.specs.declared.action.Action.{Action}
+use Rattle.dv_inline.specs.declared.want.Want.{Want}
+use Rattle.dv_performing.proofs.Lighter.{action_size, begun_fits, catch_size, layer_size, statement_size, statement_size_out, statements_size, text_by, text_of, tries_size, waiting_by, waiting_text}
 use Rattle.dv_script.specs.declared.action.Action.TheOpen.{Statement-F}
+use Rattle.dv_script.specs.declared.action.Action.{Action}
 use Rattle.dv_script.specs.declared.body.Body.{Body}
 use Rattle.dv_script.specs.declared.body.Statement.{Statement, out-Statement}
 use Rattle.dv_value.specs.Failure.{failure_in}
 use Rattle.dv_value.specs.declared.classes.Class.{Class}
 use Rattle.dv_value.specs.declared.failure.Failure.{Failure}
 use Rattle.dv_value.specs.declared.value.Value.{Value}
-use Rattle.dv_performing.proofs.Sizes.{action_size, statements_size, layer_size, statement_size, statement_size_out, begun_fits}
-
--- what the tries hold that are round it
-abbrev pub catch_size : Option Catch → ℕ
-catch_size None = 0
-catch_size (Some catch) = 1 + statements_size catch.second
-
-abbrev pub tries_size : List Open → ℕ
-tries_size [] = 0
-tries_size (around ∷ tries) = 1 + catch_size around.catch + statements_size around.rest + tries_size tries
-
--- what is left of a body that isn't over
-abbrev pub text_by : Option Value → Position → ℕ
-text_by None p = 1 + statements_size p.statements + tries_size p.tries
-text_by (Some result) p = 0
-
-abbrev pub text_of : Position → ℕ
-text_of p = text_by p.result p
-
--- the same where it waits for an answer; one that wants nothing only takes a turn more
-abbrev pub waiting_by : Option Want → Position → ℕ
-waiting_by None p = 2 + text_of p
-waiting_by (Some want) p = text_of p
-
-abbrev pub waiting_text : Position → ℕ
-waiting_text p = waiting_by (want_at p) p
 
 most_text : (o : Option Value) (p : Position) → text_by o p ≤ 1 + statements_size p.statements + tries_size p.tries
 most_text None p = omega arith

@@ -2,11 +2,11 @@ pub mod Extends
 pub mod Runs
 pub mod Lasting
 pub mod Kept
-pub mod Sizes
-pub mod InlineSizes
 pub mod Tally
 pub mod Weights
 pub mod Budget
+pub mod Lighter
+pub mod InlineSizes
 pub mod BoundsKept
 pub mod StepsCome
 pub mod RuleComes
