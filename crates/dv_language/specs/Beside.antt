@@ -5,22 +5,29 @@ use Rattle.serde_json.specs.View.{items_of}
 use Rattle.dv_clock.specs.declared.limits.TheConstants.{MOST_TICKS}
 use Rattle.dv_script.specs.declared.limits.TheConstants.{MOST_BYTES, MOST_CALLERS, MOST_CLASSES, MOST_LEVELS, MOST_NODES, MOST_POOLS, MOST_POSTS, USUAL_LIMIT}
 use Rattle.dv_script.specs.declared.work.TheConstants.{MOST_JOBS}
+use Rattle.dv_value.specs.declared.classes.Class.{Class}
+use Rattle.dv_value.specs.Builtin.{builtin}
+use Rattle.dv_value.specs.Classes.{name_of}
 use Rattle.dv_reader.specs.declared.error.ScriptFault.{ScriptFault}
 use Rattle.dv_reader.specs.declared.error.TheConstants.{REFUSALS}
 use Rattle.dv_reader.specs.Texts.{refusal_name, refusal_number}
-use Rattle.dv_language.specs.declared.beside.TheConstants.{CLASSES, STATUSES, MOST_NAME}
+use Rattle.dv_language.specs.declared.beside.TheConstants.{STATUSES, MOST_NAME}
 
 -- the parent of a class, null of the first
 abbrev pub parent_data : Option (List ℕ) → Data
 parent_data None = null
 parent_data (Some parent) = string parent
 
--- a class with its parent
-abbrev pub class_data : List ℕ → Option (List ℕ) → Data
-class_data name parent = object (member (codes "class") (string name) (member (codes "parent") (parent_data parent) no_members))
+-- a class with its parent, by their names
+abbrev pub class_row : List ℕ → Option (List ℕ) → Data
+class_row name parent = object (member (codes "class") (string name) (member (codes "parent") (parent_data parent) no_members))
+
+-- a class of the table that every script has
+abbrev pub class_data : Class → Data
+class_data class = class_row class.name (option_map (name_of builtin) class.parent)
 
 abbrev pub classes_data : Data
-classes_data = array (items_of (map (λ class. class_data class.0.now (option_map (λ parent. parent.now) class.1)) CLASSES))
+classes_data = array (items_of (map class_data builtin))
 
 -- a number
 abbrev pub count : ℕ → Data

@@ -3,7 +3,7 @@
 ghost use Rattle.std.specs.Prelude.{◌≡◌, IfOk, map, option_map};
 ghost use Rattle.serde_json.specs.Data.{array};
 ghost use Rattle.serde_json.specs.View.{items_of, view};
-ghost use Rattle.dv_language.specs.Beside.{class_data, classes_data, limits_data, usual_data, refusal_data, refusals_data, status_data, statuses_data};
+ghost use Rattle.dv_language.specs.Beside.{class_row, classes_data, limits_data, usual_data, refusal_data, refusals_data, status_data, statuses_data};
 
 use dv_clock::limits::MOST_TICKS;
 use dv_reader::error::{REFUSALS, ScriptFault, refusal_name, refusal_number};
@@ -57,7 +57,7 @@ fn class_json(
     alloc: Global,
     class: &(&'static str, Option<&'static str>),
 ) -> Result<Json, AllocError>
-    ensures { IfOk result (λ json. view json ≡ class_data class.now.0.now (option_map (λ parent. parent.now) class.now.1)) }
+    ensures { IfOk result (λ json. view json ≡ class_row class.now.0.now (option_map (λ parent. parent.now) class.now.1)) }
 {
     match class.1 {
         None => json!(in alloc; {"class": class.0, "parent": null}),
@@ -69,7 +69,7 @@ fn class_rows(
     alloc: Global,
     classes: &[(&'static str, Option<&'static str>)],
 ) -> Result<Json, AllocError>
-    ensures { IfOk result (λ json. view json ≡ array (items_of (map (λ class. class_data class.0.now (option_map (λ parent. parent.now) class.1)) classes.now))) }
+    ensures { IfOk result (λ json. view json ≡ array (items_of (map (λ class. class_row class.0.now (option_map (λ parent. parent.now) class.1)) classes.now))) }
 {
     let mut rows = Vec::new(alloc);
     for class in classes {
@@ -79,6 +79,7 @@ fn class_rows(
 }
 
 /// The classes that are built in, with their parents.
+#[tactic(auto, using(crate::proofs::Classes::listed))]
 pub fn classes_json(alloc: Global) -> Result<Json, AllocError>
     ensures { IfOk result (λ json. view json ≡ classes_data) }
 {
