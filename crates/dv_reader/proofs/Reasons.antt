@@ -1,5 +1,5 @@
 -- Bytes that are refused have passed each test before the one that they fail, so they fail one.
-use Rattle.std.proofs.Common.{◌≡◌, ◌≢◌, ◌≤◌, ◌<◌, ◌+◌, ◌-◌, ℕ, zero, suc, nat_lt, Bool, true, false, List, length, None, refl, sym, ap, subst, ◌∙◌, ◌⊎◌, inl, inr, arith}
+use Rattle.std.proofs.Common.{◌≡◌, ◌≢◌, ◌≤◌, ◌<◌, ◌+◌, ◌-◌, ℕ, zero, suc, nat_lt, Bool, true, false, List, length, refl, sym, ap, subst, ◌∙◌, ◌⊎◌, inl, inr, arith}
 use Rattle.std.proofs.lemmas.Bool.Decides.{nat_tests}
 use Rattle.serde_json.specs.Data.{Data}
 use Rattle.dv_grammar.specs.Grammar.{IsScript}
@@ -7,7 +7,7 @@ use Rattle.dv_grammar.specs.declared.draft.Draft.{Draft}
 use Rattle.dv_reader.proofs.Documents.{same_test, same_value}
 use Rattle.dv_reader.specs.Laws.{RefusedForOneReason}
 use Rattle.dv_reader.specs.Limits.{is_small}
-use Rattle.dv_reader.specs.Refusal.{keeps_version, are_known, are_named, are_pooled, HasShape, HasVersion, IsDocument, Refuses}
+use Rattle.dv_reader.specs.Refusal.{keeps_version, are_known, are_named, HasShape, HasVersion, IsDocument, Refuses}
 use Rattle.dv_reader.specs.declared.error.ScriptFault.{ScriptFault}
 use Rattle.dv_reader.specs.declared.error.ScriptFault.TheVariants.{TooLong, NotJson, BadVersion, BadShape, TooMany, BadName, BadClass, OutOfMemory, BadPool}
 use Rattle.dv_script.specs.declared.limits.TheConstants.{MOST_BYTES}

@@ -2,7 +2,6 @@
 use Rattle.std.proofs.Common.{◌≡◌, suc, true}
 use Rattle.serde_json.specs.Data.{Data}
 use Rattle.dv_script.specs.declared.limits.TheConstants.{MOST_LEVELS}
-use Rattle.dv_forms.specs.declared.want.Want.{Want}
 use Rattle.dv_forms.specs.declared.want.Want.TheVariants as want
 use Rattle.dv_forms.specs.declared.want.Keyed.TheVariants as keyed
 use Rattle.dv_grammar.specs.declared.draft.Draft.{Draft}

@@ -1,5 +1,5 @@
 -- No time of a script that is read is cut.
-use Rattle.std.proofs.Common.{◌≡◌, ◌≤◌, ℕ, suc, List, [], ◌∷◌, Option, Some, None, Bool, true, false, map, min, max, nat_eq, refl, subst, ◌∙◌, arith, codes}
+use Rattle.std.proofs.Common.{◌≡◌, ◌≤◌, ℕ, List, [], ◌∷◌, Option, Some, None, Bool, true, map, min, max, nat_eq, refl, subst, ◌∙◌, arith, codes}
 use Rattle.std.specs.List.{list_all}
 use Rattle.std.proofs.lemmas.Bool.{and_parts, leb-true}
 use Rattle.std.proofs.lemmas.Bool.Decides.{nat_tests}
@@ -14,13 +14,11 @@ use Rattle.dv_script.specs.declared.body.Statement.TheVariants.{outs-Do, outs-Aw
 use Rattle.dv_script.specs.declared.action.Action.TheFolds.{fold_out-Action, fold_out-Statement, fold_out-Body}
 use Rattle.dv_script.specs.declared.event.Event.{Event}
 use Rattle.dv_script.specs.declared.script.Cooperator.{Cooperator}
-use Rattle.dv_script.specs.declared.script.Script.{Script}
 use Rattle.dv_value.specs.declared.classes.Class.{Class}
 use Rattle.dv_forms.specs.Forms.{Each, Field, IsList, IsNumber, Key}
-use Rattle.dv_grammar.specs.Grammar.{plain_cooperator, IsEnd, returns, passes, adds, raises, traps, waits, IsWork, gives, fails, sums, IsListFlag, fires_on_callback, fires_on_errback, consumes_errors, IsGatherFlag, gathers_errors, IsBound, no_bound, a_bound, IsAction, deferred, deferred_with, callback, errback, add_callback, add_errback, add_both, add_callbacks, chain, pause, unpause, cancel, add_timeout, note, list, gather, maybe, lock, semaphore, acquire, release, run_with, queue, put, get, later, cancel_call, loop, stop_loop, cooperate, when_done, pause_task, stop_task, resume_task, inline, thread, thread_in, AreActions, no_actions, more_actions, IsDo, does_nothing, does, IsBody, body, AreBodies, no_bodies, more_bodies, IsStatement, performs, awaits, tries, leaves, AreStatements, no_statements, more_statements, IsEvent, acts, advances, drains, IsDeclaration, declares, IsPool, pools, IsCooperator, IsScript}
+use Rattle.dv_grammar.specs.Grammar.{plain_cooperator, IsAction, deferred, deferred_with, callback, errback, add_callback, add_errback, add_both, add_callbacks, chain, pause, unpause, cancel, add_timeout, note, list, gather, maybe, lock, semaphore, acquire, release, run_with, queue, put, get, later, cancel_call, loop, stop_loop, cooperate, when_done, pause_task, stop_task, resume_task, inline, thread, thread_in, AreActions, no_actions, more_actions, IsDo, does_nothing, does, IsBody, body, AreBodies, no_bodies, more_bodies, IsStatement, performs, awaits, tries, leaves, AreStatements, no_statements, more_statements, IsEvent, acts, advances, drains, IsCooperator}
 use Rattle.dv_reader.specs.Laws.{TimesAreKept}
 use Rattle.dv_reader.specs.Limits.{ticks_in}
-use Rattle.dv_reader.specs.Refusal.{Says}
 use Rattle.dv_reader.specs.Times.{is_delay, is_interval, action_step, body_step, statement_step, times_action, times_body, times_event, times_statement, KeepsTimes}
 
 same_number : (n : ℕ) → nat_eq n n ≡ true

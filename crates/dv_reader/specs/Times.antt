@@ -1,6 +1,6 @@
 -- The times of a script that is read. The steps of the world cut a delay, an interval and a time of the clock that is too long; none of these
 -- is, so that cutting changes nothing.
-use Rattle.std.specs.Prelude.{◌≡◌, ◌≤◌, ℕ, Bool, true, ◌&&◌, nat_eq, min, max, List, Option, Some, None}
+use Rattle.std.specs.Prelude.{◌≡◌, ℕ, Bool, true, ◌&&◌, nat_eq, min, max, Option, Some, None}
 use Rattle.std.specs.List.{list_all}
 use Rattle.dv_clock.specs.declared.limits.TheConstants.{MOST_DELAY, MOST_TICKS}
 use Rattle.dv_script.specs.declared.action.Action.{Action}

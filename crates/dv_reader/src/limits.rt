@@ -31,7 +31,10 @@ fn item_nodes(items: &[Json]) -> u64
 {
     let mut count = 0u64;
     for item in items {
-        count = count.saturating_add(nodes(item));
+        count = count.saturating_add(match item {
+            Json::Null | Json::Bool(_) | Json::Number(_) | Json::String(_) => 1,
+            Json::Array(_) | Json::Object(_) => nodes(item),
+        });
     }
     count
 }
