@@ -1,12 +1,9 @@
 -- Wants, counted.
 use Rattle.std.proofs.Common.{◌≡◌, ◌≢◌, ℕ, zero, suc, ◌-◌, ◌<◌, ◌≤◌, List, [], ◌∷◌, length, get_or, Some, None, refl, ap, arith}
 use Rattle.serde_json.specs.Data.{Data}
-use Rattle.serde_json.specs.View.{items_view}
-use Rattle.serde_json.specs.declared.value.Value.{Value}
 use Rattle.dv_forms.specs.declared.want.Want.{Want}
 use Rattle.dv_forms.specs.declared.want.Call.{Call}
 use Rattle.dv_why.specs.Places.{argument_want, call_want, nth}
-use Rattle.dv_questions.specs.Asking.{count}
 
 -- the item of a number below the length
 pub nth_within : (ws : List Want) (n : ℕ) (default : Want) → n < length ws → nth ws n ≡ Some (get_or ws n default)

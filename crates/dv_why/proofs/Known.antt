@@ -1,5 +1,5 @@
 -- Where each class and each pool is as a question asks, the script knows its classes and its pools.
-use Rattle.std.proofs.Common.{◌≡◌, ◌≢◌, ℕ, zero, suc, ◌≤◌, ◌<◌, Bool, true, false, not, ◌||◌, nat_lt, nat_eq, List, [], ◌∷◌, length, Option, Some, None, is_some, option_and_then, unwrap_or, bytes_eq, refl, sym, ap, subst, ◌∙◌, arith, codes, inl, inr}
+use Rattle.std.proofs.Common.{◌≡◌, ◌≢◌, ℕ, zero, suc, ◌≤◌, Bool, true, false, not, ◌||◌, nat_eq, List, [], ◌∷◌, length, Option, Some, None, option_and_then, bytes_eq, refl, sym, ap, subst, ◌∙◌, arith, codes, inl, inr}
 use Rattle.std.proofs.lemmas.Bool.{and_parts, leb-true}
 use Rattle.std.proofs.Math.Bool.{or-true}
 use Rattle.std.proofs.lemmas.Slice.Eq.{bytes_eq-Decides}
@@ -8,13 +8,13 @@ use Rattle.serde_json.specs.Find.{as_array, get, get_member}
 use Rattle.dv_value.specs.declared.classes.Class.{Class}
 use Rattle.dv_script.specs.declared.script.NamedPool.{NamedPool}
 use Rattle.dv_script.specs.declared.limits.TheConstants.{MOST_CLASSES, MOST_LEVELS}
-use Rattle.dv_forms.specs.Forms.{Each, IsList, Field, place_of}
+use Rattle.dv_forms.specs.Forms.{Each, IsList, Field}
 use Rattle.dv_grammar.specs.declared.draft.Draft.{Draft}
 use Rattle.dv_grammar.specs.Grammar.{IsPool, pools, IsScript}
 use Rattle.dv_grammar.proofs.Steps.{some_injective}
 use Rattle.dv_questions.specs.Questions.{Asked, words, names, classes, pools as pools_asked, is_known, is_pool, is_among}
 use Rattle.dv_reader.specs.Limits.{is_small}
-use Rattle.dv_reader.specs.Refusal.{answers, keeps_version, are_named, are_known, are_distinct, are_pooled}
+use Rattle.dv_reader.specs.Refusal.{answers, are_named, are_known, are_distinct, are_pooled}
 use Rattle.dv_reader.specs.declared.error.ScriptFault.TheVariants.{BadShape, BadName, BadClass, BadPool}
 use Rattle.dv_why.specs.Fits.{is_declared}
 use Rattle.dv_why.specs.declared.question.Question.{Question}

@@ -1,13 +1,11 @@
 -- Where each part of a value answers a question well, each of its texts does.
-use Rattle.std.proofs.Common.{◌≡◌, ℕ, zero, suc, Bool, true, ◌&&◌, List, [], ◌∷◌, Option, Some, None, option_and_then, refl, ap, ◌∙◌}
+use Rattle.std.proofs.Common.{◌≡◌, ℕ, zero, suc, Bool, true, List, [], ◌∷◌, Option, Some, None, option_and_then, refl}
 use Rattle.serde_json.specs.Data.{Data, null, boolean, number, string, array, object, Items, no_items, item}
-use Rattle.serde_json.specs.Find.{as_str, as_array, at, get, get_item}
+use Rattle.serde_json.specs.Find.{as_str, as_array, get, get_item}
 use Rattle.dv_forms.specs.declared.want.Want.{Want}
 use Rattle.dv_forms.specs.declared.want.Want.TheVariants as want
 use Rattle.dv_forms.specs.declared.want.Leaf.{Leaf}
 use Rattle.dv_forms.specs.declared.want.Call.{Call}
-use Rattle.dv_forms.specs.declared.want.Pair.{Pair}
-use Rattle.dv_forms.specs.declared.want.Item.{Item}
 use Rattle.dv_forms.specs.declared.want.Keyed.{Keyed}
 use Rattle.dv_forms.specs.Parts.{call_at}
 use Rattle.dv_forms.specs.Wants.{item_want, key_want, keys_in, pair_wants}
