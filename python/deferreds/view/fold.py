@@ -10,11 +10,14 @@ from typing import Callable, Dict, List, Optional, Sequence
 from .causes import Causes
 from .lines import NULL, End, Entry
 from .nesting import LAST_POSTS, Nesting, Place
-from .phrases import OfDeferred, OfEvent, OfLine, OfScript, Phrase
+from .phrases import OfDeferred, OfEvent, OfLine, OfScript, Phrase, listed, several
 from .records import Actor, Arrow, ArrowKind, Bracket, BracketKind, By, Made, Record, Row
 from .world import Call, Job, Lock, Loop, Phase, Queue, Task, Tick, Wait, World
 
 _FIRINGS = frozenset({"fire", "refuse", "swallow"})
+
+#: how many lines or Deferreds a problem names
+_MOST_NAMED = 3
 
 
 class Fold:
@@ -29,7 +32,11 @@ class Fold:
         self.brackets: List[Bracket] = []
         self.unhandled: List[Row] = []
         self.problems: List[Phrase] = []
+        #: the rows of lines that aren't known, and the Deferreds that no line has made
+        self._unknown: List[int] = []
+        self._unmade: List[int] = []
         self.knows_events = places is not None
+        self.told_outcomes = 0
         self.nesting = Nesting(places)
         self._entries = entries
         self._causes = Causes()
@@ -91,7 +98,7 @@ class Fold:
         self.nesting.lay(row, self.rows)
         change = self._changes.get(entry.word)
         if change is None:
-            self.problems.append((OfLine(row.place), " isn't known"))
+            self._unknown.append(row.place)
         else:
             change(row, entry, before)
         row.time = self.world.now
@@ -99,8 +106,17 @@ class Fold:
             self.records[number].look_at(row.place)
 
     def _finish(self, ends: Sequence[End]) -> None:
+        if self._unknown:
+            counted = several(len(self._unknown), "line isn't known", "lines aren't known")
+            shown = listed([OfLine(place) for place in self._unknown], _MOST_NAMED)
+            self.problems.append((f"{counted}: ", *shown))
+        if self._unmade:
+            counted = several(len(self._unmade), "Deferred is made in no line", "Deferreds are made in no line")
+            shown = listed([OfDeferred(number) for number in self._unmade], _MOST_NAMED)
+            self.problems.append(("the beginning is missing: ", f"{counted}: ", *shown))
         for place in self.nesting.crossed:
             self.problems.append((OfLine(place), " ends a side that isn't the innermost"))
+        self.told_outcomes = len(ends)
         for end in ends:
             record = self.records.get(end.number)
             if record is None:
@@ -121,6 +137,7 @@ class Fold:
         record = self.records.get(number)
         if record is None:
             record = self.records[number] = Record(number, "-", row.place)
+            self._unmade.append(number)
         if number not in row.names:
             row.names.append(number)
         record.last = row.place

@@ -105,7 +105,8 @@ class Page:
                     f'<span class="verdict {severity.value}">{report.count(severity)} {word}</span>'
                 )
         if report.is_clean:
-            yield Html('<span class="verdict clean">clean: nothing is left</span>')
+            look = "note" if self._run.problems else "clean"
+            yield Html(f'<span class="verdict {look}">{self._run.nothing}</span>')
         yield Html(f"<span class=facts>{escaped(self._run.counts)}</span></p>")
         if self._run.limits:
             yield Html(f"<p class=facts>{escaped(self._run.limits)}</p>")

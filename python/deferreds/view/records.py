@@ -19,6 +19,14 @@ class State(enum.Enum):
     RUN = "run"
 
 
+class Finish(enum.Enum):
+    """How a run ended, as far as that is told."""
+
+    WHOLE = "it ended"
+    STOPPED = "it stopped at the limit of its journal"
+    CUT = "what is told of it was cut off"
+
+
 class Look(NamedTuple):
     """What a lane shows of a Deferred."""
 

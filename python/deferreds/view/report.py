@@ -25,7 +25,7 @@ from .left import (
 )
 from .phrases import OfDeferred, OfLine, OfPlace, OfScript, Part, Phrase, listed, several, words
 from .places import NOWHERE, Places
-from .records import Made, Record
+from .records import Finish, Made, Record
 from .scripts import Script
 from .world import Shelf, T
 
@@ -44,6 +44,7 @@ class Kind(enum.Enum):
     """What a row of the report tells of, the worst first."""
 
     STOPPED = "stopped"
+    CUT = "cut off"
     UNHANDLED = "unhandled"
     FAILURE = "failure"
     CIRCLE = "circle"
@@ -94,7 +95,7 @@ class Report:
     """What is left of a run."""
 
     def __init__(
-        self, fold: Fold, left: Sequence[Left], stopped: bool, script: Script, places: Places = NOWHERE
+        self, fold: Fold, left: Sequence[Left], finish: Finish, script: Script, places: Places = NOWHERE
     ) -> None:
         self._places_of = places
         self._fold = fold
@@ -104,7 +105,7 @@ class Report:
         self._told: Set[End] = set()
         self._timers = {(timer.deferred, timer.due): timer.row for timer in fold.world.timers}
         self._failed = {one.number for one in left if isinstance(one, LeftFailure)}
-        found = [*self._bad(stopped), *self._open(), *self._notes()]
+        found = [*self._bad(finish), *self._open(), *self._notes()]
         self.findings: List[Finding] = sorted(found, key=lambda finding: _KINDS.index(finding.kind))
 
     def count(self, severity: Severity) -> int:
@@ -130,9 +131,9 @@ class Report:
 
     # what is to be looked at
 
-    def _bad(self, stopped: bool) -> Iterator[Finding]:
-        if stopped:
-            yield self._stopped()
+    def _bad(self, finish: Finish) -> Iterator[Finding]:
+        if finish is not Finish.WHOLE:
+            yield self._stopped(finish)
         for unhandled in self._of(LeftUnhandled):
             if unhandled.row < len(self._fold.rows):
                 yield self._unhandled(unhandled.row)
@@ -143,8 +144,8 @@ class Report:
             if isinstance(end, Circle):
                 yield self._circle(end)
 
-    def _stopped(self) -> Finding:
-        """The limit was reached; the sides that still ran are its details."""
+    def _stopped(self, finish: Finish) -> Finding:
+        """The limit was reached, or no more is told; the sides that still ran are its details."""
         details: List[Phrase] = []
         running = [one.number for one in self._of(LeftDeferred) if one.running]
         for number in running[:_MOST_HELD]:
@@ -157,8 +158,16 @@ class Report:
         for number in running:
             details += self._held(Root(At.DEFERRED, number), [number])
         last = len(self._fold.rows) - 1
-        said: Phrase = ("the run stopped at the limit of its journal",)
-        return Finding(Severity.BAD, Kind.STOPPED, said, tuple(details), last if last >= 0 else None)
+        kind, said = Kind.STOPPED, "the run stopped at the limit of its journal"
+        if finish is Finish.CUT:
+            kind, said = Kind.CUT, f"what is told ends before the outcomes of {self._untold()}: how the run went on isn't known"
+        return Finding(Severity.BAD, kind, (said,), tuple(details), last if last >= 0 else None)
+
+    def _untold(self) -> str:
+        """Of how many Deferreds no outcome is told."""
+        every = len(self._fold.records)
+        untold = every - self._fold.told_outcomes
+        return f"{untold} of {several(every, 'Deferred', 'Deferreds')}" if untold else "all that is left"
 
     def _unhandled(self, place: int) -> Finding:
         row = self._fold.rows[place]
