@@ -129,7 +129,22 @@ class Command(unittest.TestCase):
             )
         self.assertEqual(status, 2)
         self.assertIn("bad.json was not run to its end", errors)
+        self.assertEqual(errors.count("\n"), 2)
         self.assertEqual(os.listdir(self.folder / "pages"), ["good.html"])
+
+    def test_what_is_said_of_a_script_that_is_refused_is_what_why_says(self) -> None:
+        stand_in = self.folder / "deferreds"
+        line = '{"at":"/events/0/1","expected":"a name","found":"7","name":"BadShape","refusal":4}'
+        stand_in.write_text(f"#!/bin/sh\n[ $1 = --why ] && echo '{line}' && echo more >&2\nexit 2\n")
+        stand_in.chmod(0o755)
+        (self.folder / "bad.json").write_text("{}")
+        (self.folder / "journal").write_text("new #0 d\n")
+        with mock.patch.object(inputs, "found", lambda: stand_in):
+            status, _, errors = self.run_view("--text", self.folder / "bad.json")
+            hinted = self.run_view("--text", self.folder / "journal")[2]
+        said = "bad.json is refused: BadShape: at /events/0/1 stands 7; expected is a name\n"
+        self.assertEqual((status, errors[-len(said) :], errors.count("\n")), (2, said, 1))
+        self.assertTrue(hinted.endswith("expected is a name; it looks like a journal, which is given with --journal\n"))
 
     def test_a_program_that_tells_no_facts_tells_a_journal(self) -> None:
         stand_in = self.folder / "deferreds"

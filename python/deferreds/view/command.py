@@ -7,7 +7,7 @@ standard output. `--text` prints the view instead. Without SCRIPT the script is 
 input. `--journal FILE` shows a journal with its outcomes, as `./deferreds`, `./on_twisted` or `./record` has given
 it, and runs nothing; `--json FILE` shows what `./deferreds --json` has told. FILE may be `-`, for standard input.
 
-Status 0: shown; 2: the script is refused, with the reason on standard error; 3, 4, 70: as for `./deferreds`, 4 also
+Status 0: shown; 2: the script is refused, with what `./deferreds --why` says of it on standard error; 3, 4, 70: as for `./deferreds`, 4 also
 where standard output can't be written; 64: the words are wrong; 66: what is to be shown can't be read, or isn't what
 it is given as; 73: the page can't be written. With several scripts it is the first status that isn't 0.
 """

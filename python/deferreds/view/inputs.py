@@ -14,6 +14,7 @@ from ..program import NOT_RUN, NotRun, found
 from .facts import NotFacts, read_facts
 from .lines import WORDS
 from .places import NOWHERE, SUFFIX, NotPlaces, Places, read_places
+from .refusals import read_refusal
 from .run import Run, run_of_facts, run_of_journal
 from .scripts import Script
 
@@ -21,7 +22,7 @@ from .scripts import Script
 STANDARD = "-"
 
 USAGE, NO_INPUT, NO_OUTPUT = 64, 66, 73
-_STOPPED = 1
+_STOPPED, _REFUSED = 1, 2
 
 _SCRIPT, _FACTS, _JOURNAL = (
     "it looks like a script, which is given without --journal and --json",
@@ -159,18 +160,37 @@ def run_script(name: str) -> Run:
     if not is_exact:
         status, told = _deferreds(data)
     if status not in (0, _STOPPED):
-        raise Failed(status, f"{shown_name(name)} was not run to its end")
+        raise Failed(status, _why_not(status, data, name))
     script, title = _script(data), _title(name)
     if is_exact:
         return _facts(told, name, script)
     return run_of_journal(_text(told, name), title, script, status == _STOPPED)
 
 
-def _deferreds(data: bytes, *words: str) -> Tuple[int, bytes]:
-    """The status and the output of `./deferreds` with these words."""
+def _why_not(status: int, data: bytes, name: str) -> str:
+    """Why a script was not run to its end: what `./deferreds --why` says, where it is refused."""
+    refusal = read_refusal(_deferreds(data, "--why", errors=subprocess.DEVNULL)[1]) if status == _REFUSED else None
+    if refusal is None:
+        return f"{shown_name(name)} was not run to its end"
+    hint = "" if _is_json(data) else looks_like(data.decode("utf-8", "replace"))
+    return f"{shown_name(name)} is refused: {refusal}" + (f"; {hint}" if hint else "")
+
+
+def _is_json(data: bytes) -> bool:
+    try:
+        json.loads(data)
+        return True
+    except RecursionError:
+        return True
+    except ValueError:
+        return False
+
+
+def _deferreds(data: bytes, *words: str, errors: Optional[int] = None) -> Tuple[int, bytes]:
+    """The status and the output of `./deferreds` with these words; what it says beside is shown, or goes to `errors`."""
     try:
         program = os.fspath(found())
-        ran = subprocess.run([program, *words], input=data, stdout=subprocess.PIPE, check=False)
+        ran = subprocess.run([program, *words], input=data, stdout=subprocess.PIPE, stderr=errors, check=False)
     except NotRun as why:
         raise Failed(NOT_RUN, f"deferreds isn't run: {why}") from None
     except OSError as error:
