@@ -216,6 +216,63 @@ class OfJournals(unittest.TestCase):
             ["stored 2 values of q were never got (line 2)", "refused a second firing of #0·a (line 6)"],
         )
 
+    def test_a_late_answer_that_was_swallowed_is_a_note(self) -> None:
+        lines = ["new #0 d", "cancel #0", 'fire #0 fail CancelledError ""', "add #0", "run #0", "set #0 ok null"]
+        run = run_of_journal(journal(*lines, "advance 1", "call answer", "swallow #0"), "test")
+        self.assertTrue(run.report.is_clean)
+        self.assertEqual(
+            report_of(run),
+            [
+                "swallowed a late firing of #0·d was swallowed: nobody got its answer (line 9)"
+                " | it was cancelled in line 2 | by after call answer, line 8"
+            ],
+        )
+
+    def test_the_second_that_waits_for_one_got_null(self) -> None:
+        lines = ["new #0 d", "new #1 a", "new #2 b"]
+        for one in (1, 2):
+            lines += [f"add #{one}", f"fire #{one} ok 1", f"run #{one}", f"wait #{one} #0"]
+        fired = [*lines, "fire #0 ok 42", "hand #0 #1 ok 42", "hand #0 #2 ok null"]
+        run = run_of_journal(journal(*fired), "test")
+        self.assertTrue(run.report.is_clean)
+        self.assertEqual(
+            report_of(run),
+            ["got null #2·b got null from #0·d, whose value was taken before (line 14) | it went to #1·a in line 13"],
+        )
+        self.assertEqual(of_journal(*lines, "fire #0 ok null", "hand #0 #1 ok null", "hand #0 #2 ok null"), [])
+        anew = [*lines[:-1], "add #0", "fire #0 ok 42", "take #2 #0 ok 42", "run #0", "set #0 ok null", "run #1", "take #1 #0 ok null"]
+        self.assertEqual(of_journal(*[line for line in anew if line != "wait #1 #0"]), [])
+
+    def test_who_fires_is_the_canceller(self) -> None:
+        lines = ["new #0 d", "new #1 e", "fire #1 ok 1", "run #1", "wait #1 #0"]
+        run = run_of_journal(journal(*lines, "cancel #1", 'fire #0 fail ValueError "no"'), "test")
+        self.assertEqual(
+            list(Terminal(run, False).lines())[-4].split(" ← ")[1], "the canceller of #0·d, by cancel #1·e"
+        )
+        run = run_of_journal(journal(*lines[:1], "cancel #0", "fire #0 ok 1"), "test")
+        self.assertEqual(list(Terminal(run, False).lines())[-3].split(" ← ")[1], "the canceller of #0·d")
+
+    def test_a_failure_names_the_cancel_with_which_it_began(self) -> None:
+        began = "it began with cancel #0·d, line 2"
+        cancelled = ["new #0 d", "cancel #0", 'fire #0 fail CancelledError ""']
+        self.assertEqual(
+            of_journal(*cancelled), [f'failure #0·d ends with CancelledError "" (line 3) | {began}']
+        )
+        other = [*cancelled, "add #0", "run #0", 'set #0 fail TimeoutError ""']
+        self.assertEqual(
+            of_journal(*other),
+            [f'failure #0·d ends with TimeoutError "" (line 6) | it comes from line 6: set #0 | {began}'],
+        )
+        handed = ["new #0 d", "cancel #0", "new #1 e", "fire #1 ok 1", "run #1", "wait #1 #0", 'fire #0 fail CancelledError ""']
+        found = of_journal(*handed, 'hand #0 #1 fail CancelledError ""')
+        self.assertEqual([one.split(" | ")[-1] for one in found], [began])
+        within = [*cancelled, "add #0", "run #0", "new #1 e", 'fire #1 fail X ""', "set #0 ok null"]
+        self.assertEqual(
+            of_journal(*within), [f'failure #1·e ends with X "" (line 7) | {began}']
+        )
+        mended = [*cancelled, "add #0", "run #0", "set #0 ok 1", "run #0", 'set #0 fail X ""']
+        self.assertFalse([one for one in of_journal(*mended) if "began" in one])
+
     def test_a_run_that_stopped(self) -> None:
         found = of_journal("new #0 d", "add #0", "fire #0 ok 1", "run #0")
         self.assertEqual(

@@ -11,7 +11,7 @@ from .causes import Causes
 from .lines import NULL, End, Entry
 from .nesting import LAST_POSTS, Nesting, Place
 from .phrases import OfDeferred, OfEvent, OfLine, OfScript, Phrase, listed, several
-from .records import Actor, Arrow, ArrowKind, Bracket, BracketKind, By, Made, Record, Row
+from .records import Actor, Arrow, ArrowKind, Bracket, BracketKind, By, GotNull, Made, Record, Row
 from .world import Call, Job, Lock, Loop, Phase, Queue, Task, Tick, Wait, World
 
 _FIRINGS = frozenset({"fire", "refuse", "swallow"})
@@ -31,6 +31,7 @@ class Fold:
         self.world = World()
         self.brackets: List[Bracket] = []
         self.unhandled: List[Row] = []
+        self.got_null: List[GotNull] = []
         self.problems: List[Phrase] = []
         #: the rows of lines that aren't known, and the Deferreds that no line has made
         self._unknown: List[int] = []
@@ -213,17 +214,29 @@ class Fold:
 
     def _fire(self, row: Row, entry: Entry, before: Optional[Row]) -> None:
         record = self._fires(row, before, ArrowKind.FIRE)
+        cancel = self._causes.firing_cancel(row)
+        record.cancelled = cancel.place if cancel is not None else None
+        record.begun = self._cancel_behind(row, record)
         if self._causes.taken_cancel(entry.deferred) is before and before is not None:
             self.world.leaves(entry.deferred)
         record.fired = record.origin = row.place
         record.fired_by = row.cause
         record.value = entry.outcome
 
+    def _cancel_behind(self, row: Row, record: Record) -> Optional[int]:
+        """The row of the cancel with which the failure began by which a Deferred is fired, if one did."""
+        if row.entry.outcome is None or not row.entry.outcome.is_failure:
+            return None
+        if record.cancelled is not None:
+            return record.cancelled
+        firing = self.records.get(row.actor.number) if row.actor.by is By.SIDE else None
+        return firing.begun if firing is not None else None
+
     def _refuse(self, row: Row, entry: Entry, before: Optional[Row]) -> None:
         self._fires(row, before, ArrowKind.REFUSE).refused.append(row.place)
 
     def _swallow(self, row: Row, entry: Entry, before: Optional[Row]) -> None:
-        self._fires(row, before, ArrowKind.SWALLOW)
+        self._fires(row, before, ArrowKind.SWALLOW).swallowed.append(row.place)
 
     def _fires(self, row: Row, before: Optional[Row], kind: ArrowKind) -> Record:
         record = self._touch(row, row.entry.deferred)
@@ -243,11 +256,14 @@ class Fold:
         )
         record.origin = record.origin if passed_on else row.place
         record.value = entry.outcome
+        record.taken = None
+        if entry.outcome is None or not entry.outcome.is_failure:
+            record.begun = None
 
     def _take(self, row: Row, entry: Entry, before: Optional[Row]) -> None:
         taker, giver = self._touch(row, entry.deferred), self._touch(row, entry.other)
         row.arrows.append(Arrow(ArrowKind.HAND, giver.number, taker.number))
-        taker.value, taker.origin, giver.value = entry.outcome, giver.origin, NULL
+        self._hand_over(row, taker, giver)
 
     def _wait(self, row: Row, entry: Entry, before: Optional[Row]) -> None:
         record = self._touch(row, entry.deferred)
@@ -259,8 +275,19 @@ class Fold:
     def _hand(self, row: Row, entry: Entry, before: Optional[Row]) -> None:
         taker, giver = self._touch(row, entry.deferred), self._touch(row, entry.other)
         row.arrows.append(Arrow(ArrowKind.HAND, giver.number, taker.number))
-        taker.value, taker.waits, taker.origin, giver.value = entry.outcome, None, giver.origin, NULL
+        taker.waits = None
+        self._hand_over(row, taker, giver)
         self._reached.clear()
+
+    def _hand_over(self, row: Row, taker: Record, giver: Record) -> None:
+        """The one gets the value of the other, which has null then."""
+        outcome = row.entry.outcome
+        if outcome == NULL and giver.taken is not None:
+            self.got_null.append(GotNull(row.place, taker.number, giver.number, giver.taken))
+        elif outcome != NULL:
+            giver.taken = row.place
+        taker.value, taker.origin, taker.begun = outcome, giver.origin, giver.begun
+        giver.value, giver.begun = NULL, None
 
     def _pause(self, row: Row, entry: Entry, before: Optional[Row]) -> None:
         record = self._touch(row, entry.deferred)

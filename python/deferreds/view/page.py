@@ -26,6 +26,11 @@ _FEW_OUTCOMES, _MOST_ODD, _MOST_OK = 16, 200, 2_000
 _MOST_TEXT, _MOST_VALUE, _LEAST_VALUE, _MOST_DETAILS = 300, 200, 60, 8
 _PAPER = 1_123
 
+_TITLES = {
+    Severity.BAD: "To look at",
+    Severity.LEFT: "What is left, and why",
+    Severity.NOTE: "Notes",
+}
 _LEGEND_BARS = (State.UNFIRED, State.RUN, State.OK, State.FAIL, State.WAIT)
 _LEGEND_SIGNS: Dict[State, str] = {
     State.UNFIRED: "○ ",
@@ -114,9 +119,13 @@ class Page:
             yield Html(f'<p><span class="verdict bad">{self._markup.said(problem)}</span></p>')
 
     def _report(self) -> Iterator[Html]:
-        findings = self._run.report.findings
-        if not findings:
-            return
+        for severity, title in _TITLES.items():
+            findings = [one for one in self._run.report.findings if one.severity is severity]
+            if findings:
+                yield Html(f"<h2>{title}</h2>")
+                yield from self._findings(findings)
+
+    def _findings(self, findings: List[Finding]) -> Iterator[Html]:
         few: List[Html] = []
         more: List[Html] = []
         shown: Dict[Kind, int] = {}
@@ -124,7 +133,7 @@ class Page:
             shown[finding.kind] = shown.get(finding.kind, 0) + 1
             if shown[finding.kind] <= _MOST_FINDINGS:
                 (few if shown[finding.kind] <= _FEW_FINDINGS else more).append(self._finding(finding))
-        yield Html(f"<h2>What is left, and why</h2><table class=report>{joined(few)}</table>")
+        yield Html(f"<table class=report>{joined(few)}</table>")
         if more:
             yield Html(
                 f"<details><summary>{len(more)} more of these</summary><table class=report>{joined(more)}</table></details>"

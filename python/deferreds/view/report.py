@@ -5,6 +5,7 @@ from __future__ import annotations
 import enum
 from typing import Iterator, List, NamedTuple, Optional, Sequence, Set, Tuple, Type, TypeVar
 
+from .causes import in_whom
 from .fold import Fold
 from .hanging import Circle, End, Hanging, Root
 from .left import (
@@ -25,7 +26,7 @@ from .left import (
 )
 from .phrases import OfDeferred, OfLine, OfPlace, OfScript, Part, Phrase, listed, several, words
 from .places import NOWHERE, Places
-from .records import Finish, Made, Record
+from .records import Finish, GotNull, Made, Record
 from .scripts import Script
 from .world import Shelf, T
 
@@ -61,6 +62,8 @@ class Kind(enum.Enum):
     TASK = "task"
     STORED = "stored"
     REFUSED = "refused"
+    SWALLOWED = "swallowed"
+    GOT_NULL = "got null"
 
 
 _KINDS = list(Kind)
@@ -186,13 +189,22 @@ class Report:
             row = self._fold.rows[origin]
             head = row.entry.line[: row.entry.head].rstrip()
             details.append(("it comes from ", OfLine(origin), ": ", OfScript(head)))
-        elif origin is not None and record.fired_by:
+        elif origin is not None and record.fired_by and record.begun is None:
             details.append(("fired by ", *record.fired_by))
+        details += self._begun(record)
         if record.pauses and record.paused_at is not None:
             details.append(("it is paused since ", OfLine(record.paused_at)))
             details += self._held(Root(At.DEFERRED, record.number), [record.number])
         said: Phrase = (OfDeferred(record.number), " ends with ", OfScript(text))
         return Finding(Severity.BAD, Kind.FAILURE, said, tuple(details), origin)
+
+    def _begun(self, record: Record) -> List[Phrase]:
+        """The cancel with which its failure began."""
+        if record.begun is None:
+            return []
+        cancel = self._fold.rows[record.begun]
+        by = in_whom(self._fold.said_by(cancel.actor))
+        return [("it began with cancel ", OfDeferred(cancel.entry.deferred), *by, ", ", OfLine(cancel.place))]
 
     def _circle(self, circle: Circle) -> Finding:
         said: Phrase = ()
@@ -408,6 +420,26 @@ class Report:
         for record in self._fold.records.values():
             for place in record.refused:
                 yield from self._refused(record, place)
+            for place in record.swallowed:
+                yield self._swallowed(record, place)
+        yield from map(self._got_null, self._fold.got_null)
+
+    def _got_null(self, got: GotNull) -> Finding:
+        """A second one that waited for a Deferred: the first took its value."""
+        first = self._fold.rows[got.taken].arrows[0].target
+        said = words(OfDeferred(got.taker), " got null from ", OfDeferred(got.giver), ", whose value was taken before")
+        taken = words("it went to ", OfDeferred(first), " in ", OfLine(got.taken))
+        return Finding(Severity.NOTE, Kind.GOT_NULL, said, (taken,), got.row)
+
+    def _swallowed(self, record: Record, place: int) -> Finding:
+        """A firing that came after a cancel: nobody got what it had."""
+        details: List[Phrase] = []
+        if record.cancelled is not None:
+            details.append(("it was cancelled in ", OfLine(record.cancelled)))
+        if self._fold.rows[place].cause:
+            details.append(("by ", *self._fold.rows[place].cause))
+        said: Phrase = ("a late firing of ", OfDeferred(record.number), " was swallowed: nobody got its answer")
+        return Finding(Severity.NOTE, Kind.SWALLOWED, said, tuple(details), place)
 
     def _refused(self, record: Record, place: int) -> Iterator[Finding]:
         """A second firing, unless the next line tells it as unhandled."""
