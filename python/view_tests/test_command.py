@@ -189,6 +189,15 @@ class Command(unittest.TestCase):
         self.assertTrue(output.endswith("</html>\n"))
         self.assertTrue(errors.startswith("view: standard output: 122 lines"))
 
+    def test_a_trace(self) -> None:
+        status, _, errors = self.run_view("--trace", "--journal", _JOURNAL, "-o", self.folder)
+        self.assertEqual((status, errors.count("\n")), (0, 1))
+        trace = json.loads((self.folder / "workers.trace.json").read_text(encoding="utf-8"))
+        self.assertEqual(trace["otherData"]["title"], "workers.journal")
+        self.assertEqual(json.loads(self.run_view("--trace", "--journal", _JOURNAL, "-o", "-")[1]), trace)
+        for words in (["--text"], ["--open"]):
+            self.assertEqual(self.run_view("--trace", "--journal", _JOURNAL, *words)[0], 64)
+
     def test_pages_of_one_name_don_t_overwrite_each_other(self) -> None:
         scripts = [self.folder / name / "s.json" for name in "abc"] + [self.folder / "s_2.json"]
         for place, script in enumerate(scripts):

@@ -3,7 +3,7 @@ why.
 
 Writes a page that any browser opens: SCRIPT's name with `.html`, in the folder where the command is given, or FILE.
 With several scripts FILE is a folder, and a second one of a name gets `NAME_2.html`. With `-o -` the page goes to
-standard output. `--text` prints the view instead. Without SCRIPT the script is standard
+standard output. `--text` prints the view instead, and `--trace` writes a trace of Chrome's. Without SCRIPT the script is standard
 input. `--journal FILE` shows a journal with its outcomes, as `./deferreds`, `./on_twisted` or `./record` has given
 it, and runs nothing; `--json FILE` shows what `./deferreds --json` has told. FILE may be `-`, for standard input.
 
@@ -27,6 +27,7 @@ from .inputs import NO_OUTPUT, STANDARD, USAGE, Failed, Inputs
 from .page import Page
 from .run import Run
 from .terminal import Terminal
+from .trace import SUFFIX, Trace
 
 
 def _arguments(words: List[str]) -> argparse.Namespace:
@@ -41,7 +42,13 @@ def _arguments(words: List[str]) -> argparse.Namespace:
         help="write the page to FILE, or to standard output, which is `-`; with several scripts, into the folder FILE",
     )
     add("--open", action="store_true", help="open the page in the browser")
-    add("--text", action="store_true", help="print the view for a terminal")
+    form = parser.add_mutually_exclusive_group()
+    form.add_argument("--text", action="store_true", help="print the view for a terminal")
+    form.add_argument(
+        "--trace",
+        action="store_true",
+        help=f"write SCRIPT's name with `{SUFFIX}`: a trace of Chrome's, which Perfetto opens, in the place of the page",
+    )
     source = parser.add_mutually_exclusive_group()
     source.add_argument(
         "--journal",
@@ -86,6 +93,8 @@ def _mistake(parsed: argparse.Namespace) -> str:
         return "with --places there is one SCRIPT at most"
     if (parsed.journal or parsed.json) and several:
         return "a journal, or a run as JSON, has one SCRIPT at most"
+    if parsed.trace and parsed.open:
+        return "--open is for a page, which --trace doesn't write"
     if parsed.output == STANDARD and (several or parsed.open):
         return "with `-o -` there is one SCRIPT at most, and no --open"
     if [parsed.journal, parsed.json, parsed.places, *parsed.scripts].count(STANDARD) > 1:
@@ -115,7 +124,8 @@ def _targets(arguments: argparse.Namespace, inputs: List[Inputs]) -> Iterator[st
             yield output
             continue
         stem = "script" if one.main == STANDARD else Path(one.main).stem
-        names = (f"{stem}{f'_{number}' if number > 1 else ''}.html" for number in range(1, len(inputs) + 1))
+        ending = SUFFIX if arguments.trace else ".html"
+        names = (f"{stem}{f'_{number}' if number > 1 else ''}{ending}" for number in range(1, len(inputs) + 1))
         name = next(name for name in names if name not in taken)
         taken.add(name)
         yield os.fspath(Path(output or "", name))
@@ -126,7 +136,7 @@ def _check_target(target: str, inputs: List[Inputs]) -> None:
     for one in inputs if target != STANDARD else []:
         for name in one:
             if name is not None and name != STANDARD and _is_same(target, name):
-                raise Failed(NO_OUTPUT, f"{target} isn't written: a page is made from that file; -o FILE names another")
+                raise Failed(NO_OUTPUT, f"{target} isn't written: the view is made from that file; -o FILE names another")
 
 
 def _is_same(one: str, other: str) -> bool:
@@ -137,18 +147,17 @@ def _is_same(one: str, other: str) -> bool:
         return False
 
 
-def _write_page(page: Page, target: str) -> None:
-    """Writes a page, and its folder where that isn't there."""
-    html = page.html()
+def _write(text: str, target: str) -> None:
+    """Writes a page or a trace, and its folder where that isn't there."""
     if target == STANDARD:
         with writing():
-            sys.stdout.write(html)
+            sys.stdout.write(text)
             sys.stdout.flush()
         return
     try:
         path = Path(target)
         path.parent.mkdir(parents=True, exist_ok=True)
-        path.write_text(html, encoding="utf-8")
+        path.write_text(text, encoding="utf-8")
     except (OSError, ValueError) as error:
         why = error.strerror if isinstance(error, OSError) else "it is no name of a file"
         raise Failed(NO_OUTPUT, f"{target} can't be written: {why}") from None
@@ -163,15 +172,25 @@ def _print_text(run: Run) -> None:
 
 def _show_page(run: Run, arguments: argparse.Namespace, target: str) -> None:
     page = Page(run, arguments.first, arguments.last)
-    _write_page(page, target)
+    _write(page.html(), target)
     part = (
         f", of which the chart shows {page.window.start + 1} to {page.window.stop}"
         if len(page.window) < len(run.fold.rows)
         else ""
     )
-    _say(f"{'standard output' if target == STANDARD else target}: {run.counts}{part}")
+    _say_written(target, run, part)
     if arguments.open:
         webbrowser.open(Path(target).resolve().as_uri())
+
+
+def _write_trace(run: Run, target: str) -> None:
+    trace = Trace(run)
+    _write(trace.text(), target)
+    _say_written(target, run, "" if trace.clock.is_even else "; its times are too long to stand in proportion")
+
+
+def _say_written(target: str, run: Run, more: str) -> None:
+    _say(f"{'standard output' if target == STANDARD else target}: {run.counts}{more}")
 
 
 def main(words: List[str]) -> int:
@@ -186,7 +205,10 @@ def main(words: List[str]) -> int:
                 _print_text(one.run())
                 continue
             _check_target(target, inputs)
-            _show_page(one.run(), arguments, target)
+            if arguments.trace:
+                _write_trace(one.run(), target)
+            else:
+                _show_page(one.run(), arguments, target)
         except Failed as failed:
             if str(failed):
                 _say(str(failed))
