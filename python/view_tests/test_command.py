@@ -198,6 +198,34 @@ class Command(unittest.TestCase):
         for words in (["--text"], ["--open"]):
             self.assertEqual(self.run_view("--trace", "--journal", _JOURNAL, *words)[0], 64)
 
+    def test_two_runs_beside_each_other(self) -> None:
+        facts, journal = self.folder / "facts.jsonl", self.folder / "j.txt"
+        facts.write_text(told("new #0 d\nfire #0 ok 1\n#0 d ok 1\n", [0, 1]), encoding="utf-8")
+        journal.write_text("new #0 d\nfire #0 ok 2\n#0 d ok 2\n")
+        stand_in = self.folder / "deferreds"
+        stand_in.write_text('#!/bin/sh\ncat "${0%deferreds}facts.jsonl"\n')
+        stand_in.chmod(0o755)
+        (self.folder / "s.json").write_text("{}")
+        with mock.patch.object(inputs, "found", lambda: stand_in):
+            same = self.run_view("--text", "--compare", facts, self.folder / "s.json")
+            page = self.run_view("-o", self.folder, "--compare", facts, journal)
+        self.assertIn("the same: 2 lines, and all outcomes\n", same[1])
+        target = self.folder / "facts_and_j.html"
+        self.assertEqual(page, (0, "", f"view: {target}: line 2 is the first that differs; 1 outcome differs\n"))
+        self.assertTrue(target.read_text(encoding="utf-8").startswith("<!doctype html>"))
+        for words, status in (
+            (["--compare", facts], 64),
+            (["--compare", facts, journal, "more"], 64),
+            (["--compare", facts, journal, "--trace"], 64),
+            (["--compare", "-", "-"], 64),
+            (["--compare", facts, self.folder / "none"], 66),
+            (["--compare", facts, self.folder], 66),
+            (["--compare", facts, journal, "-o", journal], 73),
+        ):
+            found = self.run_view(*words)
+            self.assertEqual(found[0], status, words)
+            self.assertEqual(journal.read_text()[:8], "new #0 d")
+
     def test_pages_of_one_name_don_t_overwrite_each_other(self) -> None:
         scripts = [self.folder / name / "s.json" for name in "abc"] + [self.folder / "s_2.json"]
         for place, script in enumerate(scripts):

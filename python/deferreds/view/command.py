@@ -5,7 +5,8 @@ Writes a page that any browser opens: SCRIPT's name with `.html`, in the folder 
 With several scripts FILE is a folder, and a second one of a name gets `NAME_2.html`. With `-o -` the page goes to
 standard output. `--text` prints the view instead, and `--trace` writes a trace of Chrome's. Without SCRIPT the script is standard
 input. `--journal FILE` shows a journal with its outcomes, as `./deferreds`, `./on_twisted` or `./record` has given
-it, and runs nothing; `--json FILE` shows what `./deferreds --json` has told. FILE may be `-`, for standard input.
+it, and runs nothing; `--json FILE` shows what `./deferreds --json` has told. `--compare A B` shows two runs beside
+each other. FILE may be `-`, for standard input.
 
 Status 0: shown; 2: the script is refused, with what `./deferreds --why` says of it on standard error; 3, 4, 70: as for `./deferreds`, 4 also
 where standard output can't be written; 64: the words are wrong; 66: what is to be shown can't be read, or isn't what
@@ -18,12 +19,15 @@ import argparse
 import os
 import sys
 import webbrowser
+from functools import partial
 from pathlib import Path
-from typing import Iterator, List, Optional, Set, Tuple
+from typing import Callable, Iterator, List, Set
 
 from ..checkout import as_called, command_name
 from ..ending import ended, open_streams, writing
-from .inputs import NO_OUTPUT, STANDARD, USAGE, Failed, Inputs
+from .compared import Compared
+from .compared_forms import ComparedPage, text_lines
+from .inputs import NO_OUTPUT, STANDARD, USAGE, Failed, Inputs, read_any
 from .page import Page
 from .run import Run
 from .terminal import Terminal
@@ -60,6 +64,12 @@ def _arguments(words: List[str]) -> argparse.Namespace:
         metavar="FILE",
         help=as_called("show what ./deferreds --json has printed; SCRIPT may be the script of it"),
     )
+    source.add_argument(
+        "--compare",
+        nargs=2,
+        metavar=("A", "B"),
+        help=as_called("show two runs beside each other, from the first line that differs on; each is a script, a journal, or what ./deferreds --json has printed"),
+    )
     add(
         "--places",
         metavar="FILE",
@@ -93,11 +103,13 @@ def _mistake(parsed: argparse.Namespace) -> str:
         return "with --places there is one SCRIPT at most"
     if (parsed.journal or parsed.json) and several:
         return "a journal, or a run as JSON, has one SCRIPT at most"
+    if parsed.compare and (parsed.scripts or parsed.trace or parsed.places or numbers):
+        return "--compare takes two FILEs, and neither a SCRIPT nor --trace, --places, --from and --to"
     if parsed.trace and parsed.open:
         return "--open is for a page, which --trace doesn't write"
     if parsed.output == STANDARD and (several or parsed.open):
         return "with `-o -` there is one SCRIPT at most, and no --open"
-    if [parsed.journal, parsed.json, parsed.places, *parsed.scripts].count(STANDARD) > 1:
+    if [parsed.journal, parsed.json, parsed.places, *parsed.scripts, *(parsed.compare or [])].count(STANDARD) > 1:
         return "standard input is read once, for one FILE"
     return ""
 
@@ -198,22 +210,56 @@ def main(words: List[str]) -> int:
     arguments = _arguments(words)
     if hasattr(sys.stdout, "reconfigure"):
         sys.stdout.reconfigure(encoding="utf-8")
-    status, inputs = 0, _inputs(arguments)
-    for one, target in zip(inputs, _targets(arguments, inputs)):
-        try:
-            if arguments.text:
-                _print_text(one.run())
-                continue
-            _check_target(target, inputs)
-            if arguments.trace:
-                _write_trace(one.run(), target)
-            else:
-                _show_page(one.run(), arguments, target)
-        except Failed as failed:
-            if str(failed):
-                _say(str(failed))
-            status = status or failed.status
-    return status
+    if arguments.compare:
+        return _status_of(lambda: _compare(arguments))
+    inputs = _inputs(arguments)
+    shown = [
+        _status_of(partial(_show, one, arguments, inputs, target))
+        for one, target in zip(inputs, _targets(arguments, inputs))
+    ]
+    return next((status for status in shown if status), 0)
+
+
+def _status_of(show: Callable[[], None]) -> int:
+    """The status of what is shown; where it can't be, why is said."""
+    try:
+        show()
+    except Failed as failed:
+        if str(failed):
+            _say(str(failed))
+        return failed.status
+    return 0
+
+
+def _show(one: Inputs, arguments: argparse.Namespace, inputs: List[Inputs], target: str) -> None:
+    if arguments.text:
+        return _print_text(one.run())
+    _check_target(target, inputs)
+    if arguments.trace:
+        return _write_trace(one.run(), target)
+    return _show_page(one.run(), arguments, target)
+
+
+def _compare(arguments: argparse.Namespace) -> None:
+    """Shows two runs beside each other."""
+    inputs = [Inputs(name) for name in arguments.compare]
+    target = arguments.output
+    if target is None or (target != STANDARD and Path(target).is_dir()):
+        stems = ("script" if name == STANDARD else Path(name).stem for name in arguments.compare)
+        target = os.fspath(Path(target or "", f"{'_and_'.join(stems)}.html"))
+    if not arguments.text:
+        _check_target(target, inputs)
+    first, second = (read_any(name) for name in arguments.compare)
+    compared = Compared(first, second)
+    if arguments.text:
+        with writing():
+            for line in text_lines(compared):
+                print(line)
+        return
+    _write(ComparedPage(compared).html(), target)
+    _say(f"{'standard output' if target == STANDARD else target}: {compared.verdict}")
+    if arguments.open:
+        webbrowser.open(Path(target).resolve().as_uri())
 
 
 if __name__ == "__main__":

@@ -60,11 +60,12 @@ class Inputs(NamedTuple):
 
     def _run(self) -> Run:
         if self.journal is None and self.facts is None:
-            return run_script(self.script or STANDARD)
+            name = self.script or STANDARD
+            return run_script(_read(name), name)
         script = _script(_read(self.script)) if self.script is not None else Script()
         if self.facts is not None:
             return _facts(_read(self.facts), self.facts, script)
-        return _journal(self.main, script)
+        return _journal(_text(_read(self.main), self.main), self.main, script)
 
     def _places(self) -> Places:
         """The places that are given, or that stand beside the script or the journal. What is wrong with the latter is only told."""
@@ -83,6 +84,19 @@ class Inputs(NamedTuple):
             reason = why.strerror if isinstance(why, OSError) else why
             print(f"{command_name('view')}: {path} isn't used, since it doesn't tell places: {reason}", file=sys.stderr)
             return NOWHERE
+
+
+def read_any(name: str) -> Run:
+    """The run of a script, of a journal or of facts, whichever the file is."""
+    data = _read(name)
+    text = data.decode("utf-8", "replace")
+    if not text.lstrip().startswith("{"):
+        return _journal(_text(data, name), name, Script())
+    return _facts(data, name, Script()) if _begins_facts(text) else run_script(data, name)
+
+
+def _begins_facts(text: str) -> bool:
+    return '"type":"start"' in text.lstrip().partition("\n")[0].replace(" ", "")
 
 
 def shown_name(name: str) -> str:
@@ -123,7 +137,7 @@ def looks_like(text: str) -> str:
     """What a text looks like that isn't what it was given as; an empty text where it looks like nothing that is known."""
     begins, _, _ = text.lstrip().partition("\n")
     if begins.startswith("{"):
-        return as_called(_FACTS if '"type":"start"' in begins.replace(" ", "") else _SCRIPT)
+        return as_called(_FACTS if _begins_facts(text) else _SCRIPT)
     return _JOURNAL if begins.partition(" ")[0] in WORDS else ""
 
 
@@ -132,9 +146,8 @@ def _with_hint(why: str, text: str) -> str:
     return f"{why}; {hint}" if hint else why
 
 
-def _journal(name: str, script: Script) -> Run:
+def _journal(text: str, name: str, script: Script) -> Run:
     """The run of a journal. A text of which most lines aren't known is none, and a run of no line has nothing to show."""
-    text = _text(_read(name), name)
     if not text.strip():
         raise Failed(NO_INPUT, f"{shown_name(name)} is empty: a journal has at least a line")
     run = run_of_journal(text, _title(name), script)
@@ -152,9 +165,8 @@ def _facts(data: bytes, name: str, script: Script) -> Run:
         raise Failed(NO_INPUT, _with_hint(f"{shown_name(name)}: {error}", text)) from None
 
 
-def run_script(name: str) -> Run:
+def run_script(data: bytes, name: str) -> Run:
     """Runs a script, and takes what `./deferreds --json` tells of the run; the journal alone, where that word isn't known."""
-    data = _read(name)
     status, told = _deferreds(data, "--json")
     is_exact = status != USAGE
     if not is_exact:

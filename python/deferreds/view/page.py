@@ -65,8 +65,8 @@ class Page:
 
     def html(self) -> Html:
         """The whole page."""
-        style, script = self._style(), _read("focus.js")
-        policy = f"default-src 'none'; style-src '{_hash(style)}'; script-src '{_hash(script)}'; base-uri 'none'; form-action 'none'"
+        style, script = self._style(), asset("focus.js")
+        policy = f"default-src 'none'; style-src '{policy_hash(style)}'; script-src '{policy_hash(script)}'; base-uri 'none'; form-action 'none'"
         title = escaped(self._run.title)
         return joined(
             [
@@ -94,7 +94,7 @@ class Page:
         width, rest = self._chart.width, self._rows.total % CHUNK or CHUNK
         paper = max(_PAPER, width + 48)
         return (
-            f"{_read('style.css')}#chart{{width:{width}px;--side:min({self._chart.side}px,62vw)}}#last{{height:{rest * SLOT}px}}"
+            f"{asset('style.css')}#chart{{width:{width}px;--side:min({self._chart.side}px,62vw)}}#last{{height:{rest * SLOT}px}}"
             f"@page{{size:{paper}px {int(paper / 1.414)}px;margin:24px}}"
         )
 
@@ -283,11 +283,12 @@ def _window(rows: int, first: Optional[int], last: Optional[int]) -> range:
     return range(start, max(start, stop))
 
 
-def _read(name: str) -> str:
+def asset(name: str) -> str:
+    """A file that a page holds: its style or its script."""
     return (_FOLDER / name).read_text(encoding="utf-8")
 
 
-def _hash(text: str) -> str:
+def policy_hash(text: str) -> str:
     """How a content security policy names a style or a script."""
     digest = hashlib.sha256(text.encode("utf-8")).digest()
     return f"sha256-{base64.b64encode(digest).decode('ascii')}"
