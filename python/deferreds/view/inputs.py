@@ -17,6 +17,7 @@ from .places import NOWHERE, SUFFIX, NotPlaces, Places, read_places
 from .refusals import read_refusal
 from .run import Run, run_of_facts, run_of_journal
 from .scripts import Script
+from .units import tick_beside
 
 #: the name of standard input, and of standard output
 STANDARD = "-"
@@ -56,6 +57,7 @@ class Inputs(NamedTuple):
         """The run. Raises Failed."""
         run = self._run()
         run.places = self._places()
+        run.tick = tick_beside(self.main) or tick_beside(self.script or STANDARD)
         return run
 
     def _run(self) -> Run:
@@ -91,8 +93,11 @@ def read_any(name: str) -> Run:
     data = _read(name)
     text = data.decode("utf-8", "replace")
     if not text.lstrip().startswith("{"):
-        return _journal(_text(data, name), name, Script())
-    return _facts(data, name, Script()) if _begins_facts(text) else run_script(data, name)
+        run = _journal(_text(data, name), name, Script())
+    else:
+        run = _facts(data, name, Script()) if _begins_facts(text) else run_script(data, name)
+    run.tick = tick_beside(name)
+    return run
 
 
 def _begins_facts(text: str) -> bool:

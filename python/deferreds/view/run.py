@@ -37,6 +37,8 @@ class Run:
         self.weight: Optional[str] = None
         #: where in the program Deferreds were made and events performed, as far as that is known; set before the report is asked for
         self.places: Places = NOWHERE
+        #: how long a tick was where the run was recorded, as `1 ms`, or an empty text
+        self.tick = ""
         self._report: Optional[Report] = None
 
     @property
@@ -74,7 +76,7 @@ class Run:
             several(len(self.fold.rows), "line", "lines"),
             several(len(self.fold.records), "Deferred", "Deferreds"),
             *events,
-            f"time 0 to {self.fold.world.now}",
+            f"time 0 to {self.fold.world.now}" + (f", a tick is {self.tick}" if self.tick else ""),
             *weight,
         ]
         return ", ".join(parts)
