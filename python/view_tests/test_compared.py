@@ -111,7 +111,7 @@ class Forms(unittest.TestCase):
             for compared in (Compared(hostile, other), Compared(other, hostile)):
                 page = ComparedPage(compared).html()
                 read = Read(page)
-                self.assertLessEqual(read.elements, _ELEMENTS - {"script"})
+                self.assertLessEqual(read.elements, _ELEMENTS - {"script", "input"})
                 self.assertLessEqual(read.attributes, _ATTRIBUTES | {"colspan"})
                 self.assertEqual((read.links, read.ids), (set(), []))
                 self.assertEqual(set(texts._UNSEEN.findall(page)), {"\n"})

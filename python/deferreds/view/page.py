@@ -85,6 +85,7 @@ class Page:
                 Html("</div>"),
                 *self._below_chart(),
                 Html(
+                    "<input id=find type=search placeholder=find aria-label=find hidden>"
                     f"<div id=focus role=status hidden></div><script>{script}</script></body></html>\n"
                 ),
             ]
@@ -102,7 +103,7 @@ class Page:
 
     def _verdict(self, title: Html) -> Iterator[Html]:
         report = self._run.report
-        yield Html("<nav><a href=#outcomes>outcomes</a> · <a href=#what>what happened</a></nav>")
+        yield Html("<nav><a href=#outcomes>outcomes</a> · <a href=#what>what happened</a> · <a href=#find>find</a></nav>")
         yield Html(f"<h1>{title}</h1><p>")
         for severity, word in ((Severity.BAD, "to look at"), (Severity.LEFT, "left at the end")):
             if report.count(severity):
@@ -234,7 +235,7 @@ class Page:
         yield Html(
             "ends it. Time stands on the left, with a bracket from each scheduling to its coming. Choose a number, as #0, to "
         )
-        yield Html("follow that Deferred.</p>")
+        yield Html("follow that Deferred; press / to find a text.</p>")
         rows = len(self._run.fold.rows)
         if len(self.window) < rows:
             yield Html(
