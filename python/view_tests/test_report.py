@@ -292,7 +292,7 @@ class OfJournals(unittest.TestCase):
             self.assertFalse(run.report.is_clean or run.problems)
         self.assertEqual(
             report_of(run_of_journal(whole[:end], "test"))[0],
-            "cut off what is told ends before the outcomes of 3 of 3 Deferreds: how the run went on isn't known (line 6)"
+            "cut off the text ends before the outcomes of 3 of 3 Deferreds: how the run went on isn't known (line 6)"
             " | a side of #0·d, from line 5, hadn't ended",
         )
         self.assertEqual(report_of(run_of_journal(whole[:-1], "test")), report_of(run_of_journal(whole, "test")))
@@ -411,7 +411,7 @@ class OfFacts(unittest.TestCase):
         self.assertEqual(
             report_of(run),
             [
-                "cut off what is told ends before the outcomes of all that is left: how the run went on isn't known (line 1)",
+                "cut off the text ends before what is left: how the run went on isn't known (line 1)",
                 "unfired nobody fired #0·d (line 1)",
             ],
         )

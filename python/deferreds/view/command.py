@@ -68,7 +68,10 @@ def _arguments(words: List[str]) -> argparse.Namespace:
         "--compare",
         nargs=2,
         metavar=("A", "B"),
-        help=as_called("show two runs beside each other, from the first line that differs on; each is a script, a journal, or what ./deferreds --json has printed"),
+        help=as_called(
+            "show two runs beside each other, from the first line that differs on; each is a script, a journal, or what "
+            "./deferreds --json has printed"
+        ),
     )
     add(
         "--places",

@@ -37,7 +37,7 @@ class Fold:
         self._unknown: List[int] = []
         self._unmade: List[int] = []
         self.knows_events = places is not None
-        self.told_outcomes = 0
+        self.known_outcomes = 0
         self.nesting = Nesting(places)
         self._entries = entries
         self._causes = Causes()
@@ -117,7 +117,7 @@ class Fold:
             self.problems.append(("the beginning is missing: ", f"{counted}: ", *shown))
         for place in self.nesting.crossed:
             self.problems.append((OfLine(place), " ends a side that isn't the innermost"))
-        self.told_outcomes = len(ends)
+        self.known_outcomes = len(ends)
         for end in ends:
             record = self.records.get(end.number)
             if record is None:

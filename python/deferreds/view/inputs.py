@@ -70,7 +70,7 @@ class Inputs(NamedTuple):
         return _journal(_text(_read(self.main), self.main), self.main, script)
 
     def _places(self) -> Places:
-        """The places that are given, or that stand beside the script or the journal. What is wrong with the latter is only told."""
+        """The places that are given, or that stand beside the script or the journal. What is wrong with the latter is a warning."""
         if self.places:
             try:
                 return read_places(_text(_read(self.places), self.places))

@@ -20,11 +20,11 @@ class State(enum.Enum):
 
 
 class Finish(enum.Enum):
-    """How a run ended, as far as that is told."""
+    """How a run ended, as far as the text that was read says it."""
 
     WHOLE = "it ended"
     STOPPED = "it stopped at the limit of its journal"
-    CUT = "what is told of it was cut off"
+    CUT = "the text was cut off"
 
 
 class Look(NamedTuple):

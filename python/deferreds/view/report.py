@@ -148,7 +148,7 @@ class Report:
                 yield self._circle(end)
 
     def _stopped(self, finish: Finish) -> Finding:
-        """The limit was reached, or no more is told; the sides that still ran are its details."""
+        """The limit was reached, or the text was cut off; the sides that still ran are its details."""
         details: List[Phrase] = []
         running = [one.number for one in self._of(LeftDeferred) if one.running]
         for number in running[:_MOST_HELD]:
@@ -163,14 +163,14 @@ class Report:
         last = len(self._fold.rows) - 1
         kind, said = Kind.STOPPED, "the run stopped at the limit of its journal"
         if finish is Finish.CUT:
-            kind, said = Kind.CUT, f"what is told ends before the outcomes of {self._untold()}: how the run went on isn't known"
+            kind, said = Kind.CUT, f"the text ends before {self._missing()}: how the run went on isn't known"
         return Finding(Severity.BAD, kind, (said,), tuple(details), last if last >= 0 else None)
 
-    def _untold(self) -> str:
-        """Of how many Deferreds no outcome is told."""
+    def _missing(self) -> str:
+        """What a text that was cut off lacks: outcomes, or only what comes after them."""
         every = len(self._fold.records)
-        untold = every - self._fold.told_outcomes
-        return f"{untold} of {several(every, 'Deferred', 'Deferreds')}" if untold else "all that is left"
+        missing = every - self._fold.known_outcomes
+        return f"the outcomes of {missing} of {several(every, 'Deferred', 'Deferreds')}" if missing else "what is left"
 
     def _unhandled(self, place: int) -> Finding:
         row = self._fold.rows[place]
