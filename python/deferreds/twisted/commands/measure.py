@@ -3,7 +3,8 @@
 It prints the table of docs/TWISTED.md. The status is 0 exactly where each test passes under the recorder that passes
 without it, but for those that compare attributes that the recorder sets, and no difference lacks an entry in
 docs/PROFILE.md; 70: a module can't be loaded, the program can't be run, or Twisted isn't known. `python/measure --slower`
-prints how much slower a program is that is recorded, and `python/measure --slower-tests [MODULE..]` each test.
+prints how much slower a program is that is recorded, and `python/measure --slower-tests [MODULE..]` each test. In the
+place of a module a package can be named, for all of its modules `test_*`.
 """
 
 from __future__ import annotations
@@ -14,7 +15,7 @@ import os
 import statistics
 import sys
 import tempfile
-from typing import Iterator, List, Optional, Sequence
+from typing import Iterable, Iterator, List, Optional, Sequence
 
 import twisted
 
@@ -33,7 +34,8 @@ from ..recording.measuring import (
     measure_test,
 )
 from ..recording.programs import NotLoaded, tests_of
-from ..recording.slowness import TestSlowness, slownesses, tests_slownesses
+from ..recording.slowness import slownesses
+from ..recording.timing import RUNS, TestSlowness, slownesses_of_tests
 from ..running import with_room
 
 MODULES = (
@@ -150,17 +152,27 @@ def _slower() -> int:
     return 0
 
 
-def _slower_tests(modules: Sequence[str]) -> int:
+def _slower_tests(modules: Sequence[str], runs: int, every: int) -> int:
+    print(f"Twisted {twisted.__version__}, Python {sys.version.split()[0]}\n")
     print("| Module | Tests that use Deferreds | Times, lower quartile | Median | Upper quartile |\n|---|---|---|---|---|")
+    everything: List[TestSlowness] = []
     for module in modules:
         tests_of(module)
-    everything = tests_slownesses(modules)
-    for module in modules:
-        print(_quartiles(module, [one for one in everything if one.module == module]))
+        measured = list(_counting(module, slownesses_of_tests(module, runs, every)))
+        print(_quartiles(module, measured), flush=True)
+        everything += measured
     print(_quartiles("all", everything) + "\n")
     for test in sorted(everything, key=lambda one: one.times, reverse=True)[:_DEAREST]:
-        print(f"{test.times:.1f} times: {test.module}.{test.test}, {test.bare * 1000:.2f} ms without the recorder")
+        print(f"{test.times:.1f} times: {test.test}, {test.bare * 1000:.2f} ms without the recorder")
     return 0
+
+
+def _counting(module: str, measured: Iterable[TestSlowness]) -> Iterator[TestSlowness]:
+    """What is measured, while a terminal shows how much that is."""
+    for number, one in enumerate(measured, 1):
+        if sys.stderr.isatty():
+            print(f"\r{module}: {number}", end="", file=sys.stderr)
+        yield one
 
 
 def _quartiles(name: str, measured: Sequence[TestSlowness]) -> str:
@@ -169,12 +181,21 @@ def _quartiles(name: str, measured: Sequence[TestSlowness]) -> str:
     return f"| {name} | {len(times)} | " + " | ".join(f"{time:.2f}" for time in found) + " |"
 
 
+def _count(word: str) -> int:
+    """A number from 1 on. Raises ArgumentTypeError."""
+    if not word.isdecimal() or int(word) < 1:
+        raise argparse.ArgumentTypeError(f"{word} is no number from 1 on")
+    return int(word)
+
+
 def main(words: List[str]) -> int:
     """The command."""
     parser = argparse.ArgumentParser(prog="measure", description=__doc__.split("\n", 1)[0])
     parser.add_argument("--ours", metavar="COMMAND", help="our program (deferreds, as it is built or installed)")
     parser.add_argument("--slower", action="store_true", help="measure how much slower a recorded program is")
     parser.add_argument("--slower-tests", action="store_true", help="measure how much slower each recorded test is")
+    parser.add_argument("--runs", metavar="N", type=_count, default=RUNS, help=f"how often each of these is run ({RUNS})")
+    parser.add_argument("--every", metavar="N", type=_count, default=1, help="measure each N-th test of a module alone (1)")
     parser.add_argument("modules", nargs="*", metavar="MODULE")
     arguments = parser.parse_args(words)
     install()
@@ -182,7 +203,7 @@ def main(words: List[str]) -> int:
     def run() -> int:
         try:
             if arguments.slower_tests:
-                return _slower_tests(arguments.modules or MODULES)
+                return _slower_tests(arguments.modules or MODULES, arguments.runs, arguments.every)
             return _slower() if arguments.slower else _run(arguments)
         except (Broken, NotLoaded) as why:
             print(f"measure: {why}", file=sys.stderr)

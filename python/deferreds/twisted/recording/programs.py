@@ -4,7 +4,9 @@ from __future__ import annotations
 
 import builtins
 import contextlib
+import importlib.util
 import io
+import pkgutil
 import runpy
 import signal
 import sys
@@ -119,14 +121,25 @@ def _show(error: BaseException) -> None:
     sys.excepthook(type(error), error.with_traceback(trace), trace)
 
 
+def _modules_of(name: str) -> List[str]:
+    """The modules of a package that have tests; the name itself, where it is none of a package."""
+    try:
+        spec = importlib.util.find_spec(name)
+    except ImportError:  # what it is a part of is no package
+        return [name]
+    places = None if spec is None else spec.submodule_search_locations
+    found = [module.name for module in pkgutil.iter_modules(places or ())]
+    return sorted(f"{name}.{module}" for module in found if module.startswith("test_")) or [name]
+
+
 class NotLoaded(Exception):
     """Tests can't be loaded: why, in one line."""
 
 
 def tests_of(name: str) -> List[Tuple[type[unittest.TestCase], str]]:
-    """The tests of a module, or of what has this name in one, each by its class and its method. Raises NotLoaded."""
+    """The tests of a module, of a package or of what has this name in one, each by its class and its method. Raises NotLoaded."""
     found: List[Tuple[type[unittest.TestCase], str]] = []
-    suites: List[Any] = [unittest.TestLoader().loadTestsFromName(name)]
+    suites: List[Any] = [unittest.TestLoader().loadTestsFromName(module) for module in _modules_of(name)]
     while suites:
         suite = suites.pop(0)
         if isinstance(suite, unittest.TestSuite):

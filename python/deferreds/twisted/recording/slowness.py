@@ -1,18 +1,15 @@
-"""How much longer a program takes where it is recorded, and each test of a module. Each is run in a process of its own, and timed
-there. A test is timed from before it is made until it has ended, and what is said of it after that isn't part of it.
-"""
+"""How many times as long a program takes where it is recorded. It is run in processes of its own, and timed there."""
 
 from __future__ import annotations
 
 import gc
 import json
-import os
 import subprocess
 import sys
 import tempfile
 import time
 import unittest
-from typing import Any, Callable, Dict, Iterator, List, NamedTuple, Sequence
+from typing import Any, Callable, Dict, Iterator, List, NamedTuple
 
 from ...loops import make_and_chain, make_and_fire
 
@@ -25,8 +22,6 @@ from .recorder import Recorder
 from .saying import Said
 
 _TRIALS = 9
-#: how often each test is run, in each of how many processes
-_TEST_TRIALS, _ROUNDS = 5, 2
 
 
 class Slowness(NamedTuple):
@@ -35,20 +30,6 @@ class Slowness(NamedTuple):
     program: str
     running: float
     said: float
-
-
-class TestSlowness(NamedTuple):
-    """How many seconds a test takes that uses Deferreds, by itself and recorded."""
-
-    module: str
-    test: str
-    bare: float
-    recorded: float
-
-    @property
-    def times(self) -> float:
-        """How many times as long it takes recorded."""
-        return self.recorded / self.bare
 
 
 class Program(NamedTuple):
@@ -97,58 +78,10 @@ def slownesses() -> Iterator[Slowness]:
         yield Slowness(name, running / bare, said / bare)
 
 
-def tests_slownesses(modules: Sequence[str]) -> List[TestSlowness]:
-    """How much slower each test of these modules is, but for those that use no Deferreds."""
-    least: Dict[str, Dict[str, float]] = {"tests bare": {}, "tests recorded": {}}
-    for _ in range(_ROUNDS):
-        for how, known in least.items():
-            for test, time_ in _asked(" ".join(modules), how).items():
-                known[test] = min(time_, known.get(test, time_))
-    bare = least["tests bare"]
-    found: List[TestSlowness] = []
-    for name, recorded in least["tests recorded"].items():
-        module, test = name.split(" ")
-        found.append(TestSlowness(module, test, bare[name], recorded))
-    return found
-
-
 def _asked(name: str, how: str) -> Any:
     command = [sys.executable, "-m", __name__, name, how]
     with tempfile.TemporaryDirectory() as folder:  # tests of Twisted leave files where they are run
         return json.loads(subprocess.run(command, stdout=subprocess.PIPE, cwd=folder, check=True).stdout)
-
-
-def _tests_times(modules: Sequence[str], is_recorded: bool) -> Dict[str, float]:
-    """The least time that each test has taken, of those that use Deferreds where they are recorded.
-
-    All of them and a reactor are loaded before, as they are where trial runs them: trial looks at each module, for each test.
-    """
-    from twisted.internet import reactor  # noqa: F401
-
-    tests = [(module, *test) for module in modules for test in tests_of(module)]
-    if is_recorded:
-        install()
-    gc.collect()
-    gc.freeze()
-    times: Dict[str, float] = {}
-    for module, cls, method in tests:
-
-        def bare() -> bool:
-            unittest.TestSuite([cls(method)]).run(unittest.TestResult())
-            return True
-
-        def recorded() -> bool:
-            return bool(record_test(cls, method, KINDS, False).recorder.parts)
-
-        for _ in range(_TEST_TRIALS):
-            gc.collect()
-            start = time.process_time()
-            uses_deferreds = recorded() if is_recorded else bare()
-            taken = time.process_time() - start
-            if uses_deferreds:
-                name = f"{module} {cls.__name__}.{method}"
-                times[name] = min(taken, times.get(name, taken))
-    return times
 
 
 def _least_time(call: Callable[[], object]) -> float:
@@ -163,11 +96,8 @@ def _least_time(call: Callable[[], object]) -> float:
 
 
 def main(name: str, how: str) -> None:
-    """Prints how many seconds a program takes, or each test of some modules."""
+    """Prints how many seconds a program takes."""
     be_quiet()
-    if how.startswith("tests "):
-        print(json.dumps(_tests_times(name.split(), how == "tests recorded")), flush=True)
-        os._exit(0)  # what tests have left in threads isn't waited for
     program = PROGRAMS[name]()
     if how == "bare":
         print(_least_time(program.bare))
