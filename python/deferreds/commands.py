@@ -8,15 +8,19 @@ import sys
 from typing import List
 
 from .checkout import command_name
-from .ending import ended
+from .ending import ended, open_streams
 from .program import NOT_RUN
 from .twisted.known import UnknownTwisted, refuse_unusable
 from .view import command
 
+#: the commands that run a program of the user's, whose standard streams are as they were given
+_RUN_PROGRAMS = ("record", "trial")
+
 
 def view() -> int:
     """`deferreds-view`."""
-    return ended(lambda: command.main(sys.argv[1:]))
+    open_streams()
+    return ended(lambda: command.main(sys.argv[1:]), command_name("view"))
 
 
 def record() -> int:
@@ -36,11 +40,13 @@ def trial() -> int:
 
 def run_on_twisted(name: str, words: List[str]) -> int:
     """Runs a command that needs Twisted, or says that it isn't there or isn't known."""
+    if name not in _RUN_PROGRAMS:
+        open_streams()
     try:
         if importlib.util.find_spec("twisted") is not None:
             refuse_unusable()
         module = importlib.import_module(f".twisted.commands.{name}", __package__)
-        return ended(lambda: int(module.main(words)))
+        return ended(lambda: int(module.main(words)), command_name(name))
     except UnknownTwisted as unknown:
         why = str(unknown)
     except ModuleNotFoundError as error:

@@ -1,26 +1,61 @@
-"""How a command ends where Ctrl-C is pressed, or where nobody reads its output any more."""
+"""How a command ends where Ctrl-C is pressed, or where its output can't be written."""
 
 from __future__ import annotations
 
+import contextlib
 import os
 import signal
 import sys
-from typing import Callable
+from typing import Callable, Iterator
 
 #: the status of a command whose output couldn't be written, which is that of `deferreds`
 WRITE_FAILED = 4
 
 
-def ended(main: Callable[[], int]) -> int:
-    """The status of a command. Ctrl-C ends the process by its signal, and a closed pipe ends it without a word, as `| head` expects."""
+class OutputFailed(Exception):
+    """Standard output can't be written: why."""
+
+
+@contextlib.contextmanager
+def writing() -> Iterator[None]:
+    """Raises OutputFailed where what is done can't be written to standard output; a pipe that is closed stays BrokenPipeError."""
+    try:
+        yield
+    except BrokenPipeError:
+        raise
+    except OSError as error:
+        raise OutputFailed(error.strerror) from None
+
+
+def open_streams() -> None:
+    """Has a standard stream that is closed fail when it is used. Python has None in its place, and a file that is opened would get its number."""
+    if sys.stdin is None:
+        sys.stdin = os.fdopen(os.open(os.devnull, os.O_WRONLY), "r")
+    if sys.stdout is None:
+        sys.stdout = os.fdopen(os.open(os.devnull, os.O_RDONLY), "w")
+    if sys.stderr is None:
+        sys.stderr = os.fdopen(os.open(os.devnull, os.O_WRONLY), "w")
+
+
+def ended(main: Callable[[], int], name: str) -> int:
+    """The status of the command of this name.
+
+    Ctrl-C ends the process by its signal, and a closed pipe ends it without a word, as `| head` expects.
+    """
     try:
         try:
             status = main()
         except SystemExit as exit_:
             status = exit_.code if isinstance(exit_.code, int) else int(exit_.code is not None)
-        sys.stdout.flush()
+        if sys.stdout is not None:
+            with writing():
+                sys.stdout.flush()
         return status
     except BrokenPipeError:
+        discard_output()
+        return WRITE_FAILED
+    except OutputFailed as why:
+        print(f"{name}: standard output can't be written: {why}", file=sys.stderr)
         discard_output()
         return WRITE_FAILED
     except KeyboardInterrupt:

@@ -401,7 +401,30 @@ class ProgressTest(ConformTest):
 
 
 class OnTwistedTest(unittest.TestCase):
-    """The command on_twisted, where it is given something else than batches and lengths."""
+    """The command on_twisted, where it is given something else than batches and lengths, and where it can't read or write."""
+
+    def in_shell(self, words: str, redirected: str) -> "tuple[int, str]":
+        """The status and the errors of the command, in a shell that redirects its standard streams."""
+        ran = subprocess.run(
+            ["sh", "-c", f'exec "$0" -m deferreds.twisted on_twisted {words} {redirected}', sys.executable],
+            env={**os.environ, "PYTHONPATH": os.pathsep.join(filter(None, sys.path))},
+            input='{"version":1,"events":[["note","a"]]}' if not words else '37\n{"version":1,"events":[["note","a"]]}',
+            stdout=subprocess.DEVNULL,
+            stderr=subprocess.PIPE,
+            text=True,
+            timeout=_LONG,
+            check=False,
+        )
+        return ran.returncode, ran.stderr
+
+    def test_what_can_not_be_read_or_written_is_told_in_a_line(self) -> None:
+        for words in ("", "--many"):
+            for redirected, why in (
+                (">/dev/full", "standard output can't be written: No space left on device"),
+                (">&-", "standard output can't be written: Bad file descriptor"),
+                ("<&-", "standard input can't be read: Bad file descriptor"),
+            ):
+                self.assertEqual(self.in_shell(words, redirected), (4, f"on_twisted: {why}\n"), (words, redirected))
 
     def test_wrong_batches_and_lengths_end_with_status_64(self) -> None:
         cases = (

@@ -351,6 +351,78 @@ class Focus(InBrowser):
         self.assertAlmostEqual(places[0], places[1], delta=1)
 
 
+class Find(InBrowser):
+    """A text is looked for in rows and outcomes: by name, value, kind of line or outcome."""
+
+    def find(self, text: str) -> List[str]:
+        """Looks for a text by the keys, and tells the rows that stay."""
+        self.browser.press("/")
+        self.asked(
+            f"(() => {{ const find = document.getElementById('find'); find.value = {json.dumps(text)};"
+            " find.dispatchEvent(new Event('input')); })()"
+        )
+        rows: List[str] = self.asked("[...document.querySelectorAll('.row.hit')].map(row => row.id)")
+        return rows
+
+    def test_by_name_value_kind_and_outcome(self) -> None:
+        run = samples.recorded()
+        self.show(run)
+        self.assertTrue(self.asked("document.getElementById('find').hidden"))
+        lines = [row.entry.line for row in run.fold.rows]
+        waits = [f"r{place + 1}" for place, line in enumerate(lines) if "wait" in line]
+        found = self.find("WAIT ")
+        self.assertEqual(self.asked("document.activeElement.id"), "find")
+        self.assertTrue(found)
+        self.assertLessEqual(set(found), set(waits))
+        some = next(record for record in run.fold.records.values() if record.name)
+        self.assertIn(f"r{some.row + 1}", self.find(some.name))
+        self.assertIn("lines have", self.asked("document.getElementById('focus').textContent"))
+        self.find("✓ ok")
+        shown = "[...document.querySelectorAll('tr[data-d]')].filter(row => getComputedStyle(row).display !== 'none').length"
+        good = sum(record.end.startswith("ok ") for record in run.fold.records.values())
+        self.assertEqual(self.asked(shown), good)
+        faded = "[...document.querySelectorAll('.row[id]:not(.hit)')].every(row => getComputedStyle(row).opacity < 0.5)"
+        self.assertTrue(self.asked(faded))
+        self.browser.press("Escape")
+        self.assertEqual(self.asked("document.querySelectorAll('.hit').length"), 0)
+        self.assertEqual(self.asked(shown), len(run.fold.records))
+        self.assertTrue(self.asked("document.getElementById('find').hidden && document.getElementById('focus').hidden"))
+
+    def test_keys_go_from_one_to_the_next(self) -> None:
+        self.show(samples.recorded())
+        self.assertGreater(len(self.find("new #")), 3)
+        self.asked("document.getElementById('r1').scrollIntoView({block: 'center'})")
+        tops = []
+        for key in ("Enter", "Enter"):
+            self.browser.press(key)
+            self.browser.settle()
+            tops.append(self.asked("scrollY"))
+        self.asked("document.getElementById('find').blur()")
+        for key in ("n", "p", "p"):
+            self.browser.press(key)
+            self.browser.settle()
+            tops.append(self.asked("scrollY"))
+        self.assertTrue(tops[0] < tops[1] < tops[2], tops)
+        self.assertEqual(tops[3:], [tops[1], tops[0]])
+
+    def test_the_link_asks_too_and_letters_are_letters_there(self) -> None:
+        self.show(samples.recorded())
+        self.browser.click('nav [href="#find"]')
+        for key in ("n", "p", "/"):
+            self.browser.press(key)
+        self.assertEqual(self.asked("document.getElementById('find').value"), "np/")
+
+    def test_hostile_texts_are_looked_for_as_they_are(self) -> None:
+        self.show(samples.hostile())
+        for text in samples.HOSTILE[:8]:
+            shown = json.dumps(text, ensure_ascii=False)
+            self.assertEqual(len(self.find(shown)), 4, text)
+            self.assertTrue(self.asked("document.getElementById('focus').textContent").startswith(f"4 lines have {shown}: "), text)
+        self.assertEqual(self.trouble(), [])
+        self.assertIsNone(self.asked("window.harm"))
+        self.assertTrue(self.asked("document.getElementById('focus').children.length === 0"))
+
+
 class WithoutScripts(InBrowser):
     """All but focus works where no script runs."""
 
@@ -385,9 +457,9 @@ class Paper(InBrowser):
         self.show(samples.recorded())
         self.assertEqual(
             self.asked(
-                "['.head', '#focus', 'nav'].map(name => getComputedStyle(document.querySelector(name)).display)"
+                "['.head', '#focus', '#find', 'nav'].map(name => getComputedStyle(document.querySelector(name)).display)"
             ),
-            ["none"] * 3,
+            ["none"] * 4,
         )
 
 

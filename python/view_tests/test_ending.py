@@ -6,7 +6,9 @@ import os
 import signal
 import subprocess
 import sys
+import tempfile
 import unittest
+from pathlib import Path
 from typing import Dict, List
 
 from deferreds.checkout import TOP
@@ -44,11 +46,51 @@ class Ending(unittest.TestCase):
         self.assertIn(status, (0, 4))
         self.assertEqual(errors, "")
 
+    def in_shell(self, line: str, unbuffered: str = "") -> "tuple[int, str]":
+        """Status and errors of a line of the shell, at the top of the repository."""
+        ran = subprocess.run(
+            ["sh", "-c", line], cwd=TOP, stdout=subprocess.DEVNULL, stderr=subprocess.PIPE, text=True, check=False,
+            env={**os.environ, "PYTHONUNBUFFERED": unbuffered},
+        )
+        return ran.returncode, ran.stderr
+
+    def test_output_that_can_t_be_written_is_told_in_a_line(self) -> None:
+        for unbuffered in ("", "1"):
+            for words in ("--text --journal examples/python/workers.journal", "-o - --journal examples/python/workers.journal"):
+                self.assertEqual(
+                    self.in_shell(f"./view {words} >/dev/full", unbuffered),
+                    (4, "view: standard output can't be written: No space left on device\n"),
+                )
+                self.assertEqual(
+                    self.in_shell(f"./view {words} >&-", unbuffered),
+                    (4, "view: standard output can't be written: Bad file descriptor\n"),
+                )
+
+    def test_a_closed_output_that_isn_t_used_is_no_failure(self) -> None:
+        with tempfile.TemporaryDirectory() as folder:
+            status, errors = self.in_shell(f"./view -o {folder}/x.html --journal examples/python/workers.journal >&-")
+            self.assertEqual((status, errors.count("\n")), (0, 1))
+            self.assertTrue(Path(folder, "x.html").read_text(encoding="utf-8").startswith("<!doctype html>"))
+
+    def test_an_input_that_can_t_be_read_is_told_in_a_line(self) -> None:
+        closed = (66, "view: standard input can't be read: Bad file descriptor\n")
+        self.assertEqual(self.in_shell("./view --text <&-"), closed)
+        self.assertEqual(self.in_shell("./view --text --journal - <&-"), closed)
+        self.assertEqual(self.in_shell("./view --text <."), (66, "view: standard input is a directory\n"))
+
+    def test_commands_run_through_a_symlink(self) -> None:
+        with tempfile.TemporaryDirectory() as folder:
+            for name in ("view", "record", "conform", "on_twisted", "check"):
+                Path(folder, name).symlink_to(TOP / name)
+                Path(folder, f"{name}2").symlink_to(name)
+                status, errors = self.in_shell(f"{folder}/{name}2 --help")
+                self.assertTrue(status == 0 or "has Twisted" in errors, (name, errors))
+
     def test_an_interrupted_command_ends_by_the_signal_and_says_nothing(self) -> None:
         code = (
             "import os, signal, sys\nfrom deferreds.ending import ended\n"
             "signal.signal(signal.SIGINT, signal.default_int_handler)\n"
-            "sys.exit(ended(lambda: os.kill(os.getpid(), signal.SIGINT) or 0))\n"
+            "sys.exit(ended(lambda: os.kill(os.getpid(), signal.SIGINT) or 0, 'view'))\n"
         )
         ran = subprocess.run(
             [sys.executable, "-c", code], capture_output=True, text=True, env=environment(), timeout=60, check=False

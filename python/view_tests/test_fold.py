@@ -67,7 +67,10 @@ class Fold(unittest.TestCase):
                 "1 line isn't an outcome",
             ],
         )
-        self.assertEqual(plain(run_of("nope").problems[0]), "0 isn't known")
+        self.assertEqual(plain(run_of("nope").problems[0]), "1 line isn't known: 0")
+        self.assertEqual(
+            plain(run_of(*["nope"] * 9, "note 1").problems[0]), "9 lines aren't known: 0, 1, 2 …"
+        )
 
     def test_looks(self) -> None:
         run = run_of("new #0 d", "pause #0", 'fire #0 fail X ""', "unpause #0", "run #0", "set #0 ok 1")
@@ -201,7 +204,7 @@ class Fold(unittest.TestCase):
             "release l",
             'fire #1 ok "l"',
         ]
-        run = run_of(*lines)
+        run = run_of(*lines, '#0 a ok "l"', '#1 b ok "l"')
         self.assertEqual(run.fold.rows[7].serves, 1)
         self.assertEqual(run.fold.world.locks.guessed, {"l"})
         details = [plain(one) for one in run.report.findings[0].details]

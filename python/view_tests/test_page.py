@@ -20,11 +20,11 @@ from . import samples
 
 _ELEMENTS = frozenset(
     "html head meta title style body main nav h1 h2 p span a table tr th td b bdi div i svg path rect circle g text details "
-    "summary script".split()
+    "summary script input".split()
 )
 _ATTRIBUTES = frozenset(
     "lang charset name content http-equiv class id href data-f data-d data-to data-x data-y data-h title hidden role width height "
-    "x y cx cy r d aria-hidden".split()
+    "x y cx cy r d aria-hidden type placeholder aria-label".split()
 )
 _NUMBERS = re.compile(r"[a-z-]*\d*")
 
@@ -71,6 +71,21 @@ class Read(html.parser.HTMLParser):
 def page_of(run: Run, first: Optional[int] = None, last: Optional[int] = None) -> str:
     """The page of a run."""
     return Page(run, first, last).html()
+
+
+class Titles(unittest.TestCase):
+    """What stands under which title."""
+
+    def test_a_failure_isn_t_under_what_is_left(self) -> None:
+        lines = ["new #0 d", 'fire #0 fail ValueError "no"', "new #1 e", "queue q none none", "put q 1"]
+        text = "".join(f"{line}\n" for line in [*lines, '#0 d fail ValueError "no"', "#1 e unfired"])
+        parts = re.split("<h2[^>]*>", page_of(run_of_journal(text, "t")))[1:4]
+        self.assertEqual(
+            [part.split("</h2>")[0] for part in parts], ["To look at", "What is left, and why", "Notes"]
+        )
+        for part, said in zip(parts, ("ends with", "nobody fired", "never got")):
+            self.assertIn(said, part)
+            self.assertEqual(part.count("<tr "), 1)
 
 
 class Escaping(unittest.TestCase):

@@ -142,6 +142,18 @@ class ShownTest(unittest.TestCase):
         self.assertEqual(shown.status, 0)
         self.assertIn("run.places.json isn't used, since it doesn't tell places: it isn't JSON", shown.errors)
 
+    def test_how_long_a_tick_was_is_read_in_the_recording(self) -> None:
+        listed = {"tick": "250 ms", "files": {"run.json": "0", "run.journal": "1"}}
+        self.write("run.recording", json.dumps(listed))
+        for words in (self.journal(), self.journal()[:2]):
+            self.assertIn("time 0 to 0, a tick is 250 ms\n", self.view("--text", *words).output)
+            self.assertIn("a tick is 250 ms", self.page(*words))
+        wrong = ("<b>", "1 ms</span><script>", "\u202e1 ms", "0 ms", "1  ms", 5, None, ["1 ms"])
+        for text in ("{", "[]", "5", "[" * 100_000, *(json.dumps({**listed, "tick": tick}) for tick in wrong), json.dumps({**listed, "files": {}})):
+            self.write("run.recording", text)
+            shown = self.view("--text", *self.journal())
+            self.assertEqual((shown.status, "a tick is" in shown.output), (0, False), text[:60])
+
     def test_with_several_scripts_none_can_be_named(self) -> None:
         with self.assertRaises(SystemExit) as ended, contextlib.redirect_stderr(io.StringIO()):
             command.main(["--places", "x", "a.json", "b.json"])

@@ -8,7 +8,7 @@ from typing import List, Optional, Sequence
 
 from deferreds.checkout import TOP
 from deferreds.view.facts import read_facts
-from deferreds.view.report import Severity
+from deferreds.view.report import Kind, Severity
 from deferreds.view.run import Run, run_of_facts, run_of_journal
 from deferreds.view.scripts import Script
 from deferreds.view.terminal import Terminal
@@ -28,9 +28,16 @@ def report_of(run: Run) -> List[str]:
     return [" ".join(one.split()) for one in found]
 
 
+def journal(*lines: str) -> str:
+    """A journal with the outcomes that its lines tell."""
+    records = run_of_journal("".join(f"{line}\n" for line in lines), "test").fold.records.values()
+    outcomes = [f"#{record.number} {record.name or '-'} {record.end}" for record in records]
+    return "".join(f"{line}\n" for line in [*lines, *outcomes])
+
+
 def of_journal(*lines: str, script: Optional[object] = None) -> List[str]:
     """The report of a journal."""
-    return report_of(run_of_journal("".join(f"{line}\n" for line in lines), "test", Script(script)))
+    return report_of(run_of_journal(journal(*lines), "test", Script(script)))
 
 
 def of_facts(lines: Sequence[str], *left: Json, stopped: bool = False) -> List[str]:
@@ -201,13 +208,70 @@ class OfJournals(unittest.TestCase):
 
     def test_notes(self) -> None:
         lines = ["queue q none none", "put q 1", "put q 2", "new #0 a", "fire #0 ok 1", "refuse #0"]
-        found = run_of_journal("".join(f"{line}\n" for line in lines), "test").report
+        found = run_of_journal(journal(*lines), "test").report
         self.assertTrue(found.is_clean)
         self.assertEqual([one.severity for one in found.findings], [Severity.NOTE, Severity.NOTE])
         self.assertEqual(
             of_journal(*lines),
             ["stored 2 values of q were never got (line 2)", "refused a second firing of #0·a (line 6)"],
         )
+
+    def test_a_late_answer_that_was_swallowed_is_a_note(self) -> None:
+        lines = ["new #0 d", "cancel #0", 'fire #0 fail CancelledError ""', "add #0", "run #0", "set #0 ok null"]
+        run = run_of_journal(journal(*lines, "advance 1", "call answer", "swallow #0"), "test")
+        self.assertTrue(run.report.is_clean)
+        self.assertEqual(
+            report_of(run),
+            [
+                "swallowed a late firing of #0·d was swallowed: nobody got its answer (line 9)"
+                " | it was cancelled in line 2 | by after call answer, line 8"
+            ],
+        )
+
+    def test_the_second_that_waits_for_one_got_null(self) -> None:
+        lines = ["new #0 d", "new #1 a", "new #2 b"]
+        for one in (1, 2):
+            lines += [f"add #{one}", f"fire #{one} ok 1", f"run #{one}", f"wait #{one} #0"]
+        fired = [*lines, "fire #0 ok 42", "hand #0 #1 ok 42", "hand #0 #2 ok null"]
+        run = run_of_journal(journal(*fired), "test")
+        self.assertTrue(run.report.is_clean)
+        self.assertEqual(
+            report_of(run),
+            ["got null #2·b got null from #0·d, whose value was taken before (line 14) | it went to #1·a in line 13"],
+        )
+        self.assertEqual(of_journal(*lines, "fire #0 ok null", "hand #0 #1 ok null", "hand #0 #2 ok null"), [])
+        anew = [*lines[:-1], "add #0", "fire #0 ok 42", "take #2 #0 ok 42", "run #0", "set #0 ok null", "run #1", "take #1 #0 ok null"]
+        self.assertEqual(of_journal(*[line for line in anew if line != "wait #1 #0"]), [])
+
+    def test_who_fires_is_the_canceller(self) -> None:
+        lines = ["new #0 d", "new #1 e", "fire #1 ok 1", "run #1", "wait #1 #0"]
+        run = run_of_journal(journal(*lines, "cancel #1", 'fire #0 fail ValueError "no"'), "test")
+        self.assertEqual(
+            list(Terminal(run, False).lines())[-4].split(" ← ")[1], "the canceller of #0·d, by cancel #1·e"
+        )
+        run = run_of_journal(journal(*lines[:1], "cancel #0", "fire #0 ok 1"), "test")
+        self.assertEqual(list(Terminal(run, False).lines())[-3].split(" ← ")[1], "the canceller of #0·d")
+
+    def test_a_failure_names_the_cancel_with_which_it_began(self) -> None:
+        began = "it began with cancel #0·d, line 2"
+        cancelled = ["new #0 d", "cancel #0", 'fire #0 fail CancelledError ""']
+        self.assertEqual(
+            of_journal(*cancelled), [f'failure #0·d ends with CancelledError "" (line 3) | {began}']
+        )
+        other = [*cancelled, "add #0", "run #0", 'set #0 fail TimeoutError ""']
+        self.assertEqual(
+            of_journal(*other),
+            [f'failure #0·d ends with TimeoutError "" (line 6) | it comes from line 6: set #0 | {began}'],
+        )
+        handed = ["new #0 d", "cancel #0", "new #1 e", "fire #1 ok 1", "run #1", "wait #1 #0", 'fire #0 fail CancelledError ""']
+        found = of_journal(*handed, 'hand #0 #1 fail CancelledError ""')
+        self.assertEqual([one.split(" | ")[-1] for one in found], [began])
+        within = [*cancelled, "add #0", "run #0", "new #1 e", 'fire #1 fail X ""', "set #0 ok null"]
+        self.assertEqual(
+            of_journal(*within), [f'failure #1·e ends with X "" (line 7) | {began}']
+        )
+        mended = [*cancelled, "add #0", "run #0", "set #0 ok 1", "run #0", 'set #0 fail X ""']
+        self.assertFalse([one for one in of_journal(*mended) if "began" in one])
 
     def test_a_run_that_stopped(self) -> None:
         found = of_journal("new #0 d", "add #0", "fire #0 ok 1", "run #0")
@@ -217,6 +281,26 @@ class OfJournals(unittest.TestCase):
                 "stopped the run stopped at the limit of its journal (line 4) | a side of #0·d, from line 4, hadn't ended"
             ],
         )
+
+    def test_a_journal_that_was_cut_isn_t_one_that_met_its_limit(self) -> None:
+        lines = ["new #0 d", "add #0", "new #1 e", "fire #0 ok 1", "run #0", "new #2 f"]
+        whole = journal(*lines, "set #0 ok 2", "fire #1 ok 3")
+        end = whole.index("set #0")
+        for cut in (whole[:end], whole[: end + 5], whole[: whole.index("#1 e")]):
+            run = run_of_journal(cut, "test")
+            self.assertEqual([one.kind for one in run.report.findings[:1]], [Kind.CUT], cut)
+            self.assertFalse(run.report.is_clean or run.problems)
+        self.assertEqual(
+            report_of(run_of_journal(whole[:end], "test"))[0],
+            "cut off the text ends before the outcomes of 3 of 3 Deferreds: how the run went on isn't known (line 6)"
+            " | a side of #0·d, from line 5, hadn't ended",
+        )
+        self.assertEqual(report_of(run_of_journal(whole[:-1], "test")), report_of(run_of_journal(whole, "test")))
+
+    def test_lines_that_are_missing_at_the_beginning_are_told(self) -> None:
+        run = run_of_journal(journal("new #0 d", "fire #0 ok 1").split("\n", 1)[1], "test")
+        self.assertEqual([str(part) for part in run.problems[0][:2]], ["the beginning is missing: ", "1 Deferred is made in no line: "])
+        self.assertEqual(next(iter(Terminal(run, False).lines())), "test: nothing is left, as far as this can be read")
 
     def test_what_a_run_has_only_begun_when_it_stopped(self) -> None:
         found = of_journal("new #0 d", "job 0 #0")
@@ -324,7 +408,15 @@ class OfFacts(unittest.TestCase):
         text = told("new #0 d\n#0 d unfired\n", [0], [stuck(0, "unfired")])
         whole = text.split("\n")
         run = run_of_facts(read_facts("\n".join(whole[:-2]) + "\n"), Script(), "test")
-        self.assertEqual(run.problems, [("the facts were cut off: how the run ended isn't known",)])
+        self.assertEqual(
+            report_of(run),
+            [
+                "cut off the text ends before what is left: how the run went on isn't known (line 1)",
+                "unfired nobody fired #0·d (line 1)",
+            ],
+        )
+        begun = run_of_facts(read_facts("\n".join(whole[:2]) + "\n"), Script(), "test")
+        self.assertIn("before the outcomes of 1 of 1 Deferred:", report_of(begun)[0])
 
 
 class Scripts(unittest.TestCase):

@@ -14,6 +14,7 @@ from twisted.internet.defer import Deferred
 from twisted.logger import globalLogBeginner
 from twisted.python.failure import Failure
 
+from ..ending import OutputFailed
 from . import grammar
 from .classes import BUILT_IN
 from .instruments import install, locks, queues
@@ -687,7 +688,7 @@ def with_room(call: Callable[[], int]) -> int:
     def perform() -> None:
         try:
             result.append(call())
-        except (BrokenPipeError, SystemExit) as error:
+        except (BrokenPipeError, OutputFailed, SystemExit) as error:
             raised.append(error)
 
     before = sys.getrecursionlimit()

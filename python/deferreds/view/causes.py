@@ -4,7 +4,7 @@ from __future__ import annotations
 
 from typing import Dict, List, Optional
 
-from .phrases import OfDeferred, OfLine, Phrase
+from .phrases import OfDeferred, OfLine, Phrase, words
 from .records import Row
 
 CANCELLED = 'fail CancelledError ""'
@@ -69,7 +69,7 @@ class Causes:
     def _by_line_before(row: Row, before: Row, acting: Phrase) -> Phrase:
         if before.serves != row.entry.deferred:
             return ()
-        name, inside = before.entry.name, _inside(acting)
+        name, inside = before.entry.name, in_whom(acting)
         said: Dict[str, Phrase] = {
             "acquire": (f"a token of {name} was free",),
             "get": (f"a value of {name} was stored",),
@@ -85,13 +85,19 @@ class Causes:
         cancel = self._cancels.get(row.entry.deferred)
         if cancel is None or cancel.inside != row.inside:
             return ()
-        inside = _inside(acting)
-        whom = OfDeferred(cancel.entry.deferred)
+        inside = in_whom(acting)
+        whom, reached = cancel.entry.deferred, row.entry.deferred
         if row.entry.outcome is not None and row.entry.outcome.text != CANCELLED:
-            return ("after cancel ", whom, *inside)
-        return ("cancel ", whom, *inside)
+            by = words(", by cancel ", OfDeferred(whom)) if whom != reached else words()
+            return ("the canceller of ", OfDeferred(reached), *by, *inside)
+        return ("cancel ", OfDeferred(whom), *inside)
+
+    def firing_cancel(self, row: Row) -> Optional[Row]:
+        """The cancel that fires the Deferred of this row, or whose canceller does."""
+        cancel = self._cancels.get(row.entry.deferred)
+        return cancel if cancel is not None and cancel.inside == row.inside else None
 
 
-def _inside(acting: Phrase) -> Phrase:
+def in_whom(acting: Phrase) -> Phrase:
     """Who acts, as the end of a sentence."""
     return (" in ", *acting) if acting and acting[0] != "after " else acting and (" ", *acting)

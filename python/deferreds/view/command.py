@@ -2,46 +2,36 @@
 why.
 
 Writes a page that any browser opens: SCRIPT's name with `.html`, in the folder where the command is given, or FILE.
-With several scripts FILE is a folder. `--text` prints the view instead. Without SCRIPT the script is standard
+With several scripts FILE is a folder, and a second one of a name gets `NAME_2.html`. With `-o -` the page goes to
+standard output. `--text` prints the view instead, and `--trace` writes a trace of Chrome's. Without SCRIPT the script is standard
 input. `--journal FILE` shows a journal with its outcomes, as `./deferreds`, `./on_twisted` or `./record` has given
-it, and runs nothing; `--json FILE` shows what `./deferreds --json` has told. FILE may be `-`, for standard input.
+it, and runs nothing; `--json FILE` shows what `./deferreds --json` has told. `--compare A B` shows two runs beside
+each other. FILE may be `-`, for standard input.
 
-Status 0: shown; 2: the script is refused, with the reason on standard error; 3, 4, 70: as for `./deferreds`; 64: the
-words are wrong; 66: what is to be shown can't be read; 73: the page can't be written. With several scripts it is the
-first status that isn't 0.
+Status 0: shown; 2: the script is refused, with what `./deferreds --why` says of it on standard error; 3, 4, 70: as for `./deferreds`, 4 also
+where standard output can't be written; 64: the words are wrong; 66: what is to be shown can't be read, or isn't what
+it is given as; 73: the page can't be written. With several scripts it is the first status that isn't 0.
 """
 
 from __future__ import annotations
 
 import argparse
-import json
 import os
-import subprocess
 import sys
 import webbrowser
+from functools import partial
 from pathlib import Path
-from typing import List, Optional, Tuple
+from typing import Callable, Iterator, List, Set
 
 from ..checkout import as_called, command_name
-from ..ending import ended
-from ..program import NOT_RUN, NotRun, found
-from .facts import NotFacts, read_facts
+from ..ending import ended, open_streams, writing
+from .compared import Compared
+from .compared_forms import ComparedPage, text_lines
+from .inputs import NO_OUTPUT, STANDARD, USAGE, Failed, Inputs, read_any
 from .page import Page
-from .places import NOWHERE, SUFFIX, NotPlaces, Places, read_places
-from .run import Run, run_of_facts, run_of_journal
-from .scripts import Script
+from .run import Run
 from .terminal import Terminal
-
-_USAGE, _NO_INPUT, _NO_OUTPUT = 64, 66, 73
-_STOPPED = 1
-
-
-class Failed(Exception):
-    """The view can't be made: why, and with which status the command ends."""
-
-    def __init__(self, status: int, why: str = "") -> None:
-        super().__init__(why)
-        self.status = status
+from .trace import SUFFIX, Trace
 
 
 def _arguments(words: List[str]) -> argparse.Namespace:
@@ -53,10 +43,16 @@ def _arguments(words: List[str]) -> argparse.Namespace:
         "-o",
         dest="output",
         metavar="FILE",
-        help="write the page to FILE; with several scripts, into the folder FILE",
+        help="write the page to FILE, or to standard output, which is `-`; with several scripts, into the folder FILE",
     )
     add("--open", action="store_true", help="open the page in the browser")
-    add("--text", action="store_true", help="print the view for a terminal")
+    form = parser.add_mutually_exclusive_group()
+    form.add_argument("--text", action="store_true", help="print the view for a terminal")
+    form.add_argument(
+        "--trace",
+        action="store_true",
+        help=f"write SCRIPT's name with `{SUFFIX}`: a trace of Chrome's, which Perfetto opens, in the place of the page",
+    )
     source = parser.add_mutually_exclusive_group()
     source.add_argument(
         "--journal",
@@ -67,6 +63,15 @@ def _arguments(words: List[str]) -> argparse.Namespace:
         "--json",
         metavar="FILE",
         help=as_called("show what ./deferreds --json has printed; SCRIPT may be the script of it"),
+    )
+    source.add_argument(
+        "--compare",
+        nargs=2,
+        metavar=("A", "B"),
+        help=as_called(
+            "show two runs beside each other, from the first line that differs on; each is a script, a journal, or what "
+            "./deferreds --json has printed"
+        ),
     )
     add(
         "--places",
@@ -80,165 +85,127 @@ def _arguments(words: List[str]) -> argparse.Namespace:
     add("--to", dest="last", type=int, metavar="N", help="the last line (5000 lines at most)")
     add("scripts", nargs="*", metavar="SCRIPT", help="a script")
     try:
-        parsed = parser.parse_args(words)
+        with writing():
+            parsed = parser.parse_args(words)
     except SystemExit as exit_:
-        raise SystemExit(_USAGE if exit_.code else 0) from None
+        raise SystemExit(USAGE if exit_.code else 0) from None
+    wrong = _mistake(parsed)
+    if wrong:
+        _say(wrong)
+        raise SystemExit(USAGE)
+    return parsed
+
+
+def _mistake(parsed: argparse.Namespace) -> str:
+    """What is wrong with words that don't go together, or an empty text."""
     numbers = [number for number in (parsed.first, parsed.last) if number is not None]
     if min(numbers, default=1) < 1 or (len(numbers) == 2 and parsed.last < parsed.first):
-        _say("--from and --to are numbers of lines, from 1 on, and --to isn't below --from")
-        raise SystemExit(_USAGE)
-    if parsed.places and len(parsed.scripts) > 1:
-        _say("with --places there is one SCRIPT at most")
-        raise SystemExit(_USAGE)
-    if (parsed.journal or parsed.json) and len(parsed.scripts) > 1:
-        _say("a journal, or a run as JSON, has one SCRIPT at most")
-        raise SystemExit(_USAGE)
-    return parsed
+        return "--from and --to are numbers of lines, from 1 on, and --to isn't below --from"
+    several = len(parsed.scripts) > 1
+    if parsed.places and several:
+        return "with --places there is one SCRIPT at most"
+    if (parsed.journal or parsed.json) and several:
+        return "a journal, or a run as JSON, has one SCRIPT at most"
+    if parsed.compare and (parsed.scripts or parsed.trace or parsed.places or numbers):
+        return "--compare takes two FILEs, and neither a SCRIPT nor --trace, --places, --from and --to"
+    if parsed.trace and parsed.open:
+        return "--open is for a page, which --trace doesn't write"
+    if parsed.output == STANDARD and (several or parsed.open):
+        return "with `-o -` there is one SCRIPT at most, and no --open"
+    if [parsed.journal, parsed.json, parsed.places, *parsed.scripts, *(parsed.compare or [])].count(STANDARD) > 1:
+        return "standard input is read once, for one FILE"
+    return ""
 
 
 def _say(text: str) -> None:
     print(f"{command_name('view')}: {text}", file=sys.stderr)
 
 
-def _read(name: str) -> bytes:
-    """What the file holds; `-` is standard input."""
+def _inputs(arguments: argparse.Namespace) -> List[Inputs]:
+    """What each run is made of."""
+    return [
+        Inputs(script, arguments.journal, arguments.json, arguments.places)
+        for script in arguments.scripts or [None]
+    ]
+
+
+def _targets(arguments: argparse.Namespace, inputs: List[Inputs]) -> Iterator[str]:
+    """Where each page is written: two have never the same name."""
+    output = arguments.output
+    is_folder = len(inputs) > 1 or (output not in (None, STANDARD) and Path(output).is_dir())
+    taken: Set[str] = set()
+    for one in inputs:
+        if output and not is_folder:
+            yield output
+            continue
+        stem = "script" if one.main == STANDARD else Path(one.main).stem
+        ending = SUFFIX if arguments.trace else ".html"
+        names = (f"{stem}{f'_{number}' if number > 1 else ''}{ending}" for number in range(1, len(inputs) + 1))
+        name = next(name for name in names if name not in taken)
+        taken.add(name)
+        yield os.fspath(Path(output or "", name))
+
+
+def _check_target(target: str, inputs: List[Inputs]) -> None:
+    """Raises Failed where a page would take the place of what one is made from."""
+    for one in inputs if target != STANDARD else []:
+        for name in one:
+            if name is not None and name != STANDARD and _is_same(target, name):
+                raise Failed(NO_OUTPUT, f"{target} isn't written: the view is made from that file; -o FILE names another")
+
+
+def _is_same(one: str, other: str) -> bool:
+    """Whether both are the same file, which is there."""
     try:
-        return sys.stdin.buffer.read() if name == "-" else Path(name).read_bytes()
-    except OSError as error:
-        raise Failed(_NO_INPUT, f"{name} can't be read: {error.strerror}") from None
+        return os.path.samefile(one, other)
+    except (OSError, ValueError):
+        return False
 
 
-def _text(data: bytes, name: str) -> str:
+def _write(text: str, target: str) -> None:
+    """Writes a page or a trace, and its folder where that isn't there."""
+    if target == STANDARD:
+        with writing():
+            sys.stdout.write(text)
+            sys.stdout.flush()
+        return
     try:
-        return data.decode("utf-8")
-    except UnicodeDecodeError:
-        raise Failed(_NO_INPUT, f"{name} isn't UTF-8") from None
-
-
-def _script(data: bytes) -> Script:
-    """The script, as far as it can be read: the program says whether it is one."""
-    try:
-        return Script(json.loads(data))
-    except (ValueError, RecursionError):
-        return Script()
-
-
-def run_script(name: str) -> Run:
-    """Runs a script, and takes what `./deferreds --json` tells of the run; the journal alone, where that word isn't known."""
-    data = _read(name)
-    status, told = _deferreds(data, "--json")
-    is_exact = status != _USAGE
-    if not is_exact:
-        status, told = _deferreds(data)
-    if status not in (0, _STOPPED):
-        raise Failed(status, f"{name} was not run to its end")
-    script, title = _script(data), _title(name)
-    return (
-        _facts(told, name, script)
-        if is_exact
-        else run_of_journal(_text(told, name), title, script, status == _STOPPED)
-    )
-
-
-def _deferreds(data: bytes, *words: str) -> Tuple[int, bytes]:
-    """The status and the output of `./deferreds` with these words."""
-    try:
-        program = os.fspath(found())
-        ran = subprocess.run([program, *words], input=data, stdout=subprocess.PIPE, check=False)
-    except NotRun as why:
-        raise Failed(NOT_RUN, f"deferreds isn't run: {why}") from None
-    except OSError as error:
-        raise Failed(NOT_RUN, f"{program} can't be run: {error.strerror}") from None
-    return ran.returncode, ran.stdout
-
-
-def _facts(data: bytes, name: str, script: Script) -> Run:
-    try:
-        return run_of_facts(read_facts(_text(data, name)), script, _title(name))
-    except NotFacts as error:
-        raise Failed(_NO_INPUT, f"{name}: {error}") from None
-
-
-def _title(name: str) -> str:
-    return "standard input" if name == "-" else Path(name).name
-
-
-def _given(arguments: argparse.Namespace, script: Optional[str]) -> Run:
-    """The run of a script, of a journal or of facts."""
-    said = (
-        _script(_read(script))
-        if script is not None and (arguments.journal or arguments.json)
-        else Script()
-    )
-    if arguments.journal:
-        text = _text(_read(arguments.journal), arguments.journal)
-        run = run_of_journal(text, _title(arguments.journal), said)
-        if text and not run.fold.records and not any(row.entry.word for row in run.fold.rows):
-            raise Failed(_NO_INPUT, f"{arguments.journal} isn't a journal: no line of it is known")
-        return run
-    if arguments.json:
-        return _facts(_read(arguments.json), arguments.json, said)
-    return run_script(script or "-")
-
-
-def _places(arguments: argparse.Namespace, script: Optional[str]) -> Places:
-    """The places that are given, or that stand beside the script or the journal. What is wrong with the latter is only told."""
-    if arguments.places:
-        try:
-            return read_places(_text(_read(arguments.places), arguments.places))
-        except NotPlaces as why:
-            raise Failed(_NO_INPUT, f"{arguments.places} doesn't tell places: {why}") from None
-    source = script or arguments.journal or arguments.json or "-"
-    path = Path(source).with_suffix(SUFFIX) if source != "-" else None
-    if path is None or not path.is_file():
-        return NOWHERE
-    try:
-        return read_places(path.read_text(encoding="utf-8"))
-    except (OSError, UnicodeDecodeError, NotPlaces) as why:
-        _say(f"{path} isn't used, since it doesn't tell places: {why}")
-        return NOWHERE
-
-
-def _target(arguments: argparse.Namespace, script: Optional[str]) -> Path:
-    """Where the page is written."""
-    source = arguments.journal or arguments.json or script or "-"
-    name = "script.html" if source == "-" else f"{Path(source).stem}.html"
-    if not arguments.output:
-        return Path(name)
-    several = len(arguments.scripts) > 1 or Path(arguments.output).is_dir()
-    return Path(arguments.output, name) if several else Path(arguments.output)
-
-
-def write_page(page: Page, path: Path) -> None:
-    """Writes a page, and its folder where that isn't there."""
-    try:
+        path = Path(target)
         path.parent.mkdir(parents=True, exist_ok=True)
-        path.write_text(page.html(), encoding="utf-8")
-    except OSError as error:
-        raise Failed(_NO_OUTPUT, f"{path} can't be written: {error.strerror}") from None
+        path.write_text(text, encoding="utf-8")
+    except (OSError, ValueError) as error:
+        why = error.strerror if isinstance(error, OSError) else "it is no name of a file"
+        raise Failed(NO_OUTPUT, f"{target} can't be written: {why}") from None
 
 
-def _show(arguments: argparse.Namespace, script: Optional[str]) -> None:
-    run = _given(arguments, script)
-    run.places = _places(arguments, script)
-    if arguments.text:
-        color = (
-            sys.stdout.isatty() and not os.environ.get("NO_COLOR") and os.environ.get("TERM") != "dumb"
-        )
+def _print_text(run: Run) -> None:
+    color = sys.stdout.isatty() and not os.environ.get("NO_COLOR") and os.environ.get("TERM") != "dumb"
+    with writing():
         for line in Terminal(run, color).lines():
             print(line)
-        return
-    page, path = Page(run, arguments.first, arguments.last), _target(arguments, script)
-    write_page(page, path)
-    rows = len(run.fold.rows)
+
+
+def _show_page(run: Run, arguments: argparse.Namespace, target: str) -> None:
+    page = Page(run, arguments.first, arguments.last)
+    _write(page.html(), target)
     part = (
         f", of which the chart shows {page.window.start + 1} to {page.window.stop}"
-        if len(page.window) < rows
+        if len(page.window) < len(run.fold.rows)
         else ""
     )
-    _say(f"{path}: {run.counts}{part}")
+    _say_written(target, run, part)
     if arguments.open:
-        webbrowser.open(path.resolve().as_uri())
+        webbrowser.open(Path(target).resolve().as_uri())
+
+
+def _write_trace(run: Run, target: str) -> None:
+    trace = Trace(run)
+    _write(trace.text(), target)
+    _say_written(target, run, "" if trace.clock.is_even else "; its times are too long to stand in proportion")
+
+
+def _say_written(target: str, run: Run, more: str) -> None:
+    _say(f"{'standard output' if target == STANDARD else target}: {run.counts}{more}")
 
 
 def main(words: List[str]) -> int:
@@ -246,16 +213,58 @@ def main(words: List[str]) -> int:
     arguments = _arguments(words)
     if hasattr(sys.stdout, "reconfigure"):
         sys.stdout.reconfigure(encoding="utf-8")
-    status = 0
-    for script in arguments.scripts or [None]:
-        try:
-            _show(arguments, script)
-        except Failed as failed:
-            if str(failed):
-                _say(str(failed))
-            status = status or failed.status
-    return status
+    if arguments.compare:
+        return _status_of(lambda: _compare(arguments))
+    inputs = _inputs(arguments)
+    shown = [
+        _status_of(partial(_show, one, arguments, inputs, target))
+        for one, target in zip(inputs, _targets(arguments, inputs))
+    ]
+    return next((status for status in shown if status), 0)
+
+
+def _status_of(show: Callable[[], None]) -> int:
+    """The status of what is shown; where it can't be, why is said."""
+    try:
+        show()
+    except Failed as failed:
+        if str(failed):
+            _say(str(failed))
+        return failed.status
+    return 0
+
+
+def _show(one: Inputs, arguments: argparse.Namespace, inputs: List[Inputs], target: str) -> None:
+    if arguments.text:
+        return _print_text(one.run())
+    _check_target(target, inputs)
+    if arguments.trace:
+        return _write_trace(one.run(), target)
+    return _show_page(one.run(), arguments, target)
+
+
+def _compare(arguments: argparse.Namespace) -> None:
+    """Shows two runs beside each other."""
+    inputs = [Inputs(name) for name in arguments.compare]
+    target = arguments.output
+    if target is None or (target != STANDARD and Path(target).is_dir()):
+        stems = ("script" if name == STANDARD else Path(name).stem for name in arguments.compare)
+        target = os.fspath(Path(target or "", f"{'_and_'.join(stems)}.html"))
+    if not arguments.text:
+        _check_target(target, inputs)
+    first, second = (read_any(name) for name in arguments.compare)
+    compared = Compared(first, second)
+    if arguments.text:
+        with writing():
+            for line in text_lines(compared):
+                print(line)
+        return
+    _write(ComparedPage(compared).html(), target)
+    _say(f"{'standard output' if target == STANDARD else target}: {compared.verdict}")
+    if arguments.open:
+        webbrowser.open(Path(target).resolve().as_uri())
 
 
 if __name__ == "__main__":
-    sys.exit(ended(lambda: main(sys.argv[1:])))
+    open_streams()
+    sys.exit(ended(lambda: main(sys.argv[1:]), command_name("view")))

@@ -1,16 +1,24 @@
 (function () {
   "use strict";
-  var chosen = null, body = document.body, chart = document.getElementById("chart");
-  var note = document.getElementById("focus"), column = document.getElementById("column");
+  var chosen = null, sought = "", body = document.body, chart = document.getElementById("chart");
+  var note = document.getElementById("focus"), column = document.getElementById("column"), find = document.getElementById("find");
   function all(selector) { return Array.prototype.slice.call(document.querySelectorAll(selector)); }
+  function unmark(name) { all("." + name).forEach(function (element) { element.classList.remove(name); }); }
+  function tell() {
+    var said = [], lines = sought && all(".row.hit").length;
+    if (sought) said.push(lines + (lines === 1 ? " line has " : " lines have ") + find.value);
+    if (chosen !== null) said.push("#" + chosen);
+    note.hidden = !said.length;
+    note.textContent = said.join(", ") + ": n next line, p the one before, Esc ends";
+  }
   function choose(number) {
     chosen = number;
     body.classList.toggle("focus", number !== null);
-    all(".on").forEach(function (element) { element.classList.remove("on"); });
-    note.hidden = column.hidden = number === null;
+    unmark("on");
+    column.hidden = number === null;
+    tell();
     if (number === null) return;
     all('[data-d~="' + number + '"]').forEach(function (element) { element.classList.add("on"); });
-    note.textContent = "#" + number + ": n next line, p the one before, Esc ends";
     var lane = document.querySelector('[data-x][data-d="' + number + '"]');
     column.hidden = !lane;
     if (!lane) return;
@@ -19,8 +27,29 @@
     column.style.top = Number(lane.dataset.y) + 22 + "px";
     column.style.height = lane.dataset.h + "px";
   }
+  function seek(text) {
+    sought = text.trim().toLowerCase();
+    body.classList.toggle("finding", sought !== "");
+    unmark("hit");
+    if (sought) all(".row[id], tr[data-d]").forEach(function (element) {
+      var has = (element.title + " " + element.textContent).toLowerCase().indexOf(sought) >= 0;
+      if (has) element.classList.add("hit");
+    });
+    tell();
+  }
+  function ask() {
+    find.hidden = false;
+    find.focus();
+    find.select();
+  }
+  function end() {
+    find.value = "";
+    find.hidden = true;
+    seek("");
+    choose(null);
+  }
   function go(step) {
-    var rows = all(".row.on"), middle = innerHeight / 2, found = null;
+    var rows = all(".row" + (chosen !== null ? ".on" : "") + (sought ? ".hit" : "")), middle = innerHeight / 2, found = null;
     if (step < 0) rows.reverse();
     rows.some(function (row) {
       if ((row.getBoundingClientRect().top - middle) * step > 12) found = row;
@@ -29,15 +58,28 @@
     if (found) found.scrollIntoView({ block: "center" });
   }
   document.addEventListener("click", function (event) {
+    if (event.target.closest('[href="#find"]')) {
+      event.preventDefault();
+      return ask();
+    }
     var link = event.target.closest("[data-f]");
     if (!link) return;
     choose(chosen === link.dataset.f ? null : link.dataset.f);
     if (link.closest("#chart")) event.preventDefault();
   });
+  find.addEventListener("input", function () { seek(find.value); });
   document.addEventListener("keydown", function (event) {
     if (event.ctrlKey || event.metaKey || event.altKey) return;
-    if (event.key === "Escape") choose(null);
-    if (chosen !== null && event.key === "n") go(1);
-    if (chosen !== null && event.key === "p") go(-1);
+    if (event.key === "Escape") return end();
+    if (event.target === find) {
+      if (event.key === "Enter" && sought) go(event.shiftKey ? -1 : 1);
+      return;
+    }
+    if (event.key === "/") {
+      event.preventDefault();
+      return ask();
+    }
+    if ((chosen !== null || sought) && event.key === "n") go(1);
+    if ((chosen !== null || sought) && event.key === "p") go(-1);
   });
 })();

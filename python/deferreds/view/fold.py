@@ -10,11 +10,14 @@ from typing import Callable, Dict, List, Optional, Sequence
 from .causes import Causes
 from .lines import NULL, End, Entry
 from .nesting import LAST_POSTS, Nesting, Place
-from .phrases import OfDeferred, OfEvent, OfLine, OfScript, Phrase
-from .records import Actor, Arrow, ArrowKind, Bracket, BracketKind, By, Made, Record, Row
+from .phrases import OfDeferred, OfEvent, OfLine, OfScript, Phrase, listed, several
+from .records import Actor, Arrow, ArrowKind, Bracket, BracketKind, By, GotNull, Made, Record, Row
 from .world import Call, Job, Lock, Loop, Phase, Queue, Task, Tick, Wait, World
 
 _FIRINGS = frozenset({"fire", "refuse", "swallow"})
+
+#: how many lines or Deferreds a problem names
+_MOST_NAMED = 3
 
 
 class Fold:
@@ -28,8 +31,13 @@ class Fold:
         self.world = World()
         self.brackets: List[Bracket] = []
         self.unhandled: List[Row] = []
+        self.got_null: List[GotNull] = []
         self.problems: List[Phrase] = []
+        #: the rows of lines that aren't known, and the Deferreds that no line has made
+        self._unknown: List[int] = []
+        self._unmade: List[int] = []
         self.knows_events = places is not None
+        self.known_outcomes = 0
         self.nesting = Nesting(places)
         self._entries = entries
         self._causes = Causes()
@@ -91,7 +99,7 @@ class Fold:
         self.nesting.lay(row, self.rows)
         change = self._changes.get(entry.word)
         if change is None:
-            self.problems.append((OfLine(row.place), " isn't known"))
+            self._unknown.append(row.place)
         else:
             change(row, entry, before)
         row.time = self.world.now
@@ -99,8 +107,17 @@ class Fold:
             self.records[number].look_at(row.place)
 
     def _finish(self, ends: Sequence[End]) -> None:
+        if self._unknown:
+            counted = several(len(self._unknown), "line isn't known", "lines aren't known")
+            shown = listed([OfLine(place) for place in self._unknown], _MOST_NAMED)
+            self.problems.append((f"{counted}: ", *shown))
+        if self._unmade:
+            counted = several(len(self._unmade), "Deferred is made in no line", "Deferreds are made in no line")
+            shown = listed([OfDeferred(number) for number in self._unmade], _MOST_NAMED)
+            self.problems.append(("the beginning is missing: ", f"{counted}: ", *shown))
         for place in self.nesting.crossed:
             self.problems.append((OfLine(place), " ends a side that isn't the innermost"))
+        self.known_outcomes = len(ends)
         for end in ends:
             record = self.records.get(end.number)
             if record is None:
@@ -121,6 +138,7 @@ class Fold:
         record = self.records.get(number)
         if record is None:
             record = self.records[number] = Record(number, "-", row.place)
+            self._unmade.append(number)
         if number not in row.names:
             row.names.append(number)
         record.last = row.place
@@ -196,17 +214,29 @@ class Fold:
 
     def _fire(self, row: Row, entry: Entry, before: Optional[Row]) -> None:
         record = self._fires(row, before, ArrowKind.FIRE)
+        cancel = self._causes.firing_cancel(row)
+        record.cancelled = cancel.place if cancel is not None else None
+        record.begun = self._cancel_behind(row, record)
         if self._causes.taken_cancel(entry.deferred) is before and before is not None:
             self.world.leaves(entry.deferred)
         record.fired = record.origin = row.place
         record.fired_by = row.cause
         record.value = entry.outcome
 
+    def _cancel_behind(self, row: Row, record: Record) -> Optional[int]:
+        """The row of the cancel with which the failure began by which a Deferred is fired, if one did."""
+        if row.entry.outcome is None or not row.entry.outcome.is_failure:
+            return None
+        if record.cancelled is not None:
+            return record.cancelled
+        firing = self.records.get(row.actor.number) if row.actor.by is By.SIDE else None
+        return firing.begun if firing is not None else None
+
     def _refuse(self, row: Row, entry: Entry, before: Optional[Row]) -> None:
         self._fires(row, before, ArrowKind.REFUSE).refused.append(row.place)
 
     def _swallow(self, row: Row, entry: Entry, before: Optional[Row]) -> None:
-        self._fires(row, before, ArrowKind.SWALLOW)
+        self._fires(row, before, ArrowKind.SWALLOW).swallowed.append(row.place)
 
     def _fires(self, row: Row, before: Optional[Row], kind: ArrowKind) -> Record:
         record = self._touch(row, row.entry.deferred)
@@ -226,11 +256,14 @@ class Fold:
         )
         record.origin = record.origin if passed_on else row.place
         record.value = entry.outcome
+        record.taken = None
+        if entry.outcome is None or not entry.outcome.is_failure:
+            record.begun = None
 
     def _take(self, row: Row, entry: Entry, before: Optional[Row]) -> None:
         taker, giver = self._touch(row, entry.deferred), self._touch(row, entry.other)
         row.arrows.append(Arrow(ArrowKind.HAND, giver.number, taker.number))
-        taker.value, taker.origin, giver.value = entry.outcome, giver.origin, NULL
+        self._hand_over(row, taker, giver)
 
     def _wait(self, row: Row, entry: Entry, before: Optional[Row]) -> None:
         record = self._touch(row, entry.deferred)
@@ -242,8 +275,19 @@ class Fold:
     def _hand(self, row: Row, entry: Entry, before: Optional[Row]) -> None:
         taker, giver = self._touch(row, entry.deferred), self._touch(row, entry.other)
         row.arrows.append(Arrow(ArrowKind.HAND, giver.number, taker.number))
-        taker.value, taker.waits, taker.origin, giver.value = entry.outcome, None, giver.origin, NULL
+        taker.waits = None
+        self._hand_over(row, taker, giver)
         self._reached.clear()
+
+    def _hand_over(self, row: Row, taker: Record, giver: Record) -> None:
+        """The one gets the value of the other, which has null then."""
+        outcome = row.entry.outcome
+        if outcome == NULL and giver.taken is not None:
+            self.got_null.append(GotNull(row.place, taker.number, giver.number, giver.taken))
+        elif outcome != NULL:
+            giver.taken = row.place
+        taker.value, taker.origin, taker.begun = outcome, giver.origin, giver.begun
+        giver.value, giver.begun = NULL, None
 
     def _pause(self, row: Row, entry: Entry, before: Optional[Row]) -> None:
         record = self._touch(row, entry.deferred)

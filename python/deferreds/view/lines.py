@@ -150,6 +150,15 @@ def split(text: str) -> Tuple[List[str], List[str]]:
     return lines[:first], lines[first:]
 
 
+def parts(text: str) -> Tuple[List[str], List[str], bool]:
+    """The same, and whether lines are missing: each Deferred that is made has an outcome. A last line that is cut isn't read."""
+    lines, outcomes = split(text)
+    is_cut = sum(line.startswith("new #") for line in lines) > len(outcomes)
+    if is_cut and text and not text.endswith("\n"):
+        (outcomes or lines).pop()
+    return lines, outcomes, is_cut
+
+
 def read_end(line: str) -> Optional[End]:
     """An outcome line, or None where it isn't one."""
     found = _OUTCOME_LINE.fullmatch(line)

@@ -26,6 +26,11 @@ _FEW_OUTCOMES, _MOST_ODD, _MOST_OK = 16, 200, 2_000
 _MOST_TEXT, _MOST_VALUE, _LEAST_VALUE, _MOST_DETAILS = 300, 200, 60, 8
 _PAPER = 1_123
 
+_TITLES = {
+    Severity.BAD: "To look at",
+    Severity.LEFT: "What is left, and why",
+    Severity.NOTE: "Notes",
+}
 _LEGEND_BARS = (State.UNFIRED, State.RUN, State.OK, State.FAIL, State.WAIT)
 _LEGEND_SIGNS: Dict[State, str] = {
     State.UNFIRED: "○ ",
@@ -60,8 +65,8 @@ class Page:
 
     def html(self) -> Html:
         """The whole page."""
-        style, script = self._style(), _read("focus.js")
-        policy = f"default-src 'none'; style-src '{_hash(style)}'; script-src '{_hash(script)}'; base-uri 'none'; form-action 'none'"
+        style, script = self._style(), asset("focus.js")
+        policy = f"default-src 'none'; style-src '{policy_hash(style)}'; script-src '{policy_hash(script)}'; base-uri 'none'; form-action 'none'"
         title = escaped(self._run.title)
         return joined(
             [
@@ -80,6 +85,7 @@ class Page:
                 Html("</div>"),
                 *self._below_chart(),
                 Html(
+                    "<input id=find type=search placeholder=find aria-label=find hidden>"
                     f"<div id=focus role=status hidden></div><script>{script}</script></body></html>\n"
                 ),
             ]
@@ -89,7 +95,7 @@ class Page:
         width, rest = self._chart.width, self._rows.total % CHUNK or CHUNK
         paper = max(_PAPER, width + 48)
         return (
-            f"{_read('style.css')}#chart{{width:{width}px;--side:min({self._chart.side}px,62vw)}}#last{{height:{rest * SLOT}px}}"
+            f"{asset('style.css')}#chart{{width:{width}px;--side:min({self._chart.side}px,62vw)}}#last{{height:{rest * SLOT}px}}"
             f"@page{{size:{paper}px {int(paper / 1.414)}px;margin:24px}}"
         )
 
@@ -97,7 +103,7 @@ class Page:
 
     def _verdict(self, title: Html) -> Iterator[Html]:
         report = self._run.report
-        yield Html("<nav><a href=#outcomes>outcomes</a> · <a href=#what>what happened</a></nav>")
+        yield Html("<nav><a href=#outcomes>outcomes</a> · <a href=#what>what happened</a> · <a href=#find>find</a></nav>")
         yield Html(f"<h1>{title}</h1><p>")
         for severity, word in ((Severity.BAD, "to look at"), (Severity.LEFT, "left at the end")):
             if report.count(severity):
@@ -105,7 +111,8 @@ class Page:
                     f'<span class="verdict {severity.value}">{report.count(severity)} {word}</span>'
                 )
         if report.is_clean:
-            yield Html('<span class="verdict clean">clean: nothing is left</span>')
+            look = "note" if self._run.problems else "clean"
+            yield Html(f'<span class="verdict {look}">{self._run.nothing}</span>')
         yield Html(f"<span class=facts>{escaped(self._run.counts)}</span></p>")
         if self._run.limits:
             yield Html(f"<p class=facts>{escaped(self._run.limits)}</p>")
@@ -113,9 +120,13 @@ class Page:
             yield Html(f'<p><span class="verdict bad">{self._markup.said(problem)}</span></p>')
 
     def _report(self) -> Iterator[Html]:
-        findings = self._run.report.findings
-        if not findings:
-            return
+        for severity, title in _TITLES.items():
+            findings = [one for one in self._run.report.findings if one.severity is severity]
+            if findings:
+                yield Html(f"<h2>{title}</h2>")
+                yield from self._findings(findings)
+
+    def _findings(self, findings: List[Finding]) -> Iterator[Html]:
         few: List[Html] = []
         more: List[Html] = []
         shown: Dict[Kind, int] = {}
@@ -123,7 +134,7 @@ class Page:
             shown[finding.kind] = shown.get(finding.kind, 0) + 1
             if shown[finding.kind] <= _MOST_FINDINGS:
                 (few if shown[finding.kind] <= _FEW_FINDINGS else more).append(self._finding(finding))
-        yield Html(f"<h2>What is left, and why</h2><table class=report>{joined(few)}</table>")
+        yield Html(f"<table class=report>{joined(few)}</table>")
         if more:
             yield Html(
                 f"<details><summary>{len(more)} more of these</summary><table class=report>{joined(more)}</table></details>"
@@ -224,7 +235,7 @@ class Page:
         yield Html(
             "ends it. Time stands on the left, with a bracket from each scheduling to its coming. Choose a number, as #0, to "
         )
-        yield Html("follow that Deferred.</p>")
+        yield Html("follow that Deferred; press / to find a text.</p>")
         rows = len(self._run.fold.rows)
         if len(self.window) < rows:
             yield Html(
@@ -273,11 +284,12 @@ def _window(rows: int, first: Optional[int], last: Optional[int]) -> range:
     return range(start, max(start, stop))
 
 
-def _read(name: str) -> str:
+def asset(name: str) -> str:
+    """A file that a page holds: its style or its script."""
     return (_FOLDER / name).read_text(encoding="utf-8")
 
 
-def _hash(text: str) -> str:
+def policy_hash(text: str) -> str:
     """How a content security policy names a style or a script."""
     digest = hashlib.sha256(text.encode("utf-8")).digest()
     return f"sha256-{base64.b64encode(digest).decode('ascii')}"

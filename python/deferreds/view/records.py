@@ -19,6 +19,14 @@ class State(enum.Enum):
     RUN = "run"
 
 
+class Finish(enum.Enum):
+    """How a run ended, as far as the text that was read says it."""
+
+    WHOLE = "it ended"
+    STOPPED = "it stopped at the limit of its journal"
+    CUT = "the text was cut off"
+
+
 class Look(NamedTuple):
     """What a lane shows of a Deferred."""
 
@@ -64,7 +72,14 @@ class Record:
         #: the row from which a side of it runs
         self.runs_since: Optional[int] = None
         self.pairs = 0
+        #: the rows of firings that were refused, and of those that were swallowed
         self.refused: List[int] = []
+        self.swallowed: List[int] = []
+        #: the row of the cancel by which it was fired, and of the one with which its failure began
+        self.cancelled: Optional[int] = None
+        self.begun: Optional[int] = None
+        #: the row in which another took its value, which has left null in it since
+        self.taken: Optional[int] = None
         #: from which row on it has which look
         self.spans: List[Tuple[int, Look]] = [(row, Look(State.UNFIRED))]
         #: its outcome line without number and name; what the lines tell, where there is none
@@ -161,6 +176,15 @@ class By(enum.Enum):
     AFTER = "not known: the row comes after one whose end isn't told"
     EVENT = "an event of the script"
     NOBODY = "not known"
+
+
+class GotNull(NamedTuple):
+    """A Deferred waited for another, whose value was taken before: the row, and the row in which it was taken."""
+
+    row: int
+    taker: int
+    giver: int
+    taken: int
 
 
 class Actor(NamedTuple):

@@ -5,6 +5,7 @@ from __future__ import annotations
 import enum
 from typing import Iterator, List, NamedTuple, Optional, Sequence, Set, Tuple, Type, TypeVar
 
+from .causes import in_whom
 from .fold import Fold
 from .hanging import Circle, End, Hanging, Root
 from .left import (
@@ -25,7 +26,7 @@ from .left import (
 )
 from .phrases import OfDeferred, OfLine, OfPlace, OfScript, Part, Phrase, listed, several, words
 from .places import NOWHERE, Places
-from .records import Made, Record
+from .records import Finish, GotNull, Made, Record
 from .scripts import Script
 from .world import Shelf, T
 
@@ -44,6 +45,7 @@ class Kind(enum.Enum):
     """What a row of the report tells of, the worst first."""
 
     STOPPED = "stopped"
+    CUT = "cut off"
     UNHANDLED = "unhandled"
     FAILURE = "failure"
     CIRCLE = "circle"
@@ -60,6 +62,8 @@ class Kind(enum.Enum):
     TASK = "task"
     STORED = "stored"
     REFUSED = "refused"
+    SWALLOWED = "swallowed"
+    GOT_NULL = "got null"
 
 
 _KINDS = list(Kind)
@@ -94,7 +98,7 @@ class Report:
     """What is left of a run."""
 
     def __init__(
-        self, fold: Fold, left: Sequence[Left], stopped: bool, script: Script, places: Places = NOWHERE
+        self, fold: Fold, left: Sequence[Left], finish: Finish, script: Script, places: Places = NOWHERE
     ) -> None:
         self._places_of = places
         self._fold = fold
@@ -104,7 +108,7 @@ class Report:
         self._told: Set[End] = set()
         self._timers = {(timer.deferred, timer.due): timer.row for timer in fold.world.timers}
         self._failed = {one.number for one in left if isinstance(one, LeftFailure)}
-        found = [*self._bad(stopped), *self._open(), *self._notes()]
+        found = [*self._bad(finish), *self._open(), *self._notes()]
         self.findings: List[Finding] = sorted(found, key=lambda finding: _KINDS.index(finding.kind))
 
     def count(self, severity: Severity) -> int:
@@ -130,9 +134,9 @@ class Report:
 
     # what is to be looked at
 
-    def _bad(self, stopped: bool) -> Iterator[Finding]:
-        if stopped:
-            yield self._stopped()
+    def _bad(self, finish: Finish) -> Iterator[Finding]:
+        if finish is not Finish.WHOLE:
+            yield self._stopped(finish)
         for unhandled in self._of(LeftUnhandled):
             if unhandled.row < len(self._fold.rows):
                 yield self._unhandled(unhandled.row)
@@ -143,8 +147,8 @@ class Report:
             if isinstance(end, Circle):
                 yield self._circle(end)
 
-    def _stopped(self) -> Finding:
-        """The limit was reached; the sides that still ran are its details."""
+    def _stopped(self, finish: Finish) -> Finding:
+        """The limit was reached, or the text was cut off; the sides that still ran are its details."""
         details: List[Phrase] = []
         running = [one.number for one in self._of(LeftDeferred) if one.running]
         for number in running[:_MOST_HELD]:
@@ -157,8 +161,16 @@ class Report:
         for number in running:
             details += self._held(Root(At.DEFERRED, number), [number])
         last = len(self._fold.rows) - 1
-        said: Phrase = ("the run stopped at the limit of its journal",)
-        return Finding(Severity.BAD, Kind.STOPPED, said, tuple(details), last if last >= 0 else None)
+        kind, said = Kind.STOPPED, "the run stopped at the limit of its journal"
+        if finish is Finish.CUT:
+            kind, said = Kind.CUT, f"the text ends before {self._missing()}: how the run went on isn't known"
+        return Finding(Severity.BAD, kind, (said,), tuple(details), last if last >= 0 else None)
+
+    def _missing(self) -> str:
+        """What a text that was cut off lacks: outcomes, or only what comes after them."""
+        every = len(self._fold.records)
+        missing = every - self._fold.known_outcomes
+        return f"the outcomes of {missing} of {several(every, 'Deferred', 'Deferreds')}" if missing else "what is left"
 
     def _unhandled(self, place: int) -> Finding:
         row = self._fold.rows[place]
@@ -177,13 +189,22 @@ class Report:
             row = self._fold.rows[origin]
             head = row.entry.line[: row.entry.head].rstrip()
             details.append(("it comes from ", OfLine(origin), ": ", OfScript(head)))
-        elif origin is not None and record.fired_by:
+        elif origin is not None and record.fired_by and record.begun is None:
             details.append(("fired by ", *record.fired_by))
+        details += self._begun(record)
         if record.pauses and record.paused_at is not None:
             details.append(("it is paused since ", OfLine(record.paused_at)))
             details += self._held(Root(At.DEFERRED, record.number), [record.number])
         said: Phrase = (OfDeferred(record.number), " ends with ", OfScript(text))
         return Finding(Severity.BAD, Kind.FAILURE, said, tuple(details), origin)
+
+    def _begun(self, record: Record) -> List[Phrase]:
+        """The cancel with which its failure began."""
+        if record.begun is None:
+            return []
+        cancel = self._fold.rows[record.begun]
+        by = in_whom(self._fold.said_by(cancel.actor))
+        return [("it began with cancel ", OfDeferred(cancel.entry.deferred), *by, ", ", OfLine(cancel.place))]
 
     def _circle(self, circle: Circle) -> Finding:
         said: Phrase = ()
@@ -399,6 +420,26 @@ class Report:
         for record in self._fold.records.values():
             for place in record.refused:
                 yield from self._refused(record, place)
+            for place in record.swallowed:
+                yield self._swallowed(record, place)
+        yield from map(self._got_null, self._fold.got_null)
+
+    def _got_null(self, got: GotNull) -> Finding:
+        """A second one that waited for a Deferred: the first took its value."""
+        first = self._fold.rows[got.taken].arrows[0].target
+        said = words(OfDeferred(got.taker), " got null from ", OfDeferred(got.giver), ", whose value was taken before")
+        taken = words("it went to ", OfDeferred(first), " in ", OfLine(got.taken))
+        return Finding(Severity.NOTE, Kind.GOT_NULL, said, (taken,), got.row)
+
+    def _swallowed(self, record: Record, place: int) -> Finding:
+        """A firing that came after a cancel: nobody got what it had."""
+        details: List[Phrase] = []
+        if record.cancelled is not None:
+            details.append(("it was cancelled in ", OfLine(record.cancelled)))
+        if self._fold.rows[place].cause:
+            details.append(("by ", *self._fold.rows[place].cause))
+        said: Phrase = ("a late firing of ", OfDeferred(record.number), " was swallowed: nobody got its answer")
+        return Finding(Severity.NOTE, Kind.SWALLOWED, said, tuple(details), place)
 
     def _refused(self, record: Record, place: int) -> Iterator[Finding]:
         """A second firing, unless the next line tells it as unhandled."""

@@ -7,9 +7,10 @@ from typing import List, Optional, Sequence
 from .facts import Facts
 from .fold import Fold
 from .left import Left, LeftDeferred, left_of
-from .lines import read_end, read_line, split
+from .lines import parts, read_end, read_line
 from .phrases import Phrase, several
 from .places import NOWHERE, Places
+from .records import Finish
 from .report import Report
 from .scripts import Script
 from .sections import places_of
@@ -23,24 +24,34 @@ class Run:
         self.left = left
         self.script = script
         self.title = title
-        self.stopped = any(isinstance(one, LeftDeferred) and one.running for one in left)
+        is_running = any(isinstance(one, LeftDeferred) and one.running for one in left)
+        self.finish = Finish.STOPPED if is_running else Finish.WHOLE
         #: what can't be relied on: of the text that was read, and of the view of it
         self.problems: List[Phrase] = list(fold.problems)
         #: whether what is left was told, and isn't found in the lines
         self.is_exact = True
         self.knows_stop = True
+        #: how many lines were read, outcomes among them, and how many of them aren't known
+        self.read = self.unknown = 0
         #: the weight of the journal, and its limit
         self.weight: Optional[str] = None
         #: where in the program Deferreds were made and events performed, as far as that is known; set before the report is asked for
         self.places: Places = NOWHERE
+        #: how long a tick was where the run was recorded, as `1 ms`, or an empty text
+        self.tick = ""
         self._report: Optional[Report] = None
 
     @property
     def report(self) -> Report:
         """What is left, and why."""
         if self._report is None:
-            self._report = Report(self.fold, self.left, self.stopped, self.script, self.places)
+            self._report = Report(self.fold, self.left, self.finish, self.script, self.places)
         return self._report
+
+    @property
+    def nothing(self) -> str:
+        """What is said where the report has nothing to look at, and nothing left."""
+        return "nothing is left, as far as this can be read" if self.problems else "clean: nothing is left"
 
     @property
     def limits(self) -> str:
@@ -65,7 +76,7 @@ class Run:
             several(len(self.fold.rows), "line", "lines"),
             several(len(self.fold.records), "Deferred", "Deferreds"),
             *events,
-            f"time 0 to {self.fold.world.now}",
+            f"time 0 to {self.fold.world.now}" + (f", a tick is {self.tick}" if self.tick else ""),
             *weight,
         ]
         return ", ".join(parts)
@@ -73,11 +84,12 @@ class Run:
 
 def run_of_facts(facts: Facts, script: Script, title: str) -> Run:
     """A run as `./deferreds --json` tells it: exact."""
-    run = Run(Fold(facts.entries, facts.ends, facts.places), facts.left, script, title)
+    fold = Fold(facts.entries, facts.ends, facts.places)
+    run = Run(fold, facts.left if facts.ending is not None else left_of(fold), script, title)
     if facts.ending is None:
-        run.problems.append(("the facts were cut off: how the run ended isn't known",))
+        run.is_exact, run.knows_stop, run.finish = False, False, Finish.CUT
     else:
-        run.stopped = facts.ending.stopped
+        run.finish = Finish.STOPPED if facts.ending.stopped else Finish.WHOLE
         run.weight = f"{facts.ending.weight} of {facts.ending.limit}"
     return run
 
@@ -91,13 +103,19 @@ def run_of_journal(
 ) -> Run:
     """A run as its journal and its outcomes tell it; whether it stopped at its limit, and at which line each event of the script
     begins, where that is known."""
-    lines, outcomes = split(text)
+    lines, outcomes, is_cut = parts(text)
     ends = [end for end in map(read_end, outcomes) if end is not None]
     entries = [read_line(row, line) for row, line in enumerate(lines)]
     fold = Fold(entries, ends, places_of(entries, begins) if begins is not None else None)
     run = Run(fold, left_of(fold), script if script is not None else Script(), title)
-    run.is_exact, run.knows_stop = False, stopped is not None or run.stopped
-    run.stopped = run.stopped if stopped is None else stopped
+    run.is_exact = False
+    if stopped is not None:
+        run.finish = Finish.STOPPED if stopped else Finish.WHOLE
+    elif is_cut:
+        run.finish = Finish.CUT
+    run.knows_stop = stopped is not None or run.finish is Finish.STOPPED
+    run.read = len(lines) + len(outcomes)
+    run.unknown = sum(not entry.word for entry in entries) + len(outcomes) - len(ends)
     if len(ends) < len(outcomes):
         run.problems.append(
             (several(len(outcomes) - len(ends), "line isn't an outcome", "lines aren't outcomes"),)

@@ -84,7 +84,7 @@ class Terminal:
         parts = [
             f"{report.count(severity)} {word}" for severity, word in counts if report.count(severity)
         ]
-        verdict = ", ".join(parts) if parts else "clean: nothing is left"
+        verdict = ", ".join(parts) if parts else self._run.nothing
         tone = "bad" if report.count(Severity.BAD) else "wait" if parts else "good"
         yield f"{visible(self._run.title)}: {self._toned(tone, verdict)}"
         yield self._run.counts

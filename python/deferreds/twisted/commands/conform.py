@@ -20,7 +20,7 @@ import sys
 from typing import List, Optional
 
 from ...checkout import as_called, command_name
-from ...ending import WRITE_FAILED, discard_output
+from ...ending import writing
 from .. import grammar
 from ..programs import MOST_LATE, MOST_UNANSWERED, SECONDS, Broken
 
@@ -92,7 +92,8 @@ def _arguments(words: List[str]) -> argparse.Namespace:
     add("--trials", type=int, default=1_000, help="runs at most to cut a script down (1000)")
     add("command", nargs="+", metavar="COMMAND", help="after --: the implementation, and its words")
     try:
-        parsed = parser.parse_args(words)
+        with writing():
+            parsed = parser.parse_args(words)
     except SystemExit as exit_:
         raise SystemExit(64 if exit_.code else 0) from None
     if parsed.random < 0 or parsed.trials < 0:
@@ -119,16 +120,11 @@ def main(words: List[str]) -> int:
     def compare() -> int:
         try:
             running.append(Conforming(arguments))
-            return running[0].run()
+            with writing():
+                return running[0].run()
         except Broken as broken:
             print(f"{command_name('conform')}: {broken}", file=sys.stderr)
             return 70
-        except BrokenPipeError:
-            raise
-        except OSError as error:
-            print(f"{command_name('conform')}: standard output can't be written: {error.strerror}", file=sys.stderr)
-            discard_output()
-            return WRITE_FAILED
 
     try:
         return with_room(compare)

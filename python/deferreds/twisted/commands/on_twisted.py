@@ -11,12 +11,16 @@ import json
 import sys
 from typing import BinaryIO, List, Optional, Tuple
 
+from ...ending import writing
 from .. import grammar
 from ..instruments import install
 from ..running import Batches, be_quiet, run, with_room
 from ..script import Refused
 
 Answer = Tuple[int, bytes, bytes]
+
+#: the status where standard input can't be read, which is that of `deferreds`
+_NOT_READ = 4
 
 
 def answer(data: bytes, batches: Optional[Batches] = None) -> Answer:
@@ -38,8 +42,9 @@ def serve(reader: BinaryIO, writer: BinaryIO) -> int:
             print("on_twisted: a line of --many is LENGTH [BATCHES], as docs/PORTING.md says", file=sys.stderr)
             return 64
         status, output, errors = answer(reader.read(max(size, 0)), taken)
-        writer.write(b"%d %d %d\n" % (status, len(output), len(errors)) + output + errors)
-        writer.flush()
+        with writing():
+            writer.write(b"%d %d %d\n" % (status, len(output), len(errors)) + output + errors)
+            writer.flush()
     return 0
 
 
@@ -82,9 +87,39 @@ def _arguments(words: List[str]) -> argparse.Namespace:
         "--many", action="store_true", help="answer script after script, as docs/PORTING.md says"
     )
     try:
-        return parser.parse_args(words)
+        with writing():
+            return parser.parse_args(words)
     except SystemExit as exit_:
         raise SystemExit(64 if exit_.code else 0) from None
+
+
+def _once(batches: Optional[Batches]) -> int:
+    """Answers the script of standard input."""
+    try:
+        data = sys.stdin.buffer.read(grammar.MOST_BYTES + 1)
+    except OSError as error:
+        return _not_read(error)
+    status, output, errors = answer(data, batches)
+    with writing():
+        sys.stdout.buffer.write(output)
+        sys.stdout.buffer.flush()
+    sys.stderr.buffer.write(errors)
+    return status
+
+
+def _serve_all() -> int:
+    """Answers all scripts of standard input."""
+    try:
+        return serve(sys.stdin.buffer, sys.stdout.buffer)
+    except BrokenPipeError:
+        raise
+    except OSError as error:
+        return _not_read(error)
+
+
+def _not_read(error: OSError) -> int:
+    print(f"on_twisted: standard input can't be read: {error.strerror}", file=sys.stderr)
+    return _NOT_READ
 
 
 def main(words: List[str]) -> int:
@@ -92,18 +127,4 @@ def main(words: List[str]) -> int:
     arguments = _arguments(words)
     be_quiet()
     install()
-    if arguments.many:
-        return with_room(lambda: serve(sys.stdin.buffer, sys.stdout.buffer))
-
-    def once() -> int:
-        try:
-            data = sys.stdin.buffer.read(grammar.MOST_BYTES + 1)
-            status, output, errors = answer(data, arguments.batches)
-            sys.stdout.buffer.write(output)
-            sys.stdout.buffer.flush()
-            sys.stderr.buffer.write(errors)
-        except OSError:
-            return 4
-        return status
-
-    return with_room(once)
+    return with_room(_serve_all if arguments.many else lambda: _once(arguments.batches))

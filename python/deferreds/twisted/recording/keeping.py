@@ -119,6 +119,7 @@ class Keeping:
         elif not said.is_whole:
             run.problems.append((_beginning(said),))
         run.places = read_places(places) if places is not None else run.places
+        run.tick = said.tick
         files[".html"] = Page(run).html()
         return run.counts
 

@@ -1,0 +1,141 @@
+"""Two runs beside each other, as a page that runs nothing and as a text."""
+
+from __future__ import annotations
+
+from typing import Iterator, List, Optional
+
+from .compared import Compared, Differing, Side
+from .lines import WORDS
+from .markup import isolated
+from .page import asset, policy_hash
+from .records import Record, Row, ended
+from .report import Severity
+from .shapes import CLASSES, SIGNS
+from .texts import Html, clipped, escaped, joined, visible
+
+#: how many of the common lines stand above the first that differs, and how many lines and outcomes are shown at most
+_BEFORE, MOST_LINES, MOST_OUTCOMES = 8, 2_000, 200
+_MOST_LINE, _MOST_VALUE, _DEEPEST = 200, 200, 12
+
+
+class ComparedPage:
+    """Writes the page."""
+
+    def __init__(self, compared: Compared) -> None:
+        self._compared = compared
+        self._sides = (compared.first, compared.second)
+
+    def html(self) -> Html:
+        """The whole page."""
+        style = asset("style.css")
+        policy = f"default-src 'none'; style-src '{policy_hash(style)}'; base-uri 'none'; form-action 'none'"
+        names = [escaped(side.run.title) for side in self._sides]
+        return joined(
+            [
+                Html('<!doctype html><html lang=en><head><meta charset=utf-8><meta name=viewport content="width=device-width">'),
+                Html(f'<meta http-equiv=Content-Security-Policy content="{policy}">'),
+                Html(f"<title>{names[0]} | {names[1]}</title><style>{style}</style></head><body class=compared><main>"),
+                Html(f"<h1><bdi>{names[0]}</bdi> and <bdi>{names[1]}</bdi></h1>"),
+                Html(f'<p><span class="verdict {self._look()}">{escaped(self._compared.verdict)}</span></p>'),
+                *(self._about(side) for side in self._sides),
+                *self._outcomes(),
+                *self._lines(),
+                Html("</main></body></html>\n"),
+            ]
+        )
+
+    def _look(self) -> str:
+        return "clean" if self._compared.is_same else "left"
+
+    @staticmethod
+    def _about(side: Side) -> Html:
+        problems = "".join(f"; {escaped(text)}" for text in _report(side))
+        return Html(f"<p class=facts>{isolated(side.run.title)}: {escaped(side.run.counts)}{problems}</p>")
+
+    def _outcomes(self) -> Iterator[Html]:
+        differing = self._compared.outcomes
+        if not differing:
+            return
+        heads = "".join(f"<th>{isolated(side.run.title)}</th>" for side in self._sides)
+        rows = joined(self._outcome(one) for one in differing[:MOST_OUTCOMES])
+        yield Html(f"<h2>Outcomes that differ</h2><table class=both><tr><th>Name</th>{heads}</tr>{rows}</table>")
+        if len(differing) > MOST_OUTCOMES:
+            yield Html(f"<p class=facts>and {len(differing) - MOST_OUTCOMES} more</p>")
+
+    def _outcome(self, one: Differing) -> Html:
+        cells = joined(self._end(record) for record in (one.first, one.second))
+        return Html(f'<tr><td class="mono name">{escaped(one.name or "-")}</td>{cells}</tr>')
+
+    @staticmethod
+    def _end(record: Optional[Record]) -> Html:
+        if record is None:
+            return Html("<td class=facts>isn't made</td>")
+        end = ended(record.end)
+        shown = isolated(clipped(record.end, _MOST_VALUE))
+        return Html(f'<td class="mono value">#{record.number} <span class="state t-{CLASSES[end]}">{SIGNS[end]}</span> {shown}</td>')
+
+    def _lines(self) -> Iterator[Html]:
+        common, sides = self._compared.common, self._sides
+        first = max(0, common - _BEFORE)
+        rows = [side.run.fold.rows for side in sides]
+        last = min(max(map(len, rows)), common + MOST_LINES)
+        yield Html("<h2>From the first line that differs on</h2>" if last > common else "<h2>The last lines</h2>")
+        if first:
+            yield Html(f"<p class=facts>{first} lines before these are the same</p>")
+        heads = "".join(f"<th>{isolated(side.run.title)}</th>" for side in sides)
+        yield Html(f"<table class=both><tr>{heads}</tr>")
+        for place in range(first, common):
+            yield Html(f"<tr class=facts><td colspan=2>{_cell(rows[0][place])}</td></tr>")
+        for place in range(common, last):
+            yield Html(f"<tr>{''.join(self._line(one, place) for one in rows)}</tr>")
+        yield Html("</table>")
+        for side, one in zip(sides, rows):
+            if len(one) > last:
+                yield Html(f"<p class=facts>{isolated(side.run.title)} has {len(one) - last} more lines</p>")
+
+    @staticmethod
+    def _line(rows: List[Row], place: int) -> Html:
+        if place >= len(rows):
+            return Html("<td></td>")
+        fails = " f" if rows[place].entry.fails else ""
+        return Html(f'<td class="line{fails}">{_cell(rows[place])}</td>')
+
+
+def _cell(row: Row) -> Html:
+    """A line with its number, indented as deep as it lies."""
+    line, entry = clipped(row.entry.line, _MOST_LINE), row.entry
+    shown = isolated(line)
+    if entry.word in WORDS:
+        shown = Html(f"<b class=k-{entry.word}>{entry.word}</b>{isolated(line[len(entry.word) :])}")
+    deep = f"<i class=d{min(row.depth, _DEEPEST)}></i>" if row.depth else ""
+    return Html(f"<span class=n>{row.place + 1}</span>{deep}<span class=mono>{shown}</span>")
+
+
+def _report(side: Side) -> List[str]:
+    """How many rows a run's report has."""
+    report = side.run.report
+    counts = ((Severity.BAD, "to look at"), (Severity.LEFT, "left at the end"), (Severity.NOTE, "to note"))
+    return [f"{report.count(severity)} {word}" for severity, word in counts if report.count(severity)]
+
+
+def text_lines(compared: Compared) -> Iterator[str]:
+    """The comparison for a terminal, without colours: `-` is of the first run, `+` of the second."""
+    sides = (("-", compared.first), ("+", compared.second))
+    for sign, side in sides:
+        yield visible("; ".join([f"{sign} {side.run.title}: {side.run.counts}", *_report(side)]))
+    yield compared.verdict
+    for one in compared.outcomes:
+        for sign, record in (("-", one.first), ("+", one.second)):
+            end = f"#{record.number} {clipped(record.end, _MOST_VALUE)}" if record is not None else "isn't made"
+            yield visible(f"{sign} {one.name or '-'}: {end}")
+    yield ""
+    common = compared.common
+    for row in compared.first.run.fold.rows[max(0, common - _BEFORE) : common]:
+        yield _text(" ", row)
+    for sign, side in sides:
+        for row in side.run.fold.rows[common:]:
+            yield _text(sign, row)
+
+
+def _text(sign: str, row: Row) -> str:
+    return f"{sign} {row.place + 1:>5} {'│ ' * min(row.depth, _DEEPEST)}{visible(clipped(row.entry.line, _MOST_LINE))}"

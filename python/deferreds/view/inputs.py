@@ -1,0 +1,215 @@
+"""What a run is made of: a script that is run, a journal, what `./deferreds --json` has told, the places of a program."""
+
+from __future__ import annotations
+
+import json
+import os
+import subprocess
+import sys
+from pathlib import Path
+from typing import NamedTuple, Optional, Tuple
+
+from ..checkout import as_called, command_name
+from ..program import NOT_RUN, NotRun, found
+from .facts import NotFacts, read_facts
+from .lines import WORDS
+from .places import NOWHERE, SUFFIX, NotPlaces, Places, read_places
+from .refusals import read_refusal
+from .run import Run, run_of_facts, run_of_journal
+from .scripts import Script
+from .units import tick_beside
+
+#: the name of standard input, and of standard output
+STANDARD = "-"
+
+USAGE, NO_INPUT, NO_OUTPUT = 64, 66, 73
+_STOPPED, _REFUSED = 1, 2
+
+_SCRIPT, _FACTS, _JOURNAL = (
+    "it looks like a script, which is given without --journal and --json",
+    "it looks like what ./deferreds --json prints, which is given with --json",
+    "it looks like a journal, which is given with --journal",
+)
+
+
+class Failed(Exception):
+    """The view can't be made: why, and with which status the command ends."""
+
+    def __init__(self, status: int, why: str = "") -> None:
+        super().__init__(why)
+        self.status = status
+
+
+class Inputs(NamedTuple):
+    """What one run is made of, by the names of files: a script, a journal or facts, with the script of these, and places."""
+
+    script: Optional[str]
+    journal: Optional[str] = None
+    facts: Optional[str] = None
+    places: Optional[str] = None
+
+    @property
+    def main(self) -> str:
+        """The one that names the run."""
+        return self.journal or self.facts or self.script or STANDARD
+
+    def run(self) -> Run:
+        """The run. Raises Failed."""
+        run = self._run()
+        run.places = self._places()
+        run.tick = tick_beside(self.main) or tick_beside(self.script or STANDARD)
+        return run
+
+    def _run(self) -> Run:
+        if self.journal is None and self.facts is None:
+            name = self.script or STANDARD
+            return run_script(_read(name), name)
+        script = _script(_read(self.script)) if self.script is not None else Script()
+        if self.facts is not None:
+            return _facts(_read(self.facts), self.facts, script)
+        return _journal(_text(_read(self.main), self.main), self.main, script)
+
+    def _places(self) -> Places:
+        """The places that are given, or that stand beside the script or the journal. What is wrong with the latter is a warning."""
+        if self.places:
+            try:
+                return read_places(_text(_read(self.places), self.places))
+            except NotPlaces as why:
+                raise Failed(NO_INPUT, f"{self.places} doesn't tell places: {why}") from None
+        source = self.script or self.main
+        path = Path(source).with_suffix(SUFFIX) if source != STANDARD else None
+        if path is None or not path.is_file():
+            return NOWHERE
+        try:
+            return read_places(path.read_text(encoding="utf-8"))
+        except (OSError, UnicodeDecodeError, NotPlaces) as why:
+            reason = why.strerror if isinstance(why, OSError) else why
+            print(f"{command_name('view')}: {path} isn't used, since it doesn't tell places: {reason}", file=sys.stderr)
+            return NOWHERE
+
+
+def read_any(name: str) -> Run:
+    """The run of a script, of a journal or of facts, whichever the file is."""
+    data = _read(name)
+    text = data.decode("utf-8", "replace")
+    if not text.lstrip().startswith("{"):
+        run = _journal(_text(data, name), name, Script())
+    else:
+        run = _facts(data, name, Script()) if _begins_facts(text) else run_script(data, name)
+    run.tick = tick_beside(name)
+    return run
+
+
+def _begins_facts(text: str) -> bool:
+    return '"type":"start"' in text.lstrip().partition("\n")[0].replace(" ", "")
+
+
+def shown_name(name: str) -> str:
+    """The name of a file, as messages have it."""
+    return "standard input" if name == STANDARD else name
+
+
+def _title(name: str) -> str:
+    return shown_name(name) if name == STANDARD else Path(name).name
+
+
+def _read(name: str) -> bytes:
+    """What the file holds. Raises Failed."""
+    try:
+        return sys.stdin.buffer.read() if name == STANDARD else Path(name).read_bytes()
+    except OSError as error:
+        raise Failed(NO_INPUT, f"{shown_name(name)} can't be read: {error.strerror}") from None
+    except ValueError:
+        raise Failed(NO_INPUT, f"{name!r} is no name of a file") from None
+
+
+def _text(data: bytes, name: str) -> str:
+    try:
+        return data.decode("utf-8")
+    except UnicodeDecodeError:
+        raise Failed(NO_INPUT, f"{shown_name(name)} isn't UTF-8") from None
+
+
+def _script(data: bytes) -> Script:
+    """The script, as far as it can be read: the program says whether it is one."""
+    try:
+        return Script(json.loads(data))
+    except (ValueError, RecursionError):
+        return Script()
+
+
+def looks_like(text: str) -> str:
+    """What a text looks like that isn't what it was given as; an empty text where it looks like nothing that is known."""
+    begins, _, _ = text.lstrip().partition("\n")
+    if begins.startswith("{"):
+        return as_called(_FACTS if _begins_facts(text) else _SCRIPT)
+    return _JOURNAL if begins.partition(" ")[0] in WORDS else ""
+
+
+def _with_hint(why: str, text: str) -> str:
+    hint = looks_like(text)
+    return f"{why}; {hint}" if hint else why
+
+
+def _journal(text: str, name: str, script: Script) -> Run:
+    """The run of a journal. A text of which most lines aren't known is none, and a run of no line has nothing to show."""
+    if not text.strip():
+        raise Failed(NO_INPUT, f"{shown_name(name)} is empty: a journal has at least a line")
+    run = run_of_journal(text, _title(name), script)
+    if 2 * run.unknown > run.read:
+        why = "no line of it is known" if run.unknown == run.read else f"{run.unknown} of its {run.read} lines aren't known"
+        raise Failed(NO_INPUT, _with_hint(f"{shown_name(name)} isn't a journal: {why}", text))
+    return run
+
+
+def _facts(data: bytes, name: str, script: Script) -> Run:
+    text = _text(data, name)
+    try:
+        return run_of_facts(read_facts(text), script, _title(name))
+    except NotFacts as error:
+        raise Failed(NO_INPUT, _with_hint(f"{shown_name(name)}: {error}", text)) from None
+
+
+def run_script(data: bytes, name: str) -> Run:
+    """Runs a script, and takes what `./deferreds --json` tells of the run; the journal alone, where that word isn't known."""
+    status, told = _deferreds(data, "--json")
+    is_exact = status != USAGE
+    if not is_exact:
+        status, told = _deferreds(data)
+    if status not in (0, _STOPPED):
+        raise Failed(status, _why_not(status, data, name))
+    script, title = _script(data), _title(name)
+    if is_exact:
+        return _facts(told, name, script)
+    return run_of_journal(_text(told, name), title, script, status == _STOPPED)
+
+
+def _why_not(status: int, data: bytes, name: str) -> str:
+    """Why a script was not run to its end: what `./deferreds --why` says, where it is refused."""
+    refusal = read_refusal(_deferreds(data, "--why", errors=subprocess.DEVNULL)[1]) if status == _REFUSED else None
+    if refusal is None:
+        return f"{shown_name(name)} was not run to its end"
+    hint = "" if _is_json(data) else looks_like(data.decode("utf-8", "replace"))
+    return f"{shown_name(name)} is refused: {refusal}" + (f"; {hint}" if hint else "")
+
+
+def _is_json(data: bytes) -> bool:
+    try:
+        json.loads(data)
+        return True
+    except RecursionError:
+        return True
+    except ValueError:
+        return False
+
+
+def _deferreds(data: bytes, *words: str, errors: Optional[int] = None) -> Tuple[int, bytes]:
+    """The status and the output of `./deferreds` with these words; what it says beside is shown, or goes to `errors`."""
+    try:
+        program = os.fspath(found())
+        ran = subprocess.run([program, *words], input=data, stdout=subprocess.PIPE, stderr=errors, check=False)
+    except NotRun as why:
+        raise Failed(NOT_RUN, f"deferreds isn't run: {why}") from None
+    except OSError as error:
+        raise Failed(NOT_RUN, f"{program} can't be run: {error.strerror}") from None
+    return ran.returncode, ran.stdout
