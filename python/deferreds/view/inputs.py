@@ -1,4 +1,4 @@
-"""What a run is made of: a script that is run, a journal, what `./deferreds --json` has told, the places of a program."""
+"""What a run is made of: a script that is run, a journal, what `./deferreds --json` has printed, the places of a program."""
 
 from __future__ import annotations
 
@@ -171,7 +171,7 @@ def _facts(data: bytes, name: str, script: Script) -> Run:
 
 
 def run_script(data: bytes, name: str) -> Run:
-    """Runs a script, and takes what `./deferreds --json` tells of the run; the journal alone, where that word isn't known."""
+    """Runs a script, and reads what `./deferreds --json` prints of the run; the journal alone, where that word isn't known."""
     status, told = _deferreds(data, "--json")
     is_exact = status != USAGE
     if not is_exact:

@@ -1,4 +1,4 @@
-"""Why a script is refused, as `./deferreds --why` tells it (docs/WHY.md), in a line."""
+"""Why a script is refused, as `./deferreds --why` says it (docs/WHY.md), in a line."""
 
 from __future__ import annotations
 
