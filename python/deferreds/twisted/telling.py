@@ -113,15 +113,23 @@ _Function = TypeVar("_Function", bound=Callable[..., Any])
 
 #: the code objects, by their ids, of the functions between which and what they call an observer may be quiet
 switches: Set[int] = set()
+#: those around which nobody has to look who calls: the switches, and the functions that run once that was asked
+looked_round: Set[int] = set()
 #: their names, by which others are left out sooner
-switching_names: Set[str] = set()
+looked_round_names: Set[str] = set()
 
 
 def switching(function: _Function) -> _Function:
     """The function, which sets whether Twisted's own code acts."""
+    switches.add(id(getattr(function, "__code__")))
+    return looked(function)
+
+
+def looked(function: _Function) -> _Function:
+    """The function, which runs only where it was asked before who calls."""
     code: CodeType = getattr(function, "__code__")
-    switches.add(id(code))
-    switching_names.add(code.co_name)
+    looked_round.add(id(code))
+    looked_round_names.add(code.co_name)
     return function
 
 

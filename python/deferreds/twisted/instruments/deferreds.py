@@ -34,6 +34,7 @@ from ..telling import (
     count_elsewhere,
     is_dead_reference,
     is_deferred,
+    looked,
     observers_on,
     refuse_elsewhere,
     switching,
@@ -450,6 +451,7 @@ def _parts(positional: object, by_name: object) -> List[object]:
     return parts
 
 
+@looked
 def _tell_pair(
     watcher: Observer,
     deferred: Deferred[Any],
@@ -525,6 +527,7 @@ def _run_side(
         record.ran = True
 
 
+@looked
 def _run_own_side(
     call: Callable[..., Any], watcher: Observer, record: Record, /, *args: Any, **kwargs: Any
 ) -> object:
@@ -699,6 +702,7 @@ def _ends_inline(watcher: Observer) -> bool:
     return "inline" in watcher.kinds and sys._getframe(3).f_code is _inline_code
 
 
+@looked
 def _fire(
     watcher: Observer, deferred: Deferred[Any], record: Record, result: object, outcome: Outcome
 ) -> None:
@@ -869,6 +873,7 @@ def _cancelled(deferred: Deferred[Any], cancel: Callable[[Any], None]) -> None:
         watcher.act(action, _tell_cancel, watcher, deferred, cancel)
 
 
+@looked
 def _tell_cancel(
     watcher: Observer, deferred: Deferred[Any], cancel: Callable[[Any], None]
 ) -> None:

@@ -17,7 +17,7 @@ from twisted import logger
 from twisted.internet import base, defer, task, threads
 from twisted.python import context, failure, log
 
-from ..telling import is_dead_reference, switches, switching_names
+from ..telling import is_dead_reference, looked_round, looked_round_names, switches
 
 #: the files of Twisted's code that performs actions
 _ACTING = {module.__file__ for module in (base, defer, task, threads, context, failure)}
@@ -72,7 +72,7 @@ class Inside(NamedTuple):
 
 
 class _Files(Dict[str, Optional[bool]]):
-    """By the name of a file, whether its code is a program's: None, where it is that of what watches Twisted, which may switch."""
+    """By the name of a file, whether its code is a program's: None, where it is that of what watches Twisted."""
 
     def __missing__(self, file: str) -> Optional[bool]:
         found = None if file.startswith(_WATCHING) else file not in _ACTING and not file.startswith("<frozen")
@@ -87,14 +87,14 @@ _getframe = sys._getframe
 def is_entered(around: int) -> bool:
     """Whether the program's code was entered from inside Twisted's, as `entry` finds it.
 
-    The frames of this and of so many around it are known to be neither the program's nor where Twisted began to act.
+    The frames of this and of so many around it are known to be neither the program's nor ones around which nobody has to look.
     """
     frame: Optional[FrameType] = _getframe(around + 1)
     while frame is not None:
         code = frame.f_code
         is_programs = _FILES[code.co_filename]
         if is_programs is None:
-            if code.co_name in switching_names and id(code) in switches:
+            if code.co_name in looked_round_names and id(code) in looked_round:
                 return False
         elif is_programs:
             return True
