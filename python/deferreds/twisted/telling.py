@@ -99,9 +99,7 @@ _waited_for: Optional[List[type]] = getattr(defer, "_DEFERRED_SUBCLASSES", None)
 
 def is_deferred(value: object) -> bool:
     """Whether Twisted takes it for a Deferred. (`isinstance` takes long, since Twisted's class is an abstract one.)"""
-    if _waited_for is None:
-        return Deferred in type(value).__mro__
-    return type(value) in _waited_for
+    return Deferred in type(value).__mro__ if _waited_for is None else type(value) in _waited_for
 
 
 def is_dead_reference(value: object) -> bool:
@@ -340,7 +338,8 @@ class Watching:
 
     def __enter__(self) -> "Observer":
         observer = self._observer
-        self._before, watched.observer = watched.observer, observer
+        in_thread = watched.__dict__
+        self._before, in_thread["observer"] = in_thread.get("observer"), observer
         if not observer.is_on:
             observer.is_on, observer.thread = True, get_ident()
             observers_on.append(observer)

@@ -49,10 +49,10 @@ DeferredList: Any = defer.DeferredList
 _init = Deferred.__init__
 _add_callbacks: Callable[..., Any] = Deferred.addCallbacks
 _chain_deferred = Deferred.chainDeferred
-_start = renamed(Deferred._startRunCallbacks, "result", "_dv_result", "_dv_result")
-_run_callbacks = renamed(Deferred._runCallbacks, "result", "_dv_result", "_dv_result")
+_start: Callable[..., None] = renamed(Deferred._startRunCallbacks, "result", "_dv_result", "_dv_result")
+_run_callbacks: Callable[..., None] = renamed(Deferred._runCallbacks, "result", "_dv_result", "_dv_result")
 #: the same, which tells what it sets
-_run_telling = renamed(Deferred._runCallbacks, "result", "_dv_result", "_dv_told_result")
+_run_telling: Callable[..., None] = renamed(Deferred._runCallbacks, "result", "_dv_result", "_dv_told_result")
 _continuation = Deferred._continuation
 _pause = Deferred.pause
 _unpause = Deferred.unpause
@@ -223,8 +223,7 @@ def _tell_taken(watcher: Observer, record: Record, giver: Record) -> None:
 
 def _instrumented_init(self: Deferred[Any], canceller: Optional[Canceller] = None) -> None:
     if not observers_on:
-        _init(self, canceller)
-        return
+        return _init(self, canceller)
     watcher = watched.observer
     if watcher is None:
         count_elsewhere()
@@ -653,8 +652,7 @@ def _fires_as_twisted_does(other: object) -> bool:
 
 def _instrumented_start(self: Any, result: object) -> None:
     if not observers_on:
-        _start(self, result)
-        return
+        return _start(self, result)
     watcher = watched.observer
     if watcher is None:
         refuse_elsewhere(self)
@@ -774,12 +772,10 @@ def _instrumented_continuation(self: Deferred[Any]) -> Any:
 
 def _instrumented_run(self: Deferred[Any]) -> None:
     if not observers_on:
-        _run_callbacks(self)
-        return
+        return _run_callbacks(self)
     watcher = watched.observer
     if watcher is None or self._runningCallbacks or not self.callbacks:
-        _run_callbacks(self)
-        return
+        return _run_callbacks(self)
     givers: List[Tuple[Deferred[Any], int]] = []
     _givers.append(givers)
     try:

@@ -11,7 +11,7 @@ import os
 import sys
 import weakref
 from types import FrameType
-from typing import Any, Dict, Iterator, NamedTuple, Optional
+from typing import Any, Dict, Iterator, NamedTuple, Optional, Set
 
 from twisted import logger
 from twisted.internet import base, defer, task, threads
@@ -71,16 +71,19 @@ class Inside(NamedTuple):
     is_uncalled: bool
 
 
-class _Files(Dict[str, Optional[bool]]):
-    """By the name of a file, whether its code is a program's: None, where it is that of what watches Twisted."""
+class _Files(Dict[str, bool]):
+    """By the name of a file, whether its code is a program's."""
 
-    def __missing__(self, file: str) -> Optional[bool]:
-        found = None if file.startswith(_WATCHING) else file not in _ACTING and not file.startswith("<frozen")
-        self[file] = found
+    def __missing__(self, file: str) -> bool:
+        found = self[file] = file not in _ACTING and not file.startswith((_WATCHING, "<frozen"))
+        if not found:
+            _no_programs.add(file)
         return found
 
 
 _FILES = _Files()
+#: the files that were met and are no program's. (To ask a set takes Python less long.)
+_no_programs: Set[str] = set()
 _getframe = sys._getframe
 
 
@@ -92,12 +95,12 @@ def is_entered(around: int) -> bool:
     frame: Optional[FrameType] = _getframe(around + 1)
     while frame is not None:
         code = frame.f_code
-        is_programs = _FILES[code.co_filename]
-        if is_programs is None:
+        file = code.co_filename
+        if file not in _ACTING:
             if code.co_name in looked_round_names and id(code) in looked_round:
                 return False
-        elif is_programs:
-            return True
+            if file not in _no_programs and _FILES[file]:
+                return True
         frame = frame.f_back
     return False
 
