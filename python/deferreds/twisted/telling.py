@@ -134,7 +134,8 @@ def looked(function: _Function) -> _Function:
 def know_attributes(first: object, names: Iterable[str]) -> None:
     """Has Python know which attributes objects of a class may have later, beside those that each has from the beginning.
 
-    It finds them soonest where the first object of the class has all, and where they are 30 at most.
+    It finds them soonest where the first object of the class has all, and where they are 29 at most: with one more, each object that
+    has the last of them gets a dictionary of its own, in which all are found later.
     """
     for name in names:
         setattr(first, name, getattr(first, name))

@@ -107,6 +107,15 @@ class Spots:
         self._note = self._noted.extend
         #: what was noted last where the program itself is in a file of its own
         self._last: object = None
+        #: the names of things, once there is one
+        self._names: Optional[LateNames] = None
+
+    def thing(self, kind: str, made_at: Spot) -> Thing:
+        """Something of this kind that is made there, with a name."""
+        names = self._names
+        if names is None:
+            names = self._names = LateNames()
+        return names.thing(kind, made_at)
 
     def note(self, action: object, first: int) -> None:
         """An action is performed, which isn't one that makes a Deferred: that is located.
