@@ -99,9 +99,7 @@ _waited_for: Optional[List[type]] = getattr(defer, "_DEFERRED_SUBCLASSES", None)
 
 def is_deferred(value: object) -> bool:
     """Whether Twisted takes it for a Deferred. (`isinstance` takes long, since Twisted's class is an abstract one.)"""
-    if _waited_for is None:
-        return Deferred in type(value).__mro__
-    return type(value) in _waited_for
+    return Deferred in type(value).__mro__ if _waited_for is None else type(value) in _waited_for
 
 
 def is_dead_reference(value: object) -> bool:
@@ -113,22 +111,31 @@ _Function = TypeVar("_Function", bound=Callable[..., Any])
 
 #: the code objects, by their ids, of the functions between which and what they call an observer may be quiet
 switches: Set[int] = set()
+#: those around which nobody has to look who calls: the switches, and the functions that run once that was asked
+looked_round: Set[int] = set()
 #: their names, by which others are left out sooner
-switching_names: Set[str] = set()
+looked_round_names: Set[str] = set()
 
 
 def switching(function: _Function) -> _Function:
     """The function, which sets whether Twisted's own code acts."""
+    switches.add(id(getattr(function, "__code__")))
+    return looked(function)
+
+
+def looked(function: _Function) -> _Function:
+    """The function, which runs only where it was asked before who calls."""
     code: CodeType = getattr(function, "__code__")
-    switches.add(id(code))
-    switching_names.add(code.co_name)
+    looked_round.add(id(code))
+    looked_round_names.add(code.co_name)
     return function
 
 
 def know_attributes(first: object, names: Iterable[str]) -> None:
     """Has Python know which attributes objects of a class may have later, beside those that each has from the beginning.
 
-    It finds them soonest where the first object of the class has all, and where they are 30 at most.
+    It finds them soonest where the first object of the class has all, and where they are 29 at most: with one more, each object that
+    has the last of them gets a dictionary of its own, in which all are found later.
     """
     for name in names:
         setattr(first, name, getattr(first, name))
@@ -332,7 +339,8 @@ class Watching:
 
     def __enter__(self) -> "Observer":
         observer = self._observer
-        self._before, watched.observer = watched.observer, observer
+        in_thread = watched.__dict__
+        self._before, in_thread["observer"] = in_thread.get("observer"), observer
         if not observer.is_on:
             observer.is_on, observer.thread = True, get_ident()
             observers_on.append(observer)

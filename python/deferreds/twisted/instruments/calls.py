@@ -14,10 +14,11 @@ _cancel = base.DelayedCall.cancel
 
 
 def _instrumented_cancel(self: base.DelayedCall) -> None:
-    watcher = observer_of("clock") if observers_on else None
+    if not observers_on:
+        return _cancel(self)
+    watcher = observer_of("clock")
     if watcher is None:
-        _cancel(self)
-        return
+        return _cancel(self)
     refuse_timer(watcher, self, "cancel")
     waiting = waiting_of(watcher, self)
     delayed = delayed_of(watcher, self)
@@ -28,6 +29,7 @@ def _instrumented_cancel(self: base.DelayedCall) -> None:
         watcher.act(Action(["cancelCall", delayed.thing]), _tell_cancelled, watcher, self, delayed)
     if waiting is not None and is_active:
         watcher.pace.end(waiting)
+    return None
 
 
 def _tell_cancelled(watcher: Observer, call: base.DelayedCall, delayed: Delayed) -> None:

@@ -34,6 +34,7 @@ from ..telling import (
     count_elsewhere,
     is_dead_reference,
     is_deferred,
+    looked,
     observers_on,
     refuse_elsewhere,
     switching,
@@ -48,10 +49,10 @@ DeferredList: Any = defer.DeferredList
 _init = Deferred.__init__
 _add_callbacks: Callable[..., Any] = Deferred.addCallbacks
 _chain_deferred = Deferred.chainDeferred
-_start = renamed(Deferred._startRunCallbacks, "result", "_dv_result", "_dv_result")
-_run_callbacks = renamed(Deferred._runCallbacks, "result", "_dv_result", "_dv_result")
+_start: Callable[..., None] = renamed(Deferred._startRunCallbacks, "result", "_dv_result", "_dv_result")
+_run_callbacks: Callable[..., None] = renamed(Deferred._runCallbacks, "result", "_dv_result", "_dv_result")
 #: the same, which tells what it sets
-_run_telling = renamed(Deferred._runCallbacks, "result", "_dv_result", "_dv_told_result")
+_run_telling: Callable[..., None] = renamed(Deferred._runCallbacks, "result", "_dv_result", "_dv_told_result")
 _continuation = Deferred._continuation
 _pause = Deferred.pause
 _unpause = Deferred.unpause
@@ -222,8 +223,7 @@ def _tell_taken(watcher: Observer, record: Record, giver: Record) -> None:
 
 def _instrumented_init(self: Deferred[Any], canceller: Optional[Canceller] = None) -> None:
     if not observers_on:
-        _init(self, canceller)
-        return
+        return _init(self, canceller)
     watcher = watched.observer
     if watcher is None:
         count_elsewhere()
@@ -450,6 +450,7 @@ def _parts(positional: object, by_name: object) -> List[object]:
     return parts
 
 
+@looked
 def _tell_pair(
     watcher: Observer,
     deferred: Deferred[Any],
@@ -525,6 +526,7 @@ def _run_side(
         record.ran = True
 
 
+@looked
 def _run_own_side(
     call: Callable[..., Any], watcher: Observer, record: Record, /, *args: Any, **kwargs: Any
 ) -> object:
@@ -650,8 +652,7 @@ def _fires_as_twisted_does(other: object) -> bool:
 
 def _instrumented_start(self: Any, result: object) -> None:
     if not observers_on:
-        _start(self, result)
-        return
+        return _start(self, result)
     watcher = watched.observer
     if watcher is None:
         refuse_elsewhere(self)
@@ -699,6 +700,7 @@ def _ends_inline(watcher: Observer) -> bool:
     return "inline" in watcher.kinds and sys._getframe(3).f_code is _inline_code
 
 
+@looked
 def _fire(
     watcher: Observer, deferred: Deferred[Any], record: Record, result: object, outcome: Outcome
 ) -> None:
@@ -770,12 +772,10 @@ def _instrumented_continuation(self: Deferred[Any]) -> Any:
 
 def _instrumented_run(self: Deferred[Any]) -> None:
     if not observers_on:
-        _run_callbacks(self)
-        return
+        return _run_callbacks(self)
     watcher = watched.observer
     if watcher is None or self._runningCallbacks or not self.callbacks:
-        _run_callbacks(self)
-        return
+        return _run_callbacks(self)
     givers: List[Tuple[Deferred[Any], int]] = []
     _givers.append(givers)
     try:
@@ -869,6 +869,7 @@ def _cancelled(deferred: Deferred[Any], cancel: Callable[[Any], None]) -> None:
         watcher.act(action, _tell_cancel, watcher, deferred, cancel)
 
 
+@looked
 def _tell_cancel(
     watcher: Observer, deferred: Deferred[Any], cancel: Callable[[Any], None]
 ) -> None:

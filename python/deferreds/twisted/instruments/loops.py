@@ -31,7 +31,7 @@ class Known(NamedTuple):
 
 def _known(watcher: Optional[Observer], loop: object) -> Optional[Known]:
     """What is known of a LoopingCall, if it is told as a loop."""
-    found = getattr(loop, "__dict__", {}).get("_dv_loop")
+    found = getattr(loop, "_dv_loop") if isinstance(loop, task.LoopingCall) else None
     return found[1] if found is not None and found[0] is watcher else None
 
 
@@ -39,7 +39,7 @@ def _instrumented_start(self: task.LoopingCall, interval: float, now: bool = Tru
     watcher = observer_of("loop")
     if watcher is None or watcher.quiet or not _can_be_told(watcher, self, interval):
         if watcher is not None and not watcher.quiet:
-            self.__dict__.pop("_dv_loop", None)
+            setattr(self, "_dv_loop", None)
         return _start(self, interval, now)
     return _act_start(watcher, self, interval, now)
 
@@ -61,7 +61,7 @@ def _act_start(
         if watcher.pace is not None:
             paced = watcher.pace.start_loop(interval)
             action[3] = Time(seconds_of(paced.interval))
-        loop.__dict__["_dv_loop"] = (watcher, Known(thing, body, paced))
+        setattr(loop, "_dv_loop", (watcher, Known(thing, body, paced)))
         return _start(loop, interval, now)
 
     return watcher.act(action, start)
@@ -161,6 +161,7 @@ def _add_second(
 
 def install() -> None:
     """Puts the instrument into the class."""
+    setattr(task.LoopingCall, "_dv_loop", None)  # an object whose `__dict__` is asked for is slower from then on
     setattr(task.LoopingCall, "start", _instrumented_start)
     setattr(task.LoopingCall, "stop", _instrumented_stop)
     setattr(task.LoopingCall, "reset", _instrumented_reset)

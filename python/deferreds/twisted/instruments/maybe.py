@@ -8,7 +8,7 @@ from typing import Any, Callable, List
 from twisted.internet import defer, task
 from twisted.internet.defer import Deferred
 
-from ..telling import Action, Observer, Record, is_deferred, observers_on, watched
+from ..telling import Action, Observer, Record, is_deferred, looked, observers_on, watched
 
 _maybe = defer.maybeDeferred
 
@@ -86,6 +86,7 @@ def _act(watcher: Observer, f: Callable[..., Any], args: Any, kwargs: Any) -> An
     return watcher.act(action, make)
 
 
+@looked
 def _of_twisteds_own(
     watcher: Observer, f: Callable[..., Any], args: Any, kwargs: Any
 ) -> Deferred[Any]:

@@ -63,7 +63,7 @@ def waiting_of(watcher: Optional[Observer], call: Any) -> Optional[Waiting]:
 
 def _instrumented_later(self: Any, delay: float, f: Callable[..., Any], *args: Any, **kwargs: Any) -> Any:
     if watched.is_resting and watched.observer is None:
-        return _later(self, delay, unwatched(f), *args, **kwargs)
+        return _later(self, delay, _Unwatched(f), *args, **kwargs)
     watcher = observer_of("clock") if observers_on else None
     if watcher is None or not has_clock(watcher, self):
         return _later(self, delay, f, *args, **kwargs)
@@ -77,12 +77,6 @@ def _instrumented_later(self: Any, delay: float, f: Callable[..., Any], *args: A
         watcher.problem("a delayed call from inside Twisted", "clock")
         return _later(self, delay, f, *args, **kwargs)
     return _act_later(watcher, self, delay, f, args, kwargs)
-
-
-def unwatched(f: Callable[..., Any]) -> Callable[..., Any]:
-    """The function, watched by nobody while it runs."""
-
-    return _Unwatched(f)
 
 
 class _Unwatched:
@@ -199,23 +193,26 @@ def _logs_of_reactor(frame: Optional[FrameType]) -> bool:
 
 
 def _instrumented_turn(self: Any) -> None:
-    watcher = observer_of("clock") if observers_on else None
-    if watcher is not None and has_clock(watcher, self):
-        watcher.pace.begin_turn()
+    if observers_on:
+        watcher = observer_of("clock")
+        if watcher is not None and has_clock(watcher, self):
+            watcher.pace.begin_turn()
     try:
         _turn(self)
     finally:
-        after = observer_of("clock") if observers_on else None  # one may have come on, or have taken over
-        if after is not None and after.clock is self:
-            after.pace.end_turn()
+        if observers_on:  # one may have come on, or have taken over
+            after = observer_of("clock")
+            if after is not None and after.clock is self:
+                after.pace.end_turn()
 
 
 def _instrumented_insert(self: Any) -> None:
     """The reactor does this right before it looks what is due."""
     _insert(self)
-    watcher = observer_of("clock") if observers_on else None
-    if watcher is not None and watcher.clock is self:
-        watcher.pace.look()
+    if observers_on:
+        watcher = observer_of("clock")
+        if watcher is not None and watcher.clock is self:
+            watcher.pace.look()
 
 
 def move(watcher: Observer, call: Any, delayed: Delayed, how: Callable[[Any, float], None], seconds: float) -> None:

@@ -66,7 +66,7 @@ class Known:
 
 
 def _known(watcher: Optional[Observer], cooperative: Any) -> Optional[Known]:
-    found = cooperative.__dict__.get("_dv_task")
+    found = cooperative._dv_task
     return found[1] if found is not None and found[0] is watcher else None
 
 
@@ -87,7 +87,7 @@ def _instrumented_init(self: Any, iterator: Iterator[Any], cooperator: Any) -> N
     if not cooperator._started or cooperator._stopped:
         watcher.problem("a Cooperator that isn't started", "cooperator")
     known = Known(watcher.thing("task"), watcher.new_body("steps"))
-    self.__dict__["_dv_task"] = (watcher, known)
+    self._dv_task = (watcher, known)
     watcher.texts.bind(iterator, known.thing)
     action = Action(["cooperate", known.thing, known.steps])
     watcher.act(action, _tell_made, watcher, known, self, iterator, cooperator)
@@ -374,6 +374,7 @@ def install() -> None:
         "stop": _instrumented_stop_all,
         "start": _instrumented_start_all,
     }
+    setattr(_Task, "_dv_task", None)  # an object whose `__dict__` is asked for is slower from then on
     for name, instrument in of_tasks.items():
         setattr(_Task, name, instrument)
     for name, instrument in of_cooperators.items():

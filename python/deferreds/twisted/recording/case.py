@@ -92,16 +92,21 @@ class RecordedCase:
         if self._waits:
             before["_cleanUp"] = own.get("_cleanUp", _MISSING)
             own["_cleanUp"] = functools.partial(self._clean_up, case._cleanUp)
-        self._watched_before = watched.observer, watched.is_resting
-        watched.observer, watched.is_resting = None, True
+        in_thread = watched.__dict__  # one look-up of the thread's own
+        self._watched_before = in_thread.get("observer"), in_thread.get("is_resting", False)
+        in_thread["observer"], in_thread["is_resting"] = None, True
 
     def __exit__(self, *error: object) -> None:
         if self._while_reactor_runs is not None:
             self._stop_watching()
-        watched.observer, watched.is_resting = self._watched_before
+        in_thread = watched.__dict__
+        in_thread["observer"], in_thread["is_resting"] = self._watched_before
         own = self._case.__dict__
         for name, before in self._before.items():
-            _put_back(own, name, before)
+            if before is _MISSING:
+                own.pop(name, None)
+            else:
+                own[name] = before
 
     def _stop_watching(self) -> None:
         """The reactor doesn't run for the test any more."""
@@ -216,7 +221,7 @@ class _Handed(Deferred[Any]):
         if isinstance(value, Failure):
             super().errback(value)
         else:
-            super().callback(None if isinstance(value, Deferred) else value)
+            super().callback(None if value is None or isinstance(value, Deferred) else value)
 
 
 class _Given:
@@ -286,7 +291,8 @@ class AtRest:
     __slots__ = ("_before",)
 
     def __enter__(self) -> None:
-        self._before, watched.observer = watched.observer, None
+        in_thread = watched.__dict__
+        self._before, in_thread["observer"] = in_thread.get("observer"), None
 
     def __exit__(self, *error: object) -> None:
         watched.observer = self._before

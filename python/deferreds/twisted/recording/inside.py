@@ -11,13 +11,13 @@ import os
 import sys
 import weakref
 from types import FrameType
-from typing import Any, Dict, Iterator, NamedTuple, Optional
+from typing import Any, Dict, Iterator, NamedTuple, Optional, Set
 
 from twisted import logger
 from twisted.internet import base, defer, task, threads
 from twisted.python import context, failure, log
 
-from ..telling import is_dead_reference, switches, switching_names
+from ..telling import is_dead_reference, looked_round, looked_round_names, switches
 
 #: the files of Twisted's code that performs actions
 _ACTING = {module.__file__ for module in (base, defer, task, threads, context, failure)}
@@ -71,33 +71,36 @@ class Inside(NamedTuple):
     is_uncalled: bool
 
 
-class _Files(Dict[str, Optional[bool]]):
-    """By the name of a file, whether its code is a program's: None, where it is that of what watches Twisted, which may switch."""
+class _Files(Dict[str, bool]):
+    """By the name of a file, whether its code is a program's."""
 
-    def __missing__(self, file: str) -> Optional[bool]:
-        found = None if file.startswith(_WATCHING) else file not in _ACTING and not file.startswith("<frozen")
-        self[file] = found
+    def __missing__(self, file: str) -> bool:
+        found = self[file] = file not in _ACTING and not file.startswith((_WATCHING, "<frozen"))
+        if not found:
+            _no_programs.add(file)
         return found
 
 
 _FILES = _Files()
+#: the files that were met and are no program's. (To ask a set takes Python less long.)
+_no_programs: Set[str] = set()
 _getframe = sys._getframe
 
 
 def is_entered(around: int) -> bool:
     """Whether the program's code was entered from inside Twisted's, as `entry` finds it.
 
-    The frames of this and of so many around it are known to be neither the program's nor where Twisted began to act.
+    The frames of this and of so many around it are known to be neither the program's nor ones around which nobody has to look.
     """
     frame: Optional[FrameType] = _getframe(around + 1)
     while frame is not None:
         code = frame.f_code
-        is_programs = _FILES[code.co_filename]
-        if is_programs is None:
-            if code.co_name in switching_names and id(code) in switches:
+        file = code.co_filename
+        if file not in _ACTING:
+            if code.co_name in looked_round_names and id(code) in looked_round:
                 return False
-        elif is_programs:
-            return True
+            if file not in _no_programs and _FILES[file]:
+                return True
         frame = frame.f_back
     return False
 

@@ -68,13 +68,17 @@ class _OwnFiles(Dict[str, bool]):
     def __missing__(self, file: str) -> bool:
         found = file == _REACTOR or (_FILES[file] and not file.startswith("<") and not _is_library(file))
         self[file] = found
-        if found and file != _REACTOR:
+        if not found:
+            _other_files.add(file)
+        elif file != _REACTOR:
             _own_files.add(file)
         return found
 
 
-#: those that were met and are the program's own, without that of the reactor
+#: those that were met and are the program's own, without that of the reactor, and those that aren't. (To ask a set takes Python less
+#: long.)
 _own_files: Set[str] = set()
+_other_files: Set[str] = set()
 _OWN_FILES = _OwnFiles()
 
 
@@ -103,6 +107,15 @@ class Spots:
         self._note = self._noted.extend
         #: what was noted last where the program itself is in a file of its own
         self._last: object = None
+        #: the names of things, once there is one
+        self._names: Optional[LateNames] = None
+
+    def thing(self, kind: str, made_at: Spot) -> Thing:
+        """Something of this kind that is made there, with a name."""
+        names = self._names
+        if names is None:
+            names = self._names = LateNames()
+        return names.thing(kind, made_at)
 
     def note(self, action: object, first: int) -> None:
         """An action is performed, which isn't one that makes a Deferred: that is located.
@@ -150,10 +163,13 @@ class Spots:
         return _spot_of(frame, maker) if name in _INNER else (maker or name, code, frame.f_lasti)
 
     def _look_round(self, noted: object, frame: Optional[FrameType]) -> None:
-        while frame is not None and not _OWN_FILES[frame.f_code.co_filename]:
+        while frame is not None:
+            code = frame.f_code
+            file = code.co_filename
+            if file not in _other_files and _OWN_FILES[file]:
+                self._note((noted, code, frame.f_lasti))
+                return
             frame = frame.f_back
-        if frame is not None:
-            self._note((noted, frame.f_code, frame.f_lasti))
 
     def forget(self) -> None:
         """Keeps nothing of what was noted."""

@@ -28,7 +28,7 @@ from ..texts import NULL, Outcome, Text, compact, weight_of
 from .bodies import Body, Run, Steps, Unsayable
 from .hiding import SECRETS, Hiding
 from .inside import CALLED, FINALIZED, KIND_OF_ACTION, MEDDLED, Inside, entry, is_entered, is_uncalled, worked_on
-from .places import LateNames, Spots, place, spot
+from .places import Spots, place, spot
 from .values import Values
 
 #: kinds of runs whose result is dropped
@@ -107,8 +107,6 @@ class Recorder(Observer):
     stack_room = _ROOM
     #: how many events come before those by which the runs of bodies count
     preceding = 0
-    #: the names of things, once there is one
-    _names: Optional[LateNames] = None
     #: what watches where the text of an object is asked for, once one was
     _aside: Optional[Aside] = None
 
@@ -158,10 +156,7 @@ class Recorder(Observer):
 
     def thing(self, kind: str) -> Thing:
         """A name for an object that is made."""
-        names = self._names
-        if names is None:
-            names = self._names = LateNames()
-        return names.thing(kind, spot())
+        return self.spots.thing(kind, spot())
 
     def locate(self, record: Record, by_twisted: bool = False) -> None:
         """Notes where the program makes a Deferred, or Twisted's own code for it."""
@@ -610,7 +605,7 @@ class Recorder(Observer):
 
 know_attributes(
     Recorder(),
-    ("is_on", "thread", "_told", "gave", "forwarded", "turn", "clock", "clock_base", "cooperator", "_names"),
+    ("is_on", "thread", "_told", "gave", "forwarded", "turn", "clock", "clock_base", "cooperator"),
 )
 
 
