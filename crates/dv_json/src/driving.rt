@@ -24,6 +24,8 @@ impl Driver for Marking {
 
     ghost ends = { Ends };
 
+    ghost took = { λ marked. marked.batches };
+
     fn start(&self, alloc: Global) -> Items<usize> {
         Items::new(alloc)
     }

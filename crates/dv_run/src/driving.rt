@@ -29,10 +29,15 @@ pub trait Driver {
     /// What is kept of the run.
     type End: Drop;
 
+    ghost use Rattle.std.specs.Prelude.{List};
+    ghost use Rattle.dv_posts.specs.Batches.{Batch};
     ghost use Rattle.dv_script.specs.declared.script.Script.{Script};
 
     /// What is known of that, by the script.
     ghost ends: { Script → Self.End → Type 0 };
+
+    /// The batches that the run took, by that.
+    ghost took: { Self.End → List Batch };
 
     /// Nothing is noted.
     fn start(&self, alloc: Global) -> Self::Notes;
@@ -53,7 +58,8 @@ pub trait Driver {
         J: JobSource,
         requires over { engine.phase ≡ Over }
         requires complete { AreComplete engine.script engine.batches }
-        ensures { IfOk result (ends engine.entry.script) };
+        ensures ends { IfOk result (ends engine.entry.script) }
+        ensures took { IfOk result (λ end. took end ≡ engine.entry.batches) };
 }
 
 /// Keeps the report of a run.
@@ -65,6 +71,8 @@ impl Driver for Reporting {
     type End = Report;
 
     ghost ends = { IsRun };
+
+    ghost took = { λ report. report.batches };
 
     fn start(&self, _alloc: Global) {}
 

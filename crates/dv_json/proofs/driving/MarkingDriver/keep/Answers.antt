@@ -3,8 +3,8 @@ use Rattle.dv_posts.specs.Batches.{joined}
 use Rattle.dv_posts.specs.Posts.{of}
 use Rattle.dv_json.proofs.driving.MarkingDriver.keep.Goals as goal
 
-pub returns-in_ok-remains_of-in-Ok : goal.returns-in_ok-remains_of-in-Ok
-returns-in_ok-remains_of-in-Ok g c =
+pub returns-in_ok-remains_of-in-Ok-clause-ends : goal.returns-in_ok-remains_of-in-Ok-clause-ends
+returns-in_ok-remains_of-in-Ok-clause-ends g c =
     let end = c.in-Ok.field-0 in
     let comes = c.in-Ok.ensures in
     record {
