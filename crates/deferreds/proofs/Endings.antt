@@ -1,16 +1,28 @@
 -- How the program ends, by how its task does.
-use Rattle.std.proofs.Common.{◌≡◌, ℕ, List, Bool, Option, Result, IfErr, IfOk}
+use Rattle.std.proofs.Common.{◌≡◌, ℕ, List, Bool, [], Option, None, Some, Result, IfErr, IfOk, inl, inr, codes, if◌then◌else◌}
+use Rattle.std.proofs.KnownBytes.{Keeps-refl}
 use Rattle.dv_engine.specs.declared.report.Report.{Report}
 use Rattle.dv_json.specs.Exit.{error_text as json_text, status as json_status}
 use Rattle.dv_json.specs.Lines.{GivesUp as GivesUpAsJson, HasRun}
+use Rattle.dv_json.specs.Replayed.{GivesUpIn, HasRunIn}
+use Rattle.dv_orders.specs.Reading.{batches_in}
+use Rattle.dv_orders.specs.declared.fault.OrderFault.{OrderFault}
 use Rattle.dv_output.specs.Exit.{error_text, status}
 use Rattle.dv_output.specs.declared.error.RunFault.{RunFault}
+use Rattle.dv_posts.specs.Batches.{Batch}
 use Rattle.dv_reader.specs.declared.error.ScriptFault.{ScriptFault}
+use Rattle.dv_replay.specs.Exit.{fault_refusal, fault_status, fault_text}
+use Rattle.dv_replay.specs.Replay as replay
+use Rattle.dv_replay.specs.Replay.{PrintsIn}
+use Rattle.dv_replay.specs.declared.error.ReplayFault.{ReplayFault}
 use Rattle.dv_run.specs.Headline.{Prints, Told}
 use Rattle.dv_run.specs.Run.{GivesUp}
+use Rattle.dv_run.specs.declared.words.Form.{Form}
+use Rattle.dv_run.specs.declared.words.Form.TheVariants as form
 use Rattle.dv_why.specs.Explaining.{ended_status, ended_text, Explains}
 use Rattle.dv_why.specs.declared.explaining.WhyFault.{WhyFault}
-use Rattle.deferreds.specs.Ending.{ExplainsScript, Runs, RunsAsJson}
+use Rattle.dv_run.specs.declared.words.Task.TheVariants as task
+use Rattle.deferreds.specs.Ending.{Does, ExplainsScript, Replays, Runs, RunsAsJson}
 
 pub runs : (ended : Result Report RunFault) (code : ℕ) (said : List ℕ) (input old new : Told) → IfOk ended (Prints input old new) → IfErr ended (λ fault. GivesUp fault input old new)
     → code ≡ status ended → said ≡ error_text ended → Runs code said input old new
@@ -24,4 +36,38 @@ pub explains : (ended : Result (Option ScriptFault) WhyFault) (code : ℕ) (said
     → code ≡ ended_status ended → said ≡ ended_text ended → ExplainsScript code said input old new
 explains ended code said input old new ok is says = record { ended = ended; ok = ok; status = is; text = says }
 
-pub ruleset endings = (runs, runs_as_json, explains)
+-- a run in given batches went to its end, or gave up
+pub replays_lines : (batches : List Batch) (report : Report) (code : ℕ) (said : List ℕ) (refusal : Option OrderFault) (input old new : Told) → PrintsIn batches input old new report
+    → code ≡ (if report.stopped then 1 else 0) → said ≡ [] → refusal ≡ None → Replays form.Lines batches code said refusal input old new
+replays_lines batches report code said refusal input old new prints is says accepted =
+    inl (record { report = report; prints = prints; ends = record { status = is; text = says; accepted = accepted } })
+
+pub fails_lines : (batches : List Batch) (fault : ReplayFault) (code : ℕ) (said : List ℕ) (refusal : Option OrderFault) (input old new : Told) → replay.GivesUp fault batches input old new
+    → code ≡ fault_status fault → said ≡ fault_text fault → refusal ≡ fault_refusal fault → Replays form.Lines batches code said refusal input old new
+fails_lines batches fault code said refusal input old new gives_up is says refused =
+    inr (record { fault = fault; gives_up = gives_up; ends = record { status = is; text = says; refused = refused } })
+
+pub replays_json : (batches : List Batch) (stopped : Bool) (code : ℕ) (said : List ℕ) (refusal : Option OrderFault) (input old new : Told) → HasRunIn batches input old new stopped
+    → code ≡ (if stopped then 1 else 0) → said ≡ [] → refusal ≡ None → Replays form.Json batches code said refusal input old new
+replays_json batches stopped code said refusal input old new runs is says accepted =
+    inl (record { stopped = stopped; runs = runs; ends = record { status = is; text = says; accepted = accepted } })
+
+pub fails_json : (batches : List Batch) (fault : ReplayFault) (code : ℕ) (said : List ℕ) (refusal : Option OrderFault) (input old new : Told) → GivesUpIn fault batches input old new
+    → code ≡ fault_status fault → said ≡ fault_text fault → refusal ≡ fault_refusal fault → Replays form.Json batches code said refusal input old new
+fails_json batches fault code said refusal input old new gives_up is says refused =
+    inr (record { fault = fault; gives_up = gives_up; ends = record { status = is; text = says; refused = refused } })
+
+-- the word was read, or it says no batches, or memory was refused to its reading
+pub replays_word : (form : Form) (workers : ℕ) (word : List ℕ) (batches : List Batch) (code : ℕ) (said : List ℕ) (refusal : Option OrderFault) (input old new : Told) → batches_in word ≡ Some batches
+    → Replays form batches code said refusal input old new → Does (task.Replay form workers) word code said refusal input old new
+replays_word form workers word batches code said refusal input old new says replays = inl (record { batches = batches; says = says; replays = replays })
+
+pub says_none : (form : Form) (workers : ℕ) (word : List ℕ) (code : ℕ) (said : List ℕ) (refusal : Option OrderFault) (input told : Told) → batches_in word ≡ None → code ≡ 64
+    → Does (task.Replay form workers) word code said refusal input told told
+says_none form workers word code said refusal input told none is = inr (inl (record { none = none; status = is; written = Keeps-refl told }))
+
+pub word_fails : (form : Form) (workers : ℕ) (word : List ℕ) (code : ℕ) (said : List ℕ) (refusal : Option OrderFault) (input told : Told) → code ≡ 3 → said ≡ codes "out of memory"
+    → Does (task.Replay form workers) word code said refusal input told told
+word_fails form workers word code said refusal input told is says = inr (inr (record { status = is; text = says; written = Keeps-refl told }))
+
+pub ruleset endings = (runs, runs_as_json, explains, replays_lines, fails_lines, replays_json, fails_json, replays_word, says_none, word_fails)

@@ -1,13 +1,23 @@
 -- How the program ends, by how what it did with its script has ended.
-use Rattle.std.specs.Prelude.{◌≡◌, ℕ, nat_eq, if◌then◌else◌, List, [], Bool, Option, Result, IfErr, IfOk, codes}
+use Rattle.std.specs.Prelude.{◌≡◌, ◌⊎◌, ℕ, nat_eq, if◌then◌else◌, List, [], Bool, Option, None, Some, Result, IfErr, IfOk, codes}
+use Rattle.std.specs.Io.KnownBytes.{Keeps}
 use Rattle.dv_engine.specs.declared.report.Report.{Report}
 use Rattle.dv_json.specs.Exit.{error_text as json_text, status as json_status}
 use Rattle.dv_json.specs.Lines.{GivesUp as GivesUpAsJson, HasRun}
+use Rattle.dv_json.specs.Replayed.{GivesUpIn, HasRunIn}
+use Rattle.dv_orders.specs.Reading.{batches_in}
+use Rattle.dv_orders.specs.declared.fault.OrderFault.{OrderFault}
 use Rattle.dv_output.specs.Exit.{error_text, status}
 use Rattle.dv_output.specs.declared.error.RunFault.{RunFault}
+use Rattle.dv_posts.specs.Batches.{Batch}
 use Rattle.dv_reader.specs.declared.error.ScriptFault.{ScriptFault}
+use Rattle.dv_replay.specs.Exit.{fault_refusal, fault_status, fault_text}
+use Rattle.dv_replay.specs.Replay as replay
+use Rattle.dv_replay.specs.Replay.{PrintsIn}
+use Rattle.dv_replay.specs.declared.error.ReplayFault.{ReplayFault}
 use Rattle.dv_run.specs.Headline.{Prints, Told}
 use Rattle.dv_run.specs.Run.{GivesUp}
+use Rattle.dv_run.specs.declared.words.Form.{Form}
 use Rattle.dv_run.specs.declared.words.Form.TheVariants as form
 use Rattle.dv_run.specs.declared.words.Task.{Task}
 use Rattle.dv_run.specs.declared.words.Task.TheVariants as task
@@ -37,11 +47,70 @@ pub record ExplainsScript (code : ℕ) (said : List ℕ) (input old new : Told) 
   pub status : code ≡ ended_status ended
   pub text : said ≡ ended_text ended
 
--- what each task comes to
-abbrev pub Does : Task → ℕ → List ℕ → Told → Told → Told → Type 0
-Does (task.Run form.Lines workers) code said input old new = Runs code said input old new
-Does (task.Run form.Json workers) code said input old new = RunsAsJson code said input old new
-Does task.Why code said input old new = ExplainsScript code said input old new
+-- a run in given batches went to its end
+pub record HasEnded (stopped : Bool) (code : ℕ) (said : List ℕ) (refusal : Option OrderFault) : Type 0 where
+  pub status : code ≡ (if stopped then 1 else 0)
+  pub text : said ≡ []
+  pub accepted : refusal ≡ None
+
+-- a run in given batches gave up
+pub record HasGivenUp (fault : ReplayFault) (code : ℕ) (said : List ℕ) (refusal : Option OrderFault) : Type 0 where
+  pub status : code ≡ fault_status fault
+  pub text : said ≡ fault_text fault
+  pub refused : refusal ≡ fault_refusal fault
+
+-- a run in these batches whose text is theirs ended
+pub record ReplaysLines (batches : List Batch) (code : ℕ) (said : List ℕ) (refusal : Option OrderFault) (input old new : Told) : Type 0 where
+  pub report : Report
+  pub prints : PrintsIn batches input old new report
+  pub ends : HasEnded report.stopped code said refusal
+
+-- or it gave up
+pub record FailsLines (batches : List Batch) (code : ℕ) (said : List ℕ) (refusal : Option OrderFault) (input old new : Told) : Type 0 where
+  pub fault : ReplayFault
+  pub gives_up : replay.GivesUp fault batches input old new
+  pub ends : HasGivenUp fault code said refusal
+
+-- the same of a run that is written as JSON Lines
+pub record ReplaysJson (batches : List Batch) (code : ℕ) (said : List ℕ) (refusal : Option OrderFault) (input old new : Told) : Type 0 where
+  pub stopped : Bool
+  pub runs : HasRunIn batches input old new stopped
+  pub ends : HasEnded stopped code said refusal
+
+pub record FailsJson (batches : List Batch) (code : ℕ) (said : List ℕ) (refusal : Option OrderFault) (input old new : Told) : Type 0 where
+  pub fault : ReplayFault
+  pub gives_up : GivesUpIn fault batches input old new
+  pub ends : HasGivenUp fault code said refusal
+
+-- a run in these batches, in each form
+abbrev pub Replays : Form → List Batch → ℕ → List ℕ → Option OrderFault → Told → Told → Told → Type 0
+Replays form.Lines batches code said refusal input old new = ReplaysLines batches code said refusal input old new ⊎ FailsLines batches code said refusal input old new
+Replays form.Json batches code said refusal input old new = ReplaysJson batches code said refusal input old new ⊎ FailsJson batches code said refusal input old new
+
+-- the word says batches, and the script was run in these
+pub record ReplaysWord (form : Form) (word : List ℕ) (code : ℕ) (said : List ℕ) (refusal : Option OrderFault) (input old new : Told) : Type 0 where
+  pub batches : List Batch
+  pub says : batches_in word ≡ Some batches
+  pub replays : Replays form batches code said refusal input old new
+
+-- the word says no batches, and nothing was written
+pub record SaysNoBatches (word : List ℕ) (code : ℕ) (old new : Told) : Type 0 where
+  pub none : batches_in word ≡ None
+  pub status : code ≡ 64
+  pub written : Keeps old new
+
+-- memory was refused to the reading of the word, and nothing was written
+pub record WordFails (code : ℕ) (said : List ℕ) (old new : Told) : Type 0 where
+  pub status : code ≡ 3
+  pub text : said ≡ codes "out of memory"
+  pub written : Keeps old new
+
+-- how each task may end, with the word of the batches
+abbrev pub Does : Task → List ℕ → ℕ → List ℕ → Option OrderFault → Told → Told → Told → Type 0
+Does (task.Run form.Lines workers) word code said refusal input old new = Runs code said input old new
+Does (task.Run form.Json workers) word code said refusal input old new = RunsAsJson code said input old new
+Does (task.Replay form workers) word code said refusal input old new = ReplaysWord form word code said refusal input old new ⊎ SaysNoBatches word code old new ⊎ WordFails code said old new
+Does task.Why word code said refusal input old new = ExplainsScript code said input old new
 
 -- who runs a script that is refused is pointed to what explains it
 abbrev pub hint_after : ℕ → List ℕ

@@ -1,6 +1,16 @@
 //! How the program ends.
 
-ghost use Rattle.std.specs.Prelude.{◌≡◌};
+ghost use Rattle.std.specs.Prelude.{◌≡◌, None};
+ghost use Rattle.dv_replay.specs.Exit.{fault_refusal, fault_status, fault_text};
+ghost use Rattle.deferreds.specs.Ending.{hint_after};
+
+use dv_orders::fault::OrderFault;
+use dv_replay::error::ReplayFault;
+use dv_replay::exit::{fault_refusal, fault_status, fault_text};
+
+/// How a run in given batches is asked for.
+const BATCHES_USAGE: &str =
+    "usage: deferreds [--json] --batches BATCHES [WORKERS] [FILE], with BATCHES as [[[0,0]],[]]";
 
 /// The status with which the program ends, and what it says on standard error.
 #[derive(Clone, Copy)]
@@ -10,6 +20,8 @@ pub struct Exit {
     pub text: &'static str,
     /// A line for a person, which follows where standard error is a terminal, or nothing where it is empty.
     pub hint: &'static str,
+    /// Why the batches that were given are refused, which is a line of its own.
+    pub refusal: Option<OrderFault>,
 }
 
 impl Exit {
@@ -17,12 +29,58 @@ impl Exit {
     pub fn plain(ended: (u8, &'static str)) -> Exit
         ensures status { result.status ≡ ended.entry.0 }
         ensures text { result.text.now ≡ ended.entry.1.now }
+        ensures refusal { result.refusal ≡ None }
     {
         let (status, text) = ended;
         Exit {
             status,
             text,
             hint: "",
+            refusal: None,
+        }
+    }
+
+    /// Ends as a run did. Where its script was refused, a person is pointed to what explains it.
+    pub fn of_run(ended: (u8, &'static str)) -> Exit
+        ensures status { result.status ≡ ended.entry.0 }
+        ensures text { result.text.now ≡ ended.entry.1.now }
+        ensures hint { result.hint.now ≡ hint_after ended.entry.0 }
+        ensures refusal { result.refusal ≡ None }
+    {
+        let (status, text) = ended;
+        Exit {
+            status,
+            text,
+            hint: hint_after(status),
+            refusal: None,
+        }
+    }
+
+    /// Ends as a run in given batches that gave up.
+    pub fn of_replay(fault: ReplayFault) -> Exit
+        ensures status { result.status ≡ fault_status fault }
+        ensures text { result.text.now ≡ fault_text fault }
+        ensures refusal { result.refusal ≡ fault_refusal fault }
+    {
+        let status = fault_status(fault);
+        Exit {
+            status,
+            text: fault_text(fault),
+            hint: hint_after(status),
+            refusal: fault_refusal(fault),
+        }
+    }
+
+    /// Ends where the word of the batches says none.
+    pub fn wrong_batches() -> Exit
+        ensures status { result.status ≡ 64 }
+        ensures refusal { result.refusal ≡ None }
+    {
+        Exit {
+            status: 64,
+            text: BATCHES_USAGE,
+            hint: "deferreds --help says more",
+            refusal: None,
         }
     }
 
@@ -31,12 +89,26 @@ impl Exit {
         Exit {
             status: 64,
             text: match words {
+                [first, ..] if first.as_str() == "--batches" => BATCHES_USAGE,
+                [_, second, ..] if second.as_str() == "--batches" => BATCHES_USAGE,
                 [first, ..] if first.as_bytes().first() == Some(&b'-') => {
                     "usage: deferreds [--json] [WORKERS] [FILE], or deferreds --why [FILE]"
                 }
                 [] | [_, ..] => "usage: deferreds [WORKERS]",
             },
             hint: "deferreds --help says more",
+            refusal: None,
         }
+    }
+}
+
+/// Returns what is said to a person after a run that ended with this status.
+fn hint_after(status: u8) -> &'static str
+    ensures { result.now ≡ hint_after status }
+{
+    if status == 2 {
+        "deferreds --why says where and why"
+    } else {
+        ""
     }
 }

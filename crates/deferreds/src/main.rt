@@ -16,7 +16,7 @@ use crate::version::VERSION;
 use dv_journal::io_sink::IoSink;
 use dv_journal::sink::{Sink, write_all};
 use dv_language::language::print_language;
-use dv_run::{Asked, Input, IoSource, RunFault, asked_of, exit_of};
+use dv_run::{Asked, Input, IoSource, RunFault, asked_of, batches_word, exit_of};
 use std::alloc::AllocGlobal;
 use std::io::IsTerminal;
 use std::process::ExitCode;
@@ -35,6 +35,7 @@ fn main(rt: HostRuntime) -> ExitCode {
                 perform(
                     &rt,
                     task,
+                    batches_word(words.as_slice()),
                     &mut IoSource::new(rt.stdin()),
                     &mut IoSink::new(rt.stdout()),
                 )
@@ -45,6 +46,7 @@ fn main(rt: HostRuntime) -> ExitCode {
                     Ok(file) => perform(
                         &rt,
                         task,
+                        batches_word(words.as_slice()),
                         &mut IoSource::new(file),
                         &mut IoSink::new(rt.stdout()),
                     ),
@@ -67,6 +69,9 @@ fn main(rt: HostRuntime) -> ExitCode {
         }
         Err(_) => Exit::wrong_words(&[]),
     };
+    if let Some(fault) = exit.refusal {
+        let _ = eprintln!(rt; "batches refused: {fault}");
+    }
     if !exit.text.is_empty() {
         let _ = eprintln!(rt; "{}", exit.text);
     }

@@ -1,14 +1,20 @@
 //! What is done with a script.
 
-ghost use Rattle.std.specs.Prelude.{◌≡◌, ◌≤◌};
-ghost use Rattle.deferreds.specs.Ending.{Does, Runs, hint_after};
+ghost use Rattle.std.specs.Prelude.{◌≡◌, ◌≤◌, Ok};
+ghost use Rattle.dv_output.specs.Exit.{error_text, status};
+ghost use Rattle.deferreds.specs.Ending.{Does, Replays, Runs};
 ghost use Rattle.dv_run.specs.Words.{HasFewWorkers};
 ghost use Rattle.dv_script.specs.declared.limits.TheConstants.{MOST_WORKERS};
 
 use crate::exit::Exit;
+use dv_forms::stop::Stop;
 use dv_jobs::gate::PlainGate;
 use dv_journal::sink::Sink;
-use dv_run::{Form, Kept, Source, Task, exit_of, run_and_keep};
+use dv_orders::reading::read_batches;
+use dv_posts::posted::Posted;
+use dv_replay::running::replay;
+use dv_run::{Form, Kept, RunFault, Source, Task, exit_of, run_and_keep};
+use dv_value::items::Items;
 use dv_why::explaining::explain;
 use std::alloc::AllocGlobal;
 use std::mem;
@@ -16,44 +22,60 @@ use std::random::RandomSource;
 use std::sync::Wait;
 use std::thread::Threads;
 
-/// Does this with the script of the reader, and returns how the program ends.
+/// Does this with the script of the reader, in the batches that the word says where they are given, and returns how the program ends.
 #[tactic(auto, using(crate::proofs::Endings::endings))]
-pub fn perform<S, R, W>(rt: &S, task: Task, reader: &mut R, writer: &mut W) -> Exit
+pub fn perform<S, R, W>(rt: &S, task: Task, word: &str, reader: &mut R, writer: &mut W) -> Exit
 where
     S: Threads + Wait + RandomSource + AllocGlobal + Sync,
     R: Source,
     W: Sink,
     requires { HasFewWorkers task }
-    ensures { Does task result.status result.text.now (R.left reader.old) (W.taken writer.old) (W.taken writer.new) }
+    ensures { Does task word.now result.status result.text.now result.refusal (R.left reader.old) (W.taken writer.old) (W.taken writer.new) }
 {
     match task {
-        Task::Run(Form::Lines, workers) => end_of_run(print_run(rt, reader, writer, workers)),
-        Task::Run(Form::Json, workers) => end_of_run(dv_json::exit_of(dv_json::run(
+        Task::Run(Form::Lines, workers) => Exit::of_run(print_run(rt, reader, writer, workers)),
+        Task::Run(Form::Json, workers) => Exit::of_run(dv_json::exit_of(dv_json::run(
             rt, reader, writer, workers, &PlainGate,
         ))),
+        Task::Replay(form, workers) => match read_batches(rt.alloc(), word) {
+            Ok(batches) => replay_as(rt, form, workers, batches.as_slice(), reader, writer),
+            Err(Stop::BadShape) => Exit::wrong_batches(),
+            Err(Stop::OutOfMemory) => Exit::plain(exit_of(&Err(RunFault::OutOfMemory))),
+        },
         Task::Why => Exit::plain(dv_why::explaining::exit_of(explain(rt.alloc(), reader, writer))),
     }
 }
 
-/// How a run ends: where its script was refused, a person is pointed to what explains it.
-fn end_of_run(ended: (u8, &'static str)) -> Exit
-    ensures status { result.status ≡ ended.entry.0 }
-    ensures text { result.text.now ≡ ended.entry.1.now }
-    ensures hint { result.hint.now ≡ hint_after ended.entry.0 }
+/// Runs the script in these batches, and prints the run in this form.
+#[tactic(auto, using(crate::proofs::Endings::endings))]
+fn replay_as<S, R, W>(
+    rt: &S,
+    form: Form,
+    workers: u32,
+    batches: &[Items<Posted>],
+    reader: &mut R,
+    writer: &mut W,
+) -> Exit
+where
+    S: Threads + Wait + RandomSource + AllocGlobal + Sync,
+    R: Source,
+    W: Sink,
+    requires { workers ≤ MOST_WORKERS }
+    ensures { Replays form batches.now result.status result.text.now result.refusal (R.left reader.old) (W.taken writer.old) (W.taken writer.new) }
 {
-    let (status, text) = ended;
-    Exit {
-        status,
-        text,
-        hint: if status == 2 {
-            "deferreds --why says where and why"
-        } else {
-            ""
+    match form {
+        Form::Lines => match replay(rt, reader, writer, workers, &PlainGate, batches) {
+            Ok(kept) => Exit::of_run(ended(kept)),
+            Err(fault) => Exit::of_replay(fault),
+        },
+        Form::Json => match dv_json::replay(rt, reader, writer, workers, &PlainGate, batches) {
+            Ok(stopped) => Exit::of_run(dv_json::exit_of(Ok(stopped))),
+            Err(fault) => Exit::of_replay(fault),
         },
     }
 }
 
-/// Runs the script, and prints its journal and its outcomes. The script and the report aren't dropped, since the program ends.
+/// Runs the script, and prints its journal and its outcomes.
 #[tactic(auto, using(crate::proofs::Endings::endings))]
 fn print_run<S, R, W>(rt: &S, reader: &mut R, writer: &mut W, workers: u32) -> (u8, &'static str)
 where
@@ -64,13 +86,20 @@ where
     ensures { Runs result.0 result.1.now (R.left reader.old) (W.taken writer.old) (W.taken writer.new) }
 {
     match run_and_keep(rt, reader, writer, workers, &PlainGate) {
-        Ok(Kept { script, report }) => {
-            mem::forget(script);
-            let ended = Ok(report);
-            let exit = exit_of(&ended);
-            mem::forget(ended);
-            exit
-        }
+        Ok(kept) => ended(kept),
         Err(fault) => exit_of(&Err(fault)),
     }
+}
+
+/// Returns how the program ends after a run. The script and the report aren't dropped, since the program ends.
+fn ended(kept: Kept) -> (u8, &'static str)
+    ensures status { result.0 ≡ status (Ok kept.entry.report) }
+    ensures text { result.1.now ≡ error_text (Ok kept.entry.report) }
+{
+    let Kept { script, report } = kept;
+    mem::forget(script);
+    let ended = Ok(report);
+    let exit = exit_of(&ended);
+    mem::forget(ended);
+    exit
 }

@@ -3,3 +3,4 @@ pub mod Parts
 pub mod Cuts
 pub mod Texts
 pub mod Ending
+pub mod ReplayEnding

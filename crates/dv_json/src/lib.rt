@@ -5,6 +5,8 @@ mod driving;
 mod marked;
 mod outcomes;
 mod printing;
+mod replaying;
 mod running;
 
+pub use replaying::replay;
 pub use running::{exit_of, run};

@@ -41,12 +41,16 @@ pub const CLASSES: [(&str, Option<&str>); 21] = [
 ];
 
 /// The exit statuses of the program, and when it ends with each.
-pub const STATUSES: [(u32, &str); 6] = [
+pub const STATUSES: [(u32, &str); 7] = [
     (0, "all events were performed, or the script is accepted"),
     (1, "the run stopped at the limit of its journal"),
     (2, "the script is refused: --why says where"),
     (3, "out of memory"),
     (4, "a read or a write failed"),
+    (
+        5,
+        "the batches are refused: they aren't an order of the script's posts",
+    ),
     (64, "the words are wrong"),
 ];
 

@@ -1,5 +1,5 @@
 -- What the words after the program's name ask for.
-use Rattle.std.specs.Prelude.{Bool, false, not, ℕ, nat_eq, ◌&&◌, ◌||◌, if◌then◌else◌, List, [], ◌∷◌, Option, None, Some, bytes_eq, codes, ◌≤◌, ⊤}
+use Rattle.std.specs.Prelude.{Bool, false, not, ℕ, nat_eq, ◌&&◌, ◌||◌, if◌then◌else◌, List, [], ◌∷◌, Option, None, Some, bytes_eq, codes, option_and_then, ◌≤◌, ⊤}
 use Rattle.std.specs.List.{list_any}
 use Rattle.dv_run.specs.Workers.{few_workers, number_in}
 use Rattle.dv_script.specs.declared.limits.TheConstants.{MOST_WORKERS}
@@ -45,6 +45,29 @@ run_in form (word ∷ []) = run_by_one form word (few_workers (number_in word))
 run_in form (word ∷ last ∷ []) = run_with form (few_workers (number_in word)) (input_in last)
 run_in form (word ∷ second ∷ third ∷ words) = None
 
+-- the same task in batches that are given; only a run has such
+abbrev pub replayed_task : Task → Input → Option Asked
+replayed_task (task.Run form workers) input = Some (asked.Script (task.Replay form workers) input)
+replayed_task (task.Replay form workers) input = None
+replayed_task task.Why input = None
+
+-- the same of what is asked for
+abbrev pub replayed : Asked → Option Asked
+replayed (asked.Script task input) = replayed_task task input
+replayed asked.Language = None
+replayed asked.Version = None
+replayed asked.Help = None
+
+-- a run in the batches of the first word
+abbrev pub replay_in : Form → List (List ℕ) → Option Asked
+replay_in form [] = None
+replay_in form (batches ∷ words) = option_and_then replayed (run_in form words)
+
+-- a run that is printed as JSON Lines, in given batches where `--batches` comes first
+abbrev pub json_in : List (List ℕ) → Option Asked
+json_in [] = run_in form.Json []
+json_in (word ∷ words) = if bytes_eq word (codes "--batches") then replay_in form.Json words else run_in form.Json (word ∷ words)
+
 -- why a script is refused, where what is read is known
 abbrev pub why_of : Option Input → Option Asked
 why_of (Some input) = Some (asked.Script task.Why input)
@@ -63,11 +86,12 @@ alone asked (word ∷ words) = None
 
 -- the option that a word is
 abbrev pub flag_in : List ℕ → Option Flag
-flag_in word = if bytes_eq word (codes "--json") then Some flag.Json else if bytes_eq word (codes "--why") then Some flag.Why else if bytes_eq word (codes "--language") then Some flag.Language else if bytes_eq word (codes "--version") then Some flag.Version else if bytes_eq word (codes "--help") then Some flag.Help else None
+flag_in word = if bytes_eq word (codes "--json") then Some flag.Json else if bytes_eq word (codes "--batches") then Some flag.Batches else if bytes_eq word (codes "--why") then Some flag.Why else if bytes_eq word (codes "--language") then Some flag.Language else if bytes_eq word (codes "--version") then Some flag.Version else if bytes_eq word (codes "--help") then Some flag.Help else None
 
 -- what an option asks for, with the words after it
 abbrev pub asked_by : Flag → List (List ℕ) → Option Asked
-asked_by flag.Json words = run_in form.Json words
+asked_by flag.Json words = json_in words
+asked_by flag.Batches words = replay_in form.Lines words
 asked_by flag.Why words = why_in words
 asked_by flag.Language words = alone asked.Language words
 asked_by flag.Version words = alone asked.Version words
@@ -85,6 +109,7 @@ asked_in (word ∷ words) = asked_after (flag_in word) word words
 -- no more workers than a run may have
 abbrev pub HasFewWorkers : Task → Type 0
 HasFewWorkers (task.Run form workers) = workers ≤ MOST_WORKERS
+HasFewWorkers (task.Replay form workers) = workers ≤ MOST_WORKERS
 HasFewWorkers task.Why = ⊤
 
 -- no more workers than a run may have, where a run is asked for
@@ -93,3 +118,10 @@ AsksFew (asked.Script task input) = HasFewWorkers task
 AsksFew asked.Language = ⊤
 AsksFew asked.Version = ⊤
 AsksFew asked.Help = ⊤
+
+-- the word of the batches: the one after `--batches`
+abbrev pub batches_word : List (List ℕ) → List ℕ
+batches_word [] = []
+batches_word (flag ∷ []) = []
+batches_word (flag ∷ batches ∷ []) = batches
+batches_word (flag ∷ second ∷ third ∷ words) = if bytes_eq flag (codes "--batches") then second else third

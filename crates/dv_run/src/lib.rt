@@ -13,5 +13,5 @@ pub use dv_source::io_source::IoSource;
 pub use dv_source::memory_source::MemorySource;
 pub use dv_source::source::{ReadError, Source, SourceFault};
 pub use running::{Kept, run, run_and_keep};
-pub use words::{Asked, Form, Input, Task, asked_of};
+pub use words::{Asked, Form, Input, Task, asked_of, batches_word};
 pub use workers::workers_of;

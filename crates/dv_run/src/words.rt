@@ -2,7 +2,7 @@
 
 ghost use Rattle.std.specs.Prelude.{◌≡◌, ◌≤◌, map, string_bytes, IfSome};
 ghost use Rattle.std.specs.List.{list_any};
-ghost use Rattle.dv_run.specs.Words.{marks_file, names_file, input_in, run_with, run_by_one, run_in, why_of, why_in, alone, flag_in, asked_by, asked_in, AsksFew};
+ghost use Rattle.dv_run.specs.Words.{marks_file, names_file, input_in, run_with, run_by_one, run_in, why_of, why_in, alone, batches_word, flag_in, json_in, replay_in, replayed, replayed_task, asked_by, asked_in, AsksFew, HasFewWorkers};
 ghost use Rattle.dv_script.specs.declared.limits.TheConstants.{MOST_WORKERS};
 
 use crate::workers::{few_workers, number_in};
@@ -29,6 +29,8 @@ pub enum Input {
 pub enum Task {
     /// It runs, with so many workers.
     Run(Form, u32),
+    /// It runs in batches that are given, with so many workers.
+    Replay(Form, u32),
     /// It is explained where it is refused, and why.
     Why,
 }
@@ -50,6 +52,7 @@ pub enum Asked {
 #[derive(Clone, Copy)]
 pub enum Flag {
     Json,
+    Batches,
     Why,
     Language,
     Version,
@@ -57,7 +60,8 @@ pub enum Flag {
 }
 
 /// What the words after the program's name ask for. An option comes first. Behind `--json`, or without an option, come a number
-/// of workers and a FILE, each of which may be left out; behind `--why` comes a FILE alone. A number of workers is one of one or two
+/// of workers and a FILE, each of which may be left out; behind `--why` comes a FILE alone. Behind `--batches`, which may follow
+/// `--json`, comes a word with the batches, and then the same as without it. A number of workers is one of one or two
 /// decimal digits, 16 at most. A FILE has a `/` or a `.` in it and doesn't begin with `-`, or is `-`, standard input, which is read too
 /// where there is no FILE. None for any other words.
 pub fn asked_of(words: &[String]) -> Option<Asked>
@@ -78,7 +82,8 @@ fn asked_by(flag: Flag, words: &[String]) -> Option<Asked>
     ensures few { IfSome result AsksFew }
 {
     match flag {
-        Flag::Json => run_in(Form::Json, words),
+        Flag::Json => json_in(words),
+        Flag::Batches => replay_in(Form::Lines, words),
         Flag::Why => why_in(words),
         Flag::Language => alone(Asked::Language, words),
         Flag::Version => alone(Asked::Version, words),
@@ -91,6 +96,8 @@ fn flag_in(word: &str) -> Option<Flag>
 {
     if word == "--json" {
         Some(Flag::Json)
+    } else if word == "--batches" {
+        Some(Flag::Batches)
     } else if word == "--why" {
         Some(Flag::Why)
     } else if word == "--language" {
@@ -139,6 +146,66 @@ fn run_with(form: Form, workers: Option<u32>, input: Option<Input>) -> Option<As
     match (workers, input) {
         (Some(workers), Some(input)) => Some(Asked::Script(Task::Run(form, workers), input)),
         (Some(_), None) | (None, _) => None,
+    }
+}
+
+fn json_in(words: &[String]) -> Option<Asked>
+    ensures asked { result ≡ json_in (map string_bytes words.now) }
+    ensures few { IfSome result AsksFew }
+{
+    match words {
+        [word, rest @ ..] if word.as_str() == "--batches" => replay_in(Form::Json, rest),
+        [] | [_, ..] => run_in(Form::Json, words),
+    }
+}
+
+fn replay_in(form: Form, words: &[String]) -> Option<Asked>
+    ensures asked { result ≡ replay_in form (map string_bytes words.now) }
+    ensures few { IfSome result AsksFew }
+{
+    match words {
+        [] => None,
+        [_, rest @ ..] => match run_in(form, rest) {
+            Some(asked) => replayed(asked),
+            None => None,
+        },
+    }
+}
+
+fn replayed(asked: Asked) -> Option<Asked>
+    requires few { AsksFew asked }
+    ensures asked { result ≡ replayed asked }
+    ensures few { IfSome result AsksFew }
+{
+    match asked {
+        Asked::Script(task, input) => replayed_task(task, input),
+        Asked::Language | Asked::Version | Asked::Help => None,
+    }
+}
+
+fn replayed_task(task: Task, input: Input) -> Option<Asked>
+    requires few { HasFewWorkers task }
+    ensures asked { result ≡ replayed_task task input }
+    ensures few { IfSome result AsksFew }
+{
+    match task {
+        Task::Run(form, workers) => Some(Asked::Script(Task::Replay(form, workers), input)),
+        Task::Replay(..) | Task::Why => None,
+    }
+}
+
+/// Returns the word of the batches: the one after `--batches`, where the words ask for a run in given batches.
+pub fn batches_word(words: &[String]) -> &str
+    ensures { result.now ≡ batches_word (map string_bytes words.now) }
+{
+    match words {
+        [] | [_] => "",
+        [_, batches] => batches.as_str(),
+        [flag, second, third, ..] => if flag.as_str() == "--batches" {
+            second.as_str()
+        } else {
+            third.as_str()
+        },
     }
 }
 
