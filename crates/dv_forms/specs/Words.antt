@@ -1,5 +1,5 @@
 -- The words of the language: where each may stand, what comes with it, and since which version, as the constants say it.
-use Rattle.std.specs.Prelude.{ℕ, Bool, false, ◌&&◌, ◌||◌, nat_eq, nat_le, List, [], ◌∷◌, ◌++◌, length, map, Option, Some, None, option_and_then, if◌then◌else◌, bytes_eq}
+use Rattle.std.specs.Prelude.{ℕ, Bool, true, false, not, ◌&&◌, ◌||◌, nat_eq, nat_le, List, [], ◌∷◌, ◌++◌, length, map, Option, Some, None, option_and_then, if◌then◌else◌, bytes_eq}
 use Rattle.std.specs.Borrow.{Bor}
 use Rattle.dv_forms.specs.declared.want.Call.{Call}
 use Rattle.dv_forms.specs.declared.want.Call.TheVariants as call
@@ -49,6 +49,20 @@ or_else None other = other
 abbrev pub wants_in : List Form → List ℕ → ℕ → Option (List Want)
 wants_in [] word given = None
 wants_in (form ∷ forms) word given = if bytes_eq form.word word && nat_eq (length form.wants) given then Some form.wants else wants_in forms word given
+
+-- whether a form is for a word with so many arguments
+abbrev pub is_for : List ℕ → ℕ → Form → Bool
+is_for word given form = bytes_eq form.word word && nat_eq (length form.wants) given
+
+-- whether one of the forms is
+abbrev pub some_for : List ℕ → ℕ → List Form → Bool
+some_for word given [] = false
+some_for word given (form ∷ forms) = is_for word given form || some_for word given forms
+
+-- whether no two forms are for one word with one number of arguments
+abbrev pub apart : List Form → Bool
+apart [] = true
+apart (form ∷ forms) = not (some_for form.word (length form.wants) forms) && apart forms
 
 -- what they have to be, where the word may stand at such a place and has a form with so many arguments
 abbrev pub wants_of : Call → List ℕ → ℕ → Option (List Want)

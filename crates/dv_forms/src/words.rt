@@ -1,7 +1,8 @@
 //! The words of the language: where each may stand, what comes with it, and since which version.
 
 ghost use Rattle.std.specs.Prelude.{◌≡◌, ◌≤◌, ℕ, true, option_map, map, IfSome};
-ghost use Rattle.dv_forms.specs.Words.{action_word, end_word, event_word, has_word, may_stand, narrower, own_forms, seen, statement_word, wants_in, wants_of, work_word};
+ghost use Rattle.dv_forms.specs.declared.want.Call.TheVariants.{Action as action};
+ghost use Rattle.dv_forms.specs.Words.{action_word, apart, end_word, event_word, has_word, may_stand, narrower, own_forms, seen, statement_word, wants_in, wants_of, work_word};
 
 use crate::want::{Call, Item, Keyed, Leaf, Object, Want};
 use dv_clock::limits::{MOST_DELAY, MOST_TICKS};
@@ -515,6 +516,45 @@ fn form_in<W: Copy>(
     None
 }
 
+/// The form in a row, where it is for the word with so many arguments.
+fn form_at<W: Copy>(
+    forms: &'static [Form<W>],
+    row: usize,
+    word: &str,
+    given: usize,
+) -> Option<(&'static [Want], u32)>
+    requires apart { apart (map seen forms.now) ≡ true }
+    ensures wants { IfSome result (λ form. wants_in (map seen forms.now) word.now given ≡ Some form.0.now) }
+    ensures since { IfSome result (λ form. (version : ℕ) → form.1 ≤ version → has_word (map seen forms.now) word.now version ≡ true) }
+{
+    let form = forms.get(row)?;
+    if form.2.len() == given && form.1 == word {
+        Some((form.2, form.4))
+    } else {
+        None
+    }
+}
+
+/// The form of an action in the row after its word's number, where it has so many arguments: all forms but the first stand so.
+fn numbered_form(word: &str, given: usize) -> Option<(&'static [Want], u32)>
+    ensures wants { IfSome result (λ form. wants_in (own_forms action) word.now given ≡ Some form.0.now) }
+    ensures since { IfSome result (λ form. (version : ℕ) → form.1 ≤ version → has_word (own_forms action) word.now version ≡ true) }
+{
+    let row = ActionWord::named(word)? as usize + 1;
+    form_at(&ACTION_FORMS, row, word, given)
+}
+
+/// The same as `form_in` of the forms of actions: a row is guessed before all are gone through.
+fn action_form(word: &str, given: usize) -> Option<(&'static [Want], u32)>
+    ensures wants { option_map (λ form. form.0.now) result ≡ wants_in (own_forms action) word.now given }
+    ensures since { IfSome result (λ form. (version : ℕ) → form.1 ≤ version → has_word (own_forms action) word.now version ≡ true) }
+{
+    match numbered_form(word, given) {
+        Some(form) => Some(form),
+        None => form_in(&ACTION_FORMS, word, given),
+    }
+}
+
 /// The same of the forms at such a place, and at none narrower.
 fn own_form(call: Call, word: &str, given: usize) -> Option<(&'static [Want], u32)>
     ensures wants { option_map (λ form. form.0.now) result ≡ wants_in (own_forms call) word.now given }
@@ -522,7 +562,7 @@ fn own_form(call: Call, word: &str, given: usize) -> Option<(&'static [Want], u3
 {
     match call {
         Call::Event => form_in(&EVENT_FORMS, word, given),
-        Call::Action => form_in(&ACTION_FORMS, word, given),
+        Call::Action => action_form(word, given),
         Call::Statement => form_in(&STATEMENT_FORMS, word, given),
         Call::End => form_in(&END_FORMS, word, given),
         Call::Leaving => form_in(&LEAVING_FORMS, word, given),

@@ -175,31 +175,54 @@ INLINE_ENDS = _table("leaving")
 STATEMENTS = _table("statement")
 WORKS = _table("work")
 
-#: the levels that a port can begin with, each with the actions that it adds to those before it
+#: the levels that a port can begin with, in order; each has the actions of those before it
+_LEVELS: Tuple[str, ...] = (
+    "core",
+    "cancelling",
+    "lists",
+    "locks",
+    "clock",
+    "loops",
+    "cooperator",
+    "inline",
+    "threads",
+    "posts",
+    "pools",
+)
+
+#: the level of an action that takes an argument of this kind
+_LEVEL_OF_KIND: Dict[Kind, str] = {
+    Kind.DEFERREDS: "lists",
+    Kind.NEW_LOCK: "locks",
+    Kind.LOCK: "locks",
+    Kind.NEW_QUEUE: "locks",
+    Kind.QUEUE: "locks",
+    Kind.NEW_CALL: "clock",
+    Kind.CALL: "clock",
+    Kind.DELAY: "clock",
+    Kind.NEW_LOOP: "loops",
+    Kind.LOOP: "loops",
+    Kind.NEW_TASK: "cooperator",
+    Kind.TASK: "cooperator",
+    Kind.STATEMENTS: "inline",
+    Kind.WORK: "threads",
+    Kind.POOL: "pools",
+}
+
+#: the level of an action whose arguments don't show it
+_LEVEL_OF_WORD: Dict[str, str] = {"cancel": "cancelling", "maybe": "lists"}
+
+
+def level_of(word: str) -> str:
+    """The level that adds an action: that of the latest kind among its arguments, unless it has one by its word."""
+    kinds = [kind for form in ACTIONS[word] for kind in form]
+    levels = [_LEVEL_OF_KIND.get(kind, "core") for kind in kinds]
+    return max(levels + [_LEVEL_OF_WORD.get(word, "core")], key=_LEVELS.index)
+
+
+#: the levels, each with the actions that it adds to those before it
 LEVELS: Dict[str, Tuple[str, ...]] = {
-    "core": (
-        "deferred",
-        "callback",
-        "errback",
-        "addCallback",
-        "addErrback",
-        "addBoth",
-        "addCallbacks",
-        "chain",
-        "pause",
-        "unpause",
-        "note",
-    ),
-    "cancelling": ("cancel",),
-    "lists": ("maybe", "list", "gather"),
-    "locks": ("lock", "semaphore", "acquire", "release", "runWith", "queue", "put", "get"),
-    "clock": ("later", "cancelCall", "addTimeout"),
-    "loops": ("loop", "stopLoop"),
-    "cooperator": ("cooperate", "whenDone", "pauseTask", "resumeTask", "stopTask"),
-    "inline": ("inline",),
-    "threads": ("thread",),
-    "posts": (),
-    "pools": ("threadIn",),
+    level: tuple(word for word in ACTIONS if level_of(word) == level) for level in _LEVELS
 }
 
 
