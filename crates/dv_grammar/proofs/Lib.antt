@@ -1,4 +1,5 @@
 pub mod Steps
 pub mod WordsLemmas
-pub mod Sound
-pub mod Complete
+pub mod Leaves
+pub mod Actions
+pub mod Scripts

@@ -1,5 +1,5 @@
 -- The grammar of scripts: which JSON stands for what, a rule a line (Twisted: the methods of `Deferred`, and of the objects round it).
-use Rattle.std.specs.Prelude.{◌≡◌, ℕ, nat_eq, if◌then◌else◌, ℤ, Bool, true, List, [], ◌∷◌, Option, Some, None, codes}
+use Rattle.std.specs.Prelude.{◌≡◌, ℕ, nat_eq, if◌then◌else◌, ℤ, Bool, true, List, [], ◌∷◌, Option, Some, None, codes, ◌&&◌, min, max}
 use Rattle.serde_json.specs.Data.{Data, null, boolean, string, array, object, Items, no_items, item, Members}
 use Rattle.serde_json.specs.Find.{get_member}
 use Rattle.dv_value.specs.declared.value.Value.{Value}
@@ -9,14 +9,10 @@ use Rattle.dv_script.specs.declared.body.End.TheVariants.{Return, Pass, Plus, Ra
 use Rattle.dv_script.specs.declared.body.Body.{Body}
 use Rattle.dv_script.specs.declared.body.Statement.{Statement, Do, Await, Try, End as Leave}
 use Rattle.dv_script.specs.declared.work.Work.{Work}
-use Rattle.dv_script.specs.declared.work.Work.TheVariants as work
 use Rattle.dv_script.specs.declared.action.ListFlag.{ListFlag}
-use Rattle.dv_script.specs.declared.action.ListFlag.TheVariants as flag
 use Rattle.dv_script.specs.declared.action.GatherFlag.{GatherFlag}
-use Rattle.dv_script.specs.declared.action.GatherFlag.TheVariants as gather_flag
 use Rattle.dv_script.specs.declared.action.Action.{Action, Deferred, Callback, Errback, AddCallback, AddErrback, AddBoth, AddCallbacks, Chain, Pause, Unpause, Cancel, AddTimeout, Note, List as ListOf, Gather, Maybe, Lock, Semaphore, Acquire, Release, RunWith, Queue, Put, Get, Later, CancelCall, Loop, StopLoop, Cooperate, WhenDone, PauseTask, StopTask, ResumeTask, Inline, Thread, ThreadIn}
 use Rattle.dv_script.specs.declared.event.Event.{Event}
-use Rattle.dv_script.specs.declared.event.Event.TheVariants as event
 use Rattle.dv_script.specs.declared.script.Cooperator.{Cooperator}
 use Rattle.dv_script.specs.declared.script.NamedPool.{NamedPool}
 use Rattle.dv_script.specs.declared.limits.TheConstants.{MOST_DRAINED, MOST_LIMIT, MOST_PLACES, MOST_SUM, MOST_UNITS, MOST_WORKERS, USUAL_LIMIT}
@@ -26,6 +22,13 @@ use Rattle.dv_grammar.specs.declared.draft.Draft.{Draft}
 use Rattle.dv_forms.specs.Leaving.{may_leave}
 use Rattle.dv_forms.specs.Forms.{call, IsList, Field, Key, has_only, IsText, IsInteger, IsNumber, IsClass, IsValue}
 use Rattle.dv_forms.specs.Table.{table_of, all_declared}
+use Rattle.std.specs.List.{list_all}
+use Rattle.dv_script.specs.declared.action.Action.TheFolds.{fold-Action, fold-Body, fold-Statement}
+use Rattle.dv_script.specs.declared.action.Action.TheOpen.{Action-F, Body-F, Statement-F}
+use Rattle.dv_script.specs.declared.work.Work.TheVariants as work
+use Rattle.dv_script.specs.declared.action.ListFlag.TheVariants as flag
+use Rattle.dv_script.specs.declared.action.GatherFlag.TheVariants as gather_flag
+use Rattle.dv_script.specs.declared.event.Event.TheVariants as event
 
 -- the keys of a body
 abbrev pub body_keys : List (List ℕ)
@@ -273,3 +276,80 @@ pub record IsScript (d : Data) (draft : Draft) : Type 0 where
   pub pools : Field [] (IsList IsPool) (get_member (codes "pools") members) draft.script.pools
   pub callers : Field [] (IsList (IsList (IsBody draft.script.classes))) (get_member (codes "callers") members) draft.script.callers
   pub events : Key (IsList (IsEvent draft.script.classes)) (get_member (codes "events") members) draft.script.events
+
+-- ---- times: the steps of the world cut a delay or an interval that is too long. None that stands in the grammar is.
+
+-- of a body that may be absent
+abbrev pub or_absent : Option Bool → Bool
+or_absent None = true
+or_absent (Some b) = b
+
+-- cut, a delay is what it was
+abbrev pub is_delay : ℕ → Bool
+is_delay delay = nat_eq (min delay MOST_DELAY) delay
+
+-- and an interval is
+abbrev pub is_interval : ℕ → Bool
+is_interval interval = nat_eq (max 1 (min interval MOST_DELAY)) interval
+
+-- each time of an action is, by what is found of its bodies and statements
+abbrev pub action_step : Action-F Bool Bool Bool → Bool
+action_step (Action-F.Deferred name canceller) = or_absent canceller
+action_step (Action-F.Callback name v) = true
+action_step (Action-F.Errback name class text) = true
+action_step (Action-F.AddCallback name side) = side
+action_step (Action-F.AddErrback name side) = side
+action_step (Action-F.AddBoth name side) = side
+action_step (Action-F.AddCallbacks name on_value on_failure) = on_value && on_failure
+action_step (Action-F.Chain name other) = true
+action_step (Action-F.Pause name) = true
+action_step (Action-F.Unpause name) = true
+action_step (Action-F.Cancel name) = true
+action_step (Action-F.AddTimeout name delay) = is_delay delay
+action_step (Action-F.Note text) = true
+action_step (Action-F.List name children flags) = true
+action_step (Action-F.Gather name children flags) = true
+action_step (Action-F.Maybe name b) = b
+action_step (Action-F.Lock name) = true
+action_step (Action-F.Semaphore name n) = true
+action_step (Action-F.Acquire name other) = true
+action_step (Action-F.Release name) = true
+action_step (Action-F.RunWith name other b) = b
+action_step (Action-F.Queue name size backlog) = true
+action_step (Action-F.Put name v) = true
+action_step (Action-F.Get name other) = true
+action_step (Action-F.Later name delay b) = is_delay delay && b
+action_step (Action-F.CancelCall name) = true
+action_step (Action-F.Loop name other interval at_once b) = is_interval interval && b
+action_step (Action-F.StopLoop name) = true
+action_step (Action-F.Cooperate name bodies) = list_all (λ b. b) bodies
+action_step (Action-F.WhenDone name task) = true
+action_step (Action-F.PauseTask name) = true
+action_step (Action-F.StopTask name) = true
+action_step (Action-F.ResumeTask name) = true
+action_step (Action-F.Inline name statements) = list_all (λ b. b) statements
+action_step (Action-F.Thread name delay job) = is_delay delay
+action_step (Action-F.ThreadIn name pool delay job) = is_delay delay
+
+-- of a statement
+abbrev pub statement_step : Statement-F Bool Bool Bool → Bool
+statement_step (Statement-F.Do action) = action
+statement_step (Statement-F.Await name) = true
+statement_step (Statement-F.Try first classes second) = list_all (λ b. b) first && list_all (λ b. b) second
+statement_step (Statement-F.End end) = true
+
+-- of a body
+abbrev pub body_step : Body-F Bool Bool Bool → Bool
+body_step b = list_all (λ b. b) b.actions
+
+-- each time of the action
+abbrev pub times_action : Action → Bool
+times_action = fold-Action Bool Bool Bool action_step statement_step body_step
+
+-- of the statement
+abbrev pub times_statement : Statement → Bool
+times_statement = fold-Statement Bool Bool Bool action_step statement_step body_step
+
+-- of the body
+abbrev pub times_body : Body → Bool
+times_body = fold-Body Bool Bool Bool action_step statement_step body_step

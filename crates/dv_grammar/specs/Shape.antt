@@ -18,6 +18,8 @@ use Rattle.dv_script.specs.declared.script.NamedPool.{NamedPool}
 use Rattle.dv_script.specs.declared.limits.TheConstants.{MOST_DRAINED, MOST_LIMIT, MOST_PLACES, MOST_SUM, MOST_UNITS, MOST_WORKERS, USUAL_LIMIT}
 use Rattle.dv_clock.specs.declared.limits.TheConstants.{MOST_DELAY, MOST_TICKS}
 use Rattle.dv_grammar.specs.declared.draft.Draft.{Draft}
+use Rattle.dv_grammar.specs.declared.reading.action.WithBody.{WithBody}
+use Rattle.dv_grammar.specs.declared.reading.action.WithBody.TheVariants as with
 use Rattle.dv_forms.specs.declared.words.ActionWord.{ActionWord}
 use Rattle.dv_forms.specs.declared.words.ActionWord.TheVariants as word
 use Rattle.dv_forms.specs.declared.words.EventWord.{EventWord}
@@ -98,6 +100,13 @@ loop_of body ds = do
   at_once ← as_bool p.3
   b ← body p.4
   Some (Loop name deferred interval at_once b)
+
+-- an action that takes a name and a body
+abbrev pub with_body : WithBody → List ℕ → Body → Action
+with_body with.AddCallback = AddCallback
+with_body with.AddErrback = AddErrback
+with_body with.AddBoth = AddBoth
+with_body with.Maybe = Maybe
 
 -- an action by its word, whose bodies and statements are read so
 unfoldable pub action_of : List Class → (Data → Option Body) → (Data → Option Statement) → ActionWord → Items → Option Action

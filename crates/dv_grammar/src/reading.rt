@@ -5,7 +5,6 @@ mod body;
 mod cooperator;
 mod end;
 mod event;
-mod plain;
 pub mod script;
 mod statement;
 mod work;

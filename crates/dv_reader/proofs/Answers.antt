@@ -14,8 +14,8 @@ use Rattle.dv_reader.specs.Refusal.{IsDocument, IsMisshapen, keeps_version, HasS
 use Rattle.dv_grammar.specs.Shape.{script_at}
 use Rattle.dv_reader.specs.Passes.{JudgedIn, Passes, is_version, shape_at}
 use Rattle.dv_grammar.proofs.Steps.{some_injective, bind}
-use Rattle.dv_grammar.proofs.Complete.{complete_script}
-use Rattle.dv_grammar.proofs.Sound.{sound_script}
+use Rattle.dv_grammar.proofs.Scripts.{complete_script}
+use Rattle.dv_grammar.proofs.Scripts.{sound_script}
 use Rattle.dv_reader.proofs.Accepted.{shape_found}
 use Rattle.dv_reader.proofs.Version.{version_is, no_version}
 use Rattle.dv_reader.proofs.Count.{events_few}

@@ -11,7 +11,7 @@ use Rattle.dv_reader.specs.Refusal.{IsDocument, HasVersion, HasShape, keeps_vers
 use Rattle.dv_reader.specs.Passes.{is_version, shape_at}
 use Rattle.dv_reader.specs.Laws.{IsRefused, SaysOneAtMost, RefusedSaysNone, SaysOrIsRefused}
 use Rattle.dv_grammar.proofs.Steps.{some_injective}
-use Rattle.dv_grammar.proofs.Complete.{complete_script}
+use Rattle.dv_grammar.proofs.Scripts.{complete_script}
 use Rattle.dv_reader.proofs.Version.{version_is, no_version}
 use Rattle.dv_reader.proofs.Accepted.{shape_found}
 use Rattle.dv_reader.proofs.Answers.{shaped, misshapen}

@@ -9,7 +9,7 @@ use Rattle.dv_forms.specs.Words.{action_word}
 use Rattle.dv_grammar.specs.Grammar.{IsAction}
 use Rattle.dv_grammar.specs.Shape.{action_by, action_at}
 use Rattle.dv_grammar.proofs.Steps.{some_injective, bind}
-use Rattle.dv_grammar.proofs.Complete.{complete_action}
+use Rattle.dv_grammar.proofs.Actions.{complete_action}
 
 -- an array that begins with the word of an action
 pub record BeginsAsAction (d : Data) : Type 0 where

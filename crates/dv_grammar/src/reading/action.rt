@@ -2,14 +2,18 @@ ghost use Rattle.std.specs.Prelude.{option_map};
 ghost use Rattle.serde_json.specs.View.{view, items_view};
 ghost use Rattle.dv_clock.specs.declared.limits.TheConstants.{MOST_DELAY};
 ghost use Rattle.dv_forms.specs.Answer.{Reads};
-ghost use Rattle.dv_forms.specs.Parts.{text_at, number_at, list_at, two_of, three_of, pair, each, if_there};
-ghost use Rattle.dv_grammar.specs.Shape.{action_at, new_deferred_of, loop_of, body_at, statement_at};
+ghost use Rattle.dv_script.specs.declared.limits.TheConstants.{MOST_PLACES};
+ghost use Rattle.dv_forms.specs.Parts.{text_at, number_at, bound_at, value_at, class_at, list_flag_at, gather_flag_at, list_at, one_of, two_of, three_of, each, if_there};
+ghost use Rattle.dv_grammar.specs.Shape.{action_at, new_deferred_of, loop_of, body_at, statement_at, with_body};
 
 use crate::reading::body::{bodies, body};
-use crate::reading::plain;
 use crate::reading::statement::statements;
 use crate::reading::work::{thread, thread_in};
 use dv_clock::limits::MOST_DELAY;
+use dv_forms::arguments::{
+    named_bounds, named_delay, named_failure, named_gathering, named_list, named_places,
+    named_value, one_text, two_texts,
+};
 use dv_forms::leaf::{array, boolean, call, five, number, one_or_two, text, three, two};
 use dv_forms::stop::Stop;
 use dv_forms::words::ActionWord;
@@ -20,6 +24,15 @@ use dv_value::items::Items;
 use dv_value::text::Text;
 use serde_json::Value as Json;
 use std::alloc::Global;
+
+/// The words that take a name and a body.
+#[derive(Clone, Copy, Drop)]
+pub enum WithBody {
+    AddCallback,
+    AddErrback,
+    AddBoth,
+    Maybe,
+}
 
 /// An action, in which bodies and statements nest to `levels`.
 ///
@@ -35,38 +48,50 @@ pub fn action(alloc: Global, classes: &Classes, levels: u32, json: &Json) -> Res
     };
     match word {
         ActionWord::Deferred => deferred(alloc, classes, levels, arguments),
-        ActionWord::Callback => plain::callback(alloc, arguments),
-        ActionWord::Errback => plain::errback(alloc, classes, arguments),
-        ActionWord::AddCallback => add_callback(alloc, classes, levels, arguments),
-        ActionWord::AddErrback => add_errback(alloc, classes, levels, arguments),
-        ActionWord::AddBoth => add_both(alloc, classes, levels, arguments),
+        ActionWord::Callback => callback(alloc, arguments),
+        ActionWord::Errback => errback(alloc, classes, arguments),
+        ActionWord::AddCallback => with_body(
+            alloc,
+            classes,
+            levels,
+            WithBody::AddCallback,
+            arguments,
+        ),
+        ActionWord::AddErrback => with_body(
+            alloc,
+            classes,
+            levels,
+            WithBody::AddErrback,
+            arguments,
+        ),
+        ActionWord::AddBoth => with_body(alloc, classes, levels, WithBody::AddBoth, arguments),
         ActionWord::AddCallbacks => add_callbacks(alloc, classes, levels, arguments),
-        ActionWord::Chain => plain::chain(alloc, arguments),
-        ActionWord::Pause => plain::pause(alloc, arguments),
-        ActionWord::Unpause => plain::unpause(alloc, arguments),
-        ActionWord::Cancel => plain::cancel(alloc, arguments),
-        ActionWord::AddTimeout => plain::add_timeout(alloc, arguments),
-        ActionWord::Note => plain::note(alloc, arguments),
-        ActionWord::List => plain::list(alloc, arguments),
-        ActionWord::Gather => plain::gather(alloc, arguments),
-        ActionWord::Maybe => maybe(alloc, classes, levels, arguments),
-        ActionWord::Lock => plain::lock(alloc, arguments),
-        ActionWord::Semaphore => plain::semaphore(alloc, arguments),
-        ActionWord::Acquire => plain::acquire(alloc, arguments),
-        ActionWord::Release => plain::release(alloc, arguments),
+        ActionWord::Chain => chain(alloc, arguments),
+        ActionWord::Pause => pause(alloc, arguments),
+        ActionWord::Unpause => unpause(alloc, arguments),
+        ActionWord::Cancel => cancel(alloc, arguments),
+        ActionWord::AddTimeout => add_timeout(alloc, arguments),
+        ActionWord::Note => note(alloc, arguments),
+        ActionWord::List => list(alloc, arguments),
+        ActionWord::Gather => gather(alloc, arguments),
+        ActionWord::Maybe => with_body(alloc, classes, levels, WithBody::Maybe, arguments),
+        ActionWord::Lock => lock(alloc, arguments),
+        ActionWord::Semaphore => semaphore(alloc, arguments),
+        ActionWord::Acquire => acquire(alloc, arguments),
+        ActionWord::Release => release(alloc, arguments),
         ActionWord::RunWith => run_with(alloc, classes, levels, arguments),
-        ActionWord::Queue => plain::queue(alloc, arguments),
-        ActionWord::Put => plain::put(alloc, arguments),
-        ActionWord::Get => plain::get(alloc, arguments),
+        ActionWord::Queue => queue(alloc, arguments),
+        ActionWord::Put => put(alloc, arguments),
+        ActionWord::Get => get(alloc, arguments),
         ActionWord::Later => later(alloc, classes, levels, arguments),
-        ActionWord::CancelCall => plain::cancel_call(alloc, arguments),
+        ActionWord::CancelCall => cancel_call(alloc, arguments),
         ActionWord::Loop => loop_of(alloc, classes, levels, arguments),
-        ActionWord::StopLoop => plain::stop_loop(alloc, arguments),
+        ActionWord::StopLoop => stop_loop(alloc, arguments),
         ActionWord::Cooperate => cooperate(alloc, classes, levels, arguments),
-        ActionWord::WhenDone => plain::when_done(alloc, arguments),
-        ActionWord::PauseTask => plain::pause_task(alloc, arguments),
-        ActionWord::StopTask => plain::stop_task(alloc, arguments),
-        ActionWord::ResumeTask => plain::resume_task(alloc, arguments),
+        ActionWord::WhenDone => when_done(alloc, arguments),
+        ActionWord::PauseTask => pause_task(alloc, arguments),
+        ActionWord::StopTask => stop_task(alloc, arguments),
+        ActionWord::ResumeTask => resume_task(alloc, arguments),
         ActionWord::Inline => inline(alloc, classes, levels, arguments),
         ActionWord::Thread => thread(alloc, classes, arguments),
         ActionWord::ThreadIn => thread_in(alloc, classes, arguments),
@@ -122,72 +147,28 @@ fn canceller(
     }
 }
 
-/// A name, and a body.
+/// An action that takes a name and a body.
 #[cycle(shape)]
+#[inline(never)]
 #[tactic(auto, unfolding(dv_forms::specs::Parts::pair))]
-fn named_body(
+fn with_body(
     alloc: Global,
     classes: &Classes,
     levels: u32,
+    word: WithBody,
     arguments: &[Json],
-) -> Result<(Text, Body), Stop>
-    ensures { Reads result (pair text_at (body_at classes.now levels) (items_view arguments.now)) }
+) -> Result<Action, Stop>
+    ensures { Reads result (two_of text_at (body_at classes.now levels) (with_body word) (items_view arguments.now)) }
 {
     let (name, json) = two(arguments)?;
     let name = text(alloc, name)?;
     let body = body(alloc, classes, levels, json)?;
-    Ok((name, body))
-}
-
-#[cycle(shape)]
-#[inline(never)]
-fn add_callback(
-    alloc: Global,
-    classes: &Classes,
-    levels: u32,
-    arguments: &[Json],
-) -> Result<Action, Stop>
-    ensures { Reads result (two_of text_at (body_at classes.now levels) Action.AddCallback (items_view arguments.now)) }
-{
-    let (name, body) = named_body(alloc, classes, levels, arguments)?;
-    Ok(Action::AddCallback(name, body))
-}
-
-#[cycle(shape)]
-#[inline(never)]
-fn add_errback(
-    alloc: Global,
-    classes: &Classes,
-    levels: u32,
-    arguments: &[Json],
-) -> Result<Action, Stop>
-    ensures { Reads result (two_of text_at (body_at classes.now levels) Action.AddErrback (items_view arguments.now)) }
-{
-    let (name, body) = named_body(alloc, classes, levels, arguments)?;
-    Ok(Action::AddErrback(name, body))
-}
-
-#[cycle(shape)]
-#[inline(never)]
-fn add_both(
-    alloc: Global,
-    classes: &Classes,
-    levels: u32,
-    arguments: &[Json],
-) -> Result<Action, Stop>
-    ensures { Reads result (two_of text_at (body_at classes.now levels) Action.AddBoth (items_view arguments.now)) }
-{
-    let (name, body) = named_body(alloc, classes, levels, arguments)?;
-    Ok(Action::AddBoth(name, body))
-}
-
-#[cycle(shape)]
-#[inline(never)]
-fn maybe(alloc: Global, classes: &Classes, levels: u32, arguments: &[Json]) -> Result<Action, Stop>
-    ensures { Reads result (two_of text_at (body_at classes.now levels) Action.Maybe (items_view arguments.now)) }
-{
-    let (name, body) = named_body(alloc, classes, levels, arguments)?;
-    Ok(Action::Maybe(name, body))
+    Ok(match word {
+        WithBody::AddCallback => Action::AddCallback(name, body),
+        WithBody::AddErrback => Action::AddErrback(name, body),
+        WithBody::AddBoth => Action::AddBoth(name, body),
+        WithBody::Maybe => Action::Maybe(name, body),
+    })
 }
 
 #[cycle(shape)]
@@ -286,4 +267,177 @@ fn inline(alloc: Global, classes: &Classes, levels: u32, arguments: &[Json]) -> 
     let name = text(alloc, name)?;
     let statements = statements(alloc, classes, levels, array(json)?)?;
     Ok(Action::Inline(name, statements))
+}
+
+#[inline(never)]
+fn callback(alloc: Global, arguments: &[Json]) -> Result<Action, Stop>
+    ensures { Reads result (two_of text_at value_at Action.Callback (items_view arguments.now)) }
+{
+    let (name, value) = named_value(alloc, arguments)?;
+    Ok(Action::Callback(name, value))
+}
+
+#[inline(never)]
+fn errback(alloc: Global, classes: &Classes, arguments: &[Json]) -> Result<Action, Stop>
+    ensures { Reads result (three_of text_at (class_at classes.now) text_at Action.Errback (items_view arguments.now)) }
+{
+    let (name, class, message) = named_failure(alloc, classes, arguments)?;
+    Ok(Action::Errback(name, class, message))
+}
+
+#[inline(never)]
+fn chain(alloc: Global, arguments: &[Json]) -> Result<Action, Stop>
+    ensures { Reads result (two_of text_at text_at Action.Chain (items_view arguments.now)) }
+{
+    let (name, other) = two_texts(alloc, arguments)?;
+    Ok(Action::Chain(name, other))
+}
+
+#[inline(never)]
+fn pause(alloc: Global, arguments: &[Json]) -> Result<Action, Stop>
+    ensures { Reads result (one_of text_at Action.Pause (items_view arguments.now)) }
+{
+    Ok(Action::Pause(one_text(alloc, arguments)?))
+}
+
+#[inline(never)]
+fn unpause(alloc: Global, arguments: &[Json]) -> Result<Action, Stop>
+    ensures { Reads result (one_of text_at Action.Unpause (items_view arguments.now)) }
+{
+    Ok(Action::Unpause(one_text(alloc, arguments)?))
+}
+
+#[inline(never)]
+fn cancel(alloc: Global, arguments: &[Json]) -> Result<Action, Stop>
+    ensures { Reads result (one_of text_at Action.Cancel (items_view arguments.now)) }
+{
+    Ok(Action::Cancel(one_text(alloc, arguments)?))
+}
+
+#[inline(never)]
+fn add_timeout(alloc: Global, arguments: &[Json]) -> Result<Action, Stop>
+    ensures { Reads result (two_of text_at (number_at 0 MOST_DELAY) Action.AddTimeout (items_view arguments.now)) }
+{
+    let (name, delay) = named_delay(alloc, arguments)?;
+    Ok(Action::AddTimeout(name, delay))
+}
+
+#[inline(never)]
+fn note(alloc: Global, arguments: &[Json]) -> Result<Action, Stop>
+    ensures { Reads result (one_of text_at Action.Note (items_view arguments.now)) }
+{
+    Ok(Action::Note(one_text(alloc, arguments)?))
+}
+
+#[inline(never)]
+fn list(alloc: Global, arguments: &[Json]) -> Result<Action, Stop>
+    ensures { Reads result (three_of text_at (list_at text_at) (list_at list_flag_at) Action.List (items_view arguments.now)) }
+{
+    let (name, children, flags) = named_list(alloc, arguments)?;
+    Ok(Action::List(name, children, flags))
+}
+
+#[inline(never)]
+fn gather(alloc: Global, arguments: &[Json]) -> Result<Action, Stop>
+    ensures { Reads result (three_of text_at (list_at text_at) (list_at gather_flag_at) Action.Gather (items_view arguments.now)) }
+{
+    let (name, children, flags) = named_gathering(alloc, arguments)?;
+    Ok(Action::Gather(name, children, flags))
+}
+
+#[inline(never)]
+fn lock(alloc: Global, arguments: &[Json]) -> Result<Action, Stop>
+    ensures { Reads result (one_of text_at Action.Lock (items_view arguments.now)) }
+{
+    Ok(Action::Lock(one_text(alloc, arguments)?))
+}
+
+#[inline(never)]
+fn semaphore(alloc: Global, arguments: &[Json]) -> Result<Action, Stop>
+    ensures { Reads result (two_of text_at (number_at 1 MOST_PLACES) Action.Semaphore (items_view arguments.now)) }
+{
+    let (name, places) = named_places(alloc, arguments)?;
+    Ok(Action::Semaphore(name, places))
+}
+
+#[inline(never)]
+fn acquire(alloc: Global, arguments: &[Json]) -> Result<Action, Stop>
+    ensures { Reads result (two_of text_at text_at Action.Acquire (items_view arguments.now)) }
+{
+    let (name, lock) = two_texts(alloc, arguments)?;
+    Ok(Action::Acquire(name, lock))
+}
+
+#[inline(never)]
+fn release(alloc: Global, arguments: &[Json]) -> Result<Action, Stop>
+    ensures { Reads result (one_of text_at Action.Release (items_view arguments.now)) }
+{
+    Ok(Action::Release(one_text(alloc, arguments)?))
+}
+
+#[inline(never)]
+fn queue(alloc: Global, arguments: &[Json]) -> Result<Action, Stop>
+    ensures { Reads result (three_of text_at bound_at bound_at Action.Queue (items_view arguments.now)) }
+{
+    let (name, size, backlog) = named_bounds(alloc, arguments)?;
+    Ok(Action::Queue(name, size, backlog))
+}
+
+#[inline(never)]
+fn put(alloc: Global, arguments: &[Json]) -> Result<Action, Stop>
+    ensures { Reads result (two_of text_at value_at Action.Put (items_view arguments.now)) }
+{
+    let (name, value) = named_value(alloc, arguments)?;
+    Ok(Action::Put(name, value))
+}
+
+#[inline(never)]
+fn get(alloc: Global, arguments: &[Json]) -> Result<Action, Stop>
+    ensures { Reads result (two_of text_at text_at Action.Get (items_view arguments.now)) }
+{
+    let (name, queue) = two_texts(alloc, arguments)?;
+    Ok(Action::Get(name, queue))
+}
+
+#[inline(never)]
+fn cancel_call(alloc: Global, arguments: &[Json]) -> Result<Action, Stop>
+    ensures { Reads result (one_of text_at Action.CancelCall (items_view arguments.now)) }
+{
+    Ok(Action::CancelCall(one_text(alloc, arguments)?))
+}
+
+#[inline(never)]
+fn stop_loop(alloc: Global, arguments: &[Json]) -> Result<Action, Stop>
+    ensures { Reads result (one_of text_at Action.StopLoop (items_view arguments.now)) }
+{
+    Ok(Action::StopLoop(one_text(alloc, arguments)?))
+}
+
+#[inline(never)]
+fn when_done(alloc: Global, arguments: &[Json]) -> Result<Action, Stop>
+    ensures { Reads result (two_of text_at text_at Action.WhenDone (items_view arguments.now)) }
+{
+    let (name, task) = two_texts(alloc, arguments)?;
+    Ok(Action::WhenDone(name, task))
+}
+
+#[inline(never)]
+fn pause_task(alloc: Global, arguments: &[Json]) -> Result<Action, Stop>
+    ensures { Reads result (one_of text_at Action.PauseTask (items_view arguments.now)) }
+{
+    Ok(Action::PauseTask(one_text(alloc, arguments)?))
+}
+
+#[inline(never)]
+fn stop_task(alloc: Global, arguments: &[Json]) -> Result<Action, Stop>
+    ensures { Reads result (one_of text_at Action.StopTask (items_view arguments.now)) }
+{
+    Ok(Action::StopTask(one_text(alloc, arguments)?))
+}
+
+#[inline(never)]
+fn resume_task(alloc: Global, arguments: &[Json]) -> Result<Action, Stop>
+    ensures { Reads result (one_of text_at Action.ResumeTask (items_view arguments.now)) }
+{
+    Ok(Action::ResumeTask(one_text(alloc, arguments)?))
 }

@@ -11,17 +11,8 @@ decreases-action::action l = 16 * l.levels + 5
 abbrev pub decreases-action::actions : goal.decreases-action::actions
 decreases-action::actions l = 16 * l.levels + 6
 
-abbrev pub decreases-action::add_both : goal.decreases-action::add_both
-decreases-action::add_both l = 16 * l.levels + 3
-
-abbrev pub decreases-action::add_callback : goal.decreases-action::add_callback
-decreases-action::add_callback l = 16 * l.levels + 3
-
 abbrev pub decreases-action::add_callbacks : goal.decreases-action::add_callbacks
 decreases-action::add_callbacks l = 16 * l.levels + 3
-
-abbrev pub decreases-action::add_errback : goal.decreases-action::add_errback
-decreases-action::add_errback l = 16 * l.levels + 3
 
 abbrev pub decreases-action::canceller : goal.decreases-action::canceller
 decreases-action::canceller l = 16 * l.levels + 1
@@ -41,11 +32,8 @@ decreases-action::later l = 16 * l.levels + 3
 abbrev pub decreases-action::loop_of : goal.decreases-action::loop_of
 decreases-action::loop_of l = 16 * l.levels + 3
 
-abbrev pub decreases-action::maybe : goal.decreases-action::maybe
-decreases-action::maybe l = 16 * l.levels + 3
-
-abbrev pub decreases-action::named_body : goal.decreases-action::named_body
-decreases-action::named_body l = 16 * l.levels + 1
+abbrev pub decreases-action::with_body : goal.decreases-action::with_body
+decreases-action::with_body l = 16 * l.levels + 3
 
 abbrev pub decreases-action::run_with : goal.decreases-action::run_with
 decreases-action::run_with l = 16 * l.levels + 3
