@@ -148,9 +148,16 @@ class OfTheProgram(unittest.TestCase):
         told = {int(row[0]) for row in rows if row[0].isdigit()}
         self.assertEqual(told, {*LANGUAGE.statuses, 70}, "70 is the launcher's")
 
-    def test_each_action_is_of_one_level(self) -> None:
-        words = [word for words in grammar.LEVELS.values() for word in words]
-        self.assertEqual(sorted(words), sorted(LANGUAGE.actions()))
+    def test_the_levels(self) -> None:
+        told = {
+            level: _CODE.findall(row[1])
+            for row in _rows(_section(_page("docs/PORTING.md"), "Levels"))
+            for level in _CODE.findall(row[0])
+        }
+        self.assertEqual(list(told), list(grammar.LEVELS))
+        for level, words in told.items():
+            actions = set(words) & set(LANGUAGE.actions())
+            self.assertLessEqual(actions, set(grammar.LEVELS[level]), level)
 
     def test_each_line_is_known_by_its_first_word(self) -> None:
         self.assertEqual(WORDS, {line.line.split()[0] for line in LANGUAGE.lines})
