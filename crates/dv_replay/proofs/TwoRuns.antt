@@ -1,17 +1,15 @@
 -- Two runs of one script in the same batches lead to one world.
-use Rattle.std.proofs.Common.{◌≡◌, ℕ, List, [], ◌∷◌, take, ◌++◌, Option, Some, Contains, sym, ap, subst, ◌∙◌, inl, inr}
-use Rattle.dv_engine.specs.Report.{Reports, ReportsOf, outcomes_of}
+use Rattle.std.proofs.Common.{◌≡◌, ℕ, List, [], ◌∷◌, ◌++◌, Some, Contains, sym, ap, subst, ◌∙◌, inl, inr}
+use Rattle.dv_engine.specs.Report.{ReportsOf}
 use Rattle.dv_engine.specs.declared.report.Report.{Report}
 use Rattle.dv_definition.specs.Scripts.{Leads}
 use Rattle.dv_journal.specs.Line.{text_of}
 use Rattle.dv_journal.specs.declared.journal.Journal.{Journal}
 use Rattle.dv_orders.proofs.Listing.{every_order, one_order}
 use Rattle.dv_orders.proofs.Members.{In, in_from}
-use Rattle.dv_orders.specs.Listed.{AreOrder}
-use Rattle.dv_orders.specs.Orders.{counts_of, empty_batches, orders, total}
-use Rattle.dv_output.specs.Output.{output, report_text}
+use Rattle.dv_orders.specs.Orders.{empty_batches, orders}
+use Rattle.dv_output.specs.Output.{output}
 use Rattle.dv_performing.proofs.Leading.{each_script_leads_to_one_world}
-use Rattle.dv_posts.specs.Batches.{Batch}
 use Rattle.dv_reader.proofs.Documents.{one_at_most}
 use Rattle.dv_reader.specs.Refusal.{Says}
 use Rattle.dv_replay.specs.Laws.{AloneAllIsDecided, AreAlike, BatchesDecide, EveryRunIsListed}

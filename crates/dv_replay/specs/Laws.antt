@@ -1,5 +1,5 @@
 -- Laws of two runs: what their texts depend on.
-use Rattle.std.specs.Prelude.{◌≡◌, ℕ, List, Option, Some, Contains}
+use Rattle.std.specs.Prelude.{◌≡◌, ℕ, List, Some, Contains}
 use Rattle.dv_engine.specs.declared.report.Report.{Report}
 use Rattle.dv_orders.specs.Orders.{counts_of, orders, total}
 use Rattle.dv_output.specs.Output.{report_text}
