@@ -1,2 +1,3 @@
 pub mod TakingLemmas
 pub mod ReplayLemmas
+pub mod TwoRuns

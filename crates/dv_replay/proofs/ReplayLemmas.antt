@@ -14,7 +14,7 @@ use Rattle.dv_output.specs.declared.error.RunFault.{RunFault}
 use Rattle.dv_output.specs.declared.error.RunFault.TheVariants.{ScriptRefused, OutOfMemory, ReadFault, WriteFault}
 use Rattle.dv_posts.specs.Batches.{Batch}
 use Rattle.dv_replay.specs.Replay as replay
-use Rattle.dv_replay.specs.Replay.{GivesNoOrder, GivesNoRun, GivesUp, PrintsIn, PrintsPrefixIn, RunGivesUp, SaysReportIn}
+use Rattle.dv_replay.specs.Replay.{GivesNoOrder, GivesNoRun, GivesUp, PrintsIn, RunGivesUp, SaysReportIn}
 use Rattle.dv_replay.specs.declared.error.ReplayFault.{ReplayFault}
 use Rattle.dv_replay.specs.declared.error.ReplayFault.TheVariants.{Run, BatchesRefused}
 use Rattle.dv_run.proofs.RunLemmas.{left_after_perform, left_after_print, reader_after_perform, reader_after_print, writer_after_perform, writer_after_print}

@@ -1,5 +1,5 @@
 -- A run in batches that are given.
-use Rattle.std.specs.Prelude.{◌≡◌, ◌⊎◌, ◌+◌, ℕ, List, length, take, Result, Ok, Err}
+use Rattle.std.specs.Prelude.{◌≡◌, ◌⊎◌, ◌+◌, ℕ, List, take, Result, Ok, Err}
 use Rattle.std.specs.Io.KnownBytes.{Appends, Keeps}
 use Rattle.dv_engine.specs.Engine.{Engine, phase_after}
 use Rattle.dv_engine.specs.declared.engine.Phase.TheVariants.{Over}

@@ -3,6 +3,7 @@
 
 pub mod error;
 pub mod exit;
+pub mod laws;
 pub mod performing;
 pub mod running;
 pub mod taking;

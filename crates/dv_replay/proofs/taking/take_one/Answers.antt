@@ -1,9 +1,9 @@
 use Rattle.std.proofs.Common.{◌≡◌, ◌∙◌, Err, List, [], slice_index_or, subst}
 use Rattle.std.proofs.lemmas.List.{get_or_default}
-use Rattle.dv_engine.specs.Engine.{Drained, IsStrange, NoBatch}
+use Rattle.dv_engine.specs.Engine.{Drained, IsStrange}
 use Rattle.dv_engine.specs.declared.error.EngineFault.{EngineFault}
 use Rattle.dv_posts.specs.Batches.{Batch}
-use Rattle.dv_replay.proofs.TakingLemmas.{none_is_strange, one_is_waited_for, took_one}
+use Rattle.dv_replay.proofs.TakingLemmas.{none_is_strange, took_one}
 use Rattle.dv_replay.proofs.taking.take_one.Goals as goal
 
 pub returns-in-Ok : goal.returns-in-Ok

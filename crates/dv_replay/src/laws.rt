@@ -1,0 +1,12 @@
+//! Laws of two runs, each a function with an empty body whose clauses are the law.
+
+ghost use Rattle.dv_replay.specs.Laws.{AloneAllIsDecided, BatchesDecide, EveryRunIsListed};
+
+/// Any two runs of one input in the same batches print the same text, and both stop at the limit
+/// of the journal or neither does. So do any two runs of a script in which nobody posts. No run
+/// takes its posts in an order that isn't in the list of `dv_orders`.
+pub fn batches_decide_a_run()
+    ensures same { BatchesDecide }
+    ensures alone { AloneAllIsDecided }
+    ensures listed { EveryRunIsListed }
+{}
