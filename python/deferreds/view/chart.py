@@ -76,7 +76,7 @@ class Chart:
             shown = Html(f"  <b>{isolated(clipped(text, 160))}</b>") if text else Html("")
             shown = Html(f"{shown}{self._at(self._run.fold.rows[slot.row])}")
             return Html(
-                f'<div class="row ev"><span class=n></span><span class=t>{escaped(head)}{shown}</span></div>'
+                f'<div class="row ev" data-n={slot.more}><span class=n></span><span class=t>{escaped(head)}{shown}</span></div>'
             )
         if slot.kind is SlotKind.SAME:
             text = f"the same line {slot.more} times more, up to line {slot.row + slot.more + 1}"

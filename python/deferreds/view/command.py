@@ -20,17 +20,20 @@ import os
 import sys
 import webbrowser
 from functools import partial
+from itertools import chain
 from pathlib import Path
-from typing import Callable, Iterator, List, Set
+from typing import Callable, Iterator, List, Optional, Set
 
 from ..checkout import as_called, command_name
 from ..ending import ended, open_streams, writing
+from .branches import found
 from .compared import Compared
 from .compared_forms import ComparedPage, text_lines
-from .inputs import NO_OUTPUT, STANDARD, USAGE, Failed, Inputs, read_any
+from .inputs import NO_INPUT, NO_OUTPUT, STANDARD, USAGE, Failed, Inputs, read_any
 from .page import Page
 from .run import Run
 from .terminal import Terminal
+from .texts import clipped, visible
 from .trace import SUFFIX, Trace
 
 
@@ -48,6 +51,11 @@ def _arguments(words: List[str]) -> argparse.Namespace:
     add("--open", action="store_true", help="open the page in the browser")
     form = parser.add_mutually_exclusive_group()
     form.add_argument("--text", action="store_true", help="print the view for a terminal")
+    add(
+        "--deferred",
+        metavar="WHICH",
+        help="with --text: print the tree of one Deferred alone, by its number or its name",
+    )
     form.add_argument(
         "--trace",
         action="store_true",
@@ -108,6 +116,8 @@ def _mistake(parsed: argparse.Namespace) -> str:
         return "a journal, or a run as JSON, has one SCRIPT at most"
     if parsed.compare and (parsed.scripts or parsed.trace or parsed.places or numbers):
         return "--compare takes two FILEs, and neither a SCRIPT nor --trace, --places, --from and --to"
+    if parsed.deferred is not None and (not parsed.text or parsed.compare):
+        return "--deferred goes with --text, and without --compare; on a page it is the address that ends with #d=NUMBER"
     if parsed.trace and parsed.open:
         return "--open is for a page, which --trace doesn't write"
     if parsed.output == STANDARD and (several or parsed.open):
@@ -178,10 +188,14 @@ def _write(text: str, target: str) -> None:
         raise Failed(NO_OUTPUT, f"{target} can't be written: {why}") from None
 
 
-def _print_text(run: Run) -> None:
+def _print_text(run: Run, asked: Optional[str]) -> None:
     color = sys.stdout.isatty() and not os.environ.get("NO_COLOR") and os.environ.get("TERM") != "dumb"
+    terminal = Terminal(run, color)
+    numbers = found(run, asked) if asked is not None else []
+    if numbers is None:
+        raise Failed(NO_INPUT, f"{visible(run.title)} has no Deferred {visible(clipped(asked or '', 100))}")
     with writing():
-        for line in Terminal(run, color).lines():
+        for line in chain.from_iterable(map(terminal.tree, numbers)) if asked is not None else terminal.lines():
             print(line)
 
 
@@ -236,7 +250,7 @@ def _status_of(show: Callable[[], None]) -> int:
 
 def _show(one: Inputs, arguments: argparse.Namespace, inputs: List[Inputs], target: str) -> None:
     if arguments.text:
-        return _print_text(one.run())
+        return _print_text(one.run(), arguments.deferred)
     _check_target(target, inputs)
     if arguments.trace:
         return _write_trace(one.run(), target)

@@ -44,7 +44,7 @@ class Markup:
             return text
         target = self.target(number)
         return Html(
-            f"<a data-f={number} href=#{target}>{text}</a>"
+            f'<a data-f={number} href="#{target}">{text}</a>'
             if target
             else f"<a data-f={number}>{text}</a>"
         )
@@ -54,7 +54,7 @@ class Markup:
         record = self._fold.records.get(number)
         if record is not None and record.row in self._window:
             return f"r{self._folded.get(record.row, record.row) + 1}"
-        return f"o{number}" if number in self.outcomes else ""
+        return f"d={number}" if number in self.outcomes else ""
 
     def said(self, phrase: Phrase, most: int = _MOST_PART) -> Html:
         """A phrase."""

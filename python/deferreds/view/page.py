@@ -16,10 +16,12 @@ from .report import Finding, Kind, Severity
 from .run import Run
 from .shapes import CLASSES, SAYS, SIGNS, arrow, bar
 from .texts import Html, escaped, joined, shortened
+from .units import seconds_of
 
 #: how many rows a chart has at most
 MOST_ROWS = 5_000
 
+_SCRIPTS = ("rows.js", "focus.js", "stories.js")
 _FOLDER = Path(__file__).resolve().parent
 _FEW_FINDINGS, _MOST_FINDINGS = 8, 200
 _FEW_OUTCOMES, _MOST_ODD, _MOST_OK = 16, 200, 2_000
@@ -65,7 +67,7 @@ class Page:
 
     def html(self) -> Html:
         """The whole page."""
-        style, script = self._style(), asset("focus.js")
+        style, script = self._style(), script_of_page()
         policy = f"default-src 'none'; style-src '{policy_hash(style)}'; script-src '{policy_hash(script)}'; base-uri 'none'; form-action 'none'"
         title = escaped(self._run.title)
         return joined(
@@ -78,12 +80,14 @@ class Page:
                 *self._verdict(title),
                 *self._report(),
                 *self._outcomes(),
+                Html("<section id=tree hidden></section>"),
                 *self._above_chart(),
                 Html("</main><div id=chart><div id=column hidden></div>"),
                 self._head(),
                 *self._chart.pieces(),
                 Html("</div>"),
                 *self._below_chart(),
+                *self._stories(),
                 Html(
                     "<input id=find type=search placeholder=find aria-label=find hidden>"
                     f"<div id=focus role=status hidden></div><script>{script}</script></body></html>\n"
@@ -202,7 +206,7 @@ class Page:
             why = Html(f": {self._markup.said(record.fired_by, 60)}") if record.fired_by else Html("")
             fired = Html(f"{self._markup.line(record.fired)}{why}")
         return Html(
-            f"<tr id=o{record.number} data-d={record.number}><td class=mono>{self._markup.deferred(record.number, named=False)}</td>"
+            f'<tr id="d={record.number}" data-d={record.number}><td class=mono>{self._markup.deferred(record.number, named=False)}</td>'
             f'<td class="mono name">{escaped(", ".join(record.names))}</td>'
             f'<td class="state t-{CLASSES[end]}">{SIGNS[end]} {end.value}</td><td class="mono value">{shown}</td><td>{fired}</td>'
             f"{self._made_at(record)}</tr>"
@@ -277,6 +281,14 @@ class Page:
             )
 
 
+    def _stories(self) -> Iterator[Html]:
+        """What the script of the page makes trees of: a line for each Deferred."""
+        run = self._run
+        yield Html(f'<pre id=stories hidden data-tick="{float(seconds_of(run.tick)):g}">')
+        yield Html("\n".join(escaped(run.stories.written(one, run.durations)) for one in run.fold.records.values()))
+        yield Html("</pre>")
+
+
 def _window(rows: int, first: Optional[int], last: Optional[int]) -> range:
     """The places of the rows that are shown, from and to lines with numbers from 1."""
     start = min(max(1, first or 1), max(1, rows)) - 1
@@ -287,6 +299,13 @@ def _window(rows: int, first: Optional[int], last: Optional[int]) -> range:
 def asset(name: str) -> str:
     """A file that a page holds: its style or its script."""
     return (_FOLDER / name).read_text(encoding="utf-8")
+
+
+def script_of_page() -> str:
+    """The script of the page, whose files are parts of one function; without indents and comments, which a page needs not."""
+    lines = (line.strip() for name in _SCRIPTS for line in asset(name).split("\n"))
+    kept = "\n".join(line for line in lines if line and not line.startswith("//"))
+    return f'(function () {{\n"use strict";\n{kept}\n}})();\n'
 
 
 def policy_hash(text: str) -> str:

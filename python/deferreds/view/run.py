@@ -4,6 +4,7 @@ from __future__ import annotations
 
 from typing import List, Optional, Sequence
 
+from .durations import Durations
 from .facts import Facts
 from .fold import Fold
 from .left import Left, LeftDeferred, left_of
@@ -14,6 +15,8 @@ from .records import Finish
 from .report import Report
 from .scripts import Script
 from .sections import places_of
+from .stories import Stories
+from .units import in_seconds
 
 
 class Run:
@@ -39,7 +42,21 @@ class Run:
         self.places: Places = NOWHERE
         #: how long a tick was where the run was recorded, as `1 ms`, or an empty text
         self.tick = ""
+        self.durations = Durations(fold.rows)
         self._report: Optional[Report] = None
+        self._stories: Optional[Stories] = None
+
+    @property
+    def stories(self) -> Stories:
+        """What each Deferred does, step by step."""
+        if self._stories is None:
+            self._stories = Stories(self.fold, self.left)
+        return self._stories
+
+    def ticks(self, count: int) -> str:
+        """So many ticks in words, with the seconds that they were where the run was recorded."""
+        seconds = in_seconds(count, self.tick)
+        return several(count, "tick", "ticks") + (f" ({seconds})" if seconds else "")
 
     @property
     def report(self) -> Report:
