@@ -5,6 +5,7 @@ from __future__ import annotations
 from typing import Dict, Iterator, List, NamedTuple, Sequence, Tuple
 
 from .events import Events
+from .folding import Folding, written
 from .layout import CHUNK, SLOT, Lane, Lanes, Rows, Slot, SlotKind, chunks, text_width
 from .markup import Markup, attribute, isolated, placed
 from .records import By, Look, Record, Row, ended
@@ -43,6 +44,7 @@ class Chart:
         self._events = events
         self._markup = markup
         self.ruler = Ruler(run.fold, run.left, rows)
+        self._folds = Folding(run.fold, rows).of
         self.side = NUMBER + RULER + text_width(run.fold, rows, events)
         self.width = self.side + lanes.full_width
         self._titles = 0
@@ -88,6 +90,8 @@ class Chart:
         named = Html(f' data-d="{" ".join(map(str, row.names))}"') if row.names else Html("")
         title = self._title(line) if len(line) > 60 else Html("")
         classes = '"row f"' if row.entry.fails else "row"
+        folds = self._folds.get(row.place)
+        named = Html(f'{named} data-g="{written(folds)}"') if folds else named
         why = self._why(row)
         behind = Html(f"<span class=c>{why}</span>") if why else Html("")
         return Html(

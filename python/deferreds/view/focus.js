@@ -13,7 +13,7 @@ function tell() {
   link.href = "#d=" + chosen;
   note.append(link, ", Esc ends");
 }
-function choose(number) {
+function choose(number, kept) {
   chosen = number;
   body.classList.toggle("focus", number !== null);
   unmark("on");
@@ -21,6 +21,7 @@ function choose(number) {
   tell();
   if (number === null) return;
   all('[data-d~="' + number + '"]').forEach(function (element) { element.classList.add("on"); });
+  unfold(all(".row.on[hidden]"), kept);
   placeColumn();
 }
 function placeColumn() {
@@ -34,7 +35,9 @@ function placeColumn() {
   column.style.height = heightNow(bottom) - heightNow(top) + "px";
 }
 function seek(text) {
+  var before = sought;
   sought = text.trim().toLowerCase();
+  if (Boolean(before) !== Boolean(sought) && folds.length) lay();
   body.classList.toggle("finding", sought !== "");
   unmark("hit");
   if (sought) all(".row[id], tr[data-d]").forEach(function (element) {
@@ -71,7 +74,7 @@ document.addEventListener("click", function (event) {
   }
   var link = event.target.closest("[data-f]");
   if (!link) return;
-  choose(chosen === link.dataset.f ? null : link.dataset.f);
+  choose(chosen === link.dataset.f ? null : link.dataset.f, link);
   if (link.closest("#chart, #tree")) event.preventDefault();
 });
 find.addEventListener("input", function () { seek(find.value); });

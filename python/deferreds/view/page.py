@@ -21,7 +21,7 @@ from .units import seconds_of
 #: how many rows a chart has at most
 MOST_ROWS = 5_000
 
-_SCRIPTS = ("rows.js", "focus.js", "stories.js")
+_SCRIPTS = ("rows.js", "focus.js", "folds.js", "stories.js")
 _FOLDER = Path(__file__).resolve().parent
 _FEW_FINDINGS, _MOST_FINDINGS = 8, 200
 _FEW_OUTCOMES, _MOST_ODD, _MOST_OK = 16, 200, 2_000
@@ -240,6 +240,8 @@ class Page:
             "ends it. Time stands on the left, with a bracket from each scheduling to its coming. Choose a number, as #0, to "
         )
         yield Html("follow that Deferred; press / to find a text.</p>")
+        shut = " data-shut" if self._run.is_recorded else ""
+        yield Html(f'<p id=folds class="facts small"{shut} hidden></p>')
         rows = len(self._run.fold.rows)
         if len(self.window) < rows:
             yield Html(

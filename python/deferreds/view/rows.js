@@ -31,7 +31,8 @@ function isLine(slot) { return slots[slot].id !== ""; }
 function isShown(slot) { return !slots[slot].hidden; }
 // how many lines are hidden
 function hiddenLines() { return slots.filter(function (row) { return row.id && row.hidden; }).length; }
-function lay() {
+function lay(kept) {
+  var before = kept && kept.getBoundingClientRect().top;
   var names = Object.keys(sieves), shown = slots.map(function (row, slot) {
     return !row.id || names.every(function (name) { return sieves[name](slot); });
   });
@@ -50,6 +51,9 @@ function lay() {
   });
   above.push(count);
   chunks.forEach(layChunk);
+  placeColumn();
+  // what was chosen stays where it was seen
+  if (kept && kept.isConnected) scrollBy(0, kept.getBoundingClientRect().top - before);
 }
 function layChunk(chunk) {
   var count = above[chunk.first + chunk.count] - above[chunk.first], whole = count === chunk.count;

@@ -53,6 +53,11 @@ class Run:
             self._stories = Stories(self.fold, self.left)
         return self._stories
 
+    @property
+    def is_recorded(self) -> bool:
+        """Whether a recorder tells of the run, whose files stand beside it."""
+        return bool(self.tick or self.places)
+
     def ticks(self, count: int) -> str:
         """So many ticks in words, with the seconds that they were where the run was recorded."""
         seconds = in_seconds(count, self.tick)

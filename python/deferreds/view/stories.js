@@ -153,7 +153,6 @@ function plant(number) {
   told.found.forEach(function (one) { tree.append(branch(one)); });
   if (told.more) tree.append(made("p", "facts", "and more: a tree has " + MOST_BRANCHES + " lines at most"));
   tree.hidden = false;
-  placeColumn();
   tree.scrollIntoView();
 }
 function fell() {
@@ -163,14 +162,14 @@ function fell() {
   tree.hidden = true;
   tree.replaceChildren();
   lay();
-  placeColumn();
   if (/^#d=/.test(location.hash)) history.replaceState(null, "", location.href.split("#")[0]);
 }
 function follow() {
   var asked = /^#d=(\d+)$/.exec(location.hash), target = /^#r\d+$/.test(location.hash) && document.getElementById(location.hash.slice(1));
   if (asked) return plant(asked[1]);
   if (target && target.hidden) {
-    fell();
+    unfold([target]);
+    if (target.hidden) fell();
     target.scrollIntoView({ block: "center" });
   }
 }
