@@ -378,7 +378,7 @@ class Find(InBrowser):
         self.assertIn(f"r{some.row + 1}", self.find(some.name))
         self.assertIn("lines have", self.asked("document.getElementById('focus').textContent"))
         self.find("✓ ok")
-        shown = "[...document.querySelectorAll('tr[data-d]')].filter(row => getComputedStyle(row).display !== 'none').length"
+        shown = "[...document.querySelectorAll('.ends tr[data-d]')].filter(row => getComputedStyle(row).display !== 'none').length"
         good = sum(record.end.startswith("ok ") for record in run.fold.records.values())
         self.assertEqual(self.asked(shown), good)
         faded = "[...document.querySelectorAll('.row[id]:not(.hit)')].every(row => getComputedStyle(row).opacity < 0.5)"

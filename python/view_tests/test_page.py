@@ -20,11 +20,11 @@ from . import samples
 
 _ELEMENTS = frozenset(
     "html head meta title style body main nav h1 h2 p span a table tr th td b bdi div i svg path rect circle g text details "
-    "summary script input section pre".split()
+    "summary script input section pre line".split()
 )
 _ATTRIBUTES = frozenset(
     "lang charset name content http-equiv class id href data-f data-d data-to data-x data-y data-h title hidden role width height "
-    "x y cx cy r d aria-hidden type placeholder aria-label data-n data-g data-shut data-tick".split()
+    "x y cx cy r d aria-hidden type placeholder aria-label data-n data-g data-shut data-tick x1 x2 y1 y2".split()
 )
 _NUMBERS = re.compile(r"[a-z-]*=?\d*")
 

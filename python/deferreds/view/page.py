@@ -7,10 +7,12 @@ import hashlib
 from pathlib import Path
 from typing import Dict, Iterator, List, Optional
 
+from .axis import Axis
 from .chart import Chart
 from .events import Events
 from .layout import CHUNK, SLOT, Lanes, Rows
 from .markup import Markup, isolated, placed
+from .phrases import several
 from .records import ArrowKind, Ended, Look, Record, State, ended
 from .report import Finding, Kind, Severity
 from .run import Run
@@ -81,6 +83,7 @@ class Page:
                 *self._report(),
                 *self._outcomes(),
                 Html("<section id=tree hidden></section>"),
+                *Axis(self._run, self._markup).pieces(),
                 *self._above_chart(),
                 Html("</main><div id=chart><div id=column hidden></div>"),
                 self._head(),
@@ -190,8 +193,8 @@ class Page:
     def _table(self, records: List[Record]) -> Html:
         most = _MOST_VALUE if len(records) <= _MOST_ODD else _LEAST_VALUE
         made = "<th>Made at</th>" if self._run.places else ""
-        head = f"<tr><th>No.</th><th>Name</th><th>At the end</th><th>Value</th><th>Fired by</th>{made}</tr>"
-        return Html(f"<table>{head}{joined(self._outcome(record, most) for record in records)}</table>")
+        head = f"<tr><th>No.</th><th>Name</th><th>At the end</th><th>Value</th><th>Fired by</th><th>How long</th>{made}</tr>"
+        return Html(f"<table class=ends>{head}{joined(self._outcome(record, most) for record in records)}</table>")
 
     def _outcome(self, record: Record, most: int) -> Html:
         end = ended(record.end)
@@ -209,8 +212,15 @@ class Page:
             f'<tr id="d={record.number}" data-d={record.number}><td class=mono>{self._markup.deferred(record.number, named=False)}</td>'
             f'<td class="mono name">{escaped(", ".join(record.names))}</td>'
             f'<td class="state t-{CLASSES[end]}">{SIGNS[end]} {end.value}</td><td class="mono value">{shown}</td><td>{fired}</td>'
+            f"<td class=why>{self._spent(record)}</td>"
             f"{self._made_at(record)}</tr>"
         )
+
+    def _spent(self, record: Record) -> str:
+        """How long the Deferred was unfired, waited and was paused, where that took time, and how many of its sides ran."""
+        spent, ticks = self._run.durations.of(record), self._run.ticks
+        parts = [f"{word} {ticks(count)}" for word, count in (("unfired", spent.unfired), ("waited", spent.waited), ("paused", spent.paused)) if count]
+        return ", ".join([*parts, *([several(spent.sides, "side", "sides")] if spent.sides else [])])
 
     def _made_at(self, record: Record) -> Html:
         if not self._run.places:

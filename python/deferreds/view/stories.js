@@ -141,6 +141,8 @@ function plant(number) {
   told.found.forEach(function (one) { [one.step.row, one.step.end].forEach(function (row) { if (row !== null) places.add(row); }); });
   var kept = withAround(places);
   planted = number;
+  var members = new Set([number].concat(told.found.filter(function (one) { return one.opens; }).map(function (one) { return one.step.other; })));
+  all("#time tr[data-d]").forEach(function (row) { row.hidden = !members.has(row.dataset.d); });
   sieves.tree = function (slot) { return kept.has(slot); };
   lay();
   var head = made("h2", "", root.label + ", with all that hangs on it"), about = made("p", "facts", root.end + ". " + spent(root) + ". ");
@@ -161,6 +163,7 @@ function fell() {
   delete sieves.tree;
   tree.hidden = true;
   tree.replaceChildren();
+  all("#time tr[data-d]").forEach(function (row) { row.hidden = false; });
   lay();
   if (/^#d=/.test(location.hash)) history.replaceState(null, "", location.href.split("#")[0]);
 }
