@@ -23,7 +23,7 @@ from .units import seconds_of
 #: how many rows a chart has at most
 MOST_ROWS = 5_000
 
-_SCRIPTS = ("rows.js", "focus.js", "folds.js", "stories.js")
+_SCRIPTS = ("rows.js", "focus.js", "folds.js", "filter.js", "stories.js")
 _FOLDER = Path(__file__).resolve().parent
 _FEW_FINDINGS, _MOST_FINDINGS = 8, 200
 _FEW_OUTCOMES, _MOST_ODD, _MOST_OK = 16, 200, 2_000
@@ -251,6 +251,7 @@ class Page:
         )
         yield Html("follow that Deferred; press / to find a text.</p>")
         shut = " data-shut" if self._run.is_recorded else ""
+        yield Html("<details id=sieve hidden><summary>Filter by kind of line and by outcome</summary></details>")
         yield Html(f'<p id=folds class="facts small"{shut} hidden></p>')
         rows = len(self._run.fold.rows)
         if len(self.window) < rows:

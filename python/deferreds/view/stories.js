@@ -5,9 +5,14 @@ var HANGS = {
   loop: "is fired when this loop ends: ", task: "is fired when this task ends: "
 };
 var stories = document.getElementById("stories"), tree = document.getElementById("tree"), lines = null, planted = null;
+function known() {
+  if (!lines) lines = new Map(stories.textContent.split("\n").filter(Boolean).map(function (line) { return [line.split(" ", 1)[0], line]; }));
+  return lines;
+}
+// the numbers of all Deferreds
+function numbers() { return Array.from(known().keys()); }
 function story(number) {
-  if (!lines) lines = new Map(stories.textContent.split("\n").map(function (line) { return [line.split(" ", 1)[0], line]; }));
-  var line = lines.get(String(number));
+  var line = known().get(String(number));
   if (!line) return null;
   var words = line.split(" ");
   return {
@@ -141,8 +146,8 @@ function plant(number) {
   told.found.forEach(function (one) { [one.step.row, one.step.end].forEach(function (row) { if (row !== null) places.add(row); }); });
   var kept = withAround(places);
   planted = number;
-  var members = new Set([number].concat(told.found.filter(function (one) { return one.opens; }).map(function (one) { return one.step.other; })));
-  all("#time tr[data-d]").forEach(function (row) { row.hidden = !members.has(row.dataset.d); });
+  members = new Set([number].concat(told.found.filter(function (one) { return one.opens; }).map(function (one) { return one.step.other; })));
+  showDeferreds();
   sieves.tree = function (slot) { return kept.has(slot); };
   lay();
   var head = made("h2", "", root.label + ", with all that hangs on it"), about = made("p", "facts", root.end + ". " + spent(root) + ". ");
@@ -163,7 +168,8 @@ function fell() {
   delete sieves.tree;
   tree.hidden = true;
   tree.replaceChildren();
-  all("#time tr[data-d]").forEach(function (row) { row.hidden = false; });
+  members = null;
+  showDeferreds();
   lay();
   if (/^#d=/.test(location.hash)) history.replaceState(null, "", location.href.split("#")[0]);
 }
@@ -173,6 +179,8 @@ function follow() {
   if (target && target.hidden) {
     unfold([target]);
     if (target.hidden) fell();
+    if (target.hidden) unstrain();
+    if (target.hidden) unfold([target]);
     target.scrollIntoView({ block: "center" });
   }
 }
