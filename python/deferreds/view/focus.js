@@ -56,6 +56,7 @@ function end() {
   find.hidden = true;
   seek("");
   choose(null);
+  showWhole(null);
   fell();
 }
 function go(step) {

@@ -23,7 +23,10 @@ from .units import seconds_of
 #: how many rows a chart has at most
 MOST_ROWS = 5_000
 
-_SCRIPTS = ("rows.js", "focus.js", "folds.js", "filter.js", "stories.js")
+_SCRIPTS = ("rows.js", "focus.js", "folds.js", "filter.js", "whole.js", "stories.js")
+#: up to which width of the screen lanes are folded away; `style.css` has the same number
+NARROW = 600
+
 _FOLDER = Path(__file__).resolve().parent
 _FEW_FINDINGS, _MOST_FINDINGS = 8, 200
 _FEW_OUTCOMES, _MOST_ODD, _MOST_OK = 16, 200, 2_000
@@ -93,6 +96,7 @@ class Page:
                 *self._stories(),
                 Html(
                     "<input id=find type=search placeholder=find aria-label=find hidden>"
+                    "<div id=whole class=mono hidden></div>"
                     f"<div id=focus role=status hidden></div><script>{script}</script></body></html>\n"
                 ),
             ]
@@ -103,6 +107,7 @@ class Page:
         paper = max(_PAPER, width + 48)
         return (
             f"{asset('style.css')}#chart{{width:{width}px;--side:min({self._chart.side}px,62vw)}}#last{{height:{rest * SLOT}px}}"
+            f"@media screen and (max-width:{NARROW}px){{body:not(.lanes) #chart{{width:100%;--side:100vw}}}}"
             f"@page{{size:{paper}px {int(paper / 1.414)}px;margin:24px}}"
         )
 
