@@ -22,10 +22,10 @@ import webbrowser
 from functools import partial
 from itertools import chain
 from pathlib import Path
-from typing import Callable, Iterator, List, Optional, Set
+from typing import IO, Callable, Iterator, List, Optional, Set
 
 from ..checkout import as_called, command_name
-from ..ending import ended, open_streams, writing
+from ..ending import ended, open_streams, say, writing
 from .branches import found
 from .compared import Compared
 from .compared_forms import ComparedPage, text_lines
@@ -37,8 +37,16 @@ from .texts import clipped, visible
 from .trace import SUFFIX, Trace
 
 
+class _Parser(argparse.ArgumentParser):
+    """Says by its status when its help can't be written; argparse itself goes on as if it were."""
+
+    def print_help(self, file: Optional[IO[str]] = None) -> None:
+        """Prints the help."""
+        print(self.format_help(), end="", file=file)
+
+
 def _arguments(words: List[str]) -> argparse.Namespace:
-    parser = argparse.ArgumentParser(
+    parser = _Parser(
         prog=command_name("view"), description=as_called(__doc__), formatter_class=argparse.RawDescriptionHelpFormatter
     )
     add = parser.add_argument
@@ -128,7 +136,7 @@ def _mistake(parsed: argparse.Namespace) -> str:
 
 
 def _say(text: str) -> None:
-    print(f"{command_name('view')}: {text}", file=sys.stderr)
+    say(f"{command_name('view')}: {text}")
 
 
 def _inputs(arguments: argparse.Namespace) -> List[Inputs]:

@@ -10,6 +10,7 @@ from pathlib import Path
 from typing import NamedTuple, Optional, Tuple
 
 from ..checkout import as_called, command_name
+from ..ending import say
 from ..program import NOT_RUN, NotRun, found
 from .facts import NotFacts, read_facts
 from .lines import WORDS
@@ -84,7 +85,7 @@ class Inputs(NamedTuple):
             return read_places(path.read_text(encoding="utf-8"))
         except (OSError, UnicodeDecodeError, NotPlaces) as why:
             reason = why.strerror if isinstance(why, OSError) else why
-            print(f"{command_name('view')}: {path} isn't used, since it doesn't tell places: {reason}", file=sys.stderr)
+            say(f"{command_name('view')}: {path} isn't used, since it doesn't tell places: {reason}")
             return NOWHERE
 
 
