@@ -30,7 +30,7 @@ from .branches import found
 from .compared import Compared
 from .compared_forms import ComparedPage, text_lines
 from .inputs import NO_INPUT, NO_OUTPUT, STANDARD, USAGE, Failed, Inputs, read_any
-from .page import Page
+from .page import MOST_ROWS, Page
 from .run import Run
 from .terminal import Terminal
 from .texts import clipped, visible
@@ -210,11 +210,11 @@ def _print_text(run: Run, asked: Optional[str]) -> None:
 def _show_page(run: Run, arguments: argparse.Namespace, target: str) -> None:
     page = Page(run, arguments.first, arguments.last)
     _write(page.html(), target)
-    part = (
-        f", of which the chart shows {page.window.start + 1} to {page.window.stop}"
-        if len(page.window) < len(run.fold.rows)
-        else ""
-    )
+    part = ""
+    if len(page.window) < len(page.there):
+        part = f", {MOST_ROWS} at a time" + (f", up to line {page.there.stop}" if page.there.stop < len(run.fold.rows) else "")
+    elif len(page.window) < len(run.fold.rows):
+        part = f", of which the chart shows {page.window.start + 1} to {page.window.stop}"
     _say_written(target, run, part)
     if arguments.open:
         webbrowser.open(Path(target).resolve().as_uri())

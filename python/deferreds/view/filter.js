@@ -1,10 +1,14 @@
 // The filter: lines of some kinds alone, or those that name a Deferred of some outcomes; it hides all else, and says how much.
 var OUTCOMES = { ok: "✓", fail: "✕", waiting: "…", paused: "‖", unfired: "○" };
 var sieve = document.getElementById("sieve"), off = { kind: new Set(), outcome: new Set() }, boxes = [], members = null;
-var kinds = slots.map(function (row) {
-  var word = row.id && row.querySelector(".t > b");
-  return word ? word.textContent : "";
-});
+var kinds;
+function findKinds() {
+  kinds = slots.map(function (row) {
+    var word = row.id && row.querySelector(".t > b");
+    return word ? word.textContent : "";
+  });
+}
+findKinds();
 var outcomes = new Map();
 function outcomeOf(number) {
   if (!outcomes.has(number)) outcomes.set(number, (story(number) || { end: "" }).end);
@@ -70,10 +74,12 @@ function counted(values) {
   values.forEach(function (value) { counts.set(value, (counts.get(value) || 0) + 1); });
   return counts;
 }
-// the boxes are made when the filter is opened first
-sieve.addEventListener("toggle", function () {
-  if (boxes.length || !sieve.open) return;
+// the boxes are made when the filter is opened first, and anew for other lines
+function makeBoxes() {
+  boxes = [];
+  all(".group", sieve).forEach(function (part) { part.remove(); });
   group("kind", "Kinds of lines", counted(kinds.filter(function (word, slot) { return slots[slot].id; })), function (word) { return word || "not known"; });
   group("outcome", "Outcomes of the Deferreds that a line names", counted(numbers().map(outcomeOf)), function (end) { return (OUTCOMES[end] || "") + " " + end; });
-});
+}
+sieve.addEventListener("toggle", function () { if (!boxes.length && sieve.open) makeBoxes(); });
 if (slots.some(isLineRow)) sieve.hidden = false;

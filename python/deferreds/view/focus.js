@@ -4,7 +4,7 @@ var note = document.getElementById("focus"), column = document.getElementById("c
 function unmark(name) { all("." + name).forEach(function (element) { element.classList.remove(name); }); }
 function tell() {
   var said = [], lines = sought && all(".row.hit").length;
-  if (sought) said.push(lines + (lines === 1 ? " line has " : " lines have ") + find.value);
+  if (sought) said.push(lines + (lines === 1 ? " line has " : " lines have ") + find.value + whichLines());
   if (chosen !== null) said.push("#" + chosen);
   note.hidden = !said.length;
   note.textContent = said.join(", ") + ": n next line, p the one before, " + (chosen === null ? "Esc ends" : "t ");

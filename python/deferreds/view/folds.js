@@ -1,8 +1,14 @@
 // Folds: rows that are hidden as long as the row which stays is shut.
 var KINDS = { p: "its pairs", w: "sides without effect", k: "gives a token back", l: "schedules the next turn", s: "" };
 var folds = [], foldNote = document.getElementById("folds"), closed = [];
-slots.forEach(function (row, slot) {
-  if (!row.dataset.g) return;
+function makeFolds() {
+  folds = [];
+  closed = [];
+  foldNote.hidden = true;
+  slots.forEach(function (row, slot) { if (row.dataset.g) makeFold(row, slot); });
+  if (folds.length) layFolds();
+}
+function makeFold(row, slot) {
   row.dataset.g.split(" ").forEach(function (word) {
     var parts = /^([a-z])(?:(\d+)\.)?(-?\d+)$/.exec(word), count = Number(parts[3]);
     var fold = { slot: slot, from: count > 0 ? slot + 1 : slot + count, to: count > 0 ? slot + 1 + count : slot, shut: foldNote.dataset.shut !== undefined, button: made("button", "fold") };
@@ -17,7 +23,7 @@ slots.forEach(function (row, slot) {
     row.insertBefore(fold.button, row.querySelector(".t").nextSibling);
     folds.push(fold);
   });
-});
+}
 sieves.fold = function (slot) { return !closed[slot] || Boolean(sought || sieves.tree || sieves.kind); };
 function layFolds(kept) {
   closed = new Array(slots.length);
@@ -56,4 +62,4 @@ function unfold(rows, kept) {
   if (at.length) layFolds(kept);
   return at.length > 0;
 }
-if (folds.length) layFolds();
+makeFolds();

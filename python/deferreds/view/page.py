@@ -8,10 +8,8 @@ from pathlib import Path
 from typing import Dict, Iterator, List, Optional
 
 from .axis import Axis
-from .chart import Chart
 from .events import Events
-from .layout import CHUNK, SLOT, Lanes, Rows
-from .markup import Markup, isolated, placed
+from .markup import isolated, placed
 from .phrases import several
 from .records import ArrowKind, Ended, Look, Record, State, ended
 from .report import Finding, Kind, Severity
@@ -19,11 +17,15 @@ from .run import Run
 from .shapes import CLASSES, SAYS, SIGNS, arrow, bar
 from .texts import Html, escaped, joined, shortened
 from .units import seconds_of
+from .windows import Window
 
 #: how many rows a chart has at most
 MOST_ROWS = 5_000
 
-_SCRIPTS = ("rows.js", "focus.js", "folds.js", "filter.js", "whole.js", "stories.js")
+#: how many lines a page has at most, in windows of so many rows
+MOST_LINES = 100_000
+
+_SCRIPTS = ("rows.js", "focus.js", "folds.js", "filter.js", "whole.js", "stories.js", "windows.js")
 #: up to which width of the screen lanes are folded away; `style.css` has the same number
 NARROW = 600
 
@@ -62,12 +64,13 @@ class Page:
 
     def __init__(self, run: Run, first: Optional[int] = None, last: Optional[int] = None) -> None:
         self._run = run
-        self.window = _window(len(run.fold.rows), first, last)
-        events = Events(run.fold, run.script, run.places)
-        self._rows = Rows(run.fold, events, self.window)
-        self._lanes = Lanes(run.fold, self._rows)
-        self._markup = Markup(run.fold, run.script, self.window, self._rows.folded)
-        self._chart = Chart(run, self._rows, self._lanes, events, self._markup)
+        lines = len(run.fold.rows)
+        self.window = _window(lines, first, last)
+        #: the lines that the page has, of which its script shows a part at a time: all, where nobody has asked for a part
+        self.there = range(min(lines, MOST_LINES)) if first is None and last is None else self.window
+        self._events = Events(run.fold, run.script, run.places)
+        self._shown = Window(run, self._events, self.window, self.there)
+        self._rows, self._markup = self._shown.rows, self._shown.markup
         self._shown_outcomes()
 
     def html(self) -> Html:
@@ -89,11 +92,10 @@ class Page:
                 *Axis(self._run, self._markup).pieces(),
                 *self._above_chart(),
                 Html("</main><div id=chart><div id=column hidden></div>"),
-                self._head(),
-                *self._chart.pieces(),
-                Html("</div>"),
-                *self._below_chart(),
+                *self._shown.pieces(),
+                Html("</div><p id=next hidden></p>"),
                 *self._stories(),
+                *self._blocks(),
                 Html(
                     "<input id=find type=search placeholder=find aria-label=find hidden>"
                     "<div id=whole class=mono hidden></div>"
@@ -103,10 +105,9 @@ class Page:
         )
 
     def _style(self) -> str:
-        width, rest = self._chart.width, self._rows.total % CHUNK or CHUNK
-        paper = max(_PAPER, width + 48)
+        shown, paper = self._shown, max(_PAPER, self._shown.width + 48)
         return (
-            f"{asset('style.css')}#chart{{width:{width}px;--side:min({self._chart.side}px,62vw)}}#last{{height:{rest * SLOT}px}}"
+            f"{asset('style.css')}#chart{{width:{shown.width}px;--side:min({shown.side}px,62vw)}}#last{{height:{shown.rest}px}}"
             f"@media screen and (max-width:{NARROW}px){{body:not(.lanes) #chart{{width:100%;--side:100vw}}}}"
             f"@page{{size:{paper}px {int(paper / 1.414)}px;margin:24px}}"
         )
@@ -262,42 +263,15 @@ class Page:
         if len(self.window) < rows:
             yield Html(
                 f'<p><span class="verdict note">lines {self.window.start + 1} to {self.window.stop} of {rows}</span>'
-                "<span class=facts>Report and outcomes are of the whole run.</span></p>"
+                "<span class=facts>Report and outcomes are of the whole run.</span></p><p id=windows hidden></p>"
             )
 
-    def _head(self) -> Html:
-        """The head of the chart, which stays in sight: what the columns are, and whose the lanes."""
-        texts: List[Html] = []
-        if self._lanes.own:
-            room = (self._lanes.width - 8) // 7
-            for lane in self._lanes.lanes.values():
-                record = lane.record
-                label = f"#{record.number} {record.name}".rstrip()
-                label = label if len(label) <= room else f"{label[: room - 1]}…"
-                texts.append(
-                    Html(
-                        f"<text class=dim x={(self._lanes.x(record.number) or 0) - 6} y=15>{escaped(label)}</text>"
-                    )
-                )
-        else:
-            drawn, of = len(self._lanes.lanes), self._lanes.shown
-            said = f"lanes of {drawn} Deferreds; a column is used again when one is done"
-            if drawn < of:
-                said = f"lanes of {drawn} of {of} Deferreds: no more stand beside each other; a column is used again when one is done"
-            texts.append(Html(f"<text class=dim x=14 y=15>{said}</text>"))
-        return Html(
-            f"<div class=head><div class=what>  line  time{'':6}what happened</div>"
-            f"<svg width={self._lanes.full_width} height=22>{joined(texts)}</svg></div>"
-        )
-
-    def _below_chart(self) -> Iterator[Html]:
-        dropped = self._chart.ruler.dropped
-        if dropped:
-            yield Html(
-                f"<main><p class=facts>{dropped} of the ruler's brackets aren't drawn: they are longer than 150 rows, or more than five"
-                " beside each other. The row of a call says at which line it was scheduled.</p></main>"
-            )
-
+    def _blocks(self) -> Iterator[Html]:
+        """The lines of a long run that the page's script shows, and that no other row of the page has."""
+        for start in range(MOST_ROWS, self.there.stop, MOST_ROWS) if len(self.there) > len(self.window) else ():
+            window = Window(self._run, self._events, range(start, min(self.there.stop, start + MOST_ROWS)), self.there)
+            window.markup.outcomes = self._markup.outcomes
+            yield window.packed()
 
     def _stories(self) -> Iterator[Html]:
         """What the script of the page makes trees of: a line for each Deferred."""

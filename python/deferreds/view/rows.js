@@ -10,24 +10,26 @@ function made(name, kind, text) {
 }
 function several(count, one, many) { return count + " " + (count === 1 ? one : many); }
 
-var slots = all(".side > .row"), slotOf = new Map(slots.map(function (row, slot) { return [row, slot]; }));
-var chunks = [], chunkOf = new Map();
-all(".chunk").forEach(function (node) {
-  var side = node.firstElementChild, first = chunks.length ? chunks[chunks.length - 1].first + chunks[chunks.length - 1].count : 0;
-  var chunk = { node: node, first: first, count: side.children.length - 1, pictures: [side.lastElementChild, node.lastElementChild], parts: [] };
-  chunks.push(chunk);
-  chunkOf.set(node, chunk);
-});
+var slots, slotOf, chunks, chunkOf;
+function gather() {
+  all(".part, .fold").forEach(function (part) { part.remove(); });
+  slots = all(".side > .row");
+  slotOf = new Map(slots.map(function (row, slot) { return [row, slot]; }));
+  chunks = [];
+  chunkOf = new Map();
+  above = null;
+  all(".chunk").forEach(function (node) {
+    var side = node.firstElementChild, first = chunks.length ? chunks[chunks.length - 1].first + chunks[chunks.length - 1].count : 0;
+    var chunk = { node: node, first: first, count: side.children.length - 1, pictures: [side.lastElementChild, node.lastElementChild], parts: [] };
+    chunks.push(chunk);
+    chunkOf.set(node, chunk);
+  });
+}
 // what decides which lines are shown: all of these functions have to agree
 var sieves = {};
 // how many slots are shown before each, where some aren't
 var above = null;
-// the slot of a line of the journal, by its place from 0
-function slotOfLine(place) {
-  var row = document.getElementById("r" + (place + 1));
-  return row ? slotOf.get(row) : undefined;
-}
-function isLine(slot) { return slots[slot].id !== ""; }
+gather();
 function isShown(slot) { return !slots[slot].hidden; }
 // how many lines are hidden
 function hiddenLines() { return slots.filter(function (row) { return row.id && row.hidden; }).length; }
@@ -61,7 +63,7 @@ function layChunk(chunk) {
   chunk.parts = [];
   chunk.node.classList.toggle("gone", !count);
   chunk.node.classList.toggle("cut", !whole);
-  chunk.node.style.height = whole ? "" : count * SLOT + "px";
+  chunk.node.style.height = count * SLOT + "px";
   seen.unobserve(chunk.node);
   if (!whole && count) seen.observe(chunk.node);
 }

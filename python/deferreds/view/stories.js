@@ -74,7 +74,7 @@ function modeBelow(step, mode) {
   return (step.does === "n" || step.does === "g") && (mode === "all" || mode === "down") ? "down" : null;
 }
 function lineLink(row) {
-  var there = document.getElementById("r" + (row + 1)), link = made(there ? "a" : "span", "", "line\u00a0" + (row + 1));
+  var there = document.getElementById("r" + (row + 1)) || windowOf(row + 1), link = made(there ? "a" : "span", "", "line\u00a0" + (row + 1));
   if (there) link.href = "#r" + (row + 1);
   return link;
 }
@@ -139,11 +139,16 @@ function withAround(places) {
   });
   return kept;
 }
-function plant(number) {
+// whether the lines that are shown have one of these
+function atHome(places) { return slots.some(function (row) { return row.id && places.has(Number(row.id.slice(1)) - 1); }); }
+function plant(number, stay) {
   var root = story(number);
   if (!root) return;
   var told = branchesOf(number), places = new Set();
   told.found.forEach(function (one) { [one.step.row, one.step.end].forEach(function (row) { if (row !== null) places.add(row); }); });
+  var first = root.steps.length && root.steps[0].row !== null ? root.steps[0].row + 1 : 0;
+  if (stay && !atHome(places)) return fell();
+  if (first && !document.getElementById("r" + first) && windowOf(first) && !atHome(places)) return openWindow(windowOf(first), function () { plant(number); });
   var kept = withAround(places);
   planted = number;
   members = new Set([number].concat(told.found.filter(function (one) { return one.opens; }).map(function (one) { return one.step.other; })));
@@ -173,9 +178,20 @@ function fell() {
   lay();
   if (/^#d=/.test(location.hash)) history.replaceState(null, "", location.href.split("#")[0]);
 }
+// a row of lines that were opened just now
+function reach(line) {
+  var row = document.getElementById("r" + line);
+  if (!row) return;
+  unfold([row]);
+  if (row.hidden) fell();
+  row.scrollIntoView({ block: "center" });
+  showWhole(row);
+}
 function follow() {
   var asked = /^#d=(\d+)$/.exec(location.hash), target = /^#r\d+$/.test(location.hash) && document.getElementById(location.hash.slice(1));
+  var far = /^#r(\d+)$/.exec(location.hash);
   if (asked) return plant(asked[1]);
+  if (far && !target && windowOf(Number(far[1]))) return openWindow(windowOf(Number(far[1])), function () { reach(far[1]); });
   if (target && target.hidden) {
     unfold([target]);
     if (target.hidden) fell();
@@ -184,7 +200,3 @@ function follow() {
     target.scrollIntoView({ block: "center" });
   }
 }
-addEventListener("hashchange", follow);
-// (the browser goes to the row of the outcome by itself, once the page is there)
-addEventListener("load", function () { if (planted !== null) tree.scrollIntoView(); });
-follow();
