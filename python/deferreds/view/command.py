@@ -16,6 +16,7 @@ it is given as; 73: the page can't be written. With several scripts it is the fi
 from __future__ import annotations
 
 import argparse
+import gc
 import os
 import sys
 import webbrowser
@@ -289,4 +290,5 @@ def _compare(arguments: argparse.Namespace) -> None:
 
 if __name__ == "__main__":
     open_streams()
+    gc.disable()  # what a run is made of stays until the end, and looking through it again and again takes an eighth of the time
     sys.exit(ended(lambda: main(sys.argv[1:]), command_name("view")))

@@ -5,7 +5,7 @@ Only `advance` has time go on, and no side of a Deferred advances. So a side tak
 
 from __future__ import annotations
 
-from typing import List, NamedTuple
+from typing import Dict, List, NamedTuple
 
 from .records import Record, Row, State
 
@@ -24,6 +24,7 @@ class Durations:
 
     def __init__(self, rows: List[Row]) -> None:
         self._rows = rows
+        self._known: Dict[int, Spent] = {}
 
     def time(self, row: int) -> int:
         """When the change of a row came; after the last one, when the run was over."""
@@ -34,7 +35,12 @@ class Durations:
         return self.time(end) - self.time(row)
 
     def of(self, record: Record) -> Spent:
-        """What the Deferred has spent."""
+        """What the Deferred has spent; asked for when the run is over."""
+        if record.number not in self._known:
+            self._known[record.number] = self._worked_out(record)
+        return self._known[record.number]
+
+    def _worked_out(self, record: Record) -> Spent:
         spent = {State.UNFIRED: 0, State.WAIT: 0}
         paused = sides = 0
         spans = record.spans

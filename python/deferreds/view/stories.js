@@ -155,7 +155,8 @@ function plant(number, stay) {
   showDeferreds();
   sieves.tree = function (slot) { return kept.has(slot); };
   lay();
-  var head = made("h2", "", root.label + ", with all that hangs on it"), about = made("p", "facts", root.end + ". " + spent(root) + ". ");
+  var head = made("h2", "", root.label + ", with all that hangs on it"), about = made("p", "facts"), value = document.querySelector('.ends tr[data-d="' + number + '"] .value');
+  about.append(root.end + " ", made("span", "mono", value ? value.textContent : ""), ": " + spent(root) + ". ");
   var back = made("a", "", "all lines");
   back.href = "#what";
   back.addEventListener("click", function (event) { event.preventDefault(); fell(); document.getElementById("what").scrollIntoView(); });

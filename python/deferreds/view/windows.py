@@ -38,7 +38,7 @@ class Window:
 
     def packed(self) -> Html:
         """The chart as a block, which the page's script opens: what it holds, compressed, as base 64."""
-        data = zlib.compress("".join(self.pieces()).encode("utf-8"), 9)
+        data = zlib.compress("".join(self.pieces()).encode("utf-8"))
         return Html(
             f"<pre class=block hidden data-from={self.lines.start + 1} data-to={self.lines.stop} data-w={self.width} data-s={self.side}"
             f" data-l={self.rest}>{base64.b64encode(data).decode('ascii')}</pre>"
