@@ -42,6 +42,16 @@ class Narrow(InBrowser):
         self.browser.click("button.lanes")
         self.assertEqual(self.asked("document.querySelector('.side').getBoundingClientRect().width"), 400)
 
+    def test_trees_the_filter_and_the_axis_fit(self) -> None:
+        self.browser.resize(400, 900)
+        wide = "[...document.querySelectorAll('main *')].filter(part => part.getBoundingClientRect().width && part.getBoundingClientRect().right > innerWidth + 0.5).length"
+        for run, number in ((samples.recorded(), 6), (samples.hostile(), 31)):
+            self.show(run, f"#d={number}")
+            self.asked("document.querySelectorAll('details').forEach(part => { part.open = true; })")
+            self.browser.settle()
+            self.assertTrue(self.asked("document.querySelectorAll('#sieve input').length > 3 && !document.getElementById('tree').hidden"))
+            self.assertEqual(self.asked(wide), 0)
+
     def test_on_a_wide_screen_there_is_no_such_button(self) -> None:
         self.show(samples.recorded())
         self.assertEqual(self.asked("getComputedStyle(document.querySelector('button.lanes')).display"), "none")

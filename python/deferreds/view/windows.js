@@ -18,6 +18,7 @@ function openWindow(one, then) {
     chart.style.width = one.wide ? one.wide + "px" : "";
     chart.style.setProperty("--side", one.side ? "min(" + one.side + "px,62vw)" : "");
     if (one.last && document.getElementById("last")) document.getElementById("last").style.height = one.last + "px";
+    linkFar();
     gather();
     findKinds();
     makeBoxes();
@@ -31,6 +32,15 @@ function openWindow(one, then) {
     tellWindows();
     if (then) then();
     else chart.scrollIntoView();
+  });
+}
+// lines of other windows are links, too
+function linkFar() {
+  all("span[data-r]").forEach(function (far) {
+    var link = made("a", "", far.textContent);
+    link.href = "#r" + far.dataset.r;
+    link.dataset.r = far.dataset.r;
+    far.replaceWith(link);
   });
 }
 function tellWindows() {
@@ -60,10 +70,11 @@ if (windows.length) {
   document.addEventListener("click", function (event) {
     var far = event.target.closest("[data-r]");
     if (!far) return;
+    event.preventDefault();
     if (location.hash === "#r" + far.dataset.r) follow();
     else location.hash = "r" + far.dataset.r;
   });
-  body.classList.add("several");
+  linkFar();
 }
 addEventListener("hashchange", follow);
 // (the browser goes to the row of the outcome by itself, once the page is there)
