@@ -5,6 +5,7 @@ from __future__ import annotations
 import base64
 import hashlib
 import html.parser
+import random
 import re
 import time
 import unittest
@@ -13,7 +14,9 @@ from pathlib import Path
 from typing import Dict, List, Optional, Set, Tuple
 from unittest import mock
 
+from deferreds.checkout import TOP
 from deferreds.view import texts
+from deferreds.view.left import LeftDeferred
 from deferreds.view.page import MOST_ROWS, Page
 from deferreds.view.run import Run, run_of_journal
 
@@ -241,6 +244,22 @@ class Sizes(unittest.TestCase):
         page = page_of(run)
         self.assertIn("the same line 499 times more, up to line 501", page)
         self.assertEqual(page.count("<div class=row id="), 3)
+
+    def test_journals_that_are_broken_have_a_page_and_trees(self) -> None:
+        chance = random.Random(7)
+        for name in ("connection_pool", "workers"):
+            lines = (TOP / "examples" / "python" / f"{name}.journal").read_text(encoding="utf-8").split("\n")
+            for _ in range(40):
+                chance.shuffle(lines)
+                run = run_of_journal("\n".join(lines[: chance.randrange(1, len(lines))]), "test")
+                self.assertTrue(is_safe(page_of(run)))
+                for number in list(run.fold.records)[:4]:
+                    self.assertIsInstance(list(run.stories.tree(number)), list)
+
+    def test_a_task_that_no_line_has_made(self) -> None:
+        run = run_of_journal("new #0 d\nwhendone c #0\n#0 d unfired\n", "test")
+        self.assertEqual([one.hangs for one in run.left if isinstance(one, LeftDeferred)], [()])
+        self.assertIn("nobody fired", page_of(run))
 
     def test_nothing_at_all(self) -> None:
         self.assertIn("No Deferred was made", page_of(run_of_journal("", "test")))
