@@ -23,7 +23,7 @@ import webbrowser
 from functools import partial
 from itertools import chain
 from pathlib import Path
-from typing import IO, Callable, Iterator, List, Optional, Set
+from typing import IO, Callable, Iterator, List, NoReturn, Optional, Set
 
 from ..checkout import as_called, command_name
 from ..ending import ended, open_streams, say, writing
@@ -39,7 +39,15 @@ from .trace import SUFFIX, Trace
 
 
 class _Parser(argparse.ArgumentParser):
-    """Says by its status when its help can't be written; argparse itself goes on as if it were."""
+    """Says by its status when its help can't be written, and that words are wrong where nobody can be told why.
+
+    Some versions of argparse go on as if all were written, and others fail.
+    """
+
+    def error(self, message: str) -> NoReturn:
+        """Says what is wrong with the words, and ends."""
+        say(f"{self.format_usage()}{self.prog}: error: {message}")
+        raise SystemExit(USAGE)
 
     def print_help(self, file: Optional[IO[str]] = None) -> None:
         """Prints the help."""
