@@ -6,9 +6,9 @@ With several scripts FILE is a folder, and a second one of a name gets `NAME_2.h
 standard output. `--text` prints the view instead, and `--trace` writes a trace of Chrome's. Without SCRIPT the script is standard
 input. `--journal FILE` shows a journal with its outcomes, as `./deferreds`, `./on_twisted` or `./record` has given
 it, and runs nothing; `--json FILE` shows what `./deferreds --json` has told. `--compare A B` shows two runs beside
-each other. FILE may be `-`, for standard input.
+each other. `--batches BATCHES` runs a script with its posts in that order. FILE may be `-`, for standard input.
 
-Status 0: shown; 2: the script is refused, with what `./deferreds --why` says of it on standard error; 3, 4, 70: as for `./deferreds`, 4 also
+Status 0: shown; 2: the script is refused, with what `./deferreds --why` says of it on standard error; 3, 4, 5, 70: as for `./deferreds`, 4 also
 where standard output can't be written; 64: the words are wrong; 66: what is to be shown can't be read, or isn't what
 it is given as; 73: the page can't be written. With several scripts it is the first status that isn't 0.
 """
@@ -27,6 +27,7 @@ from typing import IO, Callable, Iterator, List, NoReturn, Optional, Set
 
 from ..checkout import as_called, command_name
 from ..ending import ended, open_streams, say, writing
+from .batches import NotBatches, parse_batches
 from .branches import found
 from .compared import Compared
 from .compared_forms import ComparedPage, text_lines
@@ -106,6 +107,15 @@ def _arguments(words: List[str]) -> argparse.Namespace:
             "(NAME.places.json beside NAME.json or NAME.journal)"
         ),
     )
+    add(
+        "--batches",
+        action="append",
+        default=[],
+        metavar="BATCHES",
+        help=as_called(
+            "run SCRIPT in these batches, as ./deferreds --batches does; with --compare, twice: those of A, and those of B"
+        ),
+    )
     add("--from", dest="first", type=int, metavar="N", help="the first line that the chart shows (1)")
     add("--to", dest="last", type=int, metavar="N", help="the last line (5000 lines at most)")
     add("scripts", nargs="*", metavar="SCRIPT", help="a script")
@@ -135,6 +145,12 @@ def _mistake(parsed: argparse.Namespace) -> str:
         return "--compare takes two FILEs, and neither a SCRIPT nor --trace, --places, --from and --to"
     if parsed.deferred is not None and (not parsed.text or parsed.compare):
         return "--deferred goes with --text, and without --compare; on a page it is the address that ends with #d=NUMBER"
+    if parsed.batches and not parsed.compare and (len(parsed.batches) > 1 or several or parsed.journal or parsed.json):
+        return "--batches is given once, for one SCRIPT; with --compare it is given for both"
+    if parsed.compare and len(parsed.batches) not in (0, 2):
+        return "with --compare, --batches is given twice: for A, and for B"
+    if not all(map(_are_batches, parsed.batches)):
+        return "BATCHES is an array of arrays of posts, [CALLER,POST], as the last line of ./deferreds --json has it"
     if parsed.trace and parsed.open:
         return "--open is for a page, which --trace doesn't write"
     if parsed.output == STANDARD and (several or parsed.open):
@@ -144,6 +160,14 @@ def _mistake(parsed: argparse.Namespace) -> str:
     return ""
 
 
+def _are_batches(text: str) -> bool:
+    try:
+        parse_batches(text)
+        return True
+    except NotBatches:
+        return False
+
+
 def _say(text: str) -> None:
     say(f"{command_name('view')}: {text}")
 
@@ -151,7 +175,7 @@ def _say(text: str) -> None:
 def _inputs(arguments: argparse.Namespace) -> List[Inputs]:
     """What each run is made of."""
     return [
-        Inputs(script, arguments.journal, arguments.json, arguments.places)
+        Inputs(script, arguments.journal, arguments.json, arguments.places, next(iter(arguments.batches), None))
         for script in arguments.scripts or [None]
     ]
 
@@ -176,8 +200,8 @@ def _targets(arguments: argparse.Namespace, inputs: List[Inputs]) -> Iterator[st
 def _check_target(target: str, inputs: List[Inputs]) -> None:
     """Raises Failed where a page would take the place of what one is made from."""
     for one in inputs if target != STANDARD else []:
-        for name in one:
-            if name is not None and name != STANDARD and _is_same(target, name):
+        for name in one.files:
+            if _is_same(target, name):
                 raise Failed(NO_OUTPUT, f"{target} isn't written: the view is made from that file; -o FILE names another")
 
 
@@ -283,7 +307,7 @@ def _compare(arguments: argparse.Namespace) -> None:
         target = os.fspath(Path(target or "", f"{'_and_'.join(stems)}.html"))
     if not arguments.text:
         _check_target(target, inputs)
-    first, second = (read_any(name) for name in arguments.compare)
+    first, second = map(read_any, arguments.compare, arguments.batches or [None, None])
     compared = Compared(first, second)
     if arguments.text:
         with writing():

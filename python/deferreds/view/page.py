@@ -127,6 +127,9 @@ class Page:
             look = "note" if self._run.problems else "clean"
             yield Html(f'<span class="verdict {look}">{self._run.nothing}</span>')
         yield Html(f"<span class=facts>{escaped(self._run.counts)}</span></p>")
+        if self._run.order:
+            order = escaped(f"--batches '{self._run.order}'")
+            yield Html(f"<details class=order><summary>the order in which posts were taken</summary><code>{order}</code></details>")
         if self._run.limits:
             yield Html(f"<p class=facts>{escaped(self._run.limits)}</p>")
         for problem in self._run.problems:

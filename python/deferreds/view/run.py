@@ -4,6 +4,7 @@ from __future__ import annotations
 
 from typing import List, Optional, Sequence
 
+from .batches import Batches, text_of
 from .durations import Durations
 from .facts import Facts
 from .fold import Fold
@@ -38,6 +39,8 @@ class Run:
         self.read = self.unknown = 0
         #: the weight of the journal, and its limit
         self.weight: Optional[str] = None
+        #: the batches in which posts were taken, where that is told
+        self.batches: Batches = ()
         #: where in the program Deferreds were made and events performed, as far as that is known; set before the report is asked for
         self.places: Places = NOWHERE
         #: how long a tick was where the run was recorded, as `1 ms`, or an empty text
@@ -90,6 +93,11 @@ class Run:
         )
 
     @property
+    def order(self) -> str:
+        """The batches in which its posts were taken, ready for `--batches`; an empty text where there were none, or it isn't told."""
+        return text_of(self.batches) if any(self.batches) else ""
+
+    @property
     def counts(self) -> str:
         """How large the run is."""
         events = [several(len(self.script.events), "event", "events")] if self.script.events else []
@@ -113,6 +121,7 @@ def run_of_facts(facts: Facts, script: Script, title: str) -> Run:
     else:
         run.finish = Finish.STOPPED if facts.ending.stopped else Finish.WHOLE
         run.weight = f"{facts.ending.weight} of {facts.ending.limit}"
+        run.batches = facts.ending.batches
     return run
 
 

@@ -96,6 +96,8 @@ class Terminal:
         tone = "bad" if report.count(Severity.BAD) else "wait" if parts else "good"
         yield f"{visible(self._run.title)}: {self._toned(tone, verdict)}"
         yield self._run.counts
+        if self._run.order:
+            yield f"posts were taken in this order: --batches '{self._run.order}'"
         if self._run.limits:
             yield self._run.limits
         for problem in self._run.problems:
