@@ -6,7 +6,7 @@ import contextlib
 import os
 import signal
 import sys
-from typing import Callable, Iterator
+from typing import IO, Callable, Iterator
 
 #: the status of a command whose output couldn't be written, which is that of `deferreds`
 WRITE_FAILED = 4
@@ -25,6 +25,14 @@ def writing() -> Iterator[None]:
         raise
     except OSError as error:
         raise OutputFailed(error.strerror) from None
+
+
+def say(text: str) -> None:
+    """Prints a line to standard error. Where that can't be written nobody is there to read it, and the status stays what it is."""
+    try:
+        print(text, file=sys.stderr, flush=True)
+    except OSError:
+        _discard(sys.stderr)
 
 
 def open_streams() -> None:
@@ -55,7 +63,7 @@ def ended(main: Callable[[], int], name: str) -> int:
         discard_output()
         return WRITE_FAILED
     except OutputFailed as why:
-        print(f"{name}: standard output can't be written: {why}", file=sys.stderr)
+        say(f"{name}: standard output can't be written: {why}")
         discard_output()
         return WRITE_FAILED
     except KeyboardInterrupt:
@@ -63,8 +71,23 @@ def ended(main: Callable[[], int], name: str) -> int:
         signal.signal(signal.SIGINT, signal.SIG_DFL)
         os.kill(os.getpid(), signal.SIGINT)
         return 128 + signal.SIGINT
+    finally:
+        _flush_errors()
+
+
+def _flush_errors() -> None:
+    """Writes what others have left for standard error; Python itself would end with another status where that fails."""
+    try:
+        if sys.stderr is not None:
+            sys.stderr.flush()
+    except OSError:
+        _discard(sys.stderr)
 
 
 def discard_output() -> None:
     """Drops what is still to be written to standard output, which would fail again when Python ends."""
-    os.dup2(os.open(os.devnull, os.O_WRONLY), sys.stdout.fileno())
+    _discard(sys.stdout)
+
+
+def _discard(stream: IO[str]) -> None:
+    os.dup2(os.open(os.devnull, os.O_WRONLY), stream.fileno())

@@ -144,12 +144,17 @@ class Browser:
 
     def open(self, path: Path, fragment: str = "") -> float:
         """Opens a file, waits until it is there, and tells how many seconds that took."""
+        if fragment:  # (another fragment alone wouldn't load the page anew)
+            self._go("about:blank")
+        return self._go(path.resolve().as_uri() + fragment)
+
+    def _go(self, address: str) -> float:
         self.events.clear()
         begun = time.monotonic()
-        self._call("Page.navigate", url=path.resolve().as_uri() + fragment)
+        self._call("Page.navigate", url=address)
         while not any(event.get("method") == "Page.loadEventFired" for event in self.events):
             if time.monotonic() - begun > _SECONDS:
-                raise Broken(f"{path} isn't there after {_SECONDS} seconds")
+                raise Broken(f"{address} isn't there after {_SECONDS} seconds")
             self.events.append(self._next())
         return time.monotonic() - begun
 

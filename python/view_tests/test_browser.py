@@ -13,7 +13,7 @@ from unittest import mock
 
 from deferreds.view import texts
 from deferreds.view.layout import SLOT
-from deferreds.view.page import Page
+from deferreds.view.page import NARROW, Page
 from deferreds.view.run import Run
 from deferreds.view.texts import Html, clipped, shortened, visible
 
@@ -204,7 +204,7 @@ class Hostile(InBrowser):
         written = [json.dumps(text, ensure_ascii=False) for text in samples.HOSTILE]
         self.assertEqual(notes, [visible(shortened(text, 300)) for text in written])
         self.assertEqual(self.asked("document.title"), visible("".join(samples.HOSTILE[:8])))
-        titles = self.asked("[...document.querySelectorAll('.row[title]')].map(row => row.title)")
+        titles = self.asked("[...document.querySelectorAll('.row[id][title]')].map(row => row.title)")
         lines = [row.entry.line for row in samples.hostile().fold.rows]
         self.assertEqual(titles, [visible(clipped(line, 1000)) for line in lines if len(line) > 60])
 
@@ -272,10 +272,8 @@ class Geometry(InBrowser):
                 self.assertEqual(self.asked("scrollX"), max(0, wide - width))
                 sides = "[...document.querySelectorAll('main, .side, .what')].map(part => Math.round(part.getBoundingClientRect().left))"
                 self.assertEqual(set(self.asked(sides)), {0}, f"{run.title[:20]} at {width} px")
-                self.assertLessEqual(
-                    self.asked("document.querySelector('.side').getBoundingClientRect().width"),
-                    0.621 * width,
-                )
+                side = self.asked("document.querySelector('.side').getBoundingClientRect().width")
+                self.assertLessEqual(side, width if width <= NARROW else 0.621 * width)
                 self.assertEqual(self.asked("document.scrollingElement.scrollWidth"), max(width, wide))
 
     def test_a_page_of_five_thousand_lines_is_there_in_a_second(self) -> None:
@@ -378,7 +376,7 @@ class Find(InBrowser):
         self.assertIn(f"r{some.row + 1}", self.find(some.name))
         self.assertIn("lines have", self.asked("document.getElementById('focus').textContent"))
         self.find("✓ ok")
-        shown = "[...document.querySelectorAll('tr[data-d]')].filter(row => getComputedStyle(row).display !== 'none').length"
+        shown = "[...document.querySelectorAll('.ends tr[data-d]')].filter(row => getComputedStyle(row).display !== 'none').length"
         good = sum(record.end.startswith("ok ") for record in run.fold.records.values())
         self.assertEqual(self.asked(shown), good)
         faded = "[...document.querySelectorAll('.row[id]:not(.hit)')].every(row => getComputedStyle(row).opacity < 0.5)"

@@ -48,6 +48,16 @@ class Command(unittest.TestCase):
             )
         )
 
+    def test_one_deferred_as_a_text(self) -> None:
+        for asked in ("2", "#2"):
+            status, output, _ = self.run_view("--text", "--deferred", asked, "--journal", _JOURNAL)
+            self.assertEqual((status, output.split(":")[0].split(" ")[0].split("·")[0]), (0, "#2"))
+            self.assertIn("├ is made", output)
+        status, output, errors = self.run_view("--text", "--deferred", "no\x1bone", "--journal", _JOURNAL)
+        self.assertEqual((status, output, errors), (66, "", "view: workers.journal has no Deferred no\\u001bone\n"))
+        for words in (["--deferred", "2"], ["--text", "--deferred", "2", "--compare", _JOURNAL, _JOURNAL]):
+            self.assertEqual(self.run_view(*words, *([] if "--compare" in words else ["--journal", _JOURNAL]))[0], 64)
+
     def test_a_page_is_written_where_it_is_wanted(self) -> None:
         wanted = self.folder / "below" / "page.html"
         status, output, errors = self.run_view("--journal", _JOURNAL, "-o", wanted)

@@ -66,6 +66,24 @@ class Ending(unittest.TestCase):
                     (4, "view: standard output can't be written: Bad file descriptor\n"),
                 )
 
+    def test_help_that_can_t_be_written_is_told_in_a_line(self) -> None:
+        for unbuffered in ("", "1"):
+            self.assertEqual(
+                self.in_shell("./view --help >/dev/full", unbuffered),
+                (4, "view: standard output can't be written: No space left on device\n"),
+            )
+
+    def test_errors_that_can_t_be_written_change_no_status(self) -> None:
+        journal = "--journal examples/python/workers.journal"
+        with tempfile.TemporaryDirectory() as folder:
+            for words, status in (
+                (f"-o {folder}/x.html {journal}", 0), (f"-o {folder}/x.html --journal {folder}/nothing", 66), ("--from 0", 64), ("--nosuch", 64),
+                (f"--text {journal} >/dev/full", 4), (f"--text {journal} >&-", 4), (f"--text --deferred nobody {journal}", 66),
+                (f"--compare examples/first.json examples/first.json -o {folder}/y.html", 0), (f"-o {folder} {journal} --places {folder}/x.html", 66),
+            ):  # fmt: skip
+                for errors in ("2>/dev/full", "2>&-"):
+                    self.assertEqual(self.in_shell(f"./view {words} {errors}"), (status, ""), f"{words} {errors}")
+
     def test_a_closed_output_that_isn_t_used_is_no_failure(self) -> None:
         with tempfile.TemporaryDirectory() as folder:
             status, errors = self.in_shell(f"./view -o {folder}/x.html --journal examples/python/workers.journal >&-")

@@ -5,14 +5,18 @@ from __future__ import annotations
 import base64
 import hashlib
 import html.parser
+import random
 import re
 import time
 import unittest
+import zlib
 from pathlib import Path
 from typing import Dict, List, Optional, Set, Tuple
 from unittest import mock
 
+from deferreds.checkout import TOP
 from deferreds.view import texts
+from deferreds.view.left import LeftDeferred
 from deferreds.view.page import MOST_ROWS, Page
 from deferreds.view.run import Run, run_of_journal
 
@@ -20,13 +24,13 @@ from . import samples
 
 _ELEMENTS = frozenset(
     "html head meta title style body main nav h1 h2 p span a table tr th td b bdi div i svg path rect circle g text details "
-    "summary script input".split()
+    "summary script input section pre line".split()
 )
 _ATTRIBUTES = frozenset(
     "lang charset name content http-equiv class id href data-f data-d data-to data-x data-y data-h title hidden role width height "
-    "x y cx cy r d aria-hidden type placeholder aria-label".split()
+    "x y cx cy r d aria-hidden type placeholder aria-label data-n data-g data-shut data-tick data-r data-from data-to data-w data-s data-l x1 x2 y1 y2".split()
 )
-_NUMBERS = re.compile(r"[a-z-]*\d*")
+_NUMBERS = re.compile(r"[a-z-]*=?\d*")
 
 
 class Read(html.parser.HTMLParser):
@@ -73,6 +77,21 @@ def page_of(run: Run, first: Optional[int] = None, last: Optional[int] = None) -
     return Page(run, first, last).html()
 
 
+def is_safe(page: str) -> bool:
+    """Whether nothing is on the page but what this package writes round texts."""
+    read = Read(page)
+    names = set().union(
+        *(read.values.get(name, set()) for name in ("id", "href", "data-f", "data-d", "data-to"))
+    )
+    plain = all(_NUMBERS.fullmatch(part) for name in names for part in name.lstrip("#").split(" "))
+    return (
+        plain
+        and read.elements <= _ELEMENTS
+        and read.attributes <= _ATTRIBUTES
+        and len(read.ids) == len(set(read.ids))
+    )
+
+
 class Titles(unittest.TestCase):
     """What stands under which title."""
 
@@ -91,21 +110,8 @@ class Titles(unittest.TestCase):
 class Escaping(unittest.TestCase):
     """No text of a script becomes markup."""
 
-    def _is_safe(self, page: str) -> bool:
-        read = Read(page)
-        names = set().union(
-            *(read.values.get(name, set()) for name in ("id", "href", "data-f", "data-d", "data-to"))
-        )
-        plain = all(_NUMBERS.fullmatch(part) for name in names for part in name.lstrip("#").split(" "))
-        return (
-            plain
-            and read.elements <= _ELEMENTS
-            and read.attributes <= _ATTRIBUTES
-            and len(read.ids) == len(set(read.ids))
-        )
-
     def test_hostile_texts_are_texts(self) -> None:
-        self.assertTrue(self._is_safe(page_of(samples.hostile())))
+        self.assertTrue(is_safe(page_of(samples.hostile())))
 
     def test_no_unseen_character_is_on_the_page(self) -> None:
         page = page_of(samples.hostile())
@@ -117,7 +123,7 @@ class Escaping(unittest.TestCase):
 
         for module in ("deferreds.view.markup", "deferreds.view.page"):
             with self.subTest(module), mock.patch(f"{module}.escaped", as_it_is):
-                self.assertFalse(self._is_safe(page_of(samples.hostile())))
+                self.assertFalse(is_safe(page_of(samples.hostile())))
 
     def test_one_function_escapes(self) -> None:
         folder = Path(texts.__file__).parent
@@ -136,6 +142,47 @@ class Escaping(unittest.TestCase):
         self.assertTrue(read.policy.startswith("default-src 'none';"))
         self.assertNotIn("unsafe", read.policy)
         self.assertNotIn("http", read.policy)
+
+
+def blocks(page: str) -> List[str]:
+    """The charts that a page has beside the one that is shown."""
+    return [zlib.decompress(base64.b64decode(block)).decode() for block in re.findall("<pre class=block[^>]*>([^<]*)</pre>", page)]
+
+
+class Blocks(unittest.TestCase):
+    """The other lines of a long run are on the page too, compressed."""
+
+    def test_each_line_stands_once(self) -> None:
+        run = samples.long(12_000)
+        page = page_of(run)
+        lines = [int(line) for part in [page, *blocks(page)] for line in re.findall(r"<div class=(?:row|\"row f\") id=r(\d+)", part)]
+        self.assertEqual(lines, list(range(1, len(run.fold.rows) + 1)))
+
+    def test_they_are_what_a_page_of_those_lines_shows(self) -> None:
+        run = samples.long(12_000)
+        second = blocks(page_of(run))[0]
+        alone = page_of(run, 5_001, 10_000)
+        chart = alone[alone.index("<div class=head>") : alone.index("</div><p id=next")]
+        self.assertEqual(re.sub(r"<span data-r=\d+>(line&nbsp;\d+)</span>", r"\1", second), chart)
+
+    def test_a_part_that_was_asked_for_has_none(self) -> None:
+        self.assertEqual(blocks(page_of(samples.long(12_000), 1, 5_000)), [])
+
+    def test_no_more_than_the_most(self) -> None:
+        with mock.patch("deferreds.view.page.MOST_LINES", 7_000):
+            page = page_of(samples.long(12_000))
+        self.assertEqual([block.count("<a class=n") for block in blocks(page)], [2_000])
+        self.assertNotIn("data-r=7001>", page)
+
+    def test_hostile_texts_are_texts_in_them(self) -> None:
+        with mock.patch("deferreds.view.page.MOST_ROWS", 20):
+            found = blocks(page_of(samples.hostile()))
+        self.assertGreater(len(found), 3)
+        for block in found:
+            self.assertTrue(is_safe(block))
+            self.assertEqual(set(texts._UNSEEN.findall(block)), set())
+        with mock.patch("deferreds.view.page.MOST_ROWS", 20), mock.patch("deferreds.view.markup.escaped", texts.Html):
+            self.assertFalse(all(map(is_safe, blocks(page_of(samples.hostile())))))
 
 
 class Links(unittest.TestCase):
@@ -157,11 +204,16 @@ class Sizes(unittest.TestCase):
     """How large pages are, and how long they take."""
 
     def test_an_example_is_small(self) -> None:
-        self.assertLess(len(page_of(samples.recorded()).encode()), 150_000)
+        self.assertLess(len(page_of(samples.recorded()).encode()), 180_000)
 
     def test_five_thousand_lines(self) -> None:
         for run in (samples.long(MOST_ROWS), samples.wide(MOST_ROWS)):
             self.assertLess(len(page_of(run).encode()), 3_000_000, run.title)
+
+    def test_twenty_thousand_lines(self) -> None:
+        page = page_of(samples.long(20_000))
+        self.assertEqual(page.count("<pre class=block"), 4)
+        self.assertLess(len(page.encode()), 4_000_000)
 
     def test_longer_runs_are_shown_in_part(self) -> None:
         run = samples.long(12_000)
@@ -192,6 +244,22 @@ class Sizes(unittest.TestCase):
         page = page_of(run)
         self.assertIn("the same line 499 times more, up to line 501", page)
         self.assertEqual(page.count("<div class=row id="), 3)
+
+    def test_journals_that_are_broken_have_a_page_and_trees(self) -> None:
+        chance = random.Random(7)
+        for name in ("connection_pool", "workers"):
+            lines = (TOP / "examples" / "python" / f"{name}.journal").read_text(encoding="utf-8").split("\n")
+            for _ in range(40):
+                chance.shuffle(lines)
+                run = run_of_journal("\n".join(lines[: chance.randrange(1, len(lines))]), "test")
+                self.assertTrue(is_safe(page_of(run)))
+                for number in list(run.fold.records)[:4]:
+                    self.assertIsInstance(list(run.stories.tree(number)), list)
+
+    def test_a_task_that_no_line_has_made(self) -> None:
+        run = run_of_journal("new #0 d\nwhendone c #0\n#0 d unfired\n", "test")
+        self.assertEqual([one.hangs for one in run.left if isinstance(one, LeftDeferred)], [()])
+        self.assertIn("nobody fired", page_of(run))
 
     def test_nothing_at_all(self) -> None:
         self.assertIn("No Deferred was made", page_of(run_of_journal("", "test")))

@@ -5,6 +5,7 @@ from __future__ import annotations
 from typing import Dict, Iterator, List, NamedTuple, Sequence, Tuple
 
 from .events import Events
+from .folding import Folding, written
 from .layout import CHUNK, SLOT, Lane, Lanes, Rows, Slot, SlotKind, chunks, text_width
 from .markup import Markup, attribute, isolated, placed
 from .records import By, Look, Record, Row, ended
@@ -12,12 +13,12 @@ from .ruler import WIDTH as RULER
 from .ruler import Ruler, drawn_in, shown_time
 from .run import Run
 from .shapes import SAYS, arrow, bar, cap, hook, strokes
-from .texts import Html, clipped, escaped, joined
+from .texts import Html, clipped, escaped, joined, shortened
 
 NUMBER = 46
 _DEEPEST = 12
 _NEAR = 8
-_MOST_TITLE, _MOST_TITLES = 1_000, 250_000
+_LONG, _MOST_TITLE, _MOST_TITLES = 60, 1_000, 250_000
 _MOST_ROW, _LEAST_ROW, _MANY_CHARACTERS = 300, 60, 800_000
 _MOST_WHY = 140
 _OVER = 4
@@ -43,9 +44,10 @@ class Chart:
         self._events = events
         self._markup = markup
         self.ruler = Ruler(run.fold, run.left, rows)
+        self._folds = Folding(run.fold, rows).of
         self.side = NUMBER + RULER + text_width(run.fold, rows, events)
         self.width = self.side + lanes.full_width
-        self._titles = 0
+        self._titles = self._head_titles = 0
         characters = sum(
             len(run.fold.rows[row].entry.line) for row in rows.window if row not in rows.folded
         )
@@ -74,9 +76,11 @@ class Chart:
         if slot.kind is SlotKind.HEAD:
             head, _, text = slot.text.partition("  ")
             shown = Html(f"  <b>{isolated(clipped(text, 160))}</b>") if text else Html("")
-            shown = Html(f"{shown}{self._at(self._run.fold.rows[slot.row])}")
+            row = self._run.fold.rows[slot.row]
+            shown = Html(f"{shown}{self._at(row)}")
+            title = self._head_title(self._events.whole(row, _LONG))
             return Html(
-                f'<div class="row ev"><span class=n></span><span class=t>{escaped(head)}{shown}</span></div>'
+                f'<div class="row ev" data-n={slot.more}{title}><span class=n></span><span class=t>{escaped(head)}{shown}</span></div>'
             )
         if slot.kind is SlotKind.SAME:
             text = f"the same line {slot.more} times more, up to line {slot.row + slot.more + 1}"
@@ -86,10 +90,13 @@ class Chart:
     def _row(self, row: Row) -> Html:
         number, line = row.place + 1, row.entry.line
         named = Html(f' data-d="{" ".join(map(str, row.names))}"') if row.names else Html("")
-        title = self._title(line) if len(line) > 60 else Html("")
+        title = self._title(line) if len(line) > _LONG else Html("")
         classes = '"row f"' if row.entry.fails else "row"
+        folds = self._folds.get(row.place)
+        named = Html(f'{named} data-g="{written(folds)}"') if folds else named
         why = self._why(row)
-        behind = Html(f"<span class=c>{why}</span>") if why else Html("")
+        whole = self._head_title(self._events.whole(row, _LONG)) if self._events.tail(row) else Html("")
+        behind = Html(f"<span class=c{whole}>{why}</span>") if why else Html("")
         return Html(
             f"<div class={classes} id=r{number}{named}{title}><a class=n href=#r{number}>{number}</a>{_indent(row)}"
             f"<span class=t>{self._markup.words(row, self._most)}</span>{behind}</div>"
@@ -100,6 +107,12 @@ class Chart:
         title = attribute("title", clipped(line, _MOST_TITLE))
         self._titles += len(title)
         return title if self._titles <= _MOST_TITLES else Html("")
+
+    def _head_title(self, event: str) -> Html:
+        """An event in full, as long as there is room for such texts on the page."""
+        title = attribute("title", shortened(event, _MOST_TITLE))
+        self._head_titles += len(title)
+        return title if self._head_titles <= _MOST_TITLES else Html("")
 
     def _why(self, row: Row) -> Html:
         """Why it happened, unless the rows round it show that, and the event that is told by the row."""

@@ -6,9 +6,9 @@ With several scripts FILE is a folder, and a second one of a name gets `NAME_2.h
 standard output. `--text` prints the view instead, and `--trace` writes a trace of Chrome's. Without SCRIPT the script is standard
 input. `--journal FILE` shows a journal with its outcomes, as `./deferreds`, `./on_twisted` or `./record` has given
 it, and runs nothing; `--json FILE` shows what `./deferreds --json` has told. `--compare A B` shows two runs beside
-each other. FILE may be `-`, for standard input.
+each other. `--batches BATCHES` runs a script with its posts in that order. FILE may be `-`, for standard input.
 
-Status 0: shown; 2: the script is refused, with what `./deferreds --why` says of it on standard error; 3, 4, 70: as for `./deferreds`, 4 also
+Status 0: shown; 2: the script is refused, with what `./deferreds --why` says of it on standard error; 3, 4, 5, 70: as for `./deferreds`, 4 also
 where standard output can't be written; 64: the words are wrong; 66: what is to be shown can't be read, or isn't what
 it is given as; 73: the page can't be written. With several scripts it is the first status that isn't 0.
 """
@@ -16,26 +16,47 @@ it is given as; 73: the page can't be written. With several scripts it is the fi
 from __future__ import annotations
 
 import argparse
+import gc
 import os
 import sys
 import webbrowser
 from functools import partial
+from itertools import chain
 from pathlib import Path
-from typing import Callable, Iterator, List, Set
+from typing import IO, Callable, Iterator, List, NoReturn, Optional, Set
 
 from ..checkout import as_called, command_name
-from ..ending import ended, open_streams, writing
+from ..ending import ended, open_streams, say, writing
+from .batches import NotBatches, parse_batches
+from .branches import found
 from .compared import Compared
 from .compared_forms import ComparedPage, text_lines
-from .inputs import NO_OUTPUT, STANDARD, USAGE, Failed, Inputs, read_any
-from .page import Page
+from .inputs import NO_INPUT, NO_OUTPUT, STANDARD, USAGE, Failed, Inputs, read_any
+from .page import MOST_ROWS, Page
 from .run import Run
 from .terminal import Terminal
+from .texts import clipped, visible
 from .trace import SUFFIX, Trace
 
 
+class _Parser(argparse.ArgumentParser):
+    """Says by its status when its help can't be written, and that words are wrong where nobody can be told why.
+
+    Some versions of argparse go on as if all were written, and others fail.
+    """
+
+    def error(self, message: str) -> NoReturn:
+        """Says what is wrong with the words, and ends."""
+        say(f"{self.format_usage()}{self.prog}: error: {message}")
+        raise SystemExit(USAGE)
+
+    def print_help(self, file: Optional[IO[str]] = None) -> None:
+        """Prints the help."""
+        print(self.format_help(), end="", file=file)
+
+
 def _arguments(words: List[str]) -> argparse.Namespace:
-    parser = argparse.ArgumentParser(
+    parser = _Parser(
         prog=command_name("view"), description=as_called(__doc__), formatter_class=argparse.RawDescriptionHelpFormatter
     )
     add = parser.add_argument
@@ -48,6 +69,11 @@ def _arguments(words: List[str]) -> argparse.Namespace:
     add("--open", action="store_true", help="open the page in the browser")
     form = parser.add_mutually_exclusive_group()
     form.add_argument("--text", action="store_true", help="print the view for a terminal")
+    add(
+        "--deferred",
+        metavar="WHICH",
+        help="with --text: print the tree of one Deferred alone, by its number or its name",
+    )
     form.add_argument(
         "--trace",
         action="store_true",
@@ -81,6 +107,15 @@ def _arguments(words: List[str]) -> argparse.Namespace:
             "(NAME.places.json beside NAME.json or NAME.journal)"
         ),
     )
+    add(
+        "--batches",
+        action="append",
+        default=[],
+        metavar="BATCHES",
+        help=as_called(
+            "run SCRIPT in these batches, as ./deferreds --batches does; with --compare, twice: those of A, and those of B"
+        ),
+    )
     add("--from", dest="first", type=int, metavar="N", help="the first line that the chart shows (1)")
     add("--to", dest="last", type=int, metavar="N", help="the last line (5000 lines at most)")
     add("scripts", nargs="*", metavar="SCRIPT", help="a script")
@@ -108,6 +143,14 @@ def _mistake(parsed: argparse.Namespace) -> str:
         return "a journal, or a run as JSON, has one SCRIPT at most"
     if parsed.compare and (parsed.scripts or parsed.trace or parsed.places or numbers):
         return "--compare takes two FILEs, and neither a SCRIPT nor --trace, --places, --from and --to"
+    if parsed.deferred is not None and (not parsed.text or parsed.compare):
+        return "--deferred goes with --text, and without --compare; on a page it is the address that ends with #d=NUMBER"
+    if parsed.batches and not parsed.compare and (len(parsed.batches) > 1 or several or parsed.journal or parsed.json):
+        return "--batches is given once, for one SCRIPT; with --compare it is given for both"
+    if parsed.compare and len(parsed.batches) not in (0, 2):
+        return "with --compare, --batches is given twice: for A, and for B"
+    if not all(map(_are_batches, parsed.batches)):
+        return "BATCHES is an array of arrays of posts, [CALLER,POST], as the last line of ./deferreds --json has it"
     if parsed.trace and parsed.open:
         return "--open is for a page, which --trace doesn't write"
     if parsed.output == STANDARD and (several or parsed.open):
@@ -117,14 +160,22 @@ def _mistake(parsed: argparse.Namespace) -> str:
     return ""
 
 
+def _are_batches(text: str) -> bool:
+    try:
+        parse_batches(text)
+        return True
+    except NotBatches:
+        return False
+
+
 def _say(text: str) -> None:
-    print(f"{command_name('view')}: {text}", file=sys.stderr)
+    say(f"{command_name('view')}: {text}")
 
 
 def _inputs(arguments: argparse.Namespace) -> List[Inputs]:
     """What each run is made of."""
     return [
-        Inputs(script, arguments.journal, arguments.json, arguments.places)
+        Inputs(script, arguments.journal, arguments.json, arguments.places, next(iter(arguments.batches), None))
         for script in arguments.scripts or [None]
     ]
 
@@ -149,8 +200,8 @@ def _targets(arguments: argparse.Namespace, inputs: List[Inputs]) -> Iterator[st
 def _check_target(target: str, inputs: List[Inputs]) -> None:
     """Raises Failed where a page would take the place of what one is made from."""
     for one in inputs if target != STANDARD else []:
-        for name in one:
-            if name is not None and name != STANDARD and _is_same(target, name):
+        for name in one.files:
+            if _is_same(target, name):
                 raise Failed(NO_OUTPUT, f"{target} isn't written: the view is made from that file; -o FILE names another")
 
 
@@ -178,21 +229,25 @@ def _write(text: str, target: str) -> None:
         raise Failed(NO_OUTPUT, f"{target} can't be written: {why}") from None
 
 
-def _print_text(run: Run) -> None:
+def _print_text(run: Run, asked: Optional[str]) -> None:
     color = sys.stdout.isatty() and not os.environ.get("NO_COLOR") and os.environ.get("TERM") != "dumb"
+    terminal = Terminal(run, color)
+    numbers = found(run, asked) if asked is not None else []
+    if numbers is None:
+        raise Failed(NO_INPUT, f"{visible(run.title)} has no Deferred {visible(clipped(asked or '', 100))}")
     with writing():
-        for line in Terminal(run, color).lines():
+        for line in chain.from_iterable(map(terminal.tree, numbers)) if asked is not None else terminal.lines():
             print(line)
 
 
 def _show_page(run: Run, arguments: argparse.Namespace, target: str) -> None:
     page = Page(run, arguments.first, arguments.last)
     _write(page.html(), target)
-    part = (
-        f", of which the chart shows {page.window.start + 1} to {page.window.stop}"
-        if len(page.window) < len(run.fold.rows)
-        else ""
-    )
+    part = ""
+    if len(page.window) < len(page.there):
+        part = f", {MOST_ROWS} at a time" + (f", up to line {page.there.stop}" if page.there.stop < len(run.fold.rows) else "")
+    elif len(page.window) < len(run.fold.rows):
+        part = f", of which the chart shows {page.window.start + 1} to {page.window.stop}"
     _say_written(target, run, part)
     if arguments.open:
         webbrowser.open(Path(target).resolve().as_uri())
@@ -236,7 +291,7 @@ def _status_of(show: Callable[[], None]) -> int:
 
 def _show(one: Inputs, arguments: argparse.Namespace, inputs: List[Inputs], target: str) -> None:
     if arguments.text:
-        return _print_text(one.run())
+        return _print_text(one.run(), arguments.deferred)
     _check_target(target, inputs)
     if arguments.trace:
         return _write_trace(one.run(), target)
@@ -252,7 +307,7 @@ def _compare(arguments: argparse.Namespace) -> None:
         target = os.fspath(Path(target or "", f"{'_and_'.join(stems)}.html"))
     if not arguments.text:
         _check_target(target, inputs)
-    first, second = (read_any(name) for name in arguments.compare)
+    first, second = map(read_any, arguments.compare, arguments.batches or [None, None])
     compared = Compared(first, second)
     if arguments.text:
         with writing():
@@ -267,4 +322,5 @@ def _compare(arguments: argparse.Namespace) -> None:
 
 if __name__ == "__main__":
     open_streams()
+    gc.disable()  # what a run is made of stays until the end, and looking through it again and again takes an eighth of the time
     sys.exit(ended(lambda: main(sys.argv[1:]), command_name("view")))

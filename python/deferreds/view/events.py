@@ -57,6 +57,13 @@ class Events:
         """Where in the program the event was performed that begins in this row, if one does."""
         return self._places.of_event(row.event) if row.event is not None and self._begins(row) else None
 
+    def whole(self, row: Row, most: int) -> str:
+        """The event that begins in the row as the script has it, where that says more than `most` characters, or than its short text."""
+        if row.event is None or not self._begins(row):
+            return ""
+        short, text = self._script.shown(row.event), self._script.whole(row.event)
+        return text if len(short) > most or "…" in short else ""
+
     def said(self, event: int) -> str:
         """An event with what the script says."""
         return f"event {event}  {self._script.shown(event)}".rstrip()

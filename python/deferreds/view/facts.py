@@ -7,6 +7,7 @@ from __future__ import annotations
 import json
 from typing import Any, Callable, Dict, List, NamedTuple, Optional, Tuple
 
+from .batches import Batches, NotBatches, read_batches
 from ..checkout import as_called
 from .left import (
     At,
@@ -45,6 +46,8 @@ class Ending(NamedTuple):
     stopped: bool
     weight: int
     limit: int
+    #: the batches of its posts, where they are told
+    batches: Batches
 
 
 class Facts:
@@ -75,7 +78,7 @@ def read_facts(text: str) -> Facts:
         facts = Facts()
         for line in lines[1:-1]:
             _take(facts, json.loads(line))
-    except (ValueError, KeyError, TypeError, IndexError, AttributeError, RecursionError):
+    except (ValueError, KeyError, TypeError, IndexError, AttributeError, RecursionError, NotBatches):
         raise NotFacts(as_called("it isn't what ./deferreds --json tells")) from None
     return facts
 
@@ -95,7 +98,8 @@ def _take(facts: Facts, told: Json) -> None:
         if read is not None:
             facts.left.append(read(told))
     elif kind == "end":
-        facts.ending = Ending(bool(told["stopped"]), _number(told["weight"]), _number(told["limit"]))
+        batches = read_batches(told.get("batches", []))
+        facts.ending = Ending(bool(told["stopped"]), _number(told["weight"]), _number(told["limit"]), batches)
 
 
 def _number(value: object) -> int:

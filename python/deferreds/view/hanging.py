@@ -4,11 +4,12 @@ nothing else.
 
 from __future__ import annotations
 
-from typing import Dict, List, NamedTuple, Optional, Sequence, Tuple, Union
+from typing import Any, Dict, List, NamedTuple, Optional, Sequence, Tuple, Union
 
 from .fold import Fold
 from .left import At, Hang, Left, LeftDeferred, LeftLoop, LeftTask
 from .phrases import OfDeferred, OfLine, Phrase, listed, several, words
+from .world import Shelf
 
 
 class Circle(NamedTuple):
@@ -151,6 +152,17 @@ class Hanging:
         task = world.tasks.at(hang.number)
         waits = words(", which is held by ", OfDeferred(holder)) if holder is not None else words()
         return (me, f" is fired when task {task.name if task else ''} ends", *waits)
+
+
+def object_name(fold: Fold, hang: Hang) -> str:
+    """The name of the object on which something hangs; of a job its number, of a timer when it is due."""
+    world = fold.world
+    shelves: Dict[At, Shelf[Any]] = {At.LOCK: world.locks, At.QUEUE: world.queues, At.LOOP: world.loops, At.TASK: world.tasks}
+    if hang.at not in shelves:
+        return str(hang.number)
+    thing = shelves[hang.at].at(hang.number)
+    name: str = thing.name if thing is not None else ""
+    return name
 
 
 def _since(row: Optional[int]) -> Phrase:

@@ -10,6 +10,7 @@ from pathlib import Path
 from typing import NamedTuple, Optional, Tuple
 
 from ..checkout import as_called, command_name
+from ..ending import say
 from ..program import NOT_RUN, NotRun, found
 from .facts import NotFacts, read_facts
 from .lines import WORDS
@@ -23,7 +24,7 @@ from .units import tick_beside
 STANDARD = "-"
 
 USAGE, NO_INPUT, NO_OUTPUT = 64, 66, 73
-_STOPPED, _REFUSED = 1, 2
+_STOPPED, _REFUSED, _BATCHES_REFUSED = 1, 2, 5
 
 _SCRIPT, _FACTS, _JOURNAL = (
     "it looks like a script, which is given without --journal and --json",
@@ -47,6 +48,13 @@ class Inputs(NamedTuple):
     journal: Optional[str] = None
     facts: Optional[str] = None
     places: Optional[str] = None
+    #: the batches in which the script is run, as text
+    batches: Optional[str] = None
+
+    @property
+    def files(self) -> Tuple[str, ...]:
+        """The names of the files that it is made of."""
+        return tuple(name for name in self[:4] if name is not None and name != STANDARD)
 
     @property
     def main(self) -> str:
@@ -63,7 +71,7 @@ class Inputs(NamedTuple):
     def _run(self) -> Run:
         if self.journal is None and self.facts is None:
             name = self.script or STANDARD
-            return run_script(_read(name), name)
+            return run_script(_read(name), name, self.batches)
         script = _script(_read(self.script)) if self.script is not None else Script()
         if self.facts is not None:
             return _facts(_read(self.facts), self.facts, script)
@@ -84,18 +92,23 @@ class Inputs(NamedTuple):
             return read_places(path.read_text(encoding="utf-8"))
         except (OSError, UnicodeDecodeError, NotPlaces) as why:
             reason = why.strerror if isinstance(why, OSError) else why
-            print(f"{command_name('view')}: {path} isn't used, since it doesn't tell places: {reason}", file=sys.stderr)
+            say(f"{command_name('view')}: {path} isn't used, since it doesn't tell places: {reason}")
             return NOWHERE
 
 
-def read_any(name: str) -> Run:
-    """The run of a script, of a journal or of facts, whichever the file is."""
+def read_any(name: str, batches: Optional[str] = None) -> Run:
+    """The run of a script, in these batches if they are given, or else of a journal or of facts, whichever the file is."""
     data = _read(name)
     text = data.decode("utf-8", "replace")
-    if not text.lstrip().startswith("{"):
-        run = _journal(_text(data, name), name, Script())
+    is_script = text.lstrip().startswith("{") and not _begins_facts(text)
+    if batches is not None and not is_script:
+        raise Failed(USAGE, f"{shown_name(name)} isn't a script, and --batches is for scripts")
+    if is_script:
+        run = run_script(data, name, batches)
+    elif text.lstrip().startswith("{"):
+        run = _facts(data, name, Script())
     else:
-        run = _facts(data, name, Script()) if _begins_facts(text) else run_script(data, name)
+        run = _journal(_text(data, name), name, Script())
     run.tick = tick_beside(name)
     return run
 
@@ -170,12 +183,16 @@ def _facts(data: bytes, name: str, script: Script) -> Run:
         raise Failed(NO_INPUT, _with_hint(f"{shown_name(name)}: {error}", text)) from None
 
 
-def run_script(data: bytes, name: str) -> Run:
-    """Runs a script, and reads what `./deferreds --json` prints of the run; the journal alone, where that word isn't known."""
-    status, told = _deferreds(data, "--json")
-    is_exact = status != USAGE
+def run_script(data: bytes, name: str, batches: Optional[str] = None) -> Run:
+    """Runs a script, in these batches if they are given, and reads what `./deferreds --json` prints of the run; the journal alone,
+    where that word isn't known."""
+    words = () if batches is None else ("--batches", batches)
+    status, told = _deferreds(data, "--json", *words)
+    is_exact = status != USAGE or batches is not None
     if not is_exact:
         status, told = _deferreds(data)
+    if status == _BATCHES_REFUSED:
+        raise Failed(status)
     if status not in (0, _STOPPED):
         raise Failed(status, _why_not(status, data, name))
     script, title = _script(data), _title(name)

@@ -56,9 +56,14 @@ class Rows:
         self._at: Dict[int, int] = {}
         same = self._same(events)
         row = window.start
+        top: Optional[int] = None
         while row < window.stop:
+            if top is not None and fold.rows[row].event != fold.rows[self.slots[top].row].event:
+                self._end_head(top)
+                top = None
             head = events.head(fold.rows[row])
             if head is not None:
+                top = len(self.slots)
                 self.slots.append(Slot(SlotKind.HEAD, row, head))
             self._at[row] = len(self.slots)
             self.slots.append(Slot(SlotKind.LINE, row))
@@ -66,7 +71,13 @@ class Rows:
             if count > 1:
                 self._fold_same(row, count)
             row += count
+        if top is not None:
+            self._end_head(top)
         self.slots.append(Slot(SlotKind.PAD, window.stop))
+
+    def _end_head(self, top: int) -> None:
+        """Notes at the head of an event how many slots stand under it."""
+        self.slots[top] = self.slots[top]._replace(more=len(self.slots) - top - 1)
 
     def _same(self, events: Events) -> Dict[int, int]:
         """The first of many equal lines, none of which begins an event, with how many they are."""

@@ -184,7 +184,8 @@ def _hangs(fold: Fold, record: Record) -> Iterator[Hang]:
             yield Hang(At.TIMEOUT, timer.due)
     if record.made is Made.LOOP:
         yield Hang(At.LOOP, record.of)
-    elif record.made is Made.WHEN_DONE and not fold.world.tasks.all[record.of].has_ended:
+    task = fold.world.tasks.at(record.of) if record.made is Made.WHEN_DONE else None
+    if task is not None and not task.has_ended:
         yield Hang(At.TASK, record.of)
 
 

@@ -21,18 +21,20 @@ _NUMBER = re.compile(r"#(\d+)")
 class Markup:
     """Writes references to lines and Deferreds, which are links where the page has what they refer to."""
 
-    def __init__(self, fold: Fold, script: Script, window: range, folded: Dict[int, int]) -> None:
+    def __init__(self, fold: Fold, script: Script, window: range, folded: Dict[int, int], there: range = range(0)) -> None:
         self._fold = fold
         self._script = script
         self._window = window
         self._folded = folded
+        #: the rows that the script of the page can show
+        self._there = there
         #: the Deferreds whose outcome the page has
         self.outcomes: Set[int] = set()
 
     def line(self, row: int) -> Html:
         """A line of the journal."""
         if row not in self._window:
-            return Html(f"line&nbsp;{row + 1}")
+            return Html(f"<span data-r={row + 1}>line&nbsp;{row + 1}</span>" if row in self._there else f"line&nbsp;{row + 1}")
         return Html(f"<a href=#r{self._folded.get(row, row) + 1}>line&nbsp;{row + 1}</a>")
 
     def deferred(self, number: int, named: bool = True) -> Html:
@@ -44,7 +46,7 @@ class Markup:
             return text
         target = self.target(number)
         return Html(
-            f"<a data-f={number} href=#{target}>{text}</a>"
+            f'<a data-f={number} href="#{target}">{text}</a>'
             if target
             else f"<a data-f={number}>{text}</a>"
         )
@@ -54,7 +56,7 @@ class Markup:
         record = self._fold.records.get(number)
         if record is not None and record.row in self._window:
             return f"r{self._folded.get(record.row, record.row) + 1}"
-        return f"o{number}" if number in self.outcomes else ""
+        return f"d={number}" if number in self.outcomes else ""
 
     def said(self, phrase: Phrase, most: int = _MOST_PART) -> Html:
         """A phrase."""

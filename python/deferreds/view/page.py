@@ -7,18 +7,27 @@ import hashlib
 from pathlib import Path
 from typing import Dict, Iterator, List, Optional
 
-from .chart import Chart
+from .axis import Axis
 from .events import Events
-from .layout import CHUNK, SLOT, Lanes, Rows
-from .markup import Markup, isolated, placed
+from .markup import isolated, placed
+from .phrases import several
 from .records import ArrowKind, Ended, Look, Record, State, ended
 from .report import Finding, Kind, Severity
 from .run import Run
 from .shapes import CLASSES, SAYS, SIGNS, arrow, bar
 from .texts import Html, escaped, joined, shortened
+from .units import seconds_of
+from .windows import Window
 
 #: how many rows a chart has at most
 MOST_ROWS = 5_000
+
+#: how many lines a page has at most, in windows of so many rows
+MOST_LINES = 100_000
+
+_SCRIPTS = ("rows.js", "focus.js", "folds.js", "filter.js", "whole.js", "stories.js", "windows.js")
+#: up to which width of the screen lanes are folded away; `style.css` has the same number
+NARROW = 600
 
 _FOLDER = Path(__file__).resolve().parent
 _FEW_FINDINGS, _MOST_FINDINGS = 8, 200
@@ -55,17 +64,18 @@ class Page:
 
     def __init__(self, run: Run, first: Optional[int] = None, last: Optional[int] = None) -> None:
         self._run = run
-        self.window = _window(len(run.fold.rows), first, last)
-        events = Events(run.fold, run.script, run.places)
-        self._rows = Rows(run.fold, events, self.window)
-        self._lanes = Lanes(run.fold, self._rows)
-        self._markup = Markup(run.fold, run.script, self.window, self._rows.folded)
-        self._chart = Chart(run, self._rows, self._lanes, events, self._markup)
+        lines = len(run.fold.rows)
+        self.window = _window(lines, first, last)
+        #: the lines that the page has, of which its script shows a part at a time: all, where nobody has asked for a part
+        self.there = range(min(lines, MOST_LINES)) if first is None and last is None else self.window
+        self._events = Events(run.fold, run.script, run.places)
+        self._shown = Window(run, self._events, self.window, self.there)
+        self._rows, self._markup = self._shown.rows, self._shown.markup
         self._shown_outcomes()
 
     def html(self) -> Html:
         """The whole page."""
-        style, script = self._style(), asset("focus.js")
+        style, script = self._style(), script_of_page()
         policy = f"default-src 'none'; style-src '{policy_hash(style)}'; script-src '{policy_hash(script)}'; base-uri 'none'; form-action 'none'"
         title = escaped(self._run.title)
         return joined(
@@ -78,24 +88,27 @@ class Page:
                 *self._verdict(title),
                 *self._report(),
                 *self._outcomes(),
+                Html("<section id=tree hidden></section>"),
+                *Axis(self._run, self._markup).pieces(),
                 *self._above_chart(),
                 Html("</main><div id=chart><div id=column hidden></div>"),
-                self._head(),
-                *self._chart.pieces(),
-                Html("</div>"),
-                *self._below_chart(),
+                *self._shown.pieces(),
+                Html("</div><p id=next hidden></p>"),
+                *self._stories(),
+                *self._blocks(),
                 Html(
                     "<input id=find type=search placeholder=find aria-label=find hidden>"
+                    "<div id=whole class=mono hidden></div>"
                     f"<div id=focus role=status hidden></div><script>{script}</script></body></html>\n"
                 ),
             ]
         )
 
     def _style(self) -> str:
-        width, rest = self._chart.width, self._rows.total % CHUNK or CHUNK
-        paper = max(_PAPER, width + 48)
+        shown, paper = self._shown, max(_PAPER, self._shown.width + 48)
         return (
-            f"{asset('style.css')}#chart{{width:{width}px;--side:min({self._chart.side}px,62vw)}}#last{{height:{rest * SLOT}px}}"
+            f"{asset('style.css')}#chart{{width:{shown.width}px;--side:min({shown.side}px,62vw)}}#last{{height:{shown.rest}px}}"
+            f"@media screen and (max-width:{NARROW}px){{body:not(.lanes) #chart{{width:100%;--side:100vw}}}}"
             f"@page{{size:{paper}px {int(paper / 1.414)}px;margin:24px}}"
         )
 
@@ -114,6 +127,9 @@ class Page:
             look = "note" if self._run.problems else "clean"
             yield Html(f'<span class="verdict {look}">{self._run.nothing}</span>')
         yield Html(f"<span class=facts>{escaped(self._run.counts)}</span></p>")
+        if self._run.order:
+            order = escaped(f"--batches '{self._run.order}'")
+            yield Html(f"<details class=order><summary>the order in which posts were taken</summary><code>{order}</code></details>")
         if self._run.limits:
             yield Html(f"<p class=facts>{escaped(self._run.limits)}</p>")
         for problem in self._run.problems:
@@ -186,8 +202,8 @@ class Page:
     def _table(self, records: List[Record]) -> Html:
         most = _MOST_VALUE if len(records) <= _MOST_ODD else _LEAST_VALUE
         made = "<th>Made at</th>" if self._run.places else ""
-        head = f"<tr><th>No.</th><th>Name</th><th>At the end</th><th>Value</th><th>Fired by</th>{made}</tr>"
-        return Html(f"<table>{head}{joined(self._outcome(record, most) for record in records)}</table>")
+        head = f"<tr><th>No.</th><th>Name</th><th>At the end</th><th>Value</th><th>Fired by</th><th>How long</th>{made}</tr>"
+        return Html(f"<table class=ends>{head}{joined(self._outcome(record, most) for record in records)}</table>")
 
     def _outcome(self, record: Record, most: int) -> Html:
         end = ended(record.end)
@@ -202,11 +218,18 @@ class Page:
             why = Html(f": {self._markup.said(record.fired_by, 60)}") if record.fired_by else Html("")
             fired = Html(f"{self._markup.line(record.fired)}{why}")
         return Html(
-            f"<tr id=o{record.number} data-d={record.number}><td class=mono>{self._markup.deferred(record.number, named=False)}</td>"
+            f'<tr id="d={record.number}" data-d={record.number}><td class=mono>{self._markup.deferred(record.number, named=False)}</td>'
             f'<td class="mono name">{escaped(", ".join(record.names))}</td>'
             f'<td class="state t-{CLASSES[end]}">{SIGNS[end]} {end.value}</td><td class="mono value">{shown}</td><td>{fired}</td>'
+            f"<td class=why>{self._spent(record)}</td>"
             f"{self._made_at(record)}</tr>"
         )
+
+    def _spent(self, record: Record) -> str:
+        """How long the Deferred was unfired, waited and was paused, where that took time, and how many of its sides ran."""
+        spent, ticks = self._run.durations.of(record), self._run.ticks
+        parts = [f"{word} {ticks(count)}" for word, count in (("unfired", spent.unfired), ("waited", spent.waited), ("paused", spent.paused)) if count]
+        return ", ".join([*parts, *([several(spent.sides, "side", "sides")] if spent.sides else [])])
 
     def _made_at(self, record: Record) -> Html:
         if not self._run.places:
@@ -236,45 +259,29 @@ class Page:
             "ends it. Time stands on the left, with a bracket from each scheduling to its coming. Choose a number, as #0, to "
         )
         yield Html("follow that Deferred; press / to find a text.</p>")
+        shut = " data-shut" if self._run.is_recorded else ""
+        yield Html("<details id=sieve hidden><summary>Filter by kind of line and by outcome</summary></details>")
+        yield Html(f'<p id=folds class="facts small"{shut} hidden></p>')
         rows = len(self._run.fold.rows)
         if len(self.window) < rows:
             yield Html(
                 f'<p><span class="verdict note">lines {self.window.start + 1} to {self.window.stop} of {rows}</span>'
-                "<span class=facts>Report and outcomes are of the whole run.</span></p>"
+                "<span class=facts>Report and outcomes are of the whole run.</span></p><p id=windows hidden></p>"
             )
 
-    def _head(self) -> Html:
-        """The head of the chart, which stays in sight: what the columns are, and whose the lanes."""
-        texts: List[Html] = []
-        if self._lanes.own:
-            room = (self._lanes.width - 8) // 7
-            for lane in self._lanes.lanes.values():
-                record = lane.record
-                label = f"#{record.number} {record.name}".rstrip()
-                label = label if len(label) <= room else f"{label[: room - 1]}…"
-                texts.append(
-                    Html(
-                        f"<text class=dim x={(self._lanes.x(record.number) or 0) - 6} y=15>{escaped(label)}</text>"
-                    )
-                )
-        else:
-            drawn, of = len(self._lanes.lanes), self._lanes.shown
-            said = f"lanes of {drawn} Deferreds; a column is used again when one is done"
-            if drawn < of:
-                said = f"lanes of {drawn} of {of} Deferreds: no more stand beside each other; a column is used again when one is done"
-            texts.append(Html(f"<text class=dim x=14 y=15>{said}</text>"))
-        return Html(
-            f"<div class=head><div class=what>  line  time{'':6}what happened</div>"
-            f"<svg width={self._lanes.full_width} height=22>{joined(texts)}</svg></div>"
-        )
+    def _blocks(self) -> Iterator[Html]:
+        """The lines of a long run that the page's script shows, and that no other row of the page has."""
+        for start in range(MOST_ROWS, self.there.stop, MOST_ROWS) if len(self.there) > len(self.window) else ():
+            window = Window(self._run, self._events, range(start, min(self.there.stop, start + MOST_ROWS)), self.there)
+            window.markup.outcomes = self._markup.outcomes
+            yield window.packed()
 
-    def _below_chart(self) -> Iterator[Html]:
-        dropped = self._chart.ruler.dropped
-        if dropped:
-            yield Html(
-                f"<main><p class=facts>{dropped} of the ruler's brackets aren't drawn: they are longer than 150 rows, or more than five"
-                " beside each other. The row of a call says at which line it was scheduled.</p></main>"
-            )
+    def _stories(self) -> Iterator[Html]:
+        """What the script of the page makes trees of: a line for each Deferred."""
+        run = self._run
+        yield Html(f'<pre id=stories hidden data-tick="{float(seconds_of(run.tick)):g}">')
+        yield Html("\n".join(escaped(run.stories.written(one, run.durations)) for one in run.fold.records.values()))
+        yield Html("</pre>")
 
 
 def _window(rows: int, first: Optional[int], last: Optional[int]) -> range:
@@ -287,6 +294,13 @@ def _window(rows: int, first: Optional[int], last: Optional[int]) -> range:
 def asset(name: str) -> str:
     """A file that a page holds: its style or its script."""
     return (_FOLDER / name).read_text(encoding="utf-8")
+
+
+def script_of_page() -> str:
+    """The script of the page, whose files are parts of one function; without indents and comments, which a page needs not."""
+    lines = (line.strip() for name in _SCRIPTS for line in asset(name).split("\n"))
+    kept = "\n".join(line for line in lines if line and not line.startswith("//"))
+    return f'(function () {{\n"use strict";\n{kept}\n}})();\n'
 
 
 def policy_hash(text: str) -> str:

@@ -4,6 +4,8 @@ from __future__ import annotations
 
 from typing import List, Optional, Sequence
 
+from .batches import Batches, text_of
+from .durations import Durations
 from .facts import Facts
 from .fold import Fold
 from .left import Left, LeftDeferred, left_of
@@ -14,6 +16,8 @@ from .records import Finish
 from .report import Report
 from .scripts import Script
 from .sections import places_of
+from .stories import Stories
+from .units import in_seconds
 
 
 class Run:
@@ -35,11 +39,32 @@ class Run:
         self.read = self.unknown = 0
         #: the weight of the journal, and its limit
         self.weight: Optional[str] = None
+        #: the batches in which posts were taken, where that is told
+        self.batches: Batches = ()
         #: where in the program Deferreds were made and events performed, as far as that is known; set before the report is asked for
         self.places: Places = NOWHERE
         #: how long a tick was where the run was recorded, as `1 ms`, or an empty text
         self.tick = ""
+        self.durations = Durations(fold.rows)
         self._report: Optional[Report] = None
+        self._stories: Optional[Stories] = None
+
+    @property
+    def stories(self) -> Stories:
+        """What each Deferred does, step by step."""
+        if self._stories is None:
+            self._stories = Stories(self.fold, self.left)
+        return self._stories
+
+    @property
+    def is_recorded(self) -> bool:
+        """Whether a recorder tells of the run, whose files stand beside it."""
+        return bool(self.tick or self.places)
+
+    def ticks(self, count: int) -> str:
+        """So many ticks in words, with the seconds that they were where the run was recorded."""
+        seconds = in_seconds(count, self.tick)
+        return several(count, "tick", "ticks") + (f" ({seconds})" if seconds else "")
 
     @property
     def report(self) -> Report:
@@ -68,6 +93,11 @@ class Run:
         )
 
     @property
+    def order(self) -> str:
+        """The batches in which its posts were taken, ready for `--batches`; an empty text where there were none, or it isn't told."""
+        return text_of(self.batches) if any(self.batches) else ""
+
+    @property
     def counts(self) -> str:
         """How large the run is."""
         events = [several(len(self.script.events), "event", "events")] if self.script.events else []
@@ -91,6 +121,7 @@ def run_of_facts(facts: Facts, script: Script, title: str) -> Run:
     else:
         run.finish = Finish.STOPPED if facts.ending.stopped else Finish.WHOLE
         run.weight = f"{facts.ending.weight} of {facts.ending.limit}"
+        run.batches = facts.ending.batches
     return run
 
 

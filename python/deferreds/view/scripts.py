@@ -54,6 +54,15 @@ class Script:
         except RecursionError:
             return "…"
 
+    def whole(self, event: int) -> str:
+        """An event as it stands in the script, in compact JSON."""
+        if not 0 <= event < len(self.events):
+            return ""
+        try:
+            return compact(self.events[event])
+        except RecursionError:
+            return ""
+
     def firing(self, names: Sequence[str]) -> List[str]:
         """The places of the actions that fire a Deferred of one of the names, as JSON Pointers."""
         return [place for name in dict.fromkeys(names) for place in self._found()[0].get(name, ())]

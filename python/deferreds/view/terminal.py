@@ -4,6 +4,7 @@ from __future__ import annotations
 
 from typing import Dict, Iterator, List, Optional
 
+from .branches import Tree
 from .events import Events
 from .phrases import OfDeferred, OfEvent, OfLine, OfPlace, OfScript, Part, Phrase
 from .places import Place
@@ -52,6 +53,13 @@ class Terminal:
         for record in self._run.fold.records.values():
             yield self._outcome(record)
 
+    def tree(self, number: int) -> Iterator[str]:
+        """The tree of a Deferred."""
+        tree = Tree(self._run, number)
+        yield self._toned("strong", self.said(tree.head()))
+        for depth, said in tree.lines():
+            yield f"{'│ ' * min(depth - 1, _DEEPEST)}{f'({depth}) ' if depth > _DEEPEST + 1 else ''}├ {self.said(said)}"
+
     def _toned(self, tone: Optional[str], text: str) -> str:
         return f"\x1b[{_COLORS[tone]}m{text}\x1b[0m" if self._color and tone is not None else text
 
@@ -88,6 +96,8 @@ class Terminal:
         tone = "bad" if report.count(Severity.BAD) else "wait" if parts else "good"
         yield f"{visible(self._run.title)}: {self._toned(tone, verdict)}"
         yield self._run.counts
+        if self._run.order:
+            yield f"posts were taken in this order: --batches '{self._run.order}'"
         if self._run.limits:
             yield self._run.limits
         for problem in self._run.problems:

@@ -4,12 +4,31 @@ from __future__ import annotations
 
 import json
 import re
+from fractions import Fraction
 from pathlib import Path
 from typing import Any
 
 SUFFIX = ".recording"
 
 _TICK = re.compile("(?:1/)?[1-9][0-9]{0,9} (?:s|ms|µs|ns)")
+
+
+#: how many of each unit a second has
+_IN_A_SECOND = {"s": 1, "ms": 1_000, "µs": 1_000_000, "ns": 1_000_000_000}
+
+
+def seconds_of(tick: str) -> Fraction:
+    """How many seconds a tick was that is written as `1 ms` or `1/3 ms`; 0 where it is an empty text."""
+    number, _, unit = tick.partition(" ")
+    return Fraction(number) / _IN_A_SECOND[unit] if unit else Fraction(0)
+
+
+def in_seconds(ticks: int, tick: str) -> str:
+    """So many ticks as seconds, with no more digits than a reader can use; an empty text where the tick isn't known."""
+    seconds = float(ticks * seconds_of(tick)) if tick else 0.0
+    if not tick:
+        return ""
+    return f"{seconds:.0f} s" if seconds >= 1_000 else f"{seconds:.4g} s" if seconds >= 0.001 or not seconds else f"{seconds * 1000:.3g} ms"
 
 
 def read_tick(text: str, name: str) -> str:

@@ -1,0 +1,238 @@
+"""What each Deferred does and what is done to it, step by step, and the tree of one with all that hangs on it
+(docs/VIEW.md, "One Deferred").
+"""
+
+from __future__ import annotations
+
+import enum
+from typing import Dict, Iterator, List, NamedTuple, Optional, Set, Tuple
+
+from .durations import Durations
+from .fold import Fold
+from .hanging import object_name
+from .left import At, Hang, Left, LeftDeferred
+from .records import BracketKind, By, Record, Row, ended
+
+#: how many branches a tree has at most; `stories.js` has the same number
+MOST_BRANCHES = 2_000
+
+_CLOSERS = frozenset({"set", "take", "wait"})
+_ASKED = frozenset({"refuse", "swallow", "cancel", "pause", "unpause"})
+_SILENT = frozenset({"run", "add", "name"})
+_BETWEEN = {At.CHILD, At.CHAIN}
+#: the look of a Deferred that waits or awaits tells these already
+_TOLD = {At.DEFERRED, At.AWAIT}
+
+
+class Does(enum.Enum):
+    """What happens in a step. The letter stands on the page."""
+
+    MADE = "m"
+    FIRED = "f"
+    WAITS = "w"
+    RAN = "r"
+    #: it is cancelled, paused or unpaused, or a firing is refused or swallowed
+    ASKED = "a"
+    #: a child of a list hasn't come; who is to fire it by a chain
+    CHILD = "c"
+    CHAIN = "k"
+    #: it hangs on an object
+    HANGS = "h"
+    #: what its side, or a call that a side has scheduled, does: makes a Deferred, fires one, schedules a call, or anything else
+    MAKES = "n"
+    FIRES = "g"
+    CALLS = "l"
+    OTHER = "o"
+
+
+class Step:
+    """A step of a Deferred."""
+
+    __slots__ = ("does", "row", "end", "other", "hang")
+
+    def __init__(self, does: Does, row: Optional[int], other: Optional[int] = None, end: Optional[int] = None) -> None:
+        self.does = does
+        #: the row in which it begins and that in which it ends; no row tells on what one hangs at the end
+        self.row = row
+        self.end = end
+        #: the Deferred that it names beside its own
+        self.other = other
+        #: the object on which it hangs
+        self.hang: Optional[Hang] = None
+
+
+class Mode(enum.Enum):
+    """How much is told of a Deferred: all; whom it waits for and who fires it; what it leads to; only who fires it."""
+
+    ALL = "all"
+    UP = "up"
+    DOWN = "down"
+    WHY = "why"
+
+
+class Branch(NamedTuple):
+    """A line of a tree: a step, how deep it lies, and whether the Deferred that it names is told below it."""
+
+    depth: int
+    step: Step
+    opens: bool
+
+
+class Stories:
+    """The steps of all Deferreds of a run."""
+
+    def __init__(self, fold: Fold, left: List[Left]) -> None:
+        self._fold = fold
+        self.of: Dict[int, List[Step]] = {number: [] for number in fold.records}
+        #: what lies directly in a side or a call, by its row
+        self._inside: Dict[int, List[Step]] = {}
+        self._came = {one.start: one.end for one in fold.brackets if one.kind is BracketKind.CAME}
+        self._runs: Dict[int, List[Step]] = {}
+        self._waits: Dict[int, Step] = {}
+        self._awaits: Dict[int, Step] = {}
+        for row in fold.rows:
+            self._end_awaits(row)
+            self._note(row)
+            self._note_inside(row)
+        for one in left:
+            if isinstance(one, LeftDeferred) and not one.running:
+                self._note_hangs(one)
+
+    def _own(self, number: int, step: Step) -> Step:
+        self.of[number].append(step)
+        return step
+
+    def _note(self, row: Row) -> None:
+        """The step of the Deferred that the line is about."""
+        entry, place = row.entry, row.place
+        number, word = entry.deferred, entry.word
+        source = row.actor.number if row.actor.by is By.SIDE else None
+        if word == "new":
+            self._own(number, Step(Does.MADE, place, source))
+        elif word == "fire":
+            self._own(number, Step(Does.FIRED, place, source))
+        elif word in _ASKED:
+            self._own(number, Step(Does.ASKED, place, source))
+        elif word == "run":
+            self._runs.setdefault(number, []).append(self._own(number, Step(Does.RAN, place)))
+        elif word == "hand":
+            waits = self._waits.pop(number, None)
+            if waits is not None:
+                waits.end = place
+        elif word == "await":
+            self._awaits[number] = self._own(number, Step(Does.WAITS, place, entry.other))
+        if word in _CLOSERS and row.closes and self._runs.get(number):
+            self._runs[number].pop().end = place
+        if word == "take":
+            self._own(number, Step(Does.WAITS, place, entry.other, place))
+        elif word == "wait":
+            self._waits[number] = self._own(number, Step(Does.WAITS, place, entry.other))
+
+    def _end_awaits(self, row: Row) -> None:
+        """An inline body goes on in the side of whom it awaits, and does something there."""
+        if row.actor.by is not By.SIDE:
+            return
+        for number in row.names:
+            step = self._awaits.get(number)
+            if step is not None and step.other == row.actor.number:
+                step.end = row.inside
+                del self._awaits[number]
+
+    def _note_inside(self, row: Row) -> None:
+        entry = row.entry
+        if row.inside is None or row.closes or entry.word in _SILENT or entry.word in _CLOSERS:
+            return
+        does = {"new": Does.MAKES, "fire": Does.FIRES}.get(entry.word, Does.OTHER)
+        end = None
+        if entry.word == "later" and entry.what == "call":
+            does, end = Does.CALLS, self._came.get(row.place)
+        other = entry.deferred if entry.deferred >= 0 else None
+        self._inside.setdefault(row.inside, []).append(Step(does, row.place, other, end))
+
+    def _note_hangs(self, one: LeftDeferred) -> None:
+        for hang in one.hangs:
+            if hang.at in _TOLD:
+                continue
+            if hang.at in _BETWEEN:
+                does = Does.CHILD if hang.at is At.CHILD else Does.CHAIN
+                self._own(one.number, Step(does, None, hang.number))
+                continue
+            step = self._own(one.number, Step(Does.HANGS, None))
+            step.hang = hang
+
+    def inside(self, step: Step) -> List[Step]:
+        """What a side did directly, or a call that came."""
+        place = step.end if step.does is Does.CALLS else step.row if step.does is Does.RAN else None
+        return self._inside.get(place, []) if place is not None else []
+
+    # the tree
+
+    def tree(self, number: int) -> Iterator[Branch]:
+        """The steps of a Deferred, and below each those of whom it names, as far as they hang on this one."""
+        shown: Set[int] = {number}
+        claimed: Set[int] = set()
+        todo: List[Tuple[Step, Mode, int]] = []
+
+        def enter(one: int, mode: Mode, depth: int) -> None:
+            steps = self.of.get(one, [])
+            if mode is Mode.WHY:
+                steps = [step for step in steps if step.does is Does.FIRED]
+            else:
+                claimed.update(step.other for step in steps if step.does in _UP and step.other is not None)
+            todo.extend((step, mode, depth) for step in reversed(steps))
+
+        enter(number, Mode.ALL, 1)
+        while todo:
+            step, mode, depth = todo.pop()
+            below = self._mode_below(step, mode)
+            other = step.other
+            opens = below is not None and other is not None and other not in shown
+            opens = opens and (step.does in _UP or other not in claimed)
+            yield Branch(depth, step, opens)
+            inner = Mode.UP if mode is Mode.UP else Mode.DOWN
+            todo.extend((one, inner, depth + 1) for one in reversed(self.inside(step) if mode is not Mode.WHY else []))
+            if opens and other is not None and below is not None:
+                shown.add(other)
+                enter(other, below, depth + 1)
+
+    @staticmethod
+    def _mode_below(step: Step, mode: Mode) -> Optional[Mode]:
+        """How much is told, below a step, of the Deferred that it names."""
+        if step.does in _UP:
+            return Mode.UP if mode is not Mode.WHY else None
+        if step.does is Does.FIRED:
+            return Mode.WHY
+        if step.does in (Does.MAKES, Does.FIRES):
+            return Mode.DOWN if mode in (Mode.ALL, Mode.DOWN) else None
+        return None
+
+    # on the page
+
+    def written(self, record: Record, durations: Durations) -> str:
+        """The line in which the page has the steps of a Deferred, after its number, its name, how it ended and what it has spent."""
+        spent = durations.of(record)
+        words = [str(record.number), record.name or "-", ended(record.end).value, str(spent.unfired), str(spent.waited), str(spent.paused), str(spent.sides)]
+        return " ".join([*words, *(word for step in self.of[record.number] for word in self._words(step, durations))])
+
+    def _words(self, first: Step, durations: Durations) -> Iterator[str]:
+        todo: List[Optional[Step]] = [first]
+        while todo:
+            step = todo.pop()
+            if step is None:
+                yield ")"
+                continue
+            row = str(step.row) if step.row is not None else ""
+            end = f"-{step.end}" if step.end is not None else ""
+            if step.does is Does.WAITS and step.end is not None:
+                end += f",{durations.between(step.row or 0, step.end)}"
+            other = f"#{step.other}" if step.other is not None else ""
+            hang = f"{step.hang.at.value}/{object_name(self._fold, step.hang)}" if step.hang is not None else ""
+            yield f"{step.does.value}{row}{end}{other}{hang}"
+            inner = self.inside(step)
+            if inner:
+                yield "("
+                todo.append(None)
+                todo.extend(reversed(inner))
+
+
+_UP = frozenset({Does.WAITS, Does.CHILD, Does.CHAIN})

@@ -1,0 +1,135 @@
+"""A long run in a real browser: its lines are shown a window at a time."""
+
+from __future__ import annotations
+
+import json
+import unittest
+from typing import List
+from unittest import mock
+
+from deferreds.view.page import MOST_ROWS
+from deferreds.view.run import Run
+from deferreds.view.texts import shortened, visible
+
+from . import samples
+from .test_browser import InBrowser
+from .test_browser_folds import recorded
+from .test_browser_trees import LINES
+from .test_folding import of, polling
+
+
+class Windows(InBrowser):
+    """Lines that aren't shown wait as blocks."""
+
+    def show_in(self, run: Run, most: int, fragment: str = "") -> None:
+        """Opens the page of a run, in windows of so many lines."""
+        with mock.patch("deferreds.view.page.MOST_ROWS", most):
+            self.show(run, fragment)
+
+    def first(self, line: int) -> int:
+        """Waits until a window is open that begins with this line, and tells how many lines it has."""
+        self.asked(
+            f"new Promise((done, not) => {{ const end = Date.now() + 9000; (function look() {{ const row = document.querySelector('.row[id]');"
+            f" if (row.id === 'r{line}') return setTimeout(done, 50); if (Date.now() > end) return not(row.id); setTimeout(look, 20); }})(); }})"
+        )
+        self.browser.settle()
+        return int(self.asked("document.querySelectorAll('.row[id]').length"))
+
+    def open(self, text: str) -> None:
+        """Chooses a window, or the one after."""
+        self.asked(f"[...document.querySelectorAll('#windows button, #next button')].find(button => button.textContent === {json.dumps(text)}).click()")
+
+    def test_each_window_is_the_chart_of_its_lines(self) -> None:
+        run = samples.long(500)
+        count = len(run.fold.rows)
+        self.show_in(run, 200)
+        self.assertEqual(self.asked("document.getElementById('windows').textContent.trim()"), f"Lines: 1 to 200 201 to 400 401 to {count}")
+        self.assertEqual(self.first(1), 200)
+        self.open("on to line 201")
+        self.assertEqual(self.first(201), 200)
+        self.assertEqual(self.asked(LINES), list(range(200, 400)))
+        rows = self.asked("[...document.querySelectorAll('.row[id] .t')].map(row => row.textContent.split(' ')[0])")
+        self.assertEqual(rows, [row.entry.line.split(" ")[0] for row in run.fold.rows[200:400]])
+        self.open(f"401 to {count}")
+        self.assertEqual(self.first(401), count - 400)
+        uneven = "[...document.querySelectorAll('.chunk')].filter(chunk => Math.abs(chunk.offsetHeight - 20 * chunk.querySelectorAll('.row').length) > 0.6).length"
+        self.assertEqual(self.asked(uneven), 0)
+        self.assertTrue(self.asked("document.getElementById('next').textContent === ''"))
+        self.open("1 to 200")
+        self.assertEqual(self.first(1), 200)
+        self.assertEqual(self.trouble(), [])
+
+    def test_links_and_addresses_lead_into_others(self) -> None:
+        run = samples.long(500)
+        self.show_in(run, 200, "#r300")
+        self.first(201)
+        self.assertTrue(0 < self.asked("document.getElementById('r300').getBoundingClientRect().top") < 1000)
+        self.show_in(run, 200)
+        line = self.asked("(() => { const far = [...document.querySelectorAll('main [data-r]')].find(far => far.dataset.r > 400); far.click(); return Number(far.dataset.r); })()")
+        self.first(401)
+        self.assertTrue(0 < self.asked(f"document.getElementById('r{line}').getBoundingClientRect().top") < 1000)
+
+    def test_a_tree_opens_the_lines_that_it_begins_with(self) -> None:
+        run = samples.long(500)
+        number = next(one.number for one in run.fold.records.values() if 250 < one.row < 350)
+        self.show_in(run, 200, f"#d={number}")
+        self.first(201)
+        self.assertIn(f"#{number} ", self.asked("document.querySelector('#tree h2').textContent"))
+        named = {row for one in run.stories.tree(number) for row in (one.step.row, one.step.end) if row is not None and 200 <= row < 400}
+        self.assertLessEqual(named, set(self.asked(LINES)))
+        self.assertLess(len(self.asked(LINES)), 40)
+        self.open(f"401 to {len(run.fold.rows)}")
+        self.first(401)
+        self.assertEqual(self.asked(LINES), list(range(400, len(run.fold.rows))), "other lines end the tree")
+        self.assertTrue(self.asked("document.getElementById('tree').hidden"))
+
+    def test_a_window_folds_and_is_searched_and_filtered_anew(self) -> None:
+        run = recorded(of(polling(40)))
+        self.show_in(run, 103)
+        folds = "document.querySelectorAll('.fold').length"
+        self.assertEqual(self.asked(folds), 1)
+        self.open(f"104 to {len(run.fold.rows)}")
+        self.first(104)
+        self.assertEqual(self.asked(folds), 1)
+        self.open("1 to 103")
+        self.first(1)
+        self.assertEqual(self.asked(folds), 1)
+        self.browser.press("/")
+        self.asked("(() => { const find = document.getElementById('find'); find.value = 'turn poll'; find.dispatchEvent(new Event('input')); })()")
+        self.assertIn("lines have turn poll, of lines 1 to 103:", self.asked("document.getElementById('focus').textContent"))
+        self.assertEqual(self.trouble(), [])
+
+    def test_hostile_texts_are_texts_in_each(self) -> None:
+        run = samples.hostile()
+        self.show_in(run, 20)
+        told: List[str] = self.asked("[...document.querySelectorAll('.row .k-note')].map(word => word.parentElement.querySelector('bdi').textContent)")
+        for start in range(20, len(run.fold.rows), 20):
+            self.open(f"{start + 1} to {min(start + 20, len(run.fold.rows))}")
+            self.first(start + 1)
+            told += self.asked("[...document.querySelectorAll('.row .k-note')].map(word => word.parentElement.querySelector('bdi').textContent)")
+        self.assertEqual(told, [visible(shortened(json.dumps(text, ensure_ascii=False), 300)) for text in samples.HOSTILE])
+        self.assertIsNone(self.asked("window.harm"))
+        self.assertEqual(self.trouble(), [])
+        for selector in ("img", "iframe", "b[onmouseover]", "svg[onload]", "#chart script", "[onclick]"):
+            self.assertFalse(self.asked(f"document.querySelector({json.dumps(selector)}) !== null"), selector)
+
+    def test_without_scripts_the_first_lines_show(self) -> None:
+        self.browser.scripts(False)
+        self.show_in(samples.long(500), 200)
+        self.assertEqual(self.asked(LINES), list(range(200)))
+        self.assertTrue(self.asked("document.getElementById('windows').hidden && document.getElementById('next').hidden"))
+
+    def test_a_hundred_thousand_lines_are_there_in_two_seconds_and_scroll(self) -> None:
+        run = samples.long(100_000)
+        self.assertLess(min([self.show(run), *(self.browser.open(self.path) for _ in range(3))]), 2.0)
+        frames = self.asked(
+            "(async () => { const found = []; for (let step = 1; step <= 40; step += 1) { const begun = performance.now(); scrollBy(0, 2000);"
+            " await new Promise(done => requestAnimationFrame(() => requestAnimationFrame(done))); found.push(performance.now() - begun); } return found; })()"
+        )
+        self.assertLess(sorted(frames)[len(frames) // 2], 400, frames)
+        self.asked("document.querySelectorAll('#windows button')[9].click()")
+        self.assertEqual(self.first(10 * MOST_ROWS + 1), MOST_ROWS)
+
+
+if __name__ == "__main__":
+    unittest.main()
