@@ -10,7 +10,7 @@ from ..telling import Action, Observer, Time, observer_of, observers_on
 from .clock import Delayed, delayed_of, is_time, refuse_timer
 from .reactors import move, waiting_of
 
-_cancel = base.DelayedCall.cancel
+_cancel: Callable[[base.DelayedCall], None] = base.DelayedCall.cancel
 
 
 def _instrumented_cancel(self: base.DelayedCall) -> None:

@@ -46,7 +46,7 @@ from .renaming import renamed
 #: typed as a function by Twisted, since its overloads say what it gives
 DeferredList: Any = defer.DeferredList
 
-_init = Deferred.__init__
+_init: Callable[..., None] = Deferred.__init__
 _add_callbacks: Callable[..., Any] = Deferred.addCallbacks
 _chain_deferred = Deferred.chainDeferred
 _start: Callable[..., None] = renamed(Deferred._startRunCallbacks, "result", "_dv_result", "_dv_result")
