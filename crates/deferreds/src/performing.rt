@@ -93,8 +93,8 @@ where
 
 /// Returns how the program ends after a run. The script and the report aren't dropped, since the program ends.
 fn ended(kept: Kept) -> (u8, &'static str)
-    ensures status { result.0 ≡ status (Ok kept.entry.report) }
-    ensures text { result.1.now ≡ error_text (Ok kept.entry.report) }
+    ensures status { result.0 ≡ status (Ok kept.report) }
+    ensures text { result.1.now ≡ error_text (Ok kept.report) }
 {
     let Kept { script, report } = kept;
     mem::forget(script);
