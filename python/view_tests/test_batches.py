@@ -100,8 +100,9 @@ class OfTwoRuns(unittest.TestCase):
             "--text", "--compare", _TWO_CALLERS, _TWO_CALLERS, "--batches", _BOB_FIRST, "--batches", _ANN_FIRST
         )
         self.assertEqual(status, 0)
-        self.assertIn("\n- post 1 0", output)
-        self.assertIn("\n+ ", output)
+        self.assertIn("\nline 3 is the first that differs; no outcome differs\n", output)
+        differ = [line for line in output.splitlines() if line.split()[:2] in (["-", "3"], ["+", "3"])]
+        self.assertEqual([line.split("3", 1)[1] for line in differ], [" │ post 1 0", ' note "drained"'])
 
     def test_only_a_script_has_batches(self) -> None:
         with tempfile.TemporaryDirectory() as folder:
