@@ -1,4 +1,4 @@
--- What is told submits nothing, and the works that are submitted are the first of those that a run has made.
+-- What is logged submits nothing, and the works that are submitted are the first of those that a run has made.
 use Rattle.std.proofs.Common.{◌≡◌, ℕ, zero, suc, Bool, true, false, cond, List, [], ◌∷◌, ◌++◌, Option, None, Some, refl, sym, subst, ap, ◌∙◌, length, length-append, ◌+◌, ◌<◌, ◌≤◌, slice_get, arith}
 use Rattle.dv_journal.specs.Journal.{fits}
 use Rattle.dv_journal.specs.declared.entry.Entry.{Entry}
@@ -62,7 +62,7 @@ low_submitted jobs count job so_many row low =
     let found = there (works_of jobs) job (omega (arith, low, so_many, length-works jobs)) in
     (found.0, at_row jobs job row ∙ found.1)
 
--- the value of the work under a number is what that job has come to
+-- the value of the work under a number is the result of that job
 pub result_at : (job : ℕ) (jobs : List Job) (value : Value) → AreInRow jobs → IsValueUnder job jobs value → Some value ≡ job_result job (works_of jobs)
 result_at job jobs value row h = ap Some h.2 ∙ ap (λ (o : Option Work). option_map value_of o) (sym h.1 ∙ at_row jobs job row)
 

@@ -40,7 +40,7 @@ pub fn begin_inline<'s>(
         .push(Frame::Inline(Inlining::Goes(Inline { id, of }, body)))
 }
 
-/// A body goes on with what an action of it came to.
+/// A body goes on with the result of an action of it.
 pub fn end_action<'s>(
     turn: &mut Turn<'s>,
     inline: Inline,
@@ -92,7 +92,7 @@ pub fn resume<'s>(turn: &mut Turn<'s>, inline: Inline, input: Value) -> Result<(
     go_on_where(turn, inline, came)
 }
 
-/// A body goes on with what has come to it, where there is one.
+/// A body goes on with what has reached it, where there is one.
 fn go_on_where<'s>(
     turn: &mut Turn<'s>,
     inline: Inline,

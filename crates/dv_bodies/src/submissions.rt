@@ -88,7 +88,7 @@ impl<'s, J: JobSource> Submissions<'s, J> {
         Ok(())
     }
 
-    /// Submits a work to the pool of this name, for which there has to be room. AllocError where memory is refused.
+    /// Submits a work to the pool of this name, for which there has to be room. AllocError when out of memory.
     #[inline(never)]
     fn submit(
         &mut self,
@@ -111,7 +111,7 @@ impl<'s, J: JobSource> Submissions<'s, J> {
         }
     }
 
-    /// What a job has come to; it may wait. None for a number of no job. AllocError where memory is refused, or was to the job.
+    /// Returns the result of a job; it may wait. None for a number of no job. AllocError when it or the job is out of memory.
     #[tactic(auto, using(crate::proofs::JobLemmas::result_at, crate::proofs::JobLemmas::no_result))]
     pub fn outcome<R: Wait + RandomSource + AllocGlobal>(
         &mut self,
@@ -128,7 +128,7 @@ impl<'s, J: JobSource> Submissions<'s, J> {
         Ok(Some(self.source.outcome(rt, alloc, job)?))
     }
 
-    /// Each job, once, in order; it may wait. AllocError where memory is refused, or was to a job.
+    /// Returns each job, once, in order; it may wait. AllocError when this call or a job is out of memory.
     pub fn close<R: Threads + Wait>(self, rt: &R, alloc: Global) -> Result<Ran, AllocError>
         ensures { IfOk result (λ ran. jobs_of ran.dones ≡ jobs_from 0 self.entry) }
     {

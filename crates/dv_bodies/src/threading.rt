@@ -52,7 +52,7 @@ fn begin_job<'s>(
     turn.world.deliver_later(job, id, delay)
 }
 
-/// Fires a Deferred with what its job has come to (Twisted: `Deferred.callback`, or `Deferred.errback` where the job has
+/// Fires a Deferred with the result of its job (Twisted: `Deferred.callback`, or `Deferred.errback` where the job has
 /// failed); nothing for a number of no job.
 pub fn deliver<'s>(
     turn: &mut Turn<'s>,

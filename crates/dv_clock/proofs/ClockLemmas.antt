@@ -54,7 +54,7 @@ none_by c (Some u) a h n due what e = by_time (nat_lt c.time u.due) refl h where
 pub due_runs : WhatIsDueRuns
 due_runs c h n due what e = none_by c (first_from 0 c.calls) (first_is_first 0 c.calls) h n due what e
 
--- what holds of a clock and of what is made of it, holds of what a call that tells leaves
+-- what holds of a clock and of what is made of it, holds of what a call that logs leaves
 either : (P : Clock → Type 0) {A : Type 0} (entry : Entry) (answer : A) (changed : Clock) (s : State Clock) (b : Bool) → P s.0 → P changed → P (let t : Told A Clock = if b then (Ok answer, (changed, with_entry s.1 entry)) else (Err Limit, s) in t.1.0)
 either P entry answer changed s true h k = k
 either P entry answer changed s false h k = h
@@ -62,7 +62,7 @@ either P entry answer changed s false h k = h
 told : (P : Clock → Type 0) {A : Type 0} (entry : Entry) (answer : A) (changed : Clock) (s : State Clock) → P s.0 → P changed → P (telling entry answer changed s).1.0
 told P entry answer changed s h k = either P entry answer changed s (fits s.1 entry) h k
 
--- what holds of a clock, and of it whatever waits no longer, holds of what comes of a clock that runs or cancels
+-- what holds of a clock, and of it whatever waits no longer, holds of the result of a clock that runs or cancels
 due_keeps : (P : Clock → Type 0) (s : State Clock) (o : Option Upcoming) → P s.0 → ((n : ℕ) (state : CallState) → P (ended n state s.0)) → P (due_found o s).1.0
 due_keeps P s None h k = h
 due_keeps P s (Some next) h k = told P (coming_due next.what) (Some next.what) (ended next.number Called s.0) s h (k next.number Called)

@@ -48,7 +48,7 @@ some_is x y h = cc
 both : (b : Bool) → b ≡ true → b ≡ false → ⊥
 both b h k = absurd cc
 
--- what is said of a call that is found is said of the first one
+-- what is stated of a call that is found is stated of the first one
 at_first : (n due : ℕ) (state : CallState) (call : Call) (a : ℕ × ℕ) → Some (record { due = due; state = state }) ≡ Some call → NotAfter a (due, n) → NotAfter a (call.due, n + 0)
 at_first n due state call a e g =
     let same : due ≡ call.due = ap (λ (c : Call). c.due) (some_is (record { due = due; state = state }) call e) in
@@ -114,7 +114,7 @@ one_more n due Called cs o h = skipped n due Called cs o refl h
 one_more n due Cancelled cs o h = skipped n due Cancelled cs o refl h
 one_more n due Dropped cs o h = skipped n due Dropped cs o refl h
 
--- what is answered is first of those that wait
+-- what is returned is first of those that wait
 pub first_is_first : (n : ℕ) (calls : List Call) → Answers n calls (first_from n calls)
 first_is_first n [] = λ j call e. absurd cc
 first_is_first n (c ∷ cs) = one_more n c.due c.state cs (first_from (n + 1) cs) (first_is_first (n + 1) cs)

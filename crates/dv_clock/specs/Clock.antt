@@ -100,7 +100,7 @@ ended number state c = record c { calls = option_map_or (λ call. with_end numbe
 abbrev pub with_call : ℕ → Due → Clock → Clock
 with_call due what c = record c { calls = c.calls ++ (record { due = due; state = Waiting what }) ∷ [] }
 
--- a call is scheduled, due at this time, and its number is answered
+-- a call is scheduled, due at this time, and its number is returned
 abbrev pub scheduled_at : Due → ℕ → State Clock → Told ℕ Clock
 scheduled_at what due s = telling (scheduling what due) (length s.0.calls) (with_call due what s.0) s
 
@@ -120,7 +120,7 @@ next_turn what start interval s = scheduled_at what (turn_after start interval s
 abbrev pub advance_to : ℕ → State Clock → Told Unit Clock
 advance_to time s = telling (entry.Advance time) tt (record s.0 { time = time }) s
 
--- the call that runs next has been called from now on, and what it is, is answered
+-- the call that runs next has been called from now on, and what it is, is returned
 abbrev pub due_found : Option Upcoming → State Clock → Told (Option Due) Clock
 due_found None s = untold None s
 due_found (Some call) s = telling (coming_due call.what) (Some call.what) (ended call.number Called s.0) s
@@ -162,7 +162,7 @@ cancel_found number (Some call) s = cancel_in number call.state s
 abbrev pub cancel : ℕ → State Clock → Cancelling
 cancel number s = cancel_found number (slice_get s.0.calls number) s
 
--- a cancelling did what the rule says, or memory was refused where the rule has no other reason to refuse it, and nothing changed
+-- a cancelling did what the rule says, or ran out of memory where the rule has no other reason to refuse it, and nothing changed
 abbrev pub CancelsUnlessMemory : Result Unit (Fault Over) → State Clock → State Clock → Cancelling → Type 0
 CancelsUnlessMemory (Ok done) before after rule = (Ok done, after) ≡ rule
 CancelsUnlessMemory (Err (fault.Refused reason)) before after rule = (Err (fault.Refused reason), after) ≡ rule

@@ -1,11 +1,11 @@
--- What waits for its time, and what the journal tells of it.
+-- What waits for its time, and what the journal logs of it.
 use Rattle.std.specs.Prelude.{ℕ}
 use Rattle.dv_journal.specs.declared.entry.Entry.{Entry}
 use Rattle.dv_journal.specs.declared.entry.Entry.TheVariants as entry
 use Rattle.dv_clock.specs.declared.due.Due.{Due}
 use Rattle.dv_clock.specs.declared.due.Due.TheVariants.{Call, Turn, Tick, Delivery, Timeout}
 
--- what is told when it is scheduled, with the time that it is due at
+-- what is logged when it is scheduled, with the time that it is due at
 abbrev pub scheduling : Due → ℕ → Entry
 scheduling (Call name key) time = entry.LaterCall name time
 scheduling (Turn name key) time = entry.LaterLoop name time
@@ -13,7 +13,7 @@ scheduling Tick time = entry.LaterTick time
 scheduling (Delivery job key) time = entry.LaterJob job time
 scheduling (Timeout d) time = entry.LaterTimeout d time
 
--- what is told when its time has come
+-- what is logged when its time has come
 abbrev pub coming_due : Due → Entry
 coming_due (Call name key) = entry.Call name
 coming_due (Turn name key) = entry.Turn name

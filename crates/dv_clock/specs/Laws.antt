@@ -24,7 +24,7 @@ TheFirstRunsNext = (c : Clock) (next : Upcoming) → next_call c ≡ Some next �
 abbrev pub WhatIsDueRuns : Type 0
 WhatIsDueRuns = (c : Clock) → next_call c ≡ None → (n due : ℕ) (what : Due) → slice_get c.calls n ≡ Some (record { due = due; state = Waiting what }) → c.time < due
 
--- what comes of a clock, whatever is done with it
+-- what a clock results in, whatever is done with it
 pub data Becomes (c : Clock) : Clock → Type 0 where
   Same : Becomes c c
   Schedules : (d : Clock) (j : Written) (what : Due) (due : ℕ) → Becomes c d → Becomes c (scheduled_at what due (d, j)).1.0

@@ -9,7 +9,7 @@ pub enum CallState {
     Called,
     /// It was cancelled before that (Twisted: `cancelled`).
     Cancelled,
-    /// It was dropped before that, which isn't told.
+    /// It was dropped before that, which isn't logged.
     Dropped,
 }
 

@@ -158,7 +158,7 @@ impl Clock {
         Ok(())
     }
 
-    /// Drops a call, so that it never runs, and answers whether it still waited. That isn't told.
+    /// Drops a call, so that it never runs, and answers whether it still waited. That isn't logged.
     pub fn drop_call(&mut self, id: CallId) -> bool
         ensures waited { result ≡ waits id self.old.calls }
         ensures rest { self.new ≡ ended id CallState.Dropped self.old }
@@ -179,7 +179,7 @@ impl Clock {
     }
 
     /// Takes what is to run next, of what is due by now: what is due first, and of what is due at one time what was
-    /// scheduled first. None where nothing is due, which isn't told.
+    /// scheduled first. None where nothing is due, which isn't logged.
     pub fn due(&mut self, journal: &mut Journal) -> Result<Option<Due>, Stop>
         ensures { UnlessMemory result (self.old, journal.old) (self.new, journal.new) (due (self.old, journal.old)) }
     {
@@ -194,7 +194,7 @@ impl Clock {
         Ok(self.end(number, CallState::Called))
     }
 
-    /// Lets it go, and tells all calls that were scheduled, in order of number.
+    /// Drops it, and returns all calls that were scheduled, in order of number.
     pub fn into_calls(self) -> Vec<Call>
         ensures { result.items ≡ self.calls }
     {
@@ -302,7 +302,7 @@ fn add(calls: &mut Vec<Call>, due: u64, what: Due)
     calls.push(Call { due, state }).unwrap();
 }
 
-/// The place of what is scheduled joins the index, and that is told. Where memory is refused, it doesn't.
+/// The place of what is scheduled joins the index, and that is logged. On allocation failure, it doesn't.
 fn schedule(
     alloc: Global,
     journal: &mut Journal,
@@ -321,7 +321,7 @@ fn schedule(
     join(journal, entry, waiting, place)
 }
 
-/// A place joins the index, and that is told. Where memory is refused, it doesn't.
+/// A place joins the index, and that is logged. On allocation failure, it doesn't.
 fn join(
     journal: &mut Journal,
     entry: Entry,

@@ -19,12 +19,12 @@ pub enum Due {
     Tick,
     /// The delivery of a job's result (Twisted: `deferToThread`).
     Delivery(u32, u32),
-    /// The end of the time that a Deferred is given (Twisted: `Deferred.addTimeout`).
+    /// The timeout of a Deferred (Twisted: `Deferred.addTimeout`).
     Timeout(DeferredId),
 }
 
 impl Due {
-    /// What the journal tells when it is scheduled, due at that time.
+    /// What the journal logs when it is scheduled, due at that time.
     pub fn scheduling(&self, alloc: Global, time: u64) -> Result<Entry, AllocError>
         ensures { IfOk result (λ entry. entry ≡ scheduling self.now time) }
     {
@@ -37,7 +37,7 @@ impl Due {
         }
     }
 
-    /// What the journal tells when its time has come.
+    /// What the journal logs when its time has come.
     pub fn coming_due(&self, alloc: Global) -> Result<Entry, AllocError>
         ensures { IfOk result (λ entry. entry ≡ coming_due self.now) }
     {

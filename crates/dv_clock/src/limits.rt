@@ -1,4 +1,4 @@
-/// The latest time that a clock comes to, in ticks.
+/// The latest time that a clock reaches, in ticks.
 pub const MOST_TICKS: u64 = 1_000_000_000_000_000;
 
 /// The longest that a call waits for, in ticks.

@@ -53,7 +53,7 @@ impl Turns {
         self.order.len()
     }
 
-    /// A task joins, last; one that takes turns already stays where it is. Where it is refused memory, or as the 2^64th
+    /// A task joins, last; one that takes turns already stays where it is. On allocation failure, or as the 2^64th
     /// that joins, it doesn't join.
     pub fn add(&mut self, task: TaskId) -> Result<(), AllocError>
         ensures ok { OnOk result (self.new ≡ joined task self.old) }
@@ -71,7 +71,7 @@ impl Turns {
         Ok(())
     }
 
-    /// A task leaves, and whether it took turns is answered.
+    /// Removes a task, and returns whether it took turns.
     pub fn remove(&mut self, task: TaskId) -> bool
         ensures was { result ≡ is_among task self.old.tasks }
         ensures rest { self.new ≡ left task self.old }
@@ -124,7 +124,7 @@ ghost use Rattle.std.specs.BTreeMap.{get, insert_entry, IsOrdered};
 ghost use Rattle.std.specs.Ordering.{nat_cmp};
 ghost use Rattle.dv_clock.specs.Turns.{FindsToo, FindsSame};
 
-/// A task that hasn't joined joins under a number. Where memory is refused, it doesn't.
+/// A task that hasn't joined joins under a number. On allocation failure, it doesn't.
 fn join(
     order: &mut BTreeMap<u64, u32>,
     numbers: &mut BTreeMap<u32, u64>,

@@ -147,7 +147,7 @@ acquire name l =
     Make (Some name) (Some (canceller.Token l)) next
     ask_lock l d
 
--- raises AssertionError if no token is given. Else gives one back, and the first that waits gets it
+-- raises AssertionError if no token is held. Else releases one, and the first that waits gets it
 abbrev pub release : ℕ → Rule
 release l =
     the_lock l λ s.
@@ -184,8 +184,8 @@ name_for (Named name) = Some name
 name_for (Holding l) = None
 name_for (Turning l) = None
 
--- what it is used for. By a name: nothing more. With a token: that is given back once d has a result, and d is given. In a turn: the loop
--- goes on or ends once d has a result
+-- what it is used for. By a name: nothing more. With a token: that is released once d has a result, and d is returned. In a turn: the
+-- loop goes on or ends once d has a result
 abbrev pub used_for : Purpose → ℕ → List Frame
 used_for (Named name) d = []
 used_for (Holding l) d = adds d (releasing l) and gives (Awaits d)
@@ -211,11 +211,11 @@ deferred_of purpose (Gave v) = made_with purpose v
 deferred_of purpose (Raised failure) = made_with purpose (Fault failure)
 deferred_of purpose (Awaits e) = taken_for purpose e
 
--- performs a body, in which `@` isn't bound; what it gives becomes a Deferred for this
+-- performs a body, in which `@` isn't bound; what it returns becomes a Deferred for this
 abbrev pub as_deferred : Purpose → Body → Rule
 as_deferred purpose body = calls (performs None body Null and makes_deferred purpose)
 
--- performs a body; what it gives becomes a Deferred of this name
+-- performs a body; what it returns becomes a Deferred of this name
 abbrev pub maybe : List ℕ → Body → Rule
 maybe name body = as_deferred (Named name) body
 
@@ -225,7 +225,7 @@ maybe name body = as_deferred (Named name) body
 abbrev pub run_with : List ℕ → ℕ → Body → Rule
 run_with name l body = next_deferred λ d. acquire name l after_which adds d (holding l body)
 
--- performs a body with a token. What it gives becomes a Deferred, and once that has a result, the token is given back
+-- performs a body with a token. What it returns becomes a Deferred, and once that has a result, the token is released
 abbrev pub hold : ℕ → Body → Rule
 hold l body = as_deferred (Holding l) body
 
@@ -263,8 +263,8 @@ abbrev pub all_came : List Value → Option Value
 all_came places = if nat_eq (count_missing places) 0 then Some (value.List places) else None
 
 -- what a list is fired with when child i is fired with v, if it is. A list that is fired fires nothing more. Under `fireOnOneCallback` a
--- success fires it, with its place; under `fireOnOneErrback` a failure does, in a FirstError; else the last child does. Of a child is kept
--- whether it succeeded, and its value. The step `CameTo` answers this
+-- success fires it, with its place; under `fireOnOneErrback` a failure does, in a FirstError; else the last child does. What is kept
+-- of a child is whether it succeeded, and its value. The step `CameTo` answers this
 abbrev pub list_fires_with : ℕ → Value → Gather → Option Value
 list_fires_with i v g =
     if g.fired then None else
@@ -567,7 +567,7 @@ abbrev pub put_in_place : ℕ → Performed → Rule
 put_in_place d p = placing d p next calls (settles d)
 
 -- by the first unused item of d. None that may be used: nothing is done. A pair that the value passes by: d is settled again. A side that
--- runs: what it gives for the value of d is put in place. A hand-over, by which c got the value of d: c is settled, and then d
+-- runs: what it returns for the value of d is put in place. A hand-over, by which c got the value of d: c is settled, and then d
 abbrev pub settle_by : ℕ → Move Pair → Rule
 settle_by d Nothing = finished
 settle_by d Passed = calls (settles d)
@@ -623,8 +623,8 @@ carry_out itself (Action-F.ThreadIn name pool delay work) = thread name (Some po
 abbrev pub act : Option ℕ → Action → Rule
 act itself action = carry_out itself (out-Action action)
 
--- 19. What is left of a body: its actions in order, and then what its end gives for the input. An action that raises ends it, since what
--- is left is only gone through `unless_raised` (21).
+-- 19. What is left of a body: its actions in order, and then what its end returns for the input. An action that raises ends it, since
+-- what is left is only gone through `unless_raised` (21).
 abbrev pub perform_rest : Option ℕ → List Action → End → Value → Rule
 perform_rest itself [] end input = give_end itself end input
 perform_rest itself (action ∷ rest) end input = act itself action after_which goes_through itself rest end input

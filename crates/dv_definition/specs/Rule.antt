@@ -32,7 +32,7 @@ found (Some a) nothing next = next a
 
 -- What a rule calls for is a frame: "d is settled", "the rest of a body is performed". Rules name frames by the words of `Words`.
 pub data Rule : Type 1 where
-  -- nothing more is done, and this is given
+  -- nothing more is done, and this is returned
   Ends : Performed → Rule
   -- by what the world is now
   By : (World → Rule) → Rule

@@ -62,7 +62,7 @@ unfoldable pub within : ℕ → Meant
 within zero frame p w = None
 within (suc depth) frame p w = say (within depth) (rule_of frame p) w
 
--- at some depth, something gives this
+-- at some depth, something returns this
 pub record ComesTo {A : Type 0} (something : Meant → Option A) (a : A) : Type 0 where
   pub depth : ℕ
   pub ends : something (within depth) ≡ Some a

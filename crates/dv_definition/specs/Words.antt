@@ -34,11 +34,11 @@ use Rattle.dv_world.specs.declared.found.Found.TheVariants.{All, Unbound}
 
 -- 1. What a rule gives.
 
--- it is done, and gives nothing
+-- it is done, and returns nothing
 abbrev pub finished : Rule
 finished = Ends Done
 
--- it gives a value
+-- it returns a value
 abbrev pub give : Value → Rule
 give v = Ends (Gave v)
 
@@ -46,7 +46,7 @@ give v = Ends (Gave v)
 abbrev pub raise : Failure → Rule
 raise failure = Ends (Raised failure)
 
--- it gives what the end of a body gives for its input
+-- it returns what the end of a body returns for its input
 abbrev pub give_end : Option ℕ → End → Value → Rule
 give_end itself end input = By λ w. Ends (ended itself end input w)
 
@@ -89,7 +89,7 @@ makes_deferred purpose = frame.Maybe purpose ∷ []
 abbrev pub adds : ℕ → Pair → List Frame
 adds d pair = frame.Add d pair ∷ []
 
--- this is given, unless a failure was raised
+-- this is returned, unless a failure was raised
 abbrev pub gives : Performed → List Frame
 gives given = frame.Give given ∷ []
 

@@ -22,7 +22,7 @@ use std::alloc::{AllocError, AllocGlobal};
 use std::random::RandomSource;
 use std::sync::Wait;
 
-/// Performs a batch, each post of which is the next one of its caller, and takes it: that of a drain, which is told before, or
+/// Performs a batch, each post of which is the next one of its caller, and takes it: that of a drain, logged before, or
 /// the one after the last event. The only error is out of memory.
 pub fn drain<'s, R, J>(
     rt: &R,

@@ -1,4 +1,4 @@
-//! What is told of an entry, but for its place: it is read off the parts of its line.
+//! What is reported about an entry, but for its place: it is read off the parts of its line.
 
 use dv_journal::deferred_id::DeferredId;
 use dv_journal::entry::Entry;
@@ -40,7 +40,7 @@ pub enum News<'e> {
     Time(u64),
 }
 
-/// What is told of an entry, but for its place.
+/// What is reported about an entry, but for its place.
 #[derive(Clone, Copy)]
 pub struct Facts<'e> {
     /// The first word of its line, or the first two.
@@ -58,7 +58,7 @@ pub struct Facts<'e> {
 }
 
 impl<'e> Facts<'e> {
-    /// What the form of a line tells.
+    /// Returns what the form of a line says.
     fn new(form: LineForm) -> Facts<'e> {
         Facts {
             word: form.word,
@@ -84,7 +84,7 @@ impl<'e> Facts<'e> {
         }
     }
 
-    /// What a part of the line tells is added.
+    /// Adds what a part of the line says.
     fn add(&mut self, part: &Part<'e>) {
         match part {
             Part::Deferred(id) => self.add_deferred(*id),
@@ -115,7 +115,7 @@ pub fn text_of(name: &Option<Text>) -> Option<&str> {
     }
 }
 
-/// What is told of an entry.
+/// What is reported about an entry.
 pub fn facts_of(entry: &Entry) -> Facts<'_> {
     let Line(form, parts) = entry.line();
     let mut facts = Facts::new(form);

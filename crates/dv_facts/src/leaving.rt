@@ -19,7 +19,7 @@ use dv_value::value_text::{write_failure_json, write_json};
 use dv_value::writing::write_text;
 use std::alloc::{AllocError, Global};
 
-/// What is known of a run when what is left is told.
+/// What is known of a run when what is left is reported.
 #[derive(Clone, Copy)]
 pub struct Known<'k, 'e> {
     pub alloc: Global,
@@ -324,7 +324,7 @@ impl<'k, 'e> Known<'k, 'e> {
         write_text(out, "}")
     }
 
-    /// Adds the failure that an entry tells as unhandled.
+    /// Adds the failure that an entry logs as unhandled.
     #[tactic(auto, using(crate::proofs::Added::parts))]
     fn write_failure_at(&self, out: &mut String, place: usize) -> Result<(), AllocError>
         ensures { OnOk result (Adds (string_bytes out.old) (string_bytes out.new)) }

@@ -1,5 +1,5 @@
 //! Members of a JSON object, and items of an array, which are added at the end of a text: what stands before the value, with its key,
-//! and then the value. Where memory is refused, it is left open what the text holds.
+//! and then the value. Where an allocation fails, it is left open what the text holds.
 
 ghost use Rattle.std.specs.Prelude.{◌≡◌, ℕ, List, ◌++◌, OnOk, codes, string_bytes};
 ghost use Rattle.std.specs.Fmt.{decimal};

@@ -17,7 +17,7 @@ use dv_objects::reached::Reached;
 use dv_objects::refusals::cancelled;
 use std::alloc::AllocError;
 
-/// Cancels a Deferred: tells of it, and begins with whom it reaches (Twisted: `Deferred.cancel`).
+/// Cancels a Deferred: logs it, and begins with whom it reaches (Twisted: `Deferred.cancel`).
 pub fn cancel<'s>(turn: &mut Turn<'s>, id: DeferredId) -> Result<(), AllocError>
     requires done { turn.old.performed ≡ Done }
     ensures { OnOk result (turn.new ≡ after (page.cancel id) turn.old) }
@@ -54,7 +54,7 @@ fn fire_cancelled<'s>(turn: &mut Turn<'s>, id: DeferredId) -> Result<(), AllocEr
     fire_and_settle(turn, id, cancelled(turn.alloc)?)
 }
 
-/// The children of a DeferredList are to be cancelled in order; a failure that leaves the cancel of one is told, and the
+/// The children of a DeferredList are to be cancelled in order. A failure that leaves a cancel is logged, and the
 /// next one follows.
 fn cancel_children<'s>(stack: &mut Frames<'s>, children: &[DeferredId]) -> Result<(), AllocError>
     ensures { OnOk result (stack.new ≡ page.cancel_children children.now ++ stack.old) }
@@ -77,7 +77,7 @@ fn cancel_awaited(turn: &mut Turn<'_>, inline: InlineId) -> Result<(), AllocErro
     Ok(())
 }
 
-/// Goes on after a canceller of a Deferred, by what it came to: its failure is raised, and else the Deferred is fired
+/// Goes on after a canceller of a Deferred, by its result: its failure is raised, and else the Deferred is fired
 /// where it still may be.
 pub fn end_canceller<'s>(
     turn: &mut Turn<'s>,

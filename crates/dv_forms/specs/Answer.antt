@@ -3,7 +3,7 @@ use Rattle.std.specs.Prelude.{◌≡◌, List, ◌++◌, option_map, Option, Som
 use Rattle.dv_forms.specs.declared.stop.Stop.{Stop}
 use Rattle.dv_forms.specs.declared.stop.Stop.TheVariants.{BadShape, OutOfMemory}
 
--- why a reader stops: there is nothing to read, or memory was refused
+-- why a reader stops: there is nothing to read, or an allocation failed
 abbrev pub Stops : {X : Type 0} → Stop → Option X → Type 0
 Stops BadShape read = read ≡ None
 Stops OutOfMemory read = ⊤

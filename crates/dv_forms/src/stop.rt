@@ -5,7 +5,7 @@ use std::alloc::AllocError;
 pub enum Stop {
     /// There is nothing of this shape.
     BadShape,
-    /// Memory was refused.
+    /// An allocation failed.
     OutOfMemory,
 }
 

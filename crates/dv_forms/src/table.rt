@@ -61,7 +61,7 @@ pub fn table(alloc: Global, declared: &[Declaration]) -> Result<(Classes, bool),
     Ok((classes, all))
 }
 
-/// Adds the class where it may be declared, and tells whether it may.
+/// Adds the class where it may be declared, and returns whether it may.
 fn declare(classes: &mut Classes, declaration: &Declaration) -> Result<bool, Stop>
     requires room { length classes.old + 1 < 2 ^ 32 }
     ensures told { Reads result (Some (can_declare classes.old declaration.now)) }

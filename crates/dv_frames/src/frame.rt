@@ -24,7 +24,7 @@ pub struct Rest<'s> {
 pub enum Purpose<'s> {
     /// It gets this name (`maybe`).
     Named(TextRef<'s>),
-    /// The body has a token of this lock, which is given back once the Deferred is fired (`runWith`).
+    /// The body has a token of this lock, which is released once the Deferred is fired (`runWith`).
     Holding(LockId),
     /// The body is a turn of this loop, which goes on or ends once the Deferred is fired (`loop`).
     Turning(LoopId),
@@ -35,19 +35,19 @@ pub enum Purpose<'s> {
 pub enum Inlining<'s> {
     /// It goes on until it wants something, or is over.
     Goes(Inline, InlineBody<'s>),
-    /// The action that it wanted has been performed, and what was come to is the answer.
+    /// The action that it wanted has been performed, and its result is the answer.
     Acted(Inline, InlineBody<'s>),
     /// The pair by which it awaits this Deferred has been added, and the Deferred settled. Where what it awaits has come, it
     /// goes on; else it is parked.
     Awaited(Inline, DeferredId, InlineBody<'s>),
 }
 
-/// What is still to be done, in the world that it then finds. It gets what was come to above it.
+/// What is still to be done, in the world that it then finds. It gets the result of what was above it.
 #[derive(Drop)]
 pub enum Frame<'s> {
     /// The Deferred is settled.
     Settle(DeferredId),
-    /// What a side of the Deferred came to is put in place, and the Deferred is settled.
+    /// The result of a side of the Deferred is put in place, and the Deferred is settled.
     Place(DeferredId),
     /// A body goes on, unless its last action raised.
     Rest(Rest<'s>),
@@ -59,15 +59,15 @@ pub enum Frame<'s> {
     Add(DeferredId, Pair<'s>),
     /// The Deferred is cancelled.
     Cancel(DeferredId),
-    /// This is given, unless what was done before raised.
+    /// This is returned, unless what was done before raised.
     Give(Performed<'s>),
-    /// The Deferred is fired with what the task has come to.
+    /// The Deferred is fired with the result of the task.
     Notify(DeferredId, TaskId),
     /// A body of the task has ended, unless the task has ended meanwhile.
     Stepped(TaskId),
     /// A tick of the Cooperator goes on, in which so many steps are left.
     Tick(u32),
-    /// A failure that reaches it is told as `unhandled`, and goes no further.
+    /// A failure that reaches it is logged as `unhandled`, and goes no further.
     Tell,
     /// What is due by now is run, one after the other.
     Due,

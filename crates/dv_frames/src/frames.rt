@@ -116,7 +116,7 @@ impl<'s> Frames<'s> {
         self.larges.clear();
     }
 
-    /// Adds a frame on top. Where memory is refused, the frame is dropped.
+    /// Adds a frame on top. Where the allocation fails, the frame is dropped.
     #[inline(always)]
     #[tactic(auto, unfolding(crate::specs::Frames::frames_of, crate::specs::Frames::AreThere))]
     pub fn push(&mut self, frame: Frame<'s>) -> Result<(), AllocError>

@@ -1,4 +1,4 @@
-//! What is raised is told where nothing catches it.
+//! What is raised is logged where nothing catches it.
 
 ghost use Rattle.std.specs.Prelude.{◌≡◌, OnOk};
 ghost use Rattle.dv_objects.specs.Performed.{failed_with};
@@ -11,7 +11,7 @@ use dv_journal::entry::Entry;
 use dv_objects::performed::Performed;
 use std::alloc::AllocError;
 
-/// Tells of the failure that was come to, where one was (Twisted: what `log.err` logs).
+/// Logs the failure that was the result, where one was (Twisted: what `log.err` logs).
 pub fn tell_failure<'s>(turn: &mut Turn<'s>, came: Performed<'s>) -> Result<(), AllocError>
     requires done { turn.old.performed ≡ Done }
     ensures { OnOk result (turn.new ≡ done (told_of (failed_with came.entry) turn.old.world) onto turn.old) }

@@ -8,7 +8,7 @@ use dv_objects::performed::Performed;
 use dv_world::world::World;
 use std::alloc::Global;
 
-/// What a rule works on: it reads and changes the world, leaves what is to follow on the stack, and gives something.
+/// What a rule works on: it reads and changes the world, leaves what is to follow on the stack, and returns something.
 #[derive(Drop)]
 pub struct Turn<'s> {
     /// Where memory is taken from.

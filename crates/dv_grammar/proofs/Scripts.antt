@@ -172,7 +172,7 @@ complete_events table events None within h = absurd h
 complete_events table events (Some d) within h =
     complete_list_deep (IsEvent table) (event_at table) (complete_event table) d events (within d refl) h
 
--- a draft of which the table and what is said of it are written out
+-- a draft whose table, and whether all its classes are declared, are written out
 same_draft : (draft : Draft) (table : List Class) (all : Bool) → draft.script.classes ≡ table → draft.all_declared ≡ all
     → record { version = draft.version; declared = draft.declared; all_declared = all; script = record { classes = table; limit = draft.script.limit; cooperator = draft.script.cooperator; pools = draft.script.pools; callers = draft.script.callers; events = draft.script.events } } ≡ draft
 same_draft draft table all e f = rw (← e, ← f) refl

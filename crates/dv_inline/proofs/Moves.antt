@@ -1,4 +1,4 @@
--- The moves of a body that need no answer: each leaves less of it, so that they come to an end.
+-- The moves of a body that need no answer: each leaves less of it, so that they end.
 use Rattle.std.proofs.Common.{◌≡◌, ℕ, zero, suc, ◌<◌, ◌≤◌, true, false, List, [], ◌∷◌, Option, None, Some, refl, arith, ap, ◌∙◌, sym, subst}
 use Rattle.dv_inline.specs.Position.{Position, Moves, moved, moved_by, moved_in, moved_unless, outward, statement_step, statement_size, statements_size, tries_size, result_size, position_size, goes_on, come_within, come}
 use Rattle.dv_inline.specs.declared.open.Open.{Open}

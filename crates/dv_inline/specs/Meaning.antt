@@ -1,4 +1,4 @@
--- What an inline body comes to by the answers that it gets, in order: a recursion over its statements (Twisted: `inlineCallbacks`).
+-- The result of an inline body by the answers that it gets, in order: a recursion over its statements (Twisted: `inlineCallbacks`).
 use Rattle.std.specs.Prelude.{ℕ, List, [], ◌∷◌, map, Option, None, Some}
 use Rattle.dv_inline.specs.declared.want.Want.{Want}
 use Rattle.dv_inline.specs.declared.want.Want.TheVariants.{Do, Await}
@@ -16,14 +16,14 @@ use Rattle.dv_value.specs.declared.classes.Class.{Class}
 use Rattle.dv_value.specs.declared.failure.Failure.{Failure}
 use Rattle.dv_value.specs.declared.value.Value.{Value, Null, Fault, out-Value}
 
--- where an inline body has come to
+-- where an inline body stands
 pub data Reached : Type 0 where
   -- it wants this
   Wants : Want → Reached
   -- it is over, with what fires its Deferred
   Over : Value → Reached
 
--- where statements have come to
+-- where statements stand
 pub data Flow : Type 0 where
   -- past the last one, with this present value and these answers left
   past : Value → List Value → Flow
@@ -34,7 +34,7 @@ pub data Flow : Type 0 where
   -- there is no answer to this
   wants : Want → Flow
 
--- what statements come to by the present value and the answers
+-- what statements result in by the present value and the answers
 abbrev pub Meant : Type 0
 Meant = Value → List Value → Flow
 
@@ -76,7 +76,7 @@ caught table listed second (thrown failure answers) = caught_by (check table (cl
 caught table listed second (left v) = left v
 caught table listed second (wants want) = wants want
 
--- what an end gives for the present value
+-- what an end returns for the present value
 abbrev pub ended : End → Value → Value
 ended (end.Return value) v = value
 ended end.Pass v = v
@@ -92,11 +92,11 @@ statement_meant table (Statement-F.Await name) = await_meant name
 statement_meant table (Statement-F.Try first listed second) = λ v answers. caught table listed (in_order (map (λ s. s.1) second)) (in_order (map (λ s. s.1) first) v answers)
 statement_meant table (Statement-F.End e) = λ v answers. left (ended e v)
 
--- what a statement comes to
+-- what a statement results in
 abbrev pub meant : List Class → Statement → Meant
 meant table = para-Statement (Unit {0}) Meant (Unit {0}) (λ action. tt) (statement_meant table) (λ body. tt)
 
--- what statements come to
+-- what statements result in
 abbrev pub all_meant : List Class → List Statement → Meant
 all_meant table statements = in_order (map (meant table) statements)
 

@@ -167,7 +167,7 @@ answered_to table (Some (Await name)) answer p = went_on table (failure_in answe
 abbrev pub answered : List Class → Value → Position → Position
 answered table answer p = answered_to table (want_at p) answer p
 
--- what a body gives by itself: the result that it comes to with no further answer
+-- what a body returns by itself: the result that it reaches with no further answer
 abbrev pub Gives : Position → Result Value AllocError → Type 0
 Gives p (Ok v) = (come p).result ≡ Some v
 Gives p (Err e) = Unit {0}

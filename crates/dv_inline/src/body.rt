@@ -34,7 +34,7 @@ impl<'s> Model for InlineBody<'s> {
 }
 
 impl<'s> InlineBody<'s> {
-    /// A body at its first statement, with the present value null. AllocError where memory is refused.
+    /// A body at its first statement, with the present value null. AllocError where out of memory.
     pub fn start(alloc: Global, statements: &'s [Statement]) -> Result<InlineBody<'s>, AllocError>
         ensures stands { IfOk result (λ body. body ≡ started statements.now) }
         ensures means { IfOk result (λ body. (table : _) → (answers : _) → reached table body answers ≡ inline table statements.now answers) }
@@ -65,7 +65,7 @@ impl<'s> InlineBody<'s> {
 }
 
 impl<'s> Future for InlineBody<'s> {
-    /// What the body comes to: the value or the failure that fires its Deferred.
+    /// The result of the body: the value or the failure that fires its Deferred.
     type Output = Result<Value, AllocError>;
 
     ghost use Rattle.dv_inline.specs.Leads.{ComesTo, Stands};

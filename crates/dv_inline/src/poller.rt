@@ -18,7 +18,7 @@ pub struct Poller {
 }
 
 impl Poller {
-    /// A poller. What it needs is made once; an error is what the system's source of random numbers gives, or want of
+    /// Makes a poller. What it needs is made once; an error is one of the system's source of random numbers, or out of
     /// memory.
     pub fn new<R: RandomSource + AllocGlobal>(rt: &R) -> io::Result<Poller> {
         Ok(Poller {

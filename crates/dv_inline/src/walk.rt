@@ -26,7 +26,7 @@ pub struct Walk<'s> {
     statements: Statements<'s>,
     tries: Stack<Open<'s>>,
     value: Value,
-    /// What the body has come to, once it is over.
+    /// The result of the body, once it is over.
     result: Option<Value>,
 }
 
@@ -144,7 +144,7 @@ impl<'s> Walk<'s> {
         drop(mem::replace(&mut self.result, Some(outcome)));
     }
 
-    /// Makes the next move that needs no answer, and tells whether there was one.
+    /// Makes the next move that needs no answer, and returns whether there was one.
     fn step(&mut self) -> Result<bool, AllocError>
         ensures { IfOk result (λ moves. Moves moves self.old self.new) }
     {
@@ -170,7 +170,7 @@ impl<'s> Walk<'s> {
         }
     }
 
-    /// Goes into a `try`, or leaves the body, and tells whether it did.
+    /// Goes into a `try`, or leaves the body, and returns whether it did.
     fn begin(&mut self, statement: &'s Statement, rest: Statements<'s>) -> Result<bool, AllocError>
         ensures { IfOk result (λ moves. MovesTo moves (moved_by (out-Statement statement.now) rest.entry self.old) self.old self.new) }
     {
@@ -211,7 +211,7 @@ impl<'s> Walk<'s> {
         Ok(())
     }
 
-    /// What the body has come to, where it is over; it is taken out of the body then.
+    /// Returns the result of the body, where it is over; it is taken out of the body then.
     pub fn take_result(&mut self) -> Option<Value>
         ensures value { result ≡ self.old.result }
         ensures going { IfNone result (self.new ≡ self.old) }
@@ -239,7 +239,7 @@ fn caught_by<'s>(
     Some((second, rest))
 }
 
-/// What an end gives for the present value. A body has no `Trap` and no `Wait`: they give it as it is.
+/// What an end returns for the present value. A body has no `Trap` and no `Wait`: they return it as it is.
 fn ended(alloc: Global, end: &End, value: Value) -> Result<Value, AllocError>
     ensures { IfOk result (λ v. v ≡ ended end.now value) }
 {

@@ -5,6 +5,6 @@ use dv_script::lent::{ActionRef, TextRef};
 pub enum Want<'s> {
     /// That the action is performed.
     Do(ActionRef<'s>),
-    /// What the Deferred of this name comes to.
+    /// The result of the Deferred of this name.
     Await(TextRef<'s>),
 }

@@ -17,7 +17,7 @@ jobs_from n (w ∷ ws) = numbered n w ∷ jobs_from (n + 1) ws
 abbrev pub works_of : List Job → List Work
 works_of jobs = map (λ job. job.work) jobs
 
--- what answers a job: the job done, or the job itself where memory was wanting
+-- what answers a job: the job done, or the job itself when out of memory
 abbrev pub Answer : Type 0
 Answer = Result Done Job
 

@@ -7,7 +7,7 @@ pub enum JobFault {
     /// 4,096 works were submitted before.
     #[error("too many jobs")]
     Full,
-    /// Memory was refused, or the source is a pool whose executor has failed.
+    /// Out of memory, or the source is a pool whose executor has failed.
     #[error("out of memory")]
     OutOfMemory,
 }

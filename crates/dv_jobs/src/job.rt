@@ -22,7 +22,7 @@ pub struct Done {
     ghost right: { outcome ≡ value_of job.work },
 }
 
-/// What a gate gives back: the job done, or the job itself for want of memory.
+/// What a gate returns: the job done, or the job itself when out of memory.
 pub type Answer = Result<Done, Job>;
 
 impl Job {
@@ -33,7 +33,7 @@ impl Job {
         Job { number, work }
     }
 
-    /// The job with the value of its work. The job itself comes back for want of memory alone.
+    /// The job with the value of its work. The job itself comes back only when out of memory.
     pub fn done(self, alloc: Global) -> Result<Done, Job>
         ensures ok { IfOk result (λ done. done.job ≡ self) }
         ensures err { IfErr result (λ job. job ≡ self) }

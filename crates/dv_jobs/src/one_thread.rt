@@ -15,7 +15,7 @@ use std::sync::Wait;
 use std::thread::Threads;
 
 /// A source without threads: each job is answered at its submission, at the gate, by the owner, whichever its pool. A job that
-/// was given back for want of memory counts as answered, and then its `outcome`, and `close`, want memory too.
+/// came back undone, out of memory, counts as answered. Its `outcome`, and `close`, then return AllocError too.
 #[derive(Drop)]
 pub struct OneThread<'g, G> {
     pools: u32,

@@ -15,7 +15,7 @@ use std::thread::Threads;
 
 /// Takes works, answers each, and gives what was done (Twisted: thread pools behind `deferToThreadPool`).
 ///
-/// A source by which is waited with an executor may fail: where the executor does, it wants memory from then on.
+/// A source by which is waited with an executor may fail: where the executor does, it is out of memory from then on.
 pub trait JobSource: Drop {
     /// The jobs submitted, in order: each a work under its number.
     ghost jobs: { Self → List Job };
@@ -30,8 +30,8 @@ pub trait JobSource: Drop {
     fn may_submit(&self) -> Result<(), JobFault>
         ensures { result ≡ room_after (jobs self.now) };
 
-    /// Submits a work to a pool, and gives its number, where all numbers so far were given so. It never waits. OutOfMemory, and
-    /// nothing else, where memory is refused, or the source has failed.
+    /// Submits a work to a pool, and returns its number, where all numbers so far were given so. It never waits.
+    /// OutOfMemory, and nothing else, on allocation failure, or where the source has failed.
     fn submit(&mut self, alloc: Global, pool: u32, work: Work) -> Result<u32, JobFault>
         requires row { AreInRow (jobs self.old) }
         requires room { length (jobs self.old) < MOST_JOBS }
@@ -43,8 +43,8 @@ pub trait JobSource: Drop {
         ensures kept { OnErr result (jobs self.new ≡ jobs self.old) }
         ensures same { (pools self.new ≡ pools self.old) × (failed self.new ≡ failed self.old) };
 
-    /// The value of the work of this number. It may wait for the worker that has it. AllocError where memory is refused, or
-    /// was refused to the job, where the executor fails by which it is waited for, and where one has failed before.
+    /// The value of the work of this number. It may wait for the worker that has it. AllocError on allocation failure,
+    /// here or in the job, where the executor fails by which it is waited for, and where one has failed before.
     fn outcome<R: Wait + RandomSource + AllocGlobal>(
         &mut self,
         rt: &R,
@@ -57,8 +57,8 @@ pub trait JobSource: Drop {
         ensures stays { failed self.old ≡ true → failed self.new ≡ true }
         ensures same { (jobs self.new ≡ jobs self.old) × (pools self.new ≡ pools self.old) };
 
-    /// Waits until all is answered, and gives each job submitted once, in order. AllocError where memory is refused, or was
-    /// refused to a job, and where the source has failed.
+    /// Waits until all is answered, and returns each job submitted once, in order. AllocError on allocation failure,
+    /// here or in a job, and where the source has failed.
     fn close<R: Threads + Wait>(self, rt: &R, alloc: Global) -> Result<Ran, AllocError>
         ensures ok { IfOk result (λ ran. jobs_of ran.dones ≡ jobs self) }
         ensures working { OnOk result (failed self ≡ false) };

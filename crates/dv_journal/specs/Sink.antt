@@ -1,4 +1,4 @@
--- What a call does to the bytes that a sink has taken, where it tells them, and to its failures.
+-- What a call does to the bytes that a sink has taken, where it reports them, and to its failures.
 use Rattle.std.specs.Prelude.{◌≡◌, ◌⊎◌, ◌<◌, ◌≤◌, ◌+◌, ◌-◌, ◌^◌, ◌++◌, ◌==◌, ◌&&◌, if◌then◌else◌, nat_lt, ℕ, min, Bool, true, List, Option, Result, Ok, Err, length, refl}
 use Rattle.std.specs.Io.KnownBytes.{Appends}
 use Rattle.std.specs.Coded.{Coded, code_by, coded×, coded_ℕ}

@@ -1,4 +1,4 @@
--- A call that tells of its change: its entry is written first, and where that doesn't fit nothing changes.
+-- A call that logs its change: its entry is written first, and where that doesn't fit nothing changes.
 use Rattle.std.specs.Prelude.{◌≡◌, ◌≢◌, if◌then◌else◌, Result, Ok, Err}
 use Rattle.dv_journal.specs.declared.entry.Entry.{Entry}
 use Rattle.dv_journal.specs.declared.error.Stop.{Stop}
@@ -25,7 +25,7 @@ telling entry answer changed s = if fits s.1 entry then (Ok answer, (changed, wi
 abbrev pub making : {S : Type 0} → Entry → S → Written → Result S Stop × Written
 making entry object j = if fits j entry then (Ok object, with_entry j entry) else (Err Limit, j)
 
--- a call did what its rule says, or memory was refused where the rule's entry fits, and nothing changed
+-- a call did what its rule says, or ran out of memory where the rule's entry fits, and nothing changed
 abbrev pub UnlessMemory : {A W : Type 0} → Result A Stop → W → W → Result A Stop × W → Type 0
 UnlessMemory (Ok answer) before after rule = (Ok answer, after) ≡ rule
 UnlessMemory (Err Limit) before after rule = (Err Limit, after) ≡ rule

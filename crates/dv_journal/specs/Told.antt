@@ -1,4 +1,4 @@
--- What an entry tells: of Deferreds, of what waits for its time, of the time, and of failures.
+-- What an entry logs: about Deferreds, about what waits for its time, about the time, and about failures.
 use Rattle.std.specs.Prelude.{ℕ, Bool, true, false, List, Option}
 use Rattle.dv_value.specs.declared.value.Value.{Value}
 use Rattle.dv_journal.specs.declared.entry.Entry.{Entry}
@@ -38,7 +38,7 @@ pub data Told : Type 0 where
   Advances : (time : ℕ) → Told
   IsUnhandled : Told
 
--- what an entry tells
+-- what an entry logs
 abbrev pub told_of : Entry → Told
 told_of (entry.New id name) = Changes (Makes id name)
 told_of (entry.Name id name) = Other
@@ -89,7 +89,7 @@ told_of (entry.Advance time) = Advances time
 told_of entry.Drain = Other
 told_of (entry.Post caller index) = Other
 
--- what it tells of Deferreds
+-- what it logs about Deferreds
 abbrev pub change_in : Told → Change
 change_in Other = Aside
 change_in (Changes change) = change
@@ -102,7 +102,7 @@ change_in IsUnhandled = Aside
 abbrev pub change_of : Entry → Change
 change_of e = change_in (told_of e)
 
--- it tells that a failure is unhandled
+-- it logs that a failure is unhandled
 abbrev pub is_unhandled_in : Told → Bool
 is_unhandled_in Other = false
 is_unhandled_in (Changes change) = false

@@ -19,7 +19,7 @@ use dv_value::failure::Failure;
 use dv_value::text::Text;
 use dv_value::value::Value;
 
-/// What is told in one line of the journal. An entry is written before the change that it tells of.
+/// What one line of the journal logs. An entry is written before the change that it logs.
 ///
 /// In the lines below `N` and `E` are numbers of Deferreds, `O` is what an outcome shows of a value (`ok` and its JSON,
 /// or `fail` and its failure), `F` is a failure, `J` is the JSON of a value, and `TIME` is in ticks of the virtual clock.
@@ -52,7 +52,7 @@ pub enum Entry {
     Pause(DeferredId),
     /// `unpause #N`: the count of pauses goes down by one.
     Unpause(DeferredId),
-    /// `cancel #N`: a Deferred is cancelled, whatever comes of it.
+    /// `cancel #N`: a Deferred is cancelled, whatever that results in.
     Cancel(DeferredId),
     /// `note J`: the script notes a text.
     Note(Text),
@@ -64,7 +64,7 @@ pub enum Entry {
     Semaphore(Text, u32),
     /// `acquire L #N`: a Deferred asks for a token of a lock or a semaphore.
     Acquire(Text, DeferredId),
-    /// `release L`: a token of a lock or a semaphore is given back.
+    /// `release L`: a token of a lock or a semaphore is released.
     Release(Text),
     /// `queue Q SIZE BACKLOG`: a queue is made, with its bounds on what is stored and on who waits, `none` for no bound.
     Queue(Boxed<Text>, Option<u32>, Option<u32>),
@@ -125,12 +125,12 @@ pub enum Entry {
 }
 
 impl Entry {
-    /// Lets an entry go that isn't written. Who does it by this call needs no proof of its own of what an entry holds.
+    /// Drops an entry that isn't written. A caller of it needs no proof of its own of what an entry holds.
     pub fn discard(self) {
         drop(self);
     }
 
-    /// Whether the entry tells of an unhandled failure.
+    /// Whether the entry logs an unhandled failure.
     pub fn is_unhandled(&self) -> bool
         ensures { result ≡ is_unhandled self.now }
     {

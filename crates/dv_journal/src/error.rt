@@ -8,7 +8,7 @@ pub enum Stop {
     /// The entry would pass the journal's limit.
     #[error("journal limit reached")]
     Limit,
-    /// Memory was refused.
+    /// Out of memory.
     #[error("out of memory")]
     OutOfMemory,
 }
@@ -29,9 +29,9 @@ impl From<AllocError> for Stop {
 pub enum Fault<Reason> {
     /// The step is refused, for a reason of its own.
     Refused(Reason),
-    /// What the journal would tell of it would pass the journal's limit.
+    /// The entry that logs it would pass the journal's limit.
     Limit,
-    /// Memory was refused.
+    /// Out of memory.
     OutOfMemory,
 }
 
@@ -60,13 +60,13 @@ impl<Reason> From<AllocError> for Fault<Reason> {
     }
 }
 
-/// Why a print gave up. What was written by then is a prefix of the text.
+/// Why a print returned early. What was written by then is a prefix of the text.
 #[derive(Clone, Copy, Debug, PartialEq, Eq, Drop, Error)]
 pub enum PrintFault {
     /// The sink failed, or took no byte.
     #[error("write failed")]
     WriteFault,
-    /// Memory was refused. The sink hasn't failed.
+    /// Out of memory. The sink hasn't failed.
     #[error("out of memory")]
     OutOfMemory,
 }

@@ -5,7 +5,7 @@ use std::io;
 use std::marker::Model;
 
 /// A sink over a writer of std, which contracts see as that writer and a count of failures.
-/// Each error of the writer is a failure, one that tells of an interruption too.
+/// Each error of the writer is a failure, one that reports an interruption too.
 #[derive(Drop)]
 pub struct IoSink<W> {
     writer: W,

@@ -114,8 +114,8 @@ impl Journal {
         Ok(())
     }
 
-    /// Writes the line of each entry, some kilobytes at a time, with one buffer for all. Where it gives up, what was
-    /// written is a prefix of the text.
+    /// Writes the line of each entry, some kilobytes at a time, with one buffer for all. Where it returns early, what
+    /// was written is a prefix of the text.
     pub fn print<W: Sink>(&self, classes: &Classes, sink: &mut W) -> Result<(), PrintFault>
         ensures ok { OnOk result (Appends (W.taken sink.old) (W.taken sink.new) (text_of classes.now self.now.entries)) }
         ensures kept { OnOk result (W.failures sink.new ≡ W.failures sink.old) }

@@ -12,7 +12,7 @@ pub struct SinkFault;
 
 /// Takes bytes.
 pub trait Sink {
-    /// The bytes that it has taken, where it tells them.
+    /// The bytes that it has taken, where it reports them.
     ghost taken: { Self → Option (List ℕ) };
 
     /// How often it has failed. At its last value the count stays, and shows nothing.
@@ -26,7 +26,7 @@ pub trait Sink {
         ensures failed { failures self.new ≡ failures_after (failures self.old) piece.now result };
 }
 
-/// Writes all the bytes in order, by as many calls as the sink asks for. It gives up at the sink's
+/// Writes all the bytes in order, by as many calls as the sink asks for. It returns at the sink's
 /// first failure; what was taken by then is a prefix of the bytes.
 #[tactic(auto, using(crate::proofs::Taken::pieces))]
 pub fn write_all<W: Sink>(sink: &mut W, bytes: &[u8]) -> Result<(), SinkFault>
@@ -49,8 +49,8 @@ pub fn write_all<W: Sink>(sink: &mut W, bytes: &[u8]) -> Result<(), SinkFault>
 /// How many bytes of lines are gathered before they are written.
 const PIECE_SIZE: usize = 4096;
 
-/// Writes what is gathered, and empties it, where it has come to a piece of some kilobytes; otherwise it waits for
-/// more. It gives up at the sink's first failure; what was taken by then is a prefix of what was gathered.
+/// Writes what is gathered, and empties it, where it has reached a piece of some kilobytes; otherwise it waits for
+/// more. It returns at the sink's first failure; what was taken by then is a prefix of what was gathered.
 #[tactic(auto, using(crate::proofs::Taken::pieces))]
 pub fn write_when_full<W: Sink>(sink: &mut W, gathered: &mut String) -> Result<(), SinkFault>
     ensures ok { OnOk result (AppendsBut (W.taken sink.old) (W.taken sink.new) (string_bytes gathered.old) (string_bytes gathered.new)) }

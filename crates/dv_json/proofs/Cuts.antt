@@ -95,7 +95,7 @@ module _ {A : Type 0} (IsLine : ℕ → A → List ℕ → Type 0) where
         cut = cut_lines a b c g h so_far.lines more so_far.gathers cut;
       }
 
-  -- memory was refused before the line of an item was whole
+  -- an allocation failed before the line of an item was whole
   pub each_stopped : Every → (items : List A) (n : ℕ) (a b : Option (List ℕ)) (g h : List ℕ) → n ≤ length items → GathersLines (EachHasLine IsLine 0 (take n items)) a g b h → CutsLines (EachHasLine IsLine 0 items) a g b
   each_stopped every items n a b g h within so_far =
       let rest = each_exist every n (drop n items) in
@@ -133,7 +133,7 @@ many_cut count n more m a b c g h all so_far rest cut =
       cut = cut_lines a b c g h so_far.lines more so_far.gathers cut;
     }
 
--- memory was refused before a line was whole
+-- an allocation failed before a line was whole
 pub many_stopped : (count n : ℕ) (a b : Option (List ℕ)) (g h : List ℕ) → n ≤ count → GathersLines (AreSoMany n) a g b h → CutsLines (AreSoMany count) a g b
 many_stopped count n a b g h within so_far =
     many_cut count n (empties (count - n)) (count - n) a b b g h (omega arith) so_far (many_exist (count - n)) (prefix_none b (h ++ flat_map ended (empties (count - n))))

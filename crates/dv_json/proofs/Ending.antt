@@ -26,7 +26,7 @@ after_none WriteFault input rest told old new none = elim (none.writer 0) [ inl 
 pub after_perform : (input told : Told) → GivesUp OutOfMemory input told told
 after_perform input told = inl (Keeps-refl told)
 
--- a print that gave up: a prefix was written
+-- a print that failed: a prefix was written
 pub after_print : (fault : PrintFault) (input old new : Told) (script : Script) (end : Marked) → SaysScript input script → Ends script end → WritesPrefix (IsText script.classes end) old new
     → GivesUp (of_print fault) input old new
 after_print printing.WriteFault input old new script end says ends written = record { script = script; end = end; says = says; ends = ends; written = written }

@@ -56,7 +56,7 @@ outcome_added (Ok x) table number outcome a b c d e f after before told between 
     }
 outcome_added (Err e') table number outcome a b c d e f after before told between numbered = tt
 
--- what is told at the end, member by member
+-- what is printed at the end, member by member
 pub totals_added : {A E : Type 0} (r : Result A E) (limit limit' : ℕ) (stopped : Bool) (time weight weight' : ℕ) (a b c d e f : List ℕ) →
     OnOk r (f ≡ e ++ codes "}") → limit ≡ limit' → weight ≡ weight' → b ≡ a ++ (codes ",\"limit\":" ++ decimal limit) → c ≡ b ++ (codes ",\"stopped\":" ++ bool_text stopped) →
     d ≡ c ++ (codes ",\"time\":" ++ decimal time) → e ≡ d ++ (codes ",\"type\":\"end\",\"weight\":" ++ decimal weight) → OnOk r (f ≡ a ++ totals limit' stopped time weight')
@@ -71,7 +71,7 @@ totals_added (Ok x) limit limit' stopped time weight weight' a b c d e f last sa
     ∙ ap (λ (n : ℕ). a ++ totals limit' stopped time n) same'
 totals_added (Err e') limit limit' stopped time weight weight' a b c d e f last same same' first second third fourth = tt
 
--- what is told at the end ends no line
+-- what is printed at the end ends no line
 visible_totals : (limit : ℕ) (stopped : Bool) (time weight : ℕ) → IsVisible (totals limit stopped time weight)
 visible_totals limit stopped time weight =
     let limited = codes ",\"limit\":" ++ decimal limit in

@@ -36,7 +36,7 @@ after_none (BatchesRefused fault) batches input rest told old new none = (none.r
 pub after_perform : (batches : List Batch) (input told : Told) → RunGivesUpIn OutOfMemory batches input told told
 after_perform batches input told = inl (Keeps-refl told)
 
--- a print that gave up: a prefix was written
+-- a print that failed: a prefix was written
 pub after_print : (fault : PrintFault) (batches : List Batch) (input old new : Told) (script : Script) (end : Marked) → SaysScript input script → Ends script end → end.batches ≡ batches
     → WritesPrefix (IsText script.classes end) old new → RunGivesUpIn (of_print fault) batches input old new
 after_print printing.WriteFault batches input old new script end says ends took written = record { script = script; end = end; says = says; ends = record { ends = ends; took = took }; written = written }

@@ -1,4 +1,4 @@
--- How a program tells how its run ended, by whether it stopped: as `dv_output` has it of a report.
+-- How a program reports how its run ended, by whether it stopped: as `dv_output` has it of a report.
 use Rattle.std.specs.Prelude.{ℕ, Bool, if◌then◌else◌, List, [], Result, Ok, Err}
 use Rattle.dv_output.specs.Exit.{fault_status, fault_text}
 use Rattle.dv_output.specs.declared.error.RunFault.{RunFault}

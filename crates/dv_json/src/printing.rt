@@ -40,7 +40,7 @@ struct Run<'r> {
     marks: &'r [usize],
 }
 
-/// Writes a run, a line of JSON an object. WriteFault where the sink fails or takes no byte, OutOfMemory where memory is refused;
+/// Writes a run, a line of JSON an object. WriteFault where the sink fails or takes no byte, OutOfMemory when out of memory;
 /// what was written then is a prefix of such a text.
 #[tactic(auto, using(crate::proofs::Cuts::pieces))]
 pub fn print_run<W: Sink>(

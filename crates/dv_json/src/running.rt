@@ -23,7 +23,7 @@ use std::thread::Threads;
 /// Deferred and what is left, a line of JSON an object. Answers whether the run stopped at the limit of its journal.
 ///
 /// ScriptRefused where the input says no script, and ReadFault where the reader fails: nothing was written. OutOfMemory where
-/// memory is refused, and WriteFault where the writer fails or takes no byte: the front of the lines may have been written.
+/// allocation fails, and WriteFault where the writer fails or takes no byte: the front of the lines may have been written.
 #[tactic(auto, using(crate::proofs::Ending::endings))]
 pub fn run<S, R, W, G>(
     rt: &S,

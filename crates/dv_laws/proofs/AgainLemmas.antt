@@ -38,7 +38,7 @@ record Counted (n : ℕ) (s : Both) : Type 0 where
 record Counts (n : ℕ) (s t : Both) : Type 0 where
   goes_on : Counted n s → Counted n t
 
--- how an entry tells of further firings
+-- how an entry logs further firings
 record Tells (n : ℕ) (e : Entry) (rs : Records) (s : Both) : Type 0 where
   refused : 1 ≤ refusing n e → at over_of n rs ≡ 1
   stays : at over_of n s.0 ≡ 1 → at over_of n rs ≡ 1
@@ -106,7 +106,7 @@ guarded_by : (b : Bool) (n d : ℕ) (r : Kind) (l : Records) → nat_eq d n ≡ 
 guarded_by true n d r l e h f q = unfired r _ f (ap (counted_of over_of) (sym h) ∙ ap (λ x. at over_of x l) (eqb-true d n e) ∙ q)
 guarded_by false n d r l e h f q = over_at n d r (firing.with_firing cancelled r) l h (unfired r _ f) q
 
--- each entry tells of further firings
+-- each entry logs further firings
 still : (n : ℕ) → Still (λ w u. Counts n (state_of w) (state_of u))
 still n = record {
   stays = λ w. record { goes_on = λ k. k };
@@ -154,14 +154,14 @@ world_first : (n : ℕ) (script : Script) (batches : List Batch) (w : World) →
 world_first n script batches w m =
     ((means_keeps (λ w u. Counts n (state_of w) (state_of u)) (settles n) script batches w m).goes_on (record { over = λ q. absurd (omega (arith, q)); first = no_entries (λ told x. x ≡ entry.Swallow n → refusals n told ≡ 0) })).first
 
--- of what is told around an entry, and by it
+-- what is logged around an entry, and by it
 around : (f : Entry → ℕ) (before : List Entry) (e : Entry) (later entries : List Entry) → entries ≡ before ++ e ∷ later → sum_by f entries ≡ sum_by f before + f e + sum_by f later
 around f before e later entries q = rw q (omega (arith, sum_by-append f before (e ∷ later), sum_by-cons f e later))
 
 itself : (n : ℕ) → swallowing n (entry.Swallow n) ≡ 1
 itself n = ap {B = ℕ} (λ b. cond b 1 0) (is_itself n)
 
--- so its report tells
+-- so its report logs it
 pub only_next_swallowed : OnlyTheNextFiringIsSwallowed
 only_next_swallowed script report r n =
     let once = fired_once script report r n in

@@ -92,7 +92,7 @@ not_uncalled name Ticking P q = absurd cc
 not_uncalled name (Delivered job) P q = absurd cc
 not_uncalled name (TimedOut d) P q = absurd cc
 
--- what was told of it when it was scheduled
+-- what was logged about it when it was scheduled
 pub later_is : (due_for : Due) (due : ℕ) (t : Timed) → timed_of due_for ≡ Some t → scheduling due_for due ≡ later_of t due
 later_is (what.Call name key) due t q = let same : Called name ≡ t = cc in ap (λ x. later_of x due) same
 later_is (what.Turn name key) due t q = absurd (none-some t q)
@@ -110,11 +110,11 @@ waiting_in t call_state.Dropped = 0
 abbrev waiting : Timed → List Call → ℕ
 waiting t calls = sum_by (λ call. waiting_in t call.state) calls
 
--- each call that waits was told when it was scheduled
+-- each call that waits was logged when it was scheduled
 pub record AllTold (calls : List Call) (entries : List Entry) : Type 0 where
   pub each : (n due : ℕ) (due_for : Due) → slice_get calls n ≡ Some (record { due = due; state = call_state.Waiting due_for }) → Stands (scheduling due_for due) entries
 
--- what was scheduled waits, has run, was cancelled or was dropped; and the time is the one that was told
+-- what was scheduled waits, has run, was cancelled or was dropped; and the time is the one that was logged
 pub record Timely (t : Timed) (c : Clock) (entries : List Entry) : Type 0 where
   pub counted : waiting t c.calls + endings t entries ≤ schedulings t entries
   pub time : time_by entries ≡ c.time
@@ -209,7 +209,7 @@ plain_tells t e c d entries p less time told k =
     let none : count_of t (ended_by e) ≡ 0 = ap (count_of t) p.2 in
     tells t e c d entries (omega (arith, none, less)) (ap (time_after c.time) p.0 ∙ time) told (λ q. absurd (none-some t (sym p.2 ∙ ap ended_by q ∙ run_ends t))) k
 
--- what an entry aside tells of the clock
+-- what an entry aside logs about the clock
 adds_tell : (t : Timed) (c : Clock) (due_for : Due) (due : ℕ) (entries : List Entry) → Timely t c entries → Timely t (with_call due due_for c) (entries ++ scheduling due_for due ∷ [])
 adds_tell t c due_for due entries k =
     let e = scheduling due_for due in
@@ -297,7 +297,7 @@ pub named_loops : (name : Option (List ℕ)) (d : ℕ) (objects : Objects) → (
 named_loops None d objects = refl
 named_loops (Some name) d objects = refl
 
--- each entry tells it
+-- each entry logs it
 still : (t : Timed) → Still (Keeps t)
 still t = record {
   stays = λ w. record { loops = λ r. r; goes_on = λ r k. k };
@@ -342,7 +342,7 @@ world_in_time t script batches w m =
       law = record { once = no_places (λ told. endings t told ≤ schedulings t told) (omega arith); due = no_entries (λ told x. x ≡ run_of t → WasDue t told) };
     })).law
 
--- and so its report tells
+-- and so its report logs it
 pub first_timely : (t : Timed) (c : Clock) → c.calls ≡ [] → c.time ≡ 0 → Timely t c []
 first_timely t c e z = record {
   counted = rw e (omega arith);

@@ -72,7 +72,7 @@ stands_on e x entries s = record {
 stands_last : (e : Entry) (entries : List Entry) → Stands e (entries ++ e ∷ [])
 stands_last e entries = record { before = entries; later = []; among = refl }
 
--- one more entry, before which n was fired by a cancel if it tells that a firing of n is swallowed
+-- one more entry, before which n was fired by a cancel if it logs that a firing of n is swallowed
 swallows_on : (n : ℕ) (e : Entry) (entries : List Entry) → SwallowsTheCancelled n entries → (entry.Swallow n ≡ e → Stands (entry.Fire n cancelled) entries) → SwallowsTheCancelled n (entries ++ e ∷ [])
 swallows_on n e entries h k = record {
   cancelled_before = λ before later q. split_last (λ l. Stands (entry.Fire n cancelled) l) (entry.Swallow n) e entries before later h.cancelled_before k q;
@@ -95,7 +95,7 @@ record Counted (n : ℕ) (s : Both) : Type 0 where
 record Counts (n : ℕ) (s t : Both) : Type 0 where
   goes_on : Counted n s → Counted n t
 
--- how an entry tells what the records then count
+-- how an entry logs what the records then count
 record Tells (n : ℕ) (e : Entry) (rs : Records) (s : Both) : Type 0 where
   due : due_at n rs ≡ due_at n s.0 + firing n e
   marked : swallowing n e + marked_at n rs ≤ marked_at n s.0 + firing n e
@@ -134,7 +134,7 @@ plain : (n : ℕ) (e : Entry) (rs : Records) (s : Both) → swallowing n e ≡ 0
     → Counts n s (telling_of e rs s)
 plain n e rs s none never p m refused swallowed = told n e rs s none (omega (arith, never, p)) m (λ q. absurd (refused q)) swallowed
 
--- an entry that tells of no Deferred tells of no further firing
+-- an entry that logs no Deferred logs no further firing
 not_refused : (n : ℕ) (e : Entry) → change_of e ≡ Aside → entry.Refuse n ≡ e → ⊥
 not_refused n e a q = let same : Refuses n ≡ Aside = ap change_of q ∙ a in absurd cc
 
@@ -239,6 +239,6 @@ world_fired_once script batches w m n =
     let one = fired_once_at (slice_get w.records n) in
     record { once = omega (arith, all.counted, one); refused = all.refused; swallowed = all.swallowed; swallowed_once = omega (arith, all.held, one); cancelled = all.cancelled }
 
--- and so its report tells
+-- and so its report logs it
 pub fired_once : EachDeferredIsFiredOnce
 fired_once script report r n = subst (λ (j : Written). FiredOnce n j.entries) (sym r.tells.journal) (world_fired_once script report.batches r.world ((scripts_mean_what_is_defined script report.batches r.world).1 r.means) n)

@@ -41,7 +41,7 @@ record Used (n : ℕ) (s : Both) : Type 0 where
 record Uses (n : ℕ) (s t : Both) : Type 0 where
   goes_on : Used n s → Used n t
 
--- how an entry tells what the records then count
+-- how an entry logs what the records then count
 record Tells (n : ℕ) (e : Entry) (rs : Records) (s : Both) : Type 0 where
   pairs : running n e + at pairs_of n rs ≤ at pairs_of n s.0 + adding n e
   sides : running n e + at running_of n s.0 ≡ ending n e + at running_of n rs
@@ -77,7 +77,7 @@ tells n e rs s t = record {
 plain : (n : ℕ) (e : Entry) (rs : Records) (s : Both) → running n e ≡ 0 → adding n e ≡ 0 → ending n e ≡ 0 → at pairs_of n rs ≡ at pairs_of n s.0 → at running_of n rs ≡ at running_of n s.0 → Uses n s (telling_of e rs s)
 plain n e rs s a b c p q = tells n e rs s (record { pairs = omega (arith, a, b, p); sides = omega (arith, a, c, q) })
 
--- nothing that is told changes nothing
+-- a step that logs nothing changes nothing
 untold : (n : ℕ) (s t : Both) → t.1.entries ≡ s.1.entries → at pairs_of n t.0 ≤ at pairs_of n s.0 → at running_of n t.0 ≡ at running_of n s.0 → Uses n s t
 untold n s t e p q = record {
   goes_on = λ k. record {
@@ -202,7 +202,7 @@ world_used n script batches w m =
       alone = record { alone = no_places (λ told. runs n told ≤ ends n told + 1) (omega arith); begun = no_places (λ told. ends n told ≤ runs n told) (omega arith) };
     })
 
--- and so its report tells
+-- and so its report logs it
 pub each_pair_once : EachPairIsUsedOnce
 each_pair_once script report r n = reported (UsesEachPairOnce n) (λ script batches w m. (world_used n script batches w m).once) script report r
 

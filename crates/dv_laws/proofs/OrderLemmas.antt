@@ -30,7 +30,7 @@ use Rattle.std.proofs.lemmas.Slice.Eq.{bytes_eq-Decides}
 use Rattle.dv_laws.proofs.At.{split_last}
 use Rattle.dv_laws.proofs.CallsLemmas.{timed_of, coming_is, run_ends, later_is, call_in, NeverWaits, called_ended, cancelled_ended, dropped_ended, clocks_tell, arranged, advanced, pushed_by, set_waits, ended_found, not_uncalled, scheduling_ends, named_same, named_loops, Timely, AllTold, first_timely}
 
--- what was told once was told with one time
+-- what was logged once was logged with one time
 is_itself : (t : Timed) → is_same t t ≡ true
 is_itself (Called name) = (bytes_eq-Decides name name).1 refl
 is_itself Ticking = refl
@@ -117,7 +117,7 @@ precedes_on x y e entries p = record {
 precedes_last : (x e : Entry) (entries : List Entry) → Stands x entries → Precedes x e (entries ++ e ∷ [])
 precedes_last x e entries s = record { before = s.before; between = s.later; later = []; among = ap (λ l. l ++ e ∷ []) s.among ∙ append_assoc s.before (x ∷ s.later) (e ∷ []) }
 
--- calls that wait were told in the order of their numbers
+-- calls that wait were logged in the order of their numbers
 abbrev InOrder : List Call → List Entry → Type 0
 InOrder calls entries =
     (n m a b : ℕ) (f g : Due) → n < m → slice_get calls n ≡ Some (call_in a (call_state.Waiting f)) → slice_get calls m ≡ Some (call_in b (call_state.Waiting g)) → Precedes (scheduling f a) (scheduling g b) entries
@@ -160,7 +160,7 @@ order_ended c number state entries never k =
     (λ p2. set_waits (nat_eq number m) new (slice_get c.calls m) b h (Precedes (scheduling f a) (scheduling h b) entries) (never call.due) (λ q2. k n m a b f h l p2 q2) (sym (get_set c.calls number m call new g) ∙ q))
     (sym (get_set c.calls number n call new g) ∙ p))
 
--- what waits and is due with one that has run was told after it
+-- what waits and is due with one that has run was logged after it
 abbrev Ties : Timed → ℕ → List Call → List Entry → Type 0
 Ties t due calls entries = (n other : ℕ) (due_for : Due) → slice_get calls n ≡ Some (call_in other (call_state.Waiting due_for)) → due ≡ other → Precedes (later_of t due) (scheduling due_for other) entries
 
@@ -262,7 +262,7 @@ ends_so t u e c number state entries never k = record {
 not_run : (e : Entry) (v : Timed) → ended_by e ≡ None → e ≡ run_of v → ⊥
 not_run e v p q = none-some v (sym p ∙ ap ended_by q ∙ run_ends v)
 
--- the call that runs is the one that was told
+-- the call that runs is the one that was logged
 same_due : (v : Timed) (c : Clock) (call : Upcoming) (due : ℕ) (entries : List Entry) → next_call c ≡ Some call → AllTold c.calls entries → coming_due call.what ≡ run_of v → ScheduledOnce v due entries → due ≡ call.due
 same_due v c call due entries n told q s =
     let first = first_runs_next c call n in
@@ -338,7 +338,7 @@ advanced_order t u c ticks entries k =
 plain : (t u : Timed) (e : Entry) (w v : World) → IsPlain e → v.objects.clock ≡ w.objects.clock → v.journal.entries ≡ w.journal.entries ++ e ∷ [] → v.objects.loops ≡ w.objects.loops → Keeps t u w v
 plain t u e w v p s q l = record { loops = λ r. rw l r; goes_on = λ r k. rw (s, q) (clocks_order t u e w.objects.clock w.objects.clock w.journal.entries (Leaves p) k) }
 
--- each entry tells it
+-- each entry logs it
 still : (t u : Timed) → Still (Keeps t u)
 still t u = record {
   stays = λ w. record { loops = λ r. r; goes_on = λ r k. k };
@@ -381,6 +381,6 @@ world_in_order t u script batches w m =
       law = no_entries (Later t u);
     })).law
 
--- and so its report tells
+-- and so its report logs it
 pub calls_in_order : CallsRunInOrder
 calls_in_order script report r t u = reported (RunsInOrder t u) (world_in_order t u) script report r

@@ -1,4 +1,4 @@
--- The journal tells of each Deferred what the world holds.
+-- The journal logs about each Deferred what the world holds.
 use Rattle.std.proofs.Common.{◌≡◌, ℕ, zero, suc, ◌++◌, Bool, true, false, nat_eq, List, [], ◌∷◌, Option, None, Some, refl, sym, ap, ◌∙◌, slice_get, slice_set, cond, length, option_map}
 use Rattle.std.proofs.Math.Dec.{eqb-suc-zero, eqb-zero-suc, eqb-suc-suc}
 use Rattle.std.proofs.lemmas.Bool.{eqb-true}
@@ -89,7 +89,7 @@ push_at (suc n) s [] = rw eqb-zero-suc refl
 push_at zero s (x ∷ l) = rw eqb-suc-zero refl
 push_at (suc n) s (x ∷ l) = rw eqb-suc-suc (push_at n s l)
 
--- the journal tells what the records show
+-- the journal logs what the records show
 abbrev pub ReadsBack : Both → Type 0
 ReadsBack s = (n : ℕ) → told_by n s.1.entries ≡ at n s.0
 
@@ -97,11 +97,11 @@ ReadsBack s = (n : ℕ) → told_by n s.1.entries ≡ at n s.0
 pub record Reads (s t : Both) : Type 0 where
   pub goes_on : ReadsBack s → ReadsBack t
 
--- an entry that tells the change
+-- an entry that logs the change
 tells : (e : Entry) (rs : Records) (s : Both) → ((n : ℕ) → at n rs ≡ told n (at n s.0) e) → Reads s (telling_of e rs s)
 tells e rs s p = record { goes_on = λ k n. rw (p n, ← (k n)) (fold-append (told n) None s.1.entries (e ∷ [])) }
 
--- each entry tells its change
+-- each entry logs its change
 pub reads : Kept Reads
 reads = record {
   stays = λ s. record { goes_on = λ k. k };
@@ -128,12 +128,12 @@ reads = record {
   unpauses = λ d r s x h p. tells (entry.Unpause d) _ s (λ n. set_at n d without_pause r _ s.0 h refl);
 }
 
--- what is shown comes to the outcome
+-- what is shown results in the outcome
 shown_outcome : (o : Option Kind) → option_map outcome_shown (option_map shown_of o) ≡ option_map outcome_of o
 shown_outcome None = refl
 shown_outcome (Some r) = refl
 
--- so the journal of a run tells what its world holds
+-- so the journal of a run logs what its world holds
 world_told : (script : Script) (batches : List Batch) (w : World) → Means script batches w → (n : ℕ) → read_back n w.journal.entries ≡ option_map outcome_of (slice_get w.records n)
 world_told script batches w m n =
     let kept = means_keeps (λ w u. Reads (state_of w) (state_of u)) (every_step Reads reads) script batches w m in

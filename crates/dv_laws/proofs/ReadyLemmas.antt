@@ -16,7 +16,7 @@ use Rattle.dv_laws.proofs.At.{entries_on, no_entries}
 use Rattle.dv_laws.proofs.ReadBackLemmas.{Reads, ReadsBack, reads, shown_of, at as shown_at}
 use Rattle.dv_laws.proofs.Settles.{Still, Settles, ready_fired, ready_free, ready_unpaused, means_keeps, reported}
 
--- the journal tells what the records show, and n was ready wherever it used something
+-- the journal logs what the records show, and n was ready wherever it used something
 record Readied (n : ℕ) (s : Both) : Type 0 where
   reads : ReadsBack s
   law : RunsWhereReady n s.1.entries
@@ -49,7 +49,7 @@ not_run n e a q = let same : Runs n ≡ Aside = ap change_of (sym q) ∙ a in ab
 not_handed : (n : ℕ) (e : Entry) → change_of e ≡ Aside → (m : ℕ) (value : Value) → e ≡ entry.Hand n m value → ⊥
 not_handed n e a m value q = let same : Hands n m value ≡ Aside = ap change_of (sym q) ∙ a in absurd cc
 
--- one that is ready is told to be
+-- one that is ready is logged as ready
 ready_told : (n d : ℕ) (r : Kind) (s : Both) → d ≡ n → slice_get s.0 d ≡ Some r → callbacks.is_ready r ≡ true → ReadsBack s → IsReady n s.1.entries
 ready_told n d r s q h a k = record {
   shown = shown_of r;
@@ -65,7 +65,7 @@ run_is d n q = cc
 hand_is : (d c n m : ℕ) (value other : Value) → entry.Hand d c value ≡ entry.Hand n m other → d ≡ n
 hand_is d c n m value other q = cc
 
--- each entry tells it
+-- each entry logs it
 still : (n : ℕ) → Still (λ w u. Goes n (state_of w) (state_of u))
 still n = record {
   stays = λ w. record { goes_on = λ k. k };
@@ -104,6 +104,6 @@ world_ready n script batches w m =
       law = record { runs = no_entries (λ told x. x ≡ entry.Run n → IsReady n told); hands = no_entries (λ told x. (m : ℕ) (value : Value) → x ≡ entry.Hand n m value → IsReady n told) };
     })).law
 
--- and so its report tells
+-- and so its report logs it
 pub nothing_early : NothingRunsEarly
 nothing_early script report r n = reported (RunsWhereReady n) (world_ready n) script report r

@@ -288,7 +288,7 @@ is_itself d = grind (arith, nat_tests)
 own_place : (d : ℕ) → place_of d (frame.Place d) ≡ 1
 own_place d = ap {B = ℕ} (λ b. cond b 1 0) (is_itself d)
 
--- what a side came to is put in place, and its Deferred is to be settled
+-- the result of a side is put in place, and its Deferred is to be settled
 place_runs : (d : ℕ) (o : Performed) (w : World) → turned (frame.Place d) o w ≡ settling d (place d o w)
 place_runs d Done w = refl
 place_runs d (Gave value) w = refl

@@ -1,4 +1,4 @@
--- Each step of a world, by what it may come to: the world stays, stops, or tells of a change.
+-- Each step of a world, by its possible results: the world stays, stops, or logs a change.
 use Rattle.std.proofs.Common.{◌≡◌, ℕ, ◌+◌, ◌-◌, Bool, true, false, nat_eq, List, [], ◌∷◌, ◌++◌, Option, None, Some, Result, Ok, Err, length, refl, slice_get, slice_set, cond}
 use Rattle.dv_value.specs.Failure.{is_fault}
 use Rattle.dv_value.specs.declared.value.Value.{Value, Null}
@@ -41,17 +41,17 @@ use Rattle.dv_objects.specs.declared.reached.Reached.{Reached}
 use Rattle.dv_objects.specs.declared.reached.Reached.TheVariants as reached
 use Rattle.dv_objects.specs.Objects.{naming_where}
 
--- a world that tells this, with these records
+-- a world that logs this, with these records
 abbrev pub telling_in : Entry → Records → World → World
 telling_in e rs w = with_state (telling_of e rs (state_of w)) w
 
--- what each step may come to, where this holds of a world that stays as it is, and of one that stops
+-- what each step may result in, where this holds of a world that stays as it is, and of one that stops
 module _ (w : World) (P : World → Type 0) (stays : P w) (stops : P (with_stop w)) where
   pub unless : (b : Bool) (u : World) → P u → P (cond b w u)
   unless true u h = stays
   unless false u h = h
 
-  -- a change is told, or doesn't fit
+  -- a change is logged, or doesn't fit
   after_cases : {A : Type 0} (b : Bool) (x : A) (u : Both) → (b ≡ true → P (with_state u w)) → (let t = cond {A = Result A Stop × Both} b (Ok x, u) (Err stop.Limit, state_of w) in P (after t.0 t.1 w))
   after_cases true x u h = h refl
   after_cases false x u h = stops
@@ -186,7 +186,7 @@ module _ (w : World) (P : World → Type 0) (stays : P w) (stops : P (with_stop 
   unfolding unpause
   unpause_cases d h = unless_and w.stopped follow.Nothing _ (unpause_found_cases d _ refl h)
 
--- a firing is told, swallowed, refused, or doesn't fit
+-- a firing is logged, swallowed, refused, or doesn't fit
 module _ (w : World) (P : Result Fired (Fault AlreadyCalled) → Both → Type 0) (limit : P (Err fault.Limit) (state_of w)) where
   firing_cases : (b : Bool) (answer : Result Fired (Fault AlreadyCalled)) (u : Both) → (b ≡ true → P answer u) → (let t = cond {A = firing.Firing Pair Canceller} b (answer, u) (Err fault.Limit, state_of w) in P t.0 t.1)
   firing_cases true answer u h = h refl

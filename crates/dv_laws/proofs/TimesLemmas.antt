@@ -21,7 +21,7 @@ use Rattle.std.proofs.lemmas.Option.{none-some}
 use Rattle.dv_laws.proofs.Calm.{Regular}
 use Rattle.dv_laws.proofs.Settles.{Still, Settles, means_keeps, reported}
 
--- what is told of time in a world whose time is this: not that it goes on, and nothing that was due before
+-- what is logged about time in a world whose time is this: not that it goes on, and nothing that was due before
 abbrev IsTold : ℕ → Timing → Type 0
 IsTold time Untimed = Unit {0}
 IsTold time (Advances later) = ⊥
@@ -86,7 +86,7 @@ stands_nowhere : (e : Entry) (before later : List Entry) (P : Type 0) → [] ≡
 stands_nowhere e [] later P q = absurd cc
 stands_nowhere e (b ∷ bs) later P q = absurd cc
 
--- what is told is of no time before one that is past
+-- what is logged is of no time before one that is past
 told_later : (t time : ℕ) (timing : Timing) → t ≤ time → IsTold time timing → IsNoEarlier t timing
 told_later t time Untimed h k = tt
 told_later t time (Advances later) h k = absurd k
@@ -131,7 +131,7 @@ named_loops : (name : Option (List ℕ)) (d : ℕ) (objects : Objects) → (nami
 named_loops None d objects = refl
 named_loops (Some name) d objects = refl
 
--- each entry tells no time that is past
+-- each entry logs no time that is past
 still : Still Keeps
 still = record {
   stays = λ w. record { loops = λ r. r; goes_on = λ r k. k };
@@ -174,6 +174,6 @@ world_timely script batches w m =
       goes = no_entries (λ told x. (t : ℕ) → Stands (entry.Advance t) told → IsNoEarlier t (timing_of x));
     })).goes
 
--- and so its report tells
+-- and so its report logs it
 pub time_never_falls : TimeNeverFalls
 time_never_falls script report r = reported TimeGoesOn world_timely script report r

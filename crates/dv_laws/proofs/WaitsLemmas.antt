@@ -50,7 +50,7 @@ fired_of r = cond r.fired 1 0
 abbrev odd_of : Kind → ℕ
 odd_of r = running_of r + any_of r - fired_of r
 
--- what the records hold of n is what was told
+-- what the records hold of n is what was logged
 record Waited (n : ℕ) (s : Both) : Type 0 where
   even : at odd_of n s.0 ≡ 0
   items : (m : ℕ) → at (handovers_of n) m s.0 ≡ at (awaits_of m) n s.0
@@ -62,7 +62,7 @@ record Waited (n : ℕ) (s : Both) : Type 0 where
 record Goes (n : ℕ) (s t : Both) : Type 0 where
   goes_on : Waited n s → Waited n t
 
--- how an entry tells what the records then hold
+-- how an entry logs what the records then hold
 record Tells (n : ℕ) (e : Entry) (rs : Records) (s : Both) : Type 0 where
   even : at odd_of n rs ≡ 0
   moves : (m : ℕ) → waiting n m e + at (awaits_of m) n s.0 ≡ handing n m e + at (awaits_of m) n rs
@@ -158,7 +158,7 @@ equal_by : (b : Bool) (d m : ℕ) → nat_eq d m ≡ b → cond {A = ℕ} b 1 0 
 equal_by true d m q h = eqb-true d m q
 equal_by false d m q h = absurd (omega (arith, h))
 
--- by what was told n still waits for m after one more entry
+-- by what was logged n still waits for m after one more entry
 waits_told : (n m : ℕ) → waiting n m (entry.Wait n m) ≡ 1
 waits_told n m = rw (is_itself n, is_itself m) refl
 
@@ -358,7 +358,7 @@ take_until : (n d e m : ℕ) (r given : Kind) (x : Entry) (rs : Records) → sli
 take_until n d e m r given x rs h i p q o a true c s t z = apart_by true n d m r rs _ s h (running_any r p) o a refl
 take_until n d e m r given x rs h i p q o a false c s t z = apart_by c n e m given rs _ t i (λ y. given_any d e given q) o a z
 
--- each entry tells it
+-- each entry logs it
 still : (n : ℕ) → Still (λ w u. Goes n (state_of w) (state_of u))
 still n = record {
   stays = λ w. record { goes_on = λ k. k };
@@ -464,6 +464,6 @@ world_waits n m script batches w z =
       law = λ m. record { until = no_entries (λ told x. StillWaits n m told → touching n x ≡ 1 → HandsOver m n x); once = no_places (λ told. hand_overs n m told ≤ waits n m told) (omega arith) };
     })).law m
 
--- and so its report tells
+-- and so its report logs it
 pub waits_end : WaitsEndByAHandOver
 waits_end script report r n m = reported (WaitsForItsValue n m) (world_waits n m) script report r

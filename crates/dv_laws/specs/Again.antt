@@ -1,4 +1,4 @@
--- Further firings of a Deferred, as its journal tells them (Twisted: `Deferred.cancel`, `AlreadyCalledError`).
+-- Further firings of a Deferred, as its journal logs them (Twisted: `Deferred.cancel`, `AlreadyCalledError`).
 use Rattle.std.specs.Prelude.{ℕ, ◌≡◌, if◌then◌else◌, nat_eq, List, ◌∷◌, ◌++◌, sum_by}
 use Rattle.dv_journal.specs.Told.{Change, change_of, Aside, Makes, Adds, Fires, Swallows, Refuses, Runs, Sets, Takes, Waits, Hands, Pauses, Unpauses, Cancels}
 use Rattle.dv_journal.specs.declared.entry.Entry.{Entry}
@@ -8,7 +8,7 @@ use Rattle.dv_engine.specs.Report.{Reports}
 use Rattle.dv_engine.specs.declared.report.Report.{Report}
 use Rattle.dv_laws.specs.Once.{firings, swallowings}
 
--- what is told counts one where it is that a further firing of n is refused
+-- what is logged counts one where it is that a further firing of n is refused
 abbrev pub refuses_of : ℕ → Change → ℕ
 refuses_of n Aside = 0
 refuses_of n (Makes d name) = 0

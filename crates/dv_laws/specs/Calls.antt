@@ -1,4 +1,4 @@
--- What a journal tells of delayed calls, and of what else waits for its time (Twisted: `callLater`, `DelayedCall.cancel`).
+-- What a journal logs of delayed calls, and of what else waits for its time (Twisted: `callLater`, `DelayedCall.cancel`).
 use Rattle.std.specs.Prelude.{ℕ, ◌≡◌, ◌≤◌, Bool, true, false, nat_eq, bytes_eq, if◌then◌else◌, List, ◌∷◌, ◌++◌, Option, None, Some, fold, sum_by}
 use Rattle.dv_journal.specs.declared.entry.Entry.{Entry}
 use Rattle.dv_journal.specs.declared.entry.Entry.TheVariants as entry
@@ -35,7 +35,7 @@ abbrev pub count_of : Timed → Option Timed → ℕ
 count_of t None = 0
 count_of t (Some other) = if is_same t other then 1 else 0
 
--- what an entry tells that is scheduled
+-- what an entry logs as scheduled
 abbrev pub scheduled_in : Told → Option Timed
 scheduled_in tells.Other = None
 scheduled_in (tells.Changes change) = None
@@ -48,7 +48,7 @@ scheduled_in tells.IsUnhandled = None
 abbrev pub scheduled_by : Entry → Option Timed
 scheduled_by e = scheduled_in (told_of e)
 
--- what it tells that waits no longer: it is run, or is a delayed call that is cancelled
+-- what it logs as waiting no longer: it is run, or is a delayed call that is cancelled
 abbrev pub ended_in : Told → Option Timed
 ended_in tells.Other = None
 ended_in (tells.Changes change) = None
@@ -61,14 +61,14 @@ ended_in tells.IsUnhandled = None
 abbrev pub ended_by : Entry → Option Timed
 ended_by e = ended_in (told_of e)
 
--- how often it is scheduled, and how often it waits no longer, as is told
+-- how often it is scheduled, and how often it waits no longer, as is logged
 abbrev pub schedulings : Timed → List Entry → ℕ
 schedulings t entries = sum_by (λ e. count_of t (scheduled_by e)) entries
 
 abbrev pub endings : Timed → List Entry → ℕ
 endings t entries = sum_by (λ e. count_of t (ended_by e)) entries
 
--- what is told when it is scheduled, and when it is run
+-- what is logged when it is scheduled, and when it is run
 abbrev pub later_of : Timed → ℕ → Entry
 later_of (Called name) due = entry.LaterCall name due
 later_of Ticking due = entry.LaterTick due
@@ -81,7 +81,7 @@ run_of Ticking = entry.Tick
 run_of (Delivered job) = entry.Deliver job
 run_of (TimedOut d) = entry.Timeout d
 
--- the time after one more entry, and by all that was told
+-- the time after one more entry, and by all that was logged
 abbrev pub time_after : ℕ → Timing → ℕ
 time_after time Untimed = time
 time_after time (Advances later) = later

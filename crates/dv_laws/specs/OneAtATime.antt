@@ -1,4 +1,4 @@
--- How the pairs of a Deferred are used, as its journal tells it (Twisted: the Deferred Reference, "Callbacks"; `Deferred._runCallbacks`).
+-- How the pairs of a Deferred are used, as its journal logs it (Twisted: the Deferred Reference, "Callbacks"; `Deferred._runCallbacks`).
 use Rattle.std.specs.Prelude.{ℕ, ◌≤◌, ◌+◌, if◌then◌else◌, nat_eq, List, sum_by}
 use Rattle.dv_journal.specs.Told.{Change, change_of, Aside, Makes, Adds, Fires, Swallows, Refuses, Runs, Sets, Takes, Waits, Hands, Pauses, Unpauses, Cancels}
 use Rattle.dv_journal.specs.declared.entry.Entry.{Entry}
@@ -7,7 +7,7 @@ use Rattle.dv_engine.specs.Report.{Reports}
 use Rattle.dv_engine.specs.declared.report.Report.{Report}
 use Rattle.dv_laws.specs.Places.{AtEachPlace}
 
--- what is told counts one where it is that a pair is added to n
+-- what is logged counts one where it is that a pair is added to n
 abbrev pub adds_of : ℕ → Change → ℕ
 adds_of n Aside = 0
 adds_of n (Makes d name) = 0

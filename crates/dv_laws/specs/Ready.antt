@@ -1,4 +1,4 @@
--- When a Deferred uses what was added to it, as its journal tells it (Twisted: the Deferred Reference, "Callbacks"; `Deferred.pause`).
+-- When a Deferred uses what was added to it, as its journal logs it (Twisted: the Deferred Reference, "Callbacks"; `Deferred.pause`).
 use Rattle.std.specs.Prelude.{ℕ, ◌≡◌, true, List, Some, None}
 use Rattle.dv_value.specs.declared.value.Value.{Value}
 use Rattle.dv_journal.specs.declared.entry.Entry.{Entry}
@@ -9,7 +9,7 @@ use Rattle.dv_engine.specs.declared.report.Report.{Report}
 use Rattle.dv_laws.specs.Places.{OfEachEntry}
 use Rattle.dv_laws.specs.ReadBack.{Shown, told_by}
 
--- by what was told n is fired, isn't paused, and waits for no other
+-- by what was logged n is fired, isn't paused, and waits for no other
 pub record IsReady (n : ℕ) (told : List Entry) : Type 0 where
   pub shown : Shown
   pub reads : told_by n told ≡ Some shown

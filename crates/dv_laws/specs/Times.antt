@@ -1,4 +1,4 @@
--- What a journal tells of time (Twisted: `Clock.advance`, `callLater`).
+-- What a journal logs about time (Twisted: `Clock.advance`, `callLater`).
 use Rattle.std.specs.Prelude.{ℕ, ◌≤◌, List}
 use Rattle.dv_journal.specs.declared.entry.Entry.{Entry}
 use Rattle.dv_journal.specs.declared.entry.Entry.TheVariants as entry
@@ -16,7 +16,7 @@ pub data Timing : Type 0 where
   Advances : (time : ℕ) → Timing
   Schedules : (due : ℕ) → Timing
 
--- what an entry tells of time
+-- what an entry logs about time
 abbrev pub timing_in : Told → Timing
 timing_in tells.Other = Untimed
 timing_in (tells.Changes change) = Untimed
@@ -29,7 +29,7 @@ timing_in tells.IsUnhandled = Untimed
 abbrev pub timing_of : Entry → Timing
 timing_of e = timing_in (told_of e)
 
--- what is told is of no time before this one
+-- what is logged is of no time before this one
 abbrev pub IsNoEarlier : ℕ → Timing → Type 0
 IsNoEarlier time Untimed = Unit {0}
 IsNoEarlier time (Advances later) = time ≤ later

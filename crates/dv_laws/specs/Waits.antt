@@ -1,4 +1,4 @@
--- How a Deferred waits for another, as its journal tells it (Twisted: the Deferred Reference, "Chaining Deferreds").
+-- How a Deferred waits for another, as its journal logs it (Twisted: the Deferred Reference, "Chaining Deferreds").
 use Rattle.std.specs.Prelude.{ℕ, ◌≡◌, ◌≤◌, ◌&&◌, ◌||◌, if◌then◌else◌, nat_eq, List, ◌∷◌, ◌++◌, sum_by}
 use Rattle.dv_value.specs.declared.value.Value.{Value}
 use Rattle.dv_journal.specs.Told.{Change, change_of, Aside, Makes, Adds, Fires, Swallows, Refuses, Runs, Sets, Takes, Waits, Hands, Pauses, Unpauses, Cancels}
@@ -9,7 +9,7 @@ use Rattle.dv_engine.specs.Report.{Reports}
 use Rattle.dv_engine.specs.declared.report.Report.{Report}
 use Rattle.dv_laws.specs.Places.{AtEachPlace, OfEachEntry}
 
--- what is told counts one where it is that n waits for m
+-- what is logged counts one where it is that n waits for m
 abbrev pub waits_of : ℕ → ℕ → Change → ℕ
 waits_of n m Aside = 0
 waits_of n m (Makes d name) = 0
@@ -77,11 +77,11 @@ touches_of n (Cancels d) = 0
 abbrev pub touching : ℕ → Entry → ℕ
 touching n x = touches_of n (change_of x)
 
--- how often that is told
+-- how often that is logged
 abbrev pub touches : ℕ → List Entry → ℕ
 touches n entries = sum_by (touching n) entries
 
--- by what was told n waits for m: it began to, and since then none of its sides was run and its value hasn't changed
+-- by what was logged n waits for m: it began to, and since then none of its sides was run and its value hasn't changed
 pub record StillWaits (n m : ℕ) (told : List Entry) : Type 0 where
   pub before : List Entry
   pub since : List Entry

@@ -9,7 +9,7 @@ ghost use Rattle.dv_laws.specs.Ready.{NothingRunsEarly};
 ghost use Rattle.dv_laws.specs.Times.{TimeNeverFalls};
 ghost use Rattle.dv_laws.specs.Waits.{WaitsEndByAHandOver};
 
-/// The journal of a run tells what has become of each Deferred, that each was fired once at most, and that a further firing
+/// The journal of a run logs what has become of each Deferred, that each was fired once at most, and that a further firing
 /// of it was swallowed once at most, where it was fired with CancelledError and an empty message, as a cancel does.
 pub fn journals_tell()
     ensures outcomes { OutcomesAreToldByTheJournal }

@@ -1,4 +1,4 @@
-//! Laws of whole runs: what the journal of a run tells.
+//! Laws of whole runs: what the journal of a run logs.
 #![tactic(auto)]
 
 pub mod laws;

@@ -30,7 +30,7 @@ waiting_queues : (qs : List Queue) → map (λ p. p.waiting) (map queue_of qs) �
 waiting_queues [] = refl
 waiting_queues (q ∷ qs) = ap (λ lines. q.waiting ∷ lines) (waiting_queues qs)
 
--- the same hangs tell the same
+-- the same hangs are reported the same
 same_deferreds : (f g : ℕ → List Hang) (n d : ℕ) (ss : List Standing) → d + length ss ≡ n → ((k : ℕ) → k < n → f k ≡ g k) → left_deferreds f d ss ≡ left_deferreds g d ss
 same_deferreds f g n d [] e same = refl
 same_deferreds f g n d (s ∷ ss) e same =
@@ -86,7 +86,7 @@ all_gathered w =
     ∙ ap (λ lines. all_joined (own ++ hung_in_lines hang.Lock 0 lines ++ at_queues ++ calls ++ loops ++ tasks) empty) (waiting_locks o.semaphores)
     ∙ ap (λ lines. all_joined (own ++ hung_in_lines hang.Lock 0 (map (λ s. s.waiting) o.semaphores) ++ hung_in_lines hang.Queue 0 lines ++ calls ++ loops ++ tasks) empty) (waiting_queues o.queues)
 
--- what is told with the links that are gathered is what is left
+-- what is reported with the links that are gathered is what is left
 pub left_told : (w : World) (links : Gathered) → links ≡ gathered_of w →
     left_deferreds (λ d. list_at d links.deferreds) 0 (map standing_of w.records)
     ++ left_beside links w.objects.clock.calls w.objects.loops w.objects.cooperator.tasks (map lock_of w.objects.semaphores) (map queue_of w.objects.queues)
@@ -118,7 +118,7 @@ left_told w links is =
     (same_tasks (λ t. list_at t links.tasks) (λ t. items_of t (tasks_held w)) (length o.cooperator.tasks) 0 o.cooperator.tasks count_tasks holds)
     ∙ ap (λ x. x ++ unhandled) (in_a_row deferreds (left_calls calls) loops tasks locks queues)
 
--- what is told one after the other is told as a whole
+-- what is reported one after the other is reported as a whole
 pub told_in_turn : (w : World) (links : Gathered) (none first second third : List Left) (standings : List Standing) (calls : List Call) (loops : List LoopingCall) (tasks : List Task) (locks : List SemaphoreParts) (queues : List QueueParts) (entries : List Entry) →
     third ≡ second ++ left_unhandled 0 entries → second ≡ first ++ left_beside links calls loops tasks locks queues → first ≡ none ++ left_deferreds (λ d. list_at d links.deferreds) 0 standings → none ≡ [] →
     standings ≡ map standing_of w.records → calls ≡ w.objects.clock.calls → loops ≡ w.objects.loops → tasks ≡ w.objects.cooperator.tasks →

@@ -68,7 +68,7 @@ task_held_by c (side.FailTask t) = []
 task_held_by c (side.Resume i) = []
 
 module _ {A : Type 0} (of_side : ℕ → Side → Links A) where
-  -- by the callback of a pair, beside which its errback is for the same; a hand-over is told where its Deferred waits
+  -- by the callback of a pair, beside which its errback is for the same; a hand-over is shown where its Deferred waits
   abbrev pub by_side : ℕ → Option Side → Links A
   by_side c None = []
   by_side c (Some s) = of_side c s

@@ -114,7 +114,7 @@ left_tasks held t (x ∷ xs) = left_task t (held t) x ++ left_tasks held (suc t)
 
 -- 5. Locks and semaphores of which tokens are given.
 
--- what a lock has when it is let go
+-- what a lock has when it is dropped
 abbrev pub lock_of : Semaphore → SemaphoreParts
 lock_of s = record { name = s.name; tokens = s.tokens; given = s.given; waiting = s.waiting }
 
@@ -127,7 +127,7 @@ left_locks l (s ∷ ss) = left_tokens l s ++ left_locks (suc l) ss
 
 -- 6. Queues: who waits for a value, and values that nobody got.
 
--- what a queue has when it is let go
+-- what a queue has when it is dropped
 abbrev pub queue_of : Queue → QueueParts
 queue_of q = record { name = q.name; stored = q.stored; waiting = q.waiting }
 
@@ -146,7 +146,7 @@ abbrev pub left_queues : ℕ → List QueueParts → List Left
 left_queues k [] = []
 left_queues k (q ∷ qs) = left_queue k q ++ left_queues (suc k) qs
 
--- 7. Failures that were told as unhandled, by their places in the journal.
+-- 7. Failures that were logged as unhandled, by their places in the journal.
 
 abbrev pub left_entry : ℕ → Entry → List Left
 left_entry n e = if is_unhandled e then left.Unhandled n ∷ [] else []

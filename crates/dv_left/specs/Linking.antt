@@ -1,4 +1,4 @@
--- How links are gathered. Of the code, not of the meaning.
+-- How links are gathered. This is part of the code, not of the meaning.
 use Rattle.std.specs.Prelude.{ℕ, List, [], ◌++◌, map, replicate}
 use Rattle.dv_clock.specs.declared.call.Call.{Call}
 use Rattle.dv_objects.specs.declared.looping_call.LoopingCall.{LoopingCall}

@@ -1,4 +1,4 @@
--- What a world comes to at its end.
+-- What a world results in at its end.
 use Rattle.std.specs.Prelude.{◌≡◌, map}
 use Rattle.dv_store.specs.Outcome.{outcome_of}
 use Rattle.dv_world.specs.World.{World}

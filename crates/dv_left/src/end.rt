@@ -28,7 +28,7 @@ use dv_value::value::Value;
 use dv_world::world::{Parts, World};
 use std::alloc::{AllocError, Global};
 
-/// What a world comes to at its end.
+/// What a world results in at its end.
 #[derive(Drop)]
 pub struct Remains {
     pub journal: Journal,
@@ -36,12 +36,12 @@ pub struct Remains {
     pub stopped: bool,
     /// What became of each Deferred, in order of making.
     pub outcomes: Items<Outcome>,
-    /// What is left: first of the Deferreds, then on the clock, loops, tasks, locks, queues, and what was told as unhandled; each in
+    /// What is left: first of the Deferreds, then on the clock, loops, tasks, locks, queues, and what was unhandled; each in
     /// order of making.
     pub left: Items<Left>,
 }
 
-/// What a world comes to. AllocError where memory is refused.
+/// Returns what a world results in. AllocError when out of memory.
 pub fn remains_of<'s>(alloc: Global, world: World<'s>) -> Result<Remains, AllocError>
     ensures { IfOk result (RemainsOf world.entry) }
 {

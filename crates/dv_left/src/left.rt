@@ -3,7 +3,7 @@ use dv_value::deque::Deque;
 use dv_value::items::Items;
 use dv_value::value::Value;
 
-/// At what a Deferred hangs. Locks, queues, loops, tasks and jobs are told by their numbers, in order of making from 0.
+/// At what a Deferred hangs. Locks, queues, loops, tasks and jobs have their numbers, in order of making from 0.
 #[derive(Clone, Copy, Debug, PartialEq, Eq)]
 pub enum Hang {
     /// It waits for the value of this one, which a side of it gave.
@@ -110,6 +110,6 @@ pub enum Left {
     Getters(usize, Items<DeferredId>),
     /// The queue of this number, and the values of it that nobody got, from the one that was put first.
     Values(usize, Deque<Value>),
-    /// The place in the journal of a failure that was told as unhandled.
+    /// The place in the journal of a failure that was logged as unhandled.
     Unhandled(usize),
 }

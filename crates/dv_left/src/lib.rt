@@ -1,4 +1,4 @@
-//! What is left at the end of a run: who still waits and at what it hangs, what hasn't come, what goes on, what was given and not given back, and what nobody trapped.
+//! What is left at the end of a run: who still waits and at what it hangs, what hasn't come, what goes on, what was given and not released, and what nobody trapped.
 #![tactic(auto)]
 
 mod end;

@@ -311,7 +311,7 @@ fn add_queue(left: &mut Items<Left>, number: usize, queue: QueueParts) -> Result
     Ok(())
 }
 
-/// The failures that were told as unhandled.
+/// Adds the failures that were logged as unhandled.
 pub fn add_unhandled(left: &mut Items<Left>, entries: &[Entry]) -> Result<(), AllocError>
     ensures { OnOk result (left.new ≡ left.old ++ left_unhandled 0 entries.now) }
 {

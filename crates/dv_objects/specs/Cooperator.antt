@@ -26,7 +26,7 @@ pub record Cooperator : Type 0 where
 abbrev pub new_cooperator : ℕ → ℕ → Cooperator
 new_cooperator units delay = record { task_names = []; tasks = []; turns = new_turns; units = units; delay = max 1 (min delay MOST_DELAY); tick = None; ticking = false }
 
--- what a task has come to, for whoever waits for its end
+-- the result of a task, for whoever waits for its end
 abbrev pub result_of : List ℕ → TaskEnd → Value
 result_of name Finished = Text name
 result_of name Stopped = fault task_stopped []

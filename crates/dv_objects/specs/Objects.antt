@@ -49,7 +49,7 @@ naming_where (Some name) d objects = naming name d objects
 abbrev pub with_added_lock : List ℕ → Semaphore → Objects → Objects
 with_added_lock name s objects = record objects { locks = with_name name (length objects.semaphores) objects.locks; semaphores = objects.semaphores ++ s ∷ [] }
 
--- a lock is made, of which no token is given
+-- a lock is made, of which no token is held
 abbrev pub with_new_lock : List ℕ → ℕ → Objects → Objects
 with_new_lock name tokens objects = with_added_lock name (new_semaphore name tokens) objects
 
@@ -57,7 +57,7 @@ with_new_lock name tokens objects = with_added_lock name (new_semaphore name tok
 abbrev pub with_lock : ℕ → Semaphore → Objects → Objects
 with_lock l s objects = record objects { semaphores = slice_set objects.semaphores l s }
 
--- the lock that is found changes, which isn't told; an id of no lock changes nothing
+-- the lock that is found changes, which isn't logged; an id of no lock changes nothing
 abbrev pub lock_changed : ℕ → (Semaphore → Semaphore) → Option Semaphore → Objects → Objects
 lock_changed l change None objects = objects
 lock_changed l change (Some s) objects = with_lock l (change s) objects
@@ -74,7 +74,7 @@ with_new_queue name size backlog objects = with_added_queue name (new_queue name
 abbrev pub with_queue : ℕ → Queue → Objects → Objects
 with_queue k q objects = record objects { queues = slice_set objects.queues k q }
 
--- the queue that is found changes, which isn't told; an id of no queue changes nothing
+-- the queue that is found changes, which isn't logged; an id of no queue changes nothing
 abbrev pub queue_changed : ℕ → (Queue → Queue) → Option Queue → Objects → Objects
 queue_changed k change None objects = objects
 queue_changed k change (Some q) objects = with_queue k (change q) objects

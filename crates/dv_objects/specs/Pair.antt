@@ -37,7 +37,7 @@ timing t = record { callback = Some (side.Timed t); errback = Some (side.Timed t
 abbrev pub ending : ℕ → Pair
 ending t = record { callback = Some (side.EndTimer t); errback = Some (side.EndTimer t) }
 
--- both come to a DeferredList as its child
+-- both reach a DeferredList as its child
 abbrev pub coming : Child → Pair
 coming child = record { callback = Some (side.Come child); errback = Some (side.Come child) }
 
@@ -49,7 +49,7 @@ results = record { callback = Some side.Results; errback = None }
 abbrev pub holding : ℕ → Body → Pair
 holding lock body = record { callback = Some (side.Hold lock body); errback = None }
 
--- both give a token of a lock back
+-- both release a token of a lock
 abbrev pub releasing : ℕ → Pair
 releasing lock = record { callback = Some (side.Release lock); errback = Some (side.Release lock) }
 

@@ -31,7 +31,7 @@ overflow = plain_failure queue_overflow []
 abbrev pub underflow : Failure
 underflow = plain_failure queue_underflow []
 
--- what the giving back of a token raises where none is given
+-- what the release of a token raises where none is held
 abbrev pub not_held : Failure
 not_held = plain_failure assertion_error (codes "not held")
 

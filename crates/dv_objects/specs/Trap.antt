@@ -1,4 +1,4 @@
--- What a trap gives for its input (Twisted: `Failure.trap`).
+-- What a trap returns for its input (Twisted: `Failure.trap`).
 use Rattle.std.specs.Prelude.{ℕ, List, Option, None, Some, codes}
 use Rattle.dv_value.specs.Builtin.{type_error}
 use Rattle.dv_value.specs.Classes.{check}

@@ -15,7 +15,7 @@ use std::marker::Model;
 use std::mem;
 
 /// The Cooperator: its tasks, whose turn it is, and its ticks, in each of which so many steps are taken (Twisted:
-/// `Cooperator`). Its changes aren't told; the world tells of them.
+/// `Cooperator`). Its changes aren't logged here; the world logs them.
 #[derive(Drop)]
 pub struct Cooperator<'s> {
     alloc: Global,
@@ -184,7 +184,7 @@ impl<'s> Cooperator<'s> {
         Ok(())
     }
 
-    /// Lets it go, and tells all its tasks, in order of making.
+    /// Drops it, and returns all its tasks, in order of making.
     pub fn into_tasks(self) -> Vec<Task<'s>>
         ensures { result.items ≡ self.entry.tasks }
     {

@@ -72,15 +72,15 @@ impl<'s> Given<'s> {
         }
     }
 
-    /// The value, to be kept. AllocError where it isn't made yet and memory is refused.
+    /// Returns the value, to be kept. AllocError where it isn't made yet and the allocation fails.
     pub fn make(self, alloc: Global) -> Result<Value, AllocError>
         ensures { IfOk result (λ value. value ≡ self.entry) }
     {
         made(alloc, self.held)
     }
 
-    /// The failure, where the value is one. AllocError where it isn't made yet and memory is refused; a value that is no
-    /// failure takes no memory.
+    /// Returns the failure, where the value is one. AllocError where it isn't made yet and the allocation fails; a
+    /// value that is no failure takes no memory.
     pub fn into_failure(self, alloc: Global) -> Result<Option<Boxed<Failure>>, AllocError>
         ensures { IfOk result (λ f. f ≡ failure_in self.entry) }
     {

@@ -45,7 +45,7 @@ impl Input {
         Input { kept: Kept::Null }
     }
 
-    /// A value. AllocError where memory is refused, which null, a boolean and an integer don't take.
+    /// A value. AllocError where out of memory, which null, a boolean and an integer don't take.
     pub fn new(alloc: Global, value: Value) -> Result<Input, AllocError>
         ensures { IfOk result (λ input. input ≡ value) }
     {

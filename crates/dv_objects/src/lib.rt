@@ -1,4 +1,4 @@
-//! What stands beside the Deferreds of a run: the pairs and cancellers that they hold, what bodies and cancels come to, names, and the tasks, loops, inline bodies and works that a script has made.
+//! What stands beside the Deferreds of a run: the pairs and cancellers that they hold, results of bodies and cancels, names, and the tasks, loops, inline bodies and works that a script has made.
 #![tactic(auto)]
 
 pub mod canceller;

@@ -45,7 +45,7 @@ impl<I: Copy + Drop> Names<I> {
         self.bound.get(name).copied()
     }
 
-    /// Binds a name. Where memory is refused, it stays bound to what it was.
+    /// Binds a name. Where the allocation fails, it stays bound to what it was.
     #[tactic(auto, using(crate::proofs::NamesLemmas::with_name_shown))]
     pub fn bind(&mut self, name: &str, id: I) -> Result<(), AllocError>
         ensures ok { OnOk result (self.new ≡ with_name name.now id self.old) }

@@ -29,36 +29,36 @@ pub struct Child {
 pub enum Side<'s> {
     /// A body of the script, whose input is the value.
     Body(BodyRef<'s>),
-    /// This Deferred is fired with the value, and the side gives null (Twisted: what `Deferred.chainDeferred` adds).
+    /// This Deferred is fired with the value, and the side returns null (Twisted: what `Deferred.chainDeferred` adds).
     Fire(DeferredId),
-    /// The value is given on, but TimeoutError in place of a cancellation where the time of this timer has come (Twisted:
-    /// the first of the two that `Deferred.addTimeout` adds).
+    /// The value is passed on, but TimeoutError in place of a cancellation where the time of this timer has come
+    /// (Twisted: the first of the two that `Deferred.addTimeout` adds).
     Timed(CallId),
-    /// This timer ends, where its time hasn't come, and the value is given on (Twisted: the second of the two).
+    /// This timer ends, where its time hasn't come, and the value is passed on (Twisted: the second of the two).
     EndTimer(CallId),
-    /// It comes to a DeferredList as this child (Twisted: what `DeferredList` adds to each child).
+    /// It reaches a DeferredList as this child (Twisted: what `DeferredList` adds to each child).
     Come(Child),
     /// What the children of a DeferredList gave is taken out of its result (Twisted: what `gatherResults` adds).
     Results,
-    /// A body is performed with a token of this lock, which is given back afterwards (Twisted: what `DeferredLock.run` and
-    /// `DeferredSemaphore.run` do once they have a token).
+    /// A body is performed with a token of this lock, which is released afterwards (Twisted: what `DeferredLock.run`
+    /// and `DeferredSemaphore.run` do once they have a token).
     Hold(LockId, BodyRef<'s>),
-    /// A token of this lock is given back (Twisted: what `DeferredLock.run` and `DeferredSemaphore.run` do at last).
+    /// A token of this lock is released (Twisted: what `DeferredLock.run` and `DeferredSemaphore.run` do at last).
     Release(LockId),
-    /// The next turn of this loop is scheduled, where it runs; else its Deferred is fired with its name. The side gives
-    /// null (Twisted: the callback that `LoopingCall` adds to what a turn gave).
+    /// The next turn of this loop is scheduled, where it runs; else its Deferred is fired with its name. The side
+    /// returns null (Twisted: the callback that `LoopingCall` adds to what a turn gave).
     NextTurn(LoopId),
-    /// This loop runs no more, and its Deferred is fired with the value, a failure; the side gives null (Twisted: the
-    /// errback that `LoopingCall` adds).
+    /// This loop runs no more, and its Deferred is fired with the value, a failure; the side returns null (Twisted:
+    /// the errback that `LoopingCall` adds).
     EndLoop(LoopId),
-    /// This task is paused once less, unless it has ended; the side gives null (Twisted: the callback that
-    /// `CooperativeTask` adds to what a step gave).
+    /// This task is paused once less, unless it has ended; the side returns null (Twisted: the callback
+    /// that `CooperativeTask` adds to what a step gave).
     ResumeTask(TaskId),
-    /// This task ends with the value, a failure, unless it has ended; the side gives null (Twisted: the errback that
-    /// `CooperativeTask` adds).
+    /// This task ends with the value, a failure, unless it has ended; the side returns null (Twisted: the errback
+    /// that `CooperativeTask` adds).
     FailTask(TaskId),
-    /// What this inline body awaits has come: the body goes on with the value, a failure of which is thrown. The side gives
-    /// null (Twisted: what `inlineCallbacks` adds to what is awaited).
+    /// What this inline body awaits has come: the body goes on with the value, a failure of which is thrown. The side
+    /// returns null (Twisted: what `inlineCallbacks` adds to what is awaited).
     Resume(Inline),
 }
 
@@ -163,7 +163,7 @@ impl<'s> Pair<'s> {
         }
     }
 
-    /// Both come to a DeferredList (Twisted: `DeferredList.__init__`).
+    /// Both reach a DeferredList (Twisted: `DeferredList.__init__`).
     pub fn coming(child: Child) -> Pair<'s>
         ensures { result ≡ coming child }
     {
@@ -190,7 +190,7 @@ impl<'s> Pair<'s> {
         }
     }
 
-    /// Both give a token of a lock back (Twisted: `DeferredLock.run`, `DeferredSemaphore.run`).
+    /// Both release a token of a lock (Twisted: `DeferredLock.run`, `DeferredSemaphore.run`).
     pub fn releasing(lock: LockId) -> Pair<'s>
         ensures { result ≡ releasing lock }
     {

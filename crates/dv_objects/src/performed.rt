@@ -6,10 +6,10 @@ use dv_value::boxed::Boxed;
 use dv_value::failure::Failure;
 use std::alloc::{AllocError, Global};
 
-/// What performing something came to.
+/// What performing something resulted in.
 #[derive(Drop)]
 pub enum Performed<'s> {
-    /// It is done, and gives nothing.
+    /// It is done, and returns nothing.
     Done,
     /// A body gave this, a failure where its value is one.
     Gave(Given<'s>),
@@ -22,8 +22,8 @@ pub enum Performed<'s> {
 impl<'s> Performed<'s> {
     ghost use Rattle.dv_objects.specs.Performed.{failed_with};
 
-    /// The failure that it came to, where it raised one or gave one. AllocError where it gave one that isn't made yet and
-    /// memory is refused.
+    /// Returns the failure that it resulted in, where it raised or returned one. AllocError where it returned one that
+    /// isn't made yet and the allocation fails.
     pub fn into_failure(self, alloc: Global) -> Result<Option<Boxed<Failure>>, AllocError>
         ensures { IfOk result (λ f. f ≡ failed_with self.entry) }
     {

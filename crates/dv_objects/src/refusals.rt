@@ -35,7 +35,7 @@ pub fn underflow<'s>(alloc: Global) -> Result<Performed<'s>, AllocError>
     Ok(Performed::Raised(failure))
 }
 
-/// What the giving back of a token raises where none is given.
+/// What the release of a token raises where none is held.
 pub fn not_held<'s>(alloc: Global) -> Result<Performed<'s>, AllocError>
     ensures { IfOk result (λ p. p ≡ Raised not_held) }
 {

@@ -19,7 +19,7 @@ pub enum TaskEnd {
     Finished,
     /// It was stopped.
     Stopped,
-    /// A body of it, or a Deferred that it waited for, came to this failure.
+    /// A body of it, or a Deferred that it waited for, resulted in this failure.
     Failed(Boxed<Failure>),
 }
 

@@ -1,4 +1,4 @@
--- How a program tells how its run ended: its exit status, and what it writes to standard error.
+-- How a program reports how its run ended: its exit status, and what it writes to standard error.
 use Rattle.std.specs.Prelude.{ℕ, if◌then◌else◌, List, [], Result, Ok, Err, codes}
 use Rattle.dv_engine.specs.declared.report.Report.{Report}
 use Rattle.dv_reader.specs.Texts.{refusal_text}
@@ -17,7 +17,7 @@ abbrev pub status : Result Report RunFault → ℕ
 status (Ok report) = if report.stopped then 1 else 0
 status (Err fault) = fault_status fault
 
--- what each fault is called; a refused script is said to be, with its reason
+-- what each fault is called; a refused script is reported as such, with its reason
 abbrev pub fault_text : RunFault → List ℕ
 fault_text (ScriptRefused fault) = refusal_text fault
 fault_text OutOfMemory = codes "out of memory"

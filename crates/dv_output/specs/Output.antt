@@ -1,4 +1,4 @@
--- The lines that tell the outcomes of a run.
+-- The lines that print the outcomes of a run.
 use Rattle.std.specs.Prelude.{ℕ, suc, nat_eq, if◌then◌else◌, List, [], ◌∷◌, ◌++◌, codes}
 use Rattle.dv_value.specs.ValueText.{outcome}
 use Rattle.dv_value.specs.declared.classes.Class.{Class}
@@ -14,7 +14,7 @@ state_text table Unfired = codes "unfired"
 state_text table (Waiting id) = codes "waiting " ++ hash id
 state_text table (Fired value) = outcome table value
 
--- a paused one is said to be
+-- a paused one is printed as such
 abbrev pub pauses_text : ℕ → List ℕ
 pauses_text pauses = if nat_eq pauses 0 then [] else codes "paused "
 

@@ -4,13 +4,13 @@ use dv_source::source::ReadError;
 use std::alloc::AllocError;
 use thiserror::Error;
 
-/// Why a run gave up.
+/// Why a run failed.
 #[derive(Clone, Copy, Debug, PartialEq, Eq, Drop, Error)]
 pub enum RunFault {
     /// The input says no script. Nothing was written.
     #[error("{0}")]
     ScriptRefused(ScriptFault),
-    /// Memory was refused. A prefix of the text was written.
+    /// An allocation failed. A prefix of the text was written.
     #[error("out of memory")]
     OutOfMemory,
     /// The reader failed. Nothing was written.

@@ -26,7 +26,7 @@ pub fn status_of(stopped: bool) -> u8
     if stopped { 1 } else { 0 }
 }
 
-/// The exit status of a run that gave up.
+/// The exit status of a run that failed.
 pub fn fault_status(fault: RunFault) -> u8
     ensures { result ≡ fault_status fault }
 {
@@ -37,7 +37,7 @@ pub fn fault_status(fault: RunFault) -> u8
     }
 }
 
-/// What goes to standard error where a run gave up: a line of this text.
+/// What goes to standard error where a run failed: a line of this text.
 pub fn fault_text(fault: RunFault) -> &'static str
     ensures { result.now ≡ fault_text fault }
 {

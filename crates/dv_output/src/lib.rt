@@ -1,4 +1,4 @@
-//! What is told of a run: the text of its report, why it gave up, and its exit status.
+//! What is printed about a run: the text of its report, why it failed, and its exit status.
 #![tactic(auto)]
 
 pub mod error;

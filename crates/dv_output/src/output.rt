@@ -70,7 +70,7 @@ pub fn write_line(
     line.push('\n')
 }
 
-/// Writes a line for each outcome, some kilobytes at a time, with one buffer for all. Where it gives up, what was
+/// Writes a line for each outcome, some kilobytes at a time, with one buffer for all. Where it fails, what was
 /// written is a prefix of the text.
 fn print_outcomes<W: Sink>(
     alloc: Global,
@@ -94,7 +94,7 @@ fn print_outcomes<W: Sink>(
 }
 
 /// Writes the journal, and then a line for each outcome. WriteFault where the sink fails or takes no byte, OutOfMemory where
-/// memory is refused; what was written then is a prefix of the text.
+/// an allocation fails; what was written then is a prefix of the text.
 #[tactic(auto, using(crate::proofs::OutputLemmas::both_parts))]
 pub fn print_report<W: Sink>(
     alloc: Global,

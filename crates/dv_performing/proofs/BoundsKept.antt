@@ -1,4 +1,4 @@
--- A run makes no more than it has told.
+-- A run makes no more than it has logged.
 use Rattle.std.proofs.Common.{◌≡◌, ℕ, ◌+◌, ◌-◌, ◌≤◌, ◌<◌, ◌^◌, true, false, [], ◌∷◌, length, slice_set, arith, length-append}
 use Rattle.std.proofs.lemmas.Bool.{leb-true}
 use Rattle.std.proofs.lemmas.List.{length-set}
@@ -23,7 +23,7 @@ use Rattle.dv_performing.proofs.Weights.{weighs_one}
 use Rattle.dv_world.specs.World.{World, Records, state_of}
 use Rattle.dv_objects.specs.Refusals.{cancelled}
 
--- each Deferred and each pause was told
+-- each Deferred and each pause was logged
 record Fine (s : Both) : Type 0 where
   told : length s.0 + all_pauses s.0 ≤ total_weight s.1.entries
   within : total_weight s.1.entries ≤ s.1.limit

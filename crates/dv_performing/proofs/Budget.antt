@@ -92,7 +92,7 @@ kept = record {
 pub spares : Lasting (λ w u. Spares (state_of w) (state_of u))
 spares = every_step Spares kept
 
--- what is told is not taken back, and the limit stays
+-- what is logged is not taken back, and the limit stays
 record Grows (s t : Both) : Type 0 where
   heavier : total_weight s.1.entries ≤ total_weight t.1.entries
   same : t.1.limit ≡ s.1.limit
@@ -141,7 +141,7 @@ step_took d w =
     let grown = (every_step Grows growing).by_step d w in
     omega (arith, step_uses d w, grown.heavier, grown.same)
 
--- whom a cancel reaches was told
+-- whom a cancel reaches was logged
 abbrev pub reaches : Reached → ℕ
 reaches reached.Nothing = 0
 reaches (reached.Fire d) = 1
@@ -168,7 +168,7 @@ told_took d w true x =
     omega (arith, total_weight_push w.journal.entries (entry.Cancel d), leb-true (total_weight w.journal.entries + weight_of (entry.Cancel d)) w.journal.limit x, reaches_one (reached_from d w.records))
 told_took d w false x = omega arith
 
--- a cancel takes what it is told by
+-- a cancel takes the entry that logs it
 pub cancel_took : (d : ℕ) (w : World) → budget (state_of (cancel d w).1) + reaches (cancel d w).0 ≤ budget (state_of w)
 unfolding cancel
 cancel_took d w =

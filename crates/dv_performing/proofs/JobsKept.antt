@@ -62,7 +62,7 @@ unless_and : {A : Type 0} (b : Bool) (x : A) (p : A × World) (w : World) → p.
 unless_and true x p w e = same w w refl
 unless_and false x p w e = same w p.1 e
 
--- what a step of the store comes to changes no works
+-- the result of a step of the store changes no works
 after_same : {A : Type 0} (r : Result A Stop) (s : State Pair Canceller) (w : World) → (after r s w).works ≡ w.works
 after_same (Ok x) s w = refl
 after_same (Err stop) s w = refl

@@ -80,7 +80,7 @@ pub record Kept (R : Both → Both → Type 0) : Type 0 where
   pub unpauses : (d : ℕ) (r : Kind) (s : Both) → fits s.1 (entry.Unpause d) ≡ true → slice_get s.0 d ≡ Some r → nat_eq r.pauses 0 ≡ false → R s (telling_of (entry.Unpause d) (slice_set s.0 d (with_pauses (r.pauses - 1) r)) s)
 
 module _ (R : Both → Both → Type 0) (k : Kept R) where
-  -- told where there is room
+  -- logged where there is room
   room : {A : Type 0} (b : Bool) (x y : A) (s u : Both) → (b ≡ true → R s u) → R s (cond {A = A × Both} b (x, u) (y, s)).1
   room true x y s u h = h refl
   room false x y s u h = k.stays s

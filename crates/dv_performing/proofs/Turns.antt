@@ -31,7 +31,7 @@ turn_falls stack f old new h e =
     subst (λ fs. turns_of new.stack new.performed new.world < turns_of fs old.performed old.world) (sym h)
     (subst (λ (x : Turned). turns_of x.0 x.1 x.2 < turns_of (f ∷ old.stack) old.performed old.world) (sym (parts (rule_of f old.performed) old new e)) (turns_fall f old.stack old.performed old.world))
 
--- no more is made than is told
+-- no more is made than is logged
 pub turn_bounded : (f : Frame) (old new : Turn) → new ≡ after (rule_of f old.performed) old → Bounded old.world → Bounded new.world
 turn_bounded f old new e b = subst (λ (turn : Turn). Bounded turn.world) (sym e) (((turned_fair f old.performed old.world).comes.keeps StaysBounded stays_bounded).goes_on b)
 

@@ -103,12 +103,12 @@ pub record ArePosters (rings : List Ring) (posters : List Poster) : Type 0 where
 abbrev pub AreOf : Inbox → List Poster → Type 0
 AreOf inbox posters = ArePosters (rings_of inbox) posters
 
--- going round the callers from `next` on, this caller is passed before the one that is come to
+-- going round the callers from `next` on, this caller is passed before the one that is reached
 abbrev pub IsPassed : ℕ → ℕ → ℕ → Type 0
 IsPassed next to caller = ((next ≤ caller) × (caller < to)) ⊎ ((to < next) × ((next ≤ caller) ⊎ (caller < to)))
 
 -- a post is taken: the next one of its caller, of which more may be known than before. Nothing changes of the other callers.
--- Of those that were passed all that was known had been taken, and the next time the caller after this one is looked at first
+-- All that was known of those that were passed had been taken, and the next time the caller after this one is looked at first
 pub record Takes (old new : Inbox) (posted : Posted) : Type 0 where
   pub within : posted.caller < callers_of old
   pub passed : (caller : ℕ) → IsPassed old.next posted.caller caller → IsTaken old caller

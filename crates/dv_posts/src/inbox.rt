@@ -12,7 +12,7 @@ use std::alloc::{AllocError, Global};
 use std::marker::Model;
 
 /// Where the posts of up to `MOST_CALLERS` callers are taken, each posting over a ring of its own (Twisted: the reactor's
-/// queue of what `callFromThread` is given).
+/// queue of what `callFromThread` is called with).
 #[derive(Drop)]
 pub struct Inbox {
     receivers: Vec<Receiver>,
@@ -38,7 +38,7 @@ impl Inbox {
     ghost use Rattle.dv_posts.specs.Posts.{AllTaken, AreOf, IsFresh, IsNew, IsOf, IsRest, Learns, SameInbox, Takes, counts_of};
 
     /// Opens an inbox for so many callers, and a poster for each of them, in order, with room for `capacity` posts of each
-    /// that weren't yet taken. AllocError where memory is refused.
+    /// that weren't yet taken. AllocError on allocation failure.
     pub fn open(
         alloc: Global,
         callers: u32,
@@ -86,8 +86,8 @@ impl Inbox {
         let _ = receiver.learn(poster);
     }
 
-    /// Takes all that is left, now that all posters are here and nothing more is posted. Where memory is refused, what was
-    /// left is lost.
+    /// Takes all that is left, now that all posters are here and nothing more is posted. On allocation failure, what
+    /// was left is lost.
     pub fn gather(self, alloc: Global, posters: Vec<Poster>) -> Result<Taken, AllocError>
         requires of { AreOf self posters.items }
         ensures rest { IfOk result (λ taken. IsRest self posters.items taken.rest) }

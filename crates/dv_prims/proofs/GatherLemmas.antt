@@ -62,6 +62,6 @@ put_counts places i kept old h g k =
 pub set_nowhere : (places : List Value) (i : ℕ) (kept : Value) → length places ≤ i → slice_set places i kept ≡ places
 set_nowhere places i kept h = set_out places i kept h
 
--- what was gathered of the first, and what the rest comes to
+-- what was gathered of the first, and what the rest results in
 abbrev pub with_front : List Value → Option (List Value) → Option (List Value)
 with_front front rest = option_map (λ vs. front ++ vs) rest

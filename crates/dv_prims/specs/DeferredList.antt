@@ -40,7 +40,7 @@ first_success i v = value.List (v ∷ value.Int (pos i) ∷ [])
 abbrev pub first_failure : ℕ → Failure → Value
 first_failure i failure = value.Fault (roll-Failure (record { class = builtin.first_error; message = []; sub = Some (roll-Sub (record { index = i; failure = failure })) }))
 
--- a place that no child has come to
+-- a place that no child has reached
 abbrev pub is_null_step : Value-F Value → Bool
 is_null_step Value-F.Null = true
 is_null_step (Value-F.Bool b) = false
@@ -52,7 +52,7 @@ is_null_step (Value-F.Fault f) = false
 abbrev pub is_missing : Value → Bool
 is_missing v = is_null_step (out-Value v)
 
--- a place counts one as long as no child has come to it
+-- a place counts one as long as no child has reached it
 abbrev pub missing_of : Value → ℕ
 missing_of v = if is_missing v then 1 else 0
 

@@ -63,7 +63,7 @@ abbrev pub got_from : List Value → ℕ → Queue → Queue
 got_from [] d q = record q { waiting = q.waiting ++ d ∷ [] }
 got_from (first ∷ rest) d q = record q { stored = rest }
 
--- d asks for a value, and is told which it has, if it doesn't wait
+-- d asks for a value, and learns which it has, if it doesn't wait
 abbrev pub get : ℕ → State Queue → Told (Option Value) Queue
 get d s = telling (entry.Get s.0.name d) (slice_get s.0.stored 0) (got_from s.0.stored d s.0) s
 

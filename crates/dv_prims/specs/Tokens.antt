@@ -20,7 +20,7 @@ pub record Semaphore : Type 0 where
   pub given : ℕ
   pub waiting : List ℕ
 
--- no token is given at first
+-- no token is held at first
 abbrev pub new_semaphore : List ℕ → ℕ → Semaphore
 new_semaphore name tokens = record { name = name; tokens = tokens; given = 0; waiting = [] }
 
@@ -36,7 +36,7 @@ make_semaphore name tokens j = making (entry.Semaphore name tokens) (new_semapho
 abbrev pub has_free : Semaphore → Bool
 has_free s = nat_lt s.given s.tokens
 
--- whether no token is given
+-- whether no token is held
 abbrev pub is_unheld : Semaphore → Bool
 is_unheld s = nat_eq s.given 0
 
@@ -48,16 +48,16 @@ first_waiting s = slice_get s.waiting 0
 abbrev pub grant_of : Semaphore → Grant
 grant_of s = if has_free s then Now else Waits
 
--- d is given a free token, or waits, last: one that waits already waits once more
+-- d gets a free token, or waits, last: one that waits already waits once more
 abbrev pub asked : ℕ → Semaphore → Semaphore
 asked d s = if has_free s then record s { given = s.given + 1 } else record s { waiting = s.waiting ++ d ∷ [] }
 
--- a token that is given back goes to the first that waits, who waits no longer; with nobody waiting it is free
+-- a token that is released goes to the first that waits, who waits no longer; with nobody waiting it is free
 abbrev pub released_to : List ℕ → Semaphore → Semaphore
 released_to [] s = record s { given = s.given - 1 }
 released_to (first ∷ rest) s = record s { waiting = rest }
 
--- a token is given back
+-- a token is released
 abbrev pub released : Semaphore → Semaphore
 released s = released_to s.waiting s
 
@@ -73,7 +73,7 @@ without d waiting = remove_key (nat_eq d) waiting
 abbrev pub forgotten : ℕ → Semaphore → Semaphore
 forgotten d s = record s { waiting = without d s.waiting }
 
--- d asks for a token, and is told whether it has one
+-- d asks for a token, and learns whether it has one
 abbrev pub acquire : ℕ → State Semaphore → Told Grant Semaphore
 acquire d s = telling (entry.Acquire s.0.name d) (grant_of s.0) (asked d s.0) s
 
@@ -81,11 +81,11 @@ acquire d s = telling (entry.Acquire s.0.name d) (grant_of s.0) (asked d s.0) s
 abbrev pub Released : Type 0
 Released = Result (Option ℕ) (Fault NotHeld) × State Semaphore
 
--- a token that is given is given back, and whoever gets it is answered
+-- a token that is held is released, and whoever gets it is answered
 abbrev pub release_held : State Semaphore → Released
 release_held s = if fits s.1 (entry.Release s.0.name) then (Ok (first_waiting s.0), (released s.0, with_entry s.1 (entry.Release s.0.name))) else (Err fault.Limit, s)
 
--- a token is given back, where one is given
+-- a token is released, where one is held
 abbrev pub release : State Semaphore → Released
 release s = if is_unheld s.0 then (Err (fault.Refused (record {})), s) else release_held s
 

@@ -1,12 +1,12 @@
 use dv_journal::error::Fault;
 use thiserror::Error;
 
-/// No token is given.
+/// No token is held.
 #[derive(Clone, Copy, Debug, PartialEq, Eq, Error)]
 #[error("not held")]
 pub struct NotHeld;
 
-/// Why a token isn't given back.
+/// Why a token isn't released.
 pub type ReleaseFault = Fault<NotHeld>;
 
 /// As many values are stored as may be (Twisted: `QueueOverflow`).

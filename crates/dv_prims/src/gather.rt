@@ -73,7 +73,7 @@ impl Gather {
     }
 
     /// A child came with its value, which may be a failure: answers what the list is to be fired with, if it is, and what
-    /// the child goes on with. A list that is fired fires nothing more. Where memory is refused, nothing changes.
+    /// the child goes on with. A list that is fired fires nothing more. Where the allocation fails, nothing changes.
     pub fn came(&mut self, index: u32, value: Value) -> Result<Came, AllocError>
         ensures ok { IfOk result (λ answer. (answer, self.new) ≡ came index value self.old) }
         ensures err { OnErr result (self.new ≡ self.old) }
@@ -168,7 +168,7 @@ fn put_in_place(places: &mut Items<Value>, missing: usize, place: usize, kept: V
     left
 }
 
-/// One for a place that no child has come to.
+/// One for a place that no child has reached.
 fn missing_of(place: &Value) -> usize
     ensures { result ≡ missing_of place.now }
 {

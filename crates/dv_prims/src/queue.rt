@@ -14,7 +14,7 @@ use dv_value::value::Value;
 use std::alloc::{AllocError, Global};
 use std::marker::Model;
 
-/// What a queue has when it is let go.
+/// What a queue has when it is dropped.
 #[derive(Drop)]
 pub struct QueueParts {
     /// Its name at its making.
@@ -59,7 +59,7 @@ impl Queue {
     ghost use Rattle.dv_prims.specs.Tokens.{is_waiting};
     ghost use Rattle.dv_journal.specs.declared.entry.Entry.TheVariants as entry;
 
-    /// Makes a queue in which nothing is stored, and tells of it. It stores at most as many values as its size, and at
+    /// Makes a queue in which nothing is stored, and logs it. It stores at most as many values as its size, and at
     /// most as many Deferreds wait for one as its backlog; None is no bound (Twisted: `DeferredQueue`).
     pub fn new(
         alloc: Global,
@@ -107,7 +107,7 @@ impl Queue {
     }
 
     /// Puts a value: the first Deferred that waits gets it, and both are answered, for it to be fired; with nobody waiting
-    /// the value is stored (Twisted: `DeferredQueue.put`). Where as many are stored as may be, nothing is told.
+    /// the value is stored (Twisted: `DeferredQueue.put`). Where as many are stored as may be, nothing is logged.
     pub fn put(
         &mut self,
         journal: &mut Journal,
@@ -141,7 +141,7 @@ impl Queue {
         }
     }
 
-    /// The entry that tells of a value that is put.
+    /// The entry that logs a value that is put.
     fn putting(&self, value: &Value) -> Result<Entry, AllocError>
         ensures { IfOk result (λ told. told ≡ entry.Put self.now.name value.now) }
     {
@@ -176,7 +176,7 @@ impl Queue {
         self.waiting.remove(id)
     }
 
-    /// Lets it go, and tells what it had.
+    /// Drops it, and returns what it had.
     pub fn into_parts(self) -> Result<QueueParts, AllocError>
         ensures name { IfOk result (λ parts. parts.name ≡ self.name) }
         ensures stored { IfOk result (λ parts. parts.stored ≡ self.stored) }
@@ -233,7 +233,7 @@ fn has_room(number: usize, most: Option<u32>) -> bool
     }
 }
 
-/// A value is stored after the others, and that is told. Where memory is refused, it isn't.
+/// A value is stored after the others, and that is logged. Where the allocation fails, it isn't.
 #[tactic(auto, using(crate::proofs::WaitingLemmas::item_taken_back))]
 fn store(
     journal: &mut Journal,

@@ -20,7 +20,7 @@ pub enum Grant {
     Waits,
 }
 
-/// What a semaphore has when it is let go.
+/// What a semaphore has when it is dropped.
 #[derive(Drop)]
 pub struct SemaphoreParts {
     /// Its name at its making.
@@ -63,7 +63,7 @@ impl Semaphore {
     ghost use Rattle.dv_journal.specs.Telling.{UnlessMemory};
     ghost use Rattle.dv_prims.specs.Tokens.{make_lock, make_semaphore, has_free, is_unheld, first_waiting, acquire, release, ReleasesUnlessMemory, is_waiting, forgotten};
 
-    /// Makes a lock, whose one token is free, and tells of it (Twisted: `DeferredLock`).
+    /// Makes a lock, whose one token is free, and logs it (Twisted: `DeferredLock`).
     pub fn lock(alloc: Global, journal: &mut Journal, name: &str) -> Result<Semaphore, Stop>
         ensures { UnlessMemory result journal.old journal.new (make_lock name.now journal.old) }
     {
@@ -76,7 +76,7 @@ impl Semaphore {
         Ok(all_free(alloc, kept, 1))
     }
 
-    /// Makes a semaphore of so many tokens, which are free, and tells of it (Twisted: `DeferredSemaphore`).
+    /// Makes a semaphore of so many tokens, which are free, and logs it (Twisted: `DeferredSemaphore`).
     pub fn new(
         alloc: Global,
         journal: &mut Journal,
@@ -108,14 +108,14 @@ impl Semaphore {
         self.given < self.tokens
     }
 
-    /// Whether no token is given.
+    /// Whether no token is held.
     pub fn is_unheld(&self) -> bool
         ensures { result ≡ is_unheld self.now }
     {
         self.given == 0
     }
 
-    /// Who is to get the next token that is given back; None where nobody waits.
+    /// Who is to get the next token that is released; None where nobody waits.
     pub fn first_waiting(&self) -> Option<DeferredId>
         ensures { result ≡ first_waiting self.now }
     {
@@ -147,8 +147,8 @@ impl Semaphore {
         Ok(Grant::Waits)
     }
 
-    /// A token is given back: the first that waits gets it, and is answered, to be fired; with nobody waiting it is free
-    /// (Twisted: `DeferredSemaphore.release`, `DeferredLock.release`). Where none is given, nothing is told.
+    /// Releases a token: the first that waits gets it, and is answered, to be fired; with nobody waiting it is free
+    /// (Twisted: `DeferredSemaphore.release`, `DeferredLock.release`). Where none is held, nothing is logged.
     pub fn release(&mut self, journal: &mut Journal) -> Result<Option<DeferredId>, ReleaseFault>
         ensures { ReleasesUnlessMemory result (self.old, journal.old) (self.new, journal.new) (release (self.old, journal.old)) }
     {
@@ -179,7 +179,7 @@ impl Semaphore {
         self.waiting.remove(id)
     }
 
-    /// Lets it go, and tells what it had.
+    /// Drops it, and returns what it had.
     pub fn into_parts(self) -> Result<SemaphoreParts, AllocError>
         ensures name { IfOk result (λ parts. parts.name ≡ self.name) }
         ensures tokens { IfOk result (λ parts. parts.tokens ≡ self.tokens) }
@@ -204,7 +204,7 @@ impl Semaphore {
 
 ghost use Rattle.dv_prims.specs.Tokens.{new_semaphore};
 
-/// A semaphore of which no token is given.
+/// A semaphore of which no token is held.
 fn all_free(alloc: Global, name: Text, tokens: u32) -> Semaphore
     ensures { result ≡ new_semaphore name tokens }
 {

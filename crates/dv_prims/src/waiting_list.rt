@@ -81,7 +81,7 @@ impl WaitingList {
         Ok(items)
     }
 
-    /// A Deferred waits, last. Where it is refused memory, or as the 2^64th of this list, it doesn't.
+    /// A Deferred waits, last. Where the allocation fails, or as the 2^64th of this list, it doesn't.
     pub fn push_back(&mut self, id: DeferredId) -> Result<(), AllocError>
         ensures ok { OnOk result (self.new ≡ self.old ++ id ∷ []) }
         ensures err { OnErr result (self.new ≡ self.old) }
@@ -148,7 +148,7 @@ ghost use Rattle.std.specs.BTreeSet.{contains};
 ghost use Rattle.std.specs.Ordering.{nat_cmp};
 ghost use Rattle.dv_prims.specs.Tickets.{by_number, Gives, Joins, Keeps};
 
-/// Keeps a ticket that nobody has, with who has it. Where memory is refused, it isn't kept.
+/// Keeps a ticket that nobody has, with who has it. Where the allocation fails, it isn't kept.
 fn keep(
     order: &mut BTreeMap<u64, u32>,
     tickets: &mut BTreeSet<(u32, u64)>,
@@ -175,7 +175,7 @@ fn keep(
 
 ghost use Rattle.dv_journal.specs.Journal.{fits, with_entry};
 
-/// A Deferred joins those that wait, and that is told. Where memory is refused, it doesn't.
+/// A Deferred joins those that wait, and that is logged. Where the allocation fails, it doesn't.
 #[tactic(auto, using(crate::proofs::WaitingLemmas::item_taken_back))]
 pub fn join(
     journal: &mut Journal,

@@ -1,4 +1,4 @@
--- The test of the version tells whether a value has it.
+-- The test of the version shows whether a value has it.
 use Rattle.std.proofs.Common.{◌≡◌, ℕ, nat_eq, Bool, true, false, ◌||◌, ◌⊎◌, inl, inr, Option, Some, None, option_and_then, refl, codes}
 use Rattle.std.proofs.lemmas.Bool.{eqb-true}
 use Rattle.serde_json.specs.Data.{Data, number, unsigned, negative, float}

@@ -16,7 +16,7 @@ SaysOneAtMost = (bytes : List ℕ) (s t : Script) → Says bytes s → Says byte
 abbrev pub RefusedSaysNone : Type 0
 RefusedSaysNone = (bytes : List ℕ) (fault : ScriptFault) (s : Script) → fault ≢ OutOfMemory → Refuses fault bytes → Says bytes s → ⊥
 
--- bytes are refused for one reason, want of memory aside
+-- bytes are refused for one reason, out of memory aside
 abbrev pub RefusedForOneReason : Type 0
 RefusedForOneReason = (bytes : List ℕ) (a b : ScriptFault) → a ≢ OutOfMemory → b ≢ OutOfMemory → Refuses a bytes → Refuses b bytes → a ≡ b
 

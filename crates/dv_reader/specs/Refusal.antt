@@ -73,7 +73,7 @@ pub record Says (bytes : List ℕ) (script : Script) : Type 0 where
   pub known : are_known json draft ≡ true
   pub pooled : are_pooled json draft ≡ true
 
--- why the bytes are refused, each reason where none before it holds; want of memory may come at any time
+-- why the bytes are refused, each reason where none before it holds; out of memory may occur at any time
 abbrev pub Refuses : ScriptFault → List ℕ → Type 0
 Refuses TooLong bytes = MOST_BYTES < length bytes
 Refuses NotJson bytes = (length bytes ≤ MOST_BYTES) × (IsUtf8 bytes → read bytes ≡ None)

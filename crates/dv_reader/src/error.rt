@@ -24,7 +24,7 @@ pub enum ScriptFault {
     BadName,
     /// A declared class has a name that is taken; or a parent, or a class that is used, isn't in the table.
     BadClass,
-    /// Memory was refused: this may come in place of any other answer.
+    /// An allocation failed: this may stand in place of any other answer.
     OutOfMemory,
     /// A pool's name is given twice, or a pool that is used isn't declared.
     BadPool,

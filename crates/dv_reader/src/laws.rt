@@ -3,7 +3,7 @@
 ghost use Rattle.dv_reader.specs.Laws.{SaysOneAtMost, RefusedForOneReason, RefusedSaysNone, SaysOrIsRefused, ParentsOfScriptsStandBefore, PathsOfScriptsGoUp, TimesAreKept};
 
 /// A document says a script or is refused, one of the two, and says no other script. What is refused, a document or not, is so for one
-/// reason, want of memory aside.
+/// reason, out of memory aside.
 pub fn documents_say_one_script_or_are_refused()
     ensures one { SaysOneAtMost }
     ensures either { SaysOrIsRefused }

@@ -5,7 +5,7 @@ use std::random::RandomSource;
 use std::sync::Wait;
 use std::thread::Threads;
 
-/// What the runs of a file's rows came to.
+/// The results of the runs of a file's rows.
 #[derive(Drop)]
 pub struct Findings<'a> {
     file: &'a str,

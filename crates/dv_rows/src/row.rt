@@ -14,7 +14,7 @@ const ROOM: usize = 8_388_608;
 /// The ending of a row whose output is the line that says why the script is refused.
 const WHY: &str = "why";
 
-/// A script, or scripts of one kind, and what each run of them comes to.
+/// A script, or scripts of one kind, and what each run of them results in.
 #[derive(Drop)]
 pub struct Row<'a> {
     pub name: &'a str,

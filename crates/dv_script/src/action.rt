@@ -58,17 +58,17 @@ pub enum Action {
     List(Text, Items<Text>, Items<ListFlag>),
     /// Makes the Deferred of the children's results (Twisted: `gatherResults`).
     Gather(Text, Items<Text>, Items<GatherFlag>),
-    /// Makes a Deferred of what the body gives (Twisted: `maybeDeferred`).
+    /// Makes a Deferred of what the body returns (Twisted: `maybeDeferred`).
     Maybe(Text, Body),
     /// Makes a lock (Twisted: `DeferredLock`).
     Lock(Text),
     /// Makes a semaphore of this many tokens, from 1 to 65,536 (Twisted: `DeferredSemaphore`).
     Semaphore(Text, u32),
-    /// Makes the Deferred that is fired when a token of the lock or semaphore is given (Twisted: `acquire`).
+    /// Makes the Deferred that is fired when a token of the lock or semaphore is granted (Twisted: `acquire`).
     Acquire(Text, Text),
-    /// Gives a token of the lock or semaphore back (Twisted: `release`).
+    /// Releases a token of the lock or semaphore (Twisted: `release`).
     Release(Text),
-    /// Makes the Deferred of what the body gives while it has a token of the lock or semaphore (Twisted: `run`).
+    /// Makes the Deferred of what the body returns while it has a token of the lock or semaphore (Twisted: `run`).
     RunWith(Text, Text, Body),
     /// Makes a queue with this size and backlog, each no bound or from 0 to 65,536 (Twisted: `DeferredQueue`).
     Queue(Text, Option<u32>, Option<u32>),
@@ -81,7 +81,7 @@ pub enum Action {
     /// Cancels the delayed call (Twisted: `DelayedCall.cancel`).
     CancelCall(Text),
     /// Makes a loop and, named second, its Deferred; it performs the body each so many ticks, from 1 to 10^12, and at
-    /// once where that is said (Twisted: `LoopingCall.start`).
+    /// once where that is asked for (Twisted: `LoopingCall.start`).
     Loop(Text, Text, u64, bool, Body),
     /// Stops the loop (Twisted: `LoopingCall.stop`).
     StopLoop(Text),

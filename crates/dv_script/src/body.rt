@@ -5,7 +5,7 @@ use dv_value::items::Items;
 use dv_value::text::Text;
 use dv_value::value::Value;
 
-/// How a body gives its result, from its input.
+/// How a body returns its result, from its input.
 #[derive(Drop)]
 pub enum End {
     /// The value, whatever the input.

@@ -38,7 +38,7 @@ pub struct Script {
 }
 
 impl Script {
-    /// Lets a script go. Who does it by this call needs no proof of its own of what a script holds.
+    /// Drops a script. A caller of it needs no proof of its own of what a script holds.
     pub fn discard(self) {
         drop(self);
     }

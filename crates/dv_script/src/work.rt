@@ -8,14 +8,14 @@ use std::alloc::{AllocError, Global};
 /// As many jobs as a run has at most.
 pub const MOST_JOBS: usize = 4_096;
 
-/// What a thread is given to do (Twisted: the function of `deferToThread`).
+/// What a thread runs (Twisted: the function of `deferToThread`).
 #[derive(Debug, Drop)]
 pub enum Work {
-    /// It gives the value.
+    /// It returns the value.
     Value(Value),
     /// It fails with this class and message.
     Raise(ClassId, Text),
-    /// It gives the sum of the integers from 1 to this one.
+    /// It returns the sum of the integers from 1 to this one.
     Sum(u32),
 }
 

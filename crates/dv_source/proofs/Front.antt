@@ -24,7 +24,7 @@ front_end (Some x) (Some y) bytes most taken le end =
 pub consumes_some : (a b : Option (List ℕ)) (bytes : List ℕ) → Consumes a b bytes → ConsumesSome a b
 consumes_some a b bytes taken = (bytes, taken)
 
--- what was read and lost, where the last piece found no memory
+-- what was read and lost, where the allocation for the last piece failed
 pub consumes_more : (a b c : Option (List ℕ)) (bytes more : List ℕ) →
     Consumes a b bytes → Consumes b c more → ConsumesSome a c
 consumes_more a b c bytes more taken next = (bytes ++ more, Consumes-trans a b c bytes more taken next)

@@ -1,4 +1,4 @@
--- What a read does to the bytes that a source has left, where it tells them, and to its failures.
+-- What a read does to the bytes that a source has left, where it reports them, and to its failures.
 use Rattle.std.specs.Prelude.{◌≡◌, ℕ, List, take, ⊤, Option, Some, None, Result, Ok, Err}
 use Rattle.std.specs.Io.KnownBytes.{Consumes}
 use Rattle.dv_journal.specs.Sink.{one_more}

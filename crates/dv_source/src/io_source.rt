@@ -5,7 +5,7 @@ use std::io;
 use std::marker::Model;
 
 /// A source over a reader of std, which contracts see as that reader and a count of failures.
-/// Each error of the reader is a failure, one that tells of an interruption too.
+/// Each error of the reader is a failure, one that reports an interruption too.
 #[derive(Drop)]
 pub struct IoSource<R> {
     reader: R,

@@ -14,7 +14,7 @@ pub struct SourceFault;
 
 /// Gives bytes.
 pub trait Source {
-    /// The bytes that it has left, where it tells them.
+    /// The bytes that it has left, where it reports them.
     ghost left: { Self → Option (List ℕ) };
 
     /// How often it has failed. At its last value the count stays, and shows nothing.
@@ -28,13 +28,13 @@ pub trait Source {
         ensures failed { failures self.new ≡ failures_after_read (failures self.old) result };
 }
 
-/// Why a read gave up.
+/// Why a read returned early.
 #[derive(Clone, Copy, Debug, PartialEq, Eq, Drop, Error)]
 pub enum ReadError {
     /// The source failed.
     #[error("the source failed")]
     ReadFault,
-    /// Memory was refused. The source hasn't failed.
+    /// Out of memory. The source hasn't failed.
     #[error("out of memory")]
     OutOfMemory,
 }
@@ -59,8 +59,8 @@ impl From<AllocError> for ReadError {
     }
 }
 
-/// Reads to the end of the input, or so many bytes, in time linear in what it reads. It gives up at
-/// the source's first failure, or where memory is refused; what was read by then is lost.
+/// Reads to the end of the input, or so many bytes, in time linear in what it reads. It returns at
+/// the source's first failure, or on allocation failure; what was read by then is lost.
 #[tactic(auto, using(crate::proofs::Front::pieces))]
 pub fn read_up_to<R: Source>(
     alloc: Global,

@@ -65,7 +65,7 @@ run_found id None s = untold Nothing s
 run_found id (Some r) s = run_item id r (slice_get r.items 0) s
 
 module _ {P K : Type 0} (passes_at : P → Bool → Bool) where
-  -- a pair without a side for the value passes it on, which isn't told; else its side runs
+  -- a pair without a side for the value passes it on, which isn't logged; else its side runs
   abbrev pub use_pair : ℕ → Record P K → P → List (Item P) → State P K → Stepped P K
   use_pair id r pair rest s =
       if passes_at pair (is_fault r.value)

@@ -33,7 +33,7 @@ pub record EndsAt {P K : Type 0} (rs : List (Record P K)) (id end : ℕ) : Type 
   pub leads : follow links id rs ≡ Some end
   pub free : link rs end ≡ None
 
--- the walk comes to a Deferred for a second time
+-- the walk reaches a Deferred for a second time
 pub record Circles {P K : Type 0} (rs : List (Record P K)) (id : ℕ) : Type 0 where
   pub first : ℕ
   pub again : ℕ

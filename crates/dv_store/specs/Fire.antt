@@ -30,7 +30,7 @@ with_firing value r = record r { fired = true; value = value }
 abbrev pub with_guard : {P K : Type 0} → Bool → Record P K → Record P K
 with_guard swallows r = record r { swallows = swallows }
 
--- a firing of a fired Deferred is swallowed, once, where the Deferred is guarded; else it is called already, and no record changes. Both are told
+-- a firing of a fired Deferred is swallowed, once, where the Deferred is guarded; else it is called already, and no record changes. Both are logged
 abbrev pub fire_again : {P K : Type 0} → ℕ → Record P K → State P K → Firing P K
 fire_again id r s =
     if r.swallows
@@ -52,7 +52,7 @@ fire_found id value (Some r) s =
 abbrev pub fire : {P K : Type 0} → ℕ → Value → State P K → Firing P K
 fire id value s = fire_found id value (slice_get s.0 id) s
 
--- a firing did what the rule says, or memory was refused where the rule's entry fits, and nothing changed
+-- a firing did what the rule says, or ran out of memory where the rule's entry fits, and nothing changed
 abbrev pub FiresUnlessMemory : {P K : Type 0} → Result Fired (Fault AlreadyCalled) → State P K → State P K → Firing P K → Type 0
 FiresUnlessMemory (Ok fired) before after rule = (Ok fired, after) ≡ rule
 FiresUnlessMemory (Err (fault.Refused reason)) before after rule = (Err (fault.Refused reason), after) ≡ rule

@@ -18,7 +18,7 @@ use Rattle.dv_store.specs.declared.store.Fired.TheVariants.{Set, Swallowed}
 use Rattle.dv_store.specs.declared.store.Step.{Step}
 use Rattle.dv_store.specs.declared.store.Step.TheVariants.{Nothing, Passed, Run, Handed}
 
--- the refusal of a second firing, or the limit where there is no room to tell of it
+-- the refusal of a second firing, or the limit where there is no room to log it
 abbrev pub second_answer : {P K : Type 0} → ℕ → State P K → Result Fired (Fault AlreadyCalled)
 second_answer id s = if fits s.1 (Refuse id) then Err (fault.Refused (record {})) else Err fault.Limit
 

@@ -49,7 +49,7 @@ unpause_found id (Some r) s = if nat_eq r.pauses 0 then (Err (fault.Refused (rec
 abbrev pub unpause : {P K : Type 0} → ℕ → State P K → Unpaused P K
 unpause id s = unpause_found id (slice_get s.0 id) s
 
--- an unpausing did what the rule says, or memory was refused where the rule has no other reason to refuse it, and nothing changed
+-- an unpausing did what the rule says, or ran out of memory where the rule has no other reason to refuse it, and nothing changed
 abbrev pub UnpausesUnlessMemory : {P K : Type 0} → Result Unit (Fault NotPaused) → State P K → State P K → Unpaused P K → Type 0
 UnpausesUnlessMemory (Ok done) before after rule = (Ok done, after) ≡ rule
 UnpausesUnlessMemory (Err (fault.Refused reason)) before after rule = (Err (fault.Refused reason), after) ≡ rule

@@ -17,7 +17,7 @@ new_record name canceller =
 abbrev pub make : {P K : Type 0} → Option (List ℕ) → Option K → State P K → Told ℕ P K
 make name canceller s = telling (New (length s.0) name) (length s.0) (s.0 ++ new_record name canceller ∷ []) s
 
--- the name that a Deferred gets is told; what is kept of it is its name at its making
+-- the name that a Deferred gets is logged; what is kept of it is its name at its making
 abbrev pub rename : {P K : Type 0} → ℕ → List ℕ → State P K → Told Unit P K
 rename id name s = telling (Name id (Some name)) tt s.0 s
 

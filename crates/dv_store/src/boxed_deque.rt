@@ -75,7 +75,7 @@ impl<T> BoxedDeque<T> {
 }
 
 impl<T: Drop> BoxedDeque<T> {
-    /// Takes the item that was pushed first of those that are left, in constant time, and gives the room back where it was the last.
+    /// Takes the item that was pushed first of those that are left, in constant time, and frees the room where it was the last.
     pub fn take_front(&mut self) -> Option<T>
         ensures value { result ≡ slice_get self.old 0 }
         ensures rest { self.new ≡ drop 1 self.old }
@@ -97,7 +97,7 @@ impl<T: Drop> BoxedDeque<T> {
         }
     }
 
-    /// Adds an item at the end. Where memory is refused, the item is dropped and the others stay.
+    /// Adds an item at the end. On allocation failure, the item is dropped and the others stay.
     pub fn push_back(&mut self, alloc: Global, item: T) -> Result<(), AllocError>
         ensures ok { OnOk result (self.new ≡ self.old ++ item ∷ []) }
         ensures err { OnErr result (self.new ≡ self.old) }

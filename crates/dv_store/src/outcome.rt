@@ -57,8 +57,8 @@ impl Outcome {
 /// How many of its places a list may leave unused, besides one in thirty-two.
 const SPARE: usize = 64;
 
-/// What has become of all Deferreds, in order of making. It gives their room back as it goes, so that a run takes little more at
-/// its end than it had. AllocError where memory is refused.
+/// What has become of all Deferreds, in order of making. It frees their room as it goes, so that a run takes little
+/// more at its end than it had. AllocError on allocation failure.
 pub fn outcomes_of<P: Drop, K: Drop>(
     alloc: Global,
     records: Vec<Record<P, K>>,
@@ -75,7 +75,7 @@ pub fn outcomes_of<P: Drop, K: Drop>(
     Ok(outcomes)
 }
 
-/// Gives room back that a list doesn't use, where that is much of it. Where it can't be given back, it stays.
+/// Frees room that a list doesn't use, where that is much of it. Where it can't be freed, it stays.
 fn give_room_back<T>(items: &mut Vec<T>)
     ensures { items.new.items ≡ items.old.items }
 {

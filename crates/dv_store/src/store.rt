@@ -139,7 +139,7 @@ impl<P: Sides + Drop, K: Drop> Store<P, K> {
         Ok(id)
     }
 
-    /// Tells of a name that a Deferred gets which was made already. Its record keeps the name of its making.
+    /// Logs a name that a Deferred gets which was made already. Its record keeps the name of its making.
     pub fn rename(&self, journal: &mut Journal, id: DeferredId, name: Text) -> Result<(), Stop>
         ensures { UnlessMemory result (self.now, journal.old) (self.now, journal.new) (rename id name (self.now, journal.old)) }
     {
@@ -258,9 +258,9 @@ impl<P: Sides + Drop, K: Drop> Store<P, K> {
         drop(mem::replace(&mut record.value, value));
     }
 
-    /// The first Deferred that doesn't wait, from this one on along those that are waited for; None where the walk comes
-    /// to one for a second time (Twisted: `Deferred.cancel`, which follows `_chainedTo`). It takes as many steps as there
-    /// are on the walk, or three times as many on one that comes back.
+    /// The first Deferred that doesn't wait, from this one on along those that are waited for; None where the walk
+    /// reaches one for a second time (Twisted: `Deferred.cancel`, which follows `_chainedTo`). It takes as many steps
+    /// as there are on the walk, or three times as many on one that comes back.
     #[tactic(auto, using(crate::proofs::ChainLemmas::leads_nowhere, crate::proofs::ChainLemmas::leads_on, crate::proofs::ChainLemmas::ends_here, crate::proofs::ChainLemmas::goes_on, crate::proofs::ChainLemmas::comes_back, crate::proofs::ChainLemmas::no_more))]
     pub fn end_of_chain(&self, id: DeferredId) -> Option<DeferredId>
         ensures { result ≡ end_of_chain id self.now }
@@ -558,7 +558,7 @@ fn is_pending<P, K>(id: DeferredId, given: DeferredId, record: &Record<P, K>) ->
     id == given || !record.fired || record.pauses != 0 || record.waits_for.is_some()
 }
 
-/// Makes room for a record, and tells that it is made.
+/// Makes room for a record, and logs that it is made.
 fn reserve_and_tell<R>(
     alloc: Global,
     journal: &mut Journal,

@@ -1,4 +1,4 @@
--- How an answer comes to its place.
+-- How an answer reaches its place.
 use Rattle.std.proofs.Common.{◌≡◌, ◌≢◌, ◌⊎◌, inl, inr, ℕ, zero, suc, ◌+◌, ◌<◌, ◌≤◌, List, [], ◌∷◌, ◌++◌, length, map, slice_get, Option, Some, None, set, get_or, sym, refl, subst, ap, ◌∙◌, arith, true, false, true≢false, Bool}
 use Rattle.std.specs.Option.{is_some, unwrap_or}
 use Rattle.dv_script.specs.declared.work.Work.{Work}

@@ -30,7 +30,7 @@ mod reply;
 mod threads;
 
 /// Workers on threads of a scope, which answer jobs at a gate (Twisted: `ThreadPool`). The owner helps where it waits.
-/// Dropped, it tells its workers to leave. Where the executor of an `outcome` fails it tells them so, too, and has failed.
+/// Dropped, it has its workers leave. It does so, too, where the executor of an `outcome` fails, and then it has failed.
 #[derive(Drop)]
 pub struct Pool<'g, G> {
     /// The work of each number, of which a copy is kept.
@@ -62,7 +62,7 @@ impl<'g, G> Model for Pool<'g, G> {
 
 impl<'g, G: Gate + Sync> Pool<'g, G> {
     /// A pool of so many workers, 0 to `MOST_WORKERS`, in a scope that outlives it, which are numbered from the first number on. A worker whose
-    /// thread can't be started is left out; with none at all the owner answers each job. AllocError where memory is refused.
+    /// thread can't be started is left out; with none at all the owner answers each job. AllocError when out of memory.
     pub fn open<E, R: Wait + Sync>(
         rt: &'g R,
         alloc: Global,

@@ -50,7 +50,7 @@ impl<'g, G> Model for Pools<'g, G> {
 
 impl<'g, G: Gate + Sync> Pools<'g, G> {
     /// The default pool of so many workers, and a pool of so many for each number that is named, in order: each of 0 to `MOST_WORKERS`, in a scope
-    /// that outlives them. Workers are numbered from 1 on over all pools. AllocError where memory is refused.
+    /// that outlives them. Workers are numbered from 1 on over all pools. AllocError when out of memory.
     pub fn open<E, R: Wait + Sync>(
         rt: &'g R,
         alloc: Global,

@@ -14,7 +14,7 @@ pub record CanDeclare (table : List Class) (name parent : List ℕ) : Type 0 whe
   pub is_free : find_class name table ≡ None
   pub has_parent : find_class parent table ≢ None
 
--- how a declaration is answered: a taken name comes before a missing parent, and both before want of memory
+-- how a declaration is answered: a taken name comes before a missing parent, and both before out of memory
 abbrev pub AnswersDeclare : List Class → List ℕ → List ℕ → Result ℕ ClassFault → Type 0
 AnswersDeclare table name parent (Ok class) = CanDeclare table name parent × (class ≡ length table)
 AnswersDeclare table name parent (Err Taken) = find_class name table ≢ None

@@ -34,7 +34,7 @@ impl<T> Boxed<T> {
 }
 
 impl<T: Drop> Boxed<T> {
-    /// Moves the value to the heap. Where memory is refused, it is dropped.
+    /// Moves the value to the heap. On allocation failure, it is dropped.
     pub fn new(alloc: Global, value: T) -> Result<Boxed<T>, AllocError>
         ensures { IfOk result (λ b. b ≡ value) }
     {

@@ -13,7 +13,7 @@ pub enum ClassFault {
     /// The table has no class of the parent's name.
     #[error("2 NoParent")]
     NoParent,
-    /// Memory was refused.
+    /// Out of memory.
     #[error("3 OutOfMemory")]
     OutOfMemory,
 }

@@ -53,13 +53,13 @@ impl ClassId {
     pub const TASK_FINISHED: ClassId = ClassId { place: 15 };
     /// For the resuming of a cooperative task that isn't paused (Twisted: `task.NotPaused`).
     pub const NOT_PAUSED: ClassId = ClassId { place: 16 };
-    /// For a cooperative task that has come to its end (Twisted: `task.TaskDone`).
+    /// For a cooperative task that has ended (Twisted: `task.TaskDone`).
     pub const TASK_DONE: ClassId = ClassId { place: 17 };
     /// For a cooperative task that was stopped (Twisted: `task.TaskStopped`).
     pub const TASK_STOPPED: ClassId = ClassId { place: 18 };
     /// For a cooperative task that has failed (Twisted: `task.TaskFailed`).
     pub const TASK_FAILED: ClassId = ClassId { place: 19 };
-    /// What comes of a cancel by a timer in place of `CANCELLED_ERROR` (Twisted: `error.TimeoutError`).
+    /// What a cancel by a timer results in, in place of `CANCELLED_ERROR` (Twisted: `error.TimeoutError`).
     pub const TIMEOUT_ERROR: ClassId = ClassId { place: 20 };
 
     /// The class at this place, which need not be in any table.

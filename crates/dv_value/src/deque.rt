@@ -79,7 +79,7 @@ impl<T: Drop> Deque<T> {
         let _ = self.items.pop_back();
     }
 
-    /// Adds an item at the end. Where memory is refused, the item is dropped and the others stay.
+    /// Adds an item at the end. On allocation failure, the item is dropped and the others stay.
     pub fn push_back(&mut self, item: T) -> Result<(), AllocError>
         ensures ok { OnOk result (self.new ≡ self.old ++ item ∷ []) }
         ensures err { OnErr result (self.new ≡ self.old) }

@@ -8,7 +8,7 @@ use crate::text::Text;
 use crate::value::Value;
 use std::alloc::{AllocError, Global};
 
-/// A failure of a class with a message, of which it keeps a copy. AllocError where memory is refused.
+/// A failure of a class with a message, of which it keeps a copy. AllocError on allocation failure.
 pub fn failure(alloc: Global, class: ClassId, message: &str) -> Result<Boxed<Failure>, AllocError>
     ensures { IfOk result (λ f. f ≡ plain_failure class message.now) }
 {
@@ -16,7 +16,7 @@ pub fn failure(alloc: Global, class: ClassId, message: &str) -> Result<Boxed<Fai
     Boxed::new(alloc, Failure::new(class, message))
 }
 
-/// A failure of a class with a message, as a value. AllocError where memory is refused.
+/// A failure of a class with a message, as a value. AllocError on allocation failure.
 pub fn fault(alloc: Global, class: ClassId, message: &str) -> Result<Value, AllocError>
     ensures { IfOk result (λ v. v ≡ fault class message.now) }
 {

@@ -35,8 +35,8 @@ fn write_quoted(out: &mut String, text: &str) -> Result<(), AllocError>
     out.push('"')
 }
 
-/// Adds a text as a JSON string, between quotes, with what JSON forbids escaped and all else as it is. Where memory is
-/// refused, it is left open what `out` holds.
+/// Adds a text as a JSON string, between quotes, with what JSON forbids escaped and all else as it is. On allocation
+/// failure, it is left open what `out` holds.
 #[tactic(auto, using(crate::proofs::Quoted::one_string, crate::proofs::Quoted::plain_quoted))]
 pub fn write_string(alloc: Global, out: &mut String, text: &str) -> Result<(), AllocError>
     ensures { OnOk result (string_bytes out.new ≡ string_bytes out.old ++ quoted text.now) }
@@ -61,7 +61,7 @@ fn write_index(out: &mut String, index: u32) -> Result<(), AllocError>
     write_text(out, ",\"message\":")
 }
 
-/// Adds the compact JSON of a failure, its keys in a fixed order. Where memory is refused, it is left open what `out` holds.
+/// Adds the compact JSON of a failure, its keys in a fixed order. On allocation failure, `out` may hold anything.
 pub fn write_failure_json(
     alloc: Global,
     classes: &Classes,
@@ -97,8 +97,8 @@ fn write_place(out: &mut String, index: u32) -> Result<(), AllocError>
     write_text(out, " of ")
 }
 
-/// Adds a failure as the journal shows it: its class, its message as a JSON string, and what is inside. Where memory is
-/// refused, it is left open what `out` holds.
+/// Adds a failure as the journal shows it: its class, its message as a JSON string, and what is inside. On allocation
+/// failure, it is left open what `out` holds.
 pub fn write_failure(
     alloc: Global,
     classes: &Classes,
@@ -120,7 +120,7 @@ pub fn write_failure(
     }
 }
 
-/// Adds the compact JSON of a value, with no space. Where memory is refused, it is left open what `out` holds.
+/// Adds the compact JSON of a value, with no space. On allocation failure, it is left open what `out` holds.
 #[cycle(write_json)]
 pub fn write_json(
     alloc: Global,
@@ -166,7 +166,7 @@ fn write_list(
     Ok(())
 }
 
-/// Adds what an outcome shows of a value: `ok` and its JSON, or `fail` and its failure. Where memory is refused, it is
+/// Adds what an outcome shows of a value: `ok` and its JSON, or `fail` and its failure. On allocation failure, it is
 /// left open what `out` holds.
 pub fn write_outcome(
     alloc: Global,

@@ -1,4 +1,4 @@
-//! Texts and numbers at the end of a text, which costs less than the formatter. Where memory is refused, it is left open
+//! Texts and numbers at the end of a text, which costs less than the formatter. On allocation failure, it is left open
 //! what `out` holds.
 
 ghost use Rattle.std.specs.Prelude.{◌≡◌, ◌+◌, ◌/◌, ◌%◌, ◌++◌, [], ◌∷◌, OnOk, codes, string_bytes};

@@ -95,7 +95,7 @@ fn make<'s>(
     fire_at_once(turn, id, at_once)
 }
 
-/// Whether nobody comes to a DeferredList that waits for all.
+/// Whether nobody reaches a DeferredList that waits for all.
 fn has_all_at_once(children: &[DeferredId], flags: Flags) -> bool
     ensures { result ≡ page.has_all_at_once children.now flags }
 {
@@ -122,7 +122,7 @@ fn begin<'s>(
         .make(Some(name), Some(Canceller::Children(children)))
 }
 
-/// A pair is to be added to each child, in order, by which it comes to a DeferredList. AllocError where there are more
+/// A pair is to be added to each child, in order, by which it reaches a DeferredList. AllocError where there are more
 /// than numbers of 32 bits.
 fn add_to_children<'s>(
     stack: &mut Frames<'s>,
@@ -157,7 +157,7 @@ fn fire_at_once<'s>(turn: &mut Turn<'s>, id: DeferredId, at_once: bool) -> Resul
     fire_and_settle(turn, id, Value::List(Items::new(turn.alloc)))
 }
 
-/// A child comes to its DeferredList with its value, which may fire the list; then it goes on with what the list leaves it.
+/// A child reaches its DeferredList with its value, which may fire the list; then it goes on with what the list leaves it.
 pub fn come<'s>(turn: &mut Turn<'s>, child: Child, value: Value) -> Result<(), AllocError>
     requires done { turn.old.performed ≡ Done }
     ensures { OnOk result (turn.new ≡ after (page.report child value) turn.old) }

@@ -54,7 +54,7 @@ IsFrom all k ds = (n : ℕ) → get_item (k + n) all ≡ get_item n ds
 later : (all : Items) (k : ℕ) (d : Data) (ds : Items) → IsFrom all k (item d ds) → IsFrom all (suc k) ds
 later all k d ds from n = let same : suc k + n ≡ k + suc n = omega arith in rw same (from (suc n))
 
--- what is said of the table where each class from this number on may be declared
+-- the answer about the table where each class from this number on may be declared
 abbrev IsTableFrom : Items → List Class → List Declaration → Type 0
 IsTableFrom all table cs = (are_declared table cs ≡ true) × (table_after table cs ≡ table_before all MOST_CLASSES)
 

@@ -21,7 +21,7 @@ abbrev pub of_read_error : ReadError → WhyFault
 of_read_error read.ReadFault = ReadFault
 of_read_error read.OutOfMemory = OutOfMemory
 
--- 3 for want of memory, 4 for a reader or a writer that failed
+-- 3 when out of memory, 4 for a reader or a writer that failed
 abbrev pub fault_status : WhyFault → ℕ
 fault_status OutOfMemory = 3
 fault_status ReadFault = 4

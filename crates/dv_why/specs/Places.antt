@@ -1,4 +1,4 @@
--- Places in a JSON value, as JSON Pointers tell them (RFC 6901), and what the place asks for.
+-- Places in a JSON value, as JSON Pointers name them (RFC 6901), and what the place asks for.
 use Rattle.std.specs.Prelude.{ℕ, zero, suc, List, [], ◌∷◌, map, Option, Some, None, option_and_then}
 use Rattle.serde_json.specs.Data.{Data}
 use Rattle.serde_json.specs.Find.{at, get}

@@ -1,4 +1,4 @@
--- What is told of a script.
+-- What is reported about a script.
 use Rattle.std.specs.Prelude.{◌≡◌, ◌⊎◌, ℕ, true, List, [], take, encode_utf8_all, Option, Some, None, IsUtf8, codes}
 use Rattle.std.specs.Str.{chars}
 use Rattle.std.specs.Str.Lossy.{utf8_lossy}
@@ -19,17 +19,17 @@ use Rattle.dv_why.specs.Finds.{Leads}
 use Rattle.dv_why.specs.Wrong.{IsWrong}
 use Rattle.dv_why.specs.Pointers.{pointer_text}
 
--- what is told of a script that is accepted
+-- what is reported about a script that is accepted
 abbrev pub accepted : Data
 accepted = object (member (codes "accepted") (boolean true) no_members)
 
--- what is told of a refusal
+-- what is reported about a refusal
 abbrev pub refused : ScriptFault → List ℕ → List ℕ → List ℕ → Data
 refused fault at expected found =
     object (member (codes "at") (string at) (member (codes "expected") (string expected) (member (codes "found") (string found)
     (member (codes "name") (string (refusal_name fault)) (member (codes "refusal") (number (unsigned (refusal_number fault))) no_members)))))
 
--- what is told of a text that is no JSON
+-- what is reported about a text that is no JSON
 abbrev pub refused_text : ScriptFault → ℕ → ℕ → List ℕ → List ℕ → Data
 refused_text fault line column expected found =
     object (member (codes "at") (string []) (member (codes "column") (number (unsigned column)) (member (codes "expected") (string expected)
@@ -49,7 +49,7 @@ pub record Explains (fault : ScriptFault) (d : Data) (m : Misfit) : Type 0 where
   pub leads : Leads (script_in d) d m
   pub wrong : IsWrong fault d m
 
--- what is told of a refusal of a JSON value: where the steps of a misfit lead, there the text `at` leads, and what stands there is shown
+-- the report of a refusal of a JSON value: the text `at` leads where the steps of a misfit lead, and what stands there is shown
 pub record TellsOf (fault : ScriptFault) (d : Data) (told : Data) : Type 0 where
   pub misfit : Misfit
   pub at : List ℕ
@@ -65,17 +65,17 @@ pub record TellsOf (fault : ScriptFault) (d : Data) (told : Data) : Type 0 where
 abbrev pub TellsOfJson : ScriptFault → List ℕ → Data → Type 0
 TellsOfJson fault bytes told = (d : Data) × IsUtf8 bytes × (read bytes ≡ Some d) × TellsOf fault d told
 
--- what is told of a text that is too long: its own front is shown
+-- what is reported about a text that is too long: its own front is shown
 abbrev pub TellsOfLong : List ℕ → Data → Type 0
 TellsOfLong bytes told = (expected : List ℕ) × (told ≡ refused TooLong [] expected (first_characters (utf8_lossy bytes)))
 
--- what is told of a text that is no JSON, with a line and a column where they are known
+-- what is reported about a text that is no JSON, with a line and a column where they are known
 abbrev pub TellsOfText : List ℕ → Data → Type 0
 TellsOfText bytes told =
     ((expected : List ℕ) × (told ≡ refused NotJson [] expected (first_characters (utf8_lossy bytes))))
     ⊎ ((line column : ℕ) × (expected : List ℕ) × (told ≡ refused_text NotJson line column expected (first_characters (utf8_lossy bytes))))
 
--- what is told of bytes that are refused
+-- what is reported about bytes that are refused
 abbrev pub IsToldOf : ScriptFault → List ℕ → Data → Type 0
 IsToldOf TooLong bytes told = TellsOfLong bytes told
 IsToldOf NotJson bytes told = TellsOfText bytes told
@@ -91,7 +91,7 @@ IsToldOf BadPool bytes told = TellsOfJson BadPool bytes told
 abbrev pub Reads : List ℕ → (Data → Type 0) → Type 0
 Reads line Is = (told : Data) × (read line ≡ Some told) × Is told
 
--- a script is accepted and told so, or it is refused for its reason and that is told
+-- a script is accepted and reported so, or it is refused for its reason and that is reported
 abbrev pub Answers : List ℕ → Option ScriptFault → List ℕ → Type 0
 Answers bytes None line = ((script : Script) × Says bytes script) × (read line ≡ Some accepted)
 Answers bytes (Some fault) line = Refuses fault bytes × Reads line (IsToldOf fault bytes)

@@ -1,4 +1,4 @@
--- What is wrong at the place that is told, refusal by refusal.
+-- What is wrong at the place that is reported, refusal by refusal.
 use Rattle.std.specs.Prelude.{◌≡◌, ◌≢◌, ◌<◌, ℕ, false, List, [], ◌∷◌, ◌++◌, Some, None, codes, ⊤}
 use Rattle.serde_json.specs.Data.{Data, Items}
 use Rattle.serde_json.specs.Find.{get, as_str}

@@ -41,7 +41,7 @@ pub fn make_table(alloc: Global, json: &Json) -> Result<Table<'_>, AllocError>
     Ok(Table::Whole(classes))
 }
 
-/// Adds the class of this number to the table, if there is one that may be declared, or tells which part of it is wrong.
+/// Adds the class of this number to the table, if one may be declared, or returns which part of it is wrong.
 fn declare_next<'j>(
     alloc: Global,
     classes: &mut Classes,
@@ -64,7 +64,7 @@ fn declare_next<'j>(
     }
 }
 
-/// Adds a class to the table, or tells which of its two parts is wrong.
+/// Adds a class to the table, or returns which of its two parts is wrong.
 fn declare<'j>(
     alloc: Global,
     classes: &mut Classes,

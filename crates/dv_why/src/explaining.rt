@@ -11,10 +11,10 @@ use dv_script::limits::MOST_BYTES;
 use dv_source::source::{ReadError, Source, read_up_to};
 use std::alloc::{AllocError, Global};
 
-/// Why nothing is told of a script, or not all of it.
+/// Why nothing is printed about a script, or not all of it.
 #[derive(Clone, Copy, Drop)]
 pub enum WhyFault {
-    /// Memory was refused.
+    /// An allocation failed.
     OutOfMemory,
     /// The reader failed.
     ReadFault,
@@ -58,7 +58,7 @@ impl From<ReadError> for WhyFault {
     }
 }
 
-/// Reads a script to the end of the input, or to one byte more than a script may have, and writes a line of JSON that tells
+/// Reads a script to the end of the input, or to one byte more than a script may have, and writes a line of JSON that says
 /// whether it is accepted, and where it isn't, why. Answers the refusal, if it is refused.
 pub fn explain<R: Source, W: Sink>(
     alloc: Global,

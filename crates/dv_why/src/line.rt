@@ -1,4 +1,4 @@
-//! What is told of a refusal, as JSON.
+//! What is printed about a refusal, as JSON.
 
 ghost use Rattle.std.specs.Prelude.{◌≡◌, IfOk, string_bytes};
 ghost use Rattle.serde_json.specs.View.{view};

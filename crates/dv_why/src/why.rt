@@ -28,7 +28,7 @@ use dv_value::classes::Classes;
 use serde_json::{Value as Json, json};
 use std::alloc::{AllocError, Global};
 
-/// What is told of a script.
+/// What is reported about a script.
 #[derive(Drop)]
 pub struct Told {
     /// Why it is refused, where it is.
@@ -37,7 +37,7 @@ pub struct Told {
     pub line: String,
 }
 
-/// Tells whether a script is accepted, and where it isn't, why. AllocError where memory is refused.
+/// Returns whether a script is accepted, and where it isn't, why. AllocError when out of memory.
 pub fn tell(alloc: Global, bytes: &[u8]) -> Result<Told, AllocError>
     ensures { IfOk result (λ told. Answers bytes.now told.fault (string_bytes told.line)) }
 {
@@ -63,7 +63,7 @@ fn accepted(alloc: Global) -> Result<Json, AllocError>
     json!(in alloc; {"accepted": true})
 }
 
-/// What is told of a refusal.
+/// What is reported about a refusal.
 fn refusal(alloc: Global, fault: ScriptFault, bytes: &[u8]) -> Result<Json, AllocError>
     requires { Refuses fault bytes.now }
     ensures { IfOk result (λ told. IsToldOf fault bytes.now (view told)) }
@@ -87,7 +87,7 @@ fn sentence(alloc: Global, expected: Expected) -> Result<String, AllocError> {
     Ok(text)
 }
 
-/// What is told of a refusal with this place, this that is expected there, and this that stands there.
+/// What is reported about a refusal with this place, this that is expected there, and this that stands there.
 fn refused(
     alloc: Global,
     fault: ScriptFault,
@@ -186,7 +186,7 @@ fn of_value(alloc: Global, fault: ScriptFault, json: &Json) -> Result<Json, Allo
     at_part(alloc, fault, at.as_str(), expected.as_str(), misfit.found)
 }
 
-/// What is told of a part at this place.
+/// What is reported about a part at this place.
 fn at_part(
     alloc: Global,
     fault: ScriptFault,

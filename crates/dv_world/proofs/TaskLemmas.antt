@@ -50,7 +50,7 @@ more_keeps [] t y end h = absurd cc
 more_keeps (x ∷ xs) zero y end h = h
 more_keeps (x ∷ xs) (suc t) y end h = more_keeps xs t y end h
 
--- told or not
+-- logged or not
 told_keeps : (t : ℕ) (end : TaskEnd) (e : Entry) (change : Objects → Objects) (w : World) (s f : Bool) → end_of t w ≡ Some end → end_in t (change w.objects).cooperator.tasks ≡ Some end
     → end_of t (if s then w else if f then record w { objects = change w.objects; journal = with_entry w.journal e } else record w { stopped = true }) ≡ Some end
 told_keeps t end e change w true f h k = h

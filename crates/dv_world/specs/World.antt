@@ -247,12 +247,12 @@ lock_told l entry change (Some s) w = aside (entry s) (with_lock l (change s)) w
 abbrev pub ask : ℕ → ℕ → World → World
 ask l d w = lock_told l (λ s. entry.Acquire s.name d) (asked d) (slice_get w.objects.semaphores l) w
 
--- a token is given back to the lock that is found, where one is given
+-- a token of the lock that is found is released, where one is held
 abbrev pub release_found : ℕ → Option Semaphore → World → World
 release_found l None w = w
 release_found l (Some s) w = if is_unheld s then w else aside (entry.Release s.name) (with_lock l (released s)) w
 
--- a token is given back to a lock
+-- a token of a lock is released
 abbrev pub release : ℕ → World → World
 release l w = release_found l (slice_get w.objects.semaphores l) w
 

@@ -51,7 +51,7 @@ pub mod looping;
 /// journal the run has stopped: from then on nothing changes.
 ///
 /// Where a call answers AllocError, nothing is promised of what the world holds then: its clauses speak of the other
-/// answers only. An engine that was refused memory asks no more of its world.
+/// answers only. An engine that is out of memory asks no more of its world.
 #[derive(Drop)]
 pub struct World<'s> {
     alloc: Global,
@@ -524,7 +524,7 @@ impl<'s> World<'s> {
         }
     }
 
-    /// Gives a token back to a lock, which gives it to the first that waits, where one does.
+    /// Releases a token of a lock, which gives it to the first that waits, where one does.
     #[tactic(auto, unfolding(crate::specs::World::aside))]
     pub fn release(&mut self, lock: LockId) -> Result<(), AllocError>
         ensures { OnOk result (self.new ≡ release lock self.old) }
@@ -542,7 +542,7 @@ impl<'s> World<'s> {
         }
         match self.semaphores[place].release(&mut self.journal) {
             Ok(_) => Ok(()),
-            // (a token is given and the entry fits, so it is memory that was refused)
+            // (a token is held and the entry fits, so it is out of memory)
             Err(Fault::Refused(NotHeld) | Fault::Limit | Fault::OutOfMemory) => { Err(AllocError) }
         }
     }
@@ -705,7 +705,7 @@ impl<'s> World<'s> {
         Ok(otherwise)
     }
 
-    /// Lets a world go. Who does it by this call needs no proof of its own of what a world holds.
+    /// Drops a world. Who does it by this call needs no proof of its own of what a world holds.
     pub fn discard(self) {
         drop(self);
     }

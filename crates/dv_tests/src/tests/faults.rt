@@ -19,7 +19,7 @@ const SCRIPT: &[u8] =
 
 const TEXT: &[u8] = b"new #0 a\nnew #1 b\nfire #0 ok 1\n#0 a ok 1\n#1 b unfired\n";
 
-/// How a run on this thread ends: whether it stopped at its limit, or why it gave up.
+/// How a run on this thread ends: whether it stopped at its limit, or why it failed.
 fn run_here<R, S, K>(rt: &R, source: &mut S, sink: &mut K) -> Result<bool, RunFault>
 where
     R: Threads + Wait + RandomSource + AllocGlobal + Sync,

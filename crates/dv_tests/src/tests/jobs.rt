@@ -138,7 +138,7 @@ fn each_job_of_a_run_reaches_its_gate_once_and_one_more_raises(
 fn a_run_is_out_of_memory_where_a_job_is_given_back_and_the_workers_leave(
     rt: HostRuntime,
 ) -> Result<(), Fail> {
-    // The run gives up where it waits for the first job. Then it drops the pool, in which others wait for the workers.
+    // The run ends where it waits for the first job. Then it drops the pool, in which others wait for the workers.
     let text = repeated(rt.alloc(), 4_096, JOB, r#"["advance",0]"#)?;
     let gate = Counting::new(rt.alloc(), 4_096, true)?;
     let fault = fault_of(&rt, text.as_str(), 16, &gate)?;

@@ -42,7 +42,7 @@ where
     Ok((sink, report))
 }
 
-/// Runs a script: why it gave up, if it did.
+/// Runs a script: why it failed, if it did.
 pub fn fault_of<S, G>(
     rt: &S,
     script: &str,
@@ -112,7 +112,7 @@ where
     Ok(())
 }
 
-/// What an engine comes to that takes these batches, all on this thread.
+/// The report of an engine that takes these batches, all on this thread.
 fn replayed<S>(rt: &S, script: &Script, batches: &[Items<Posted>]) -> Result<Report, Fail>
 where
     S: Threads + Wait + RandomSource + AllocGlobal,
@@ -140,7 +140,7 @@ where
     Ok(report?)
 }
 
-/// What an engine on this thread tells that takes these batches.
+/// What the report prints of an engine on this thread that takes these batches.
 fn retold<S>(rt: &S, text: &str, batches: &[Items<Posted>]) -> Result<MemorySink, Fail>
 where
     S: Threads + Wait + RandomSource + AllocGlobal,
@@ -153,7 +153,7 @@ where
     Ok(sink)
 }
 
-/// Has an engine on this thread that takes these batches tell it.
+/// Has an engine on this thread that takes these batches print its report.
 fn retell<S>(
     rt: &S,
     script: &Script,
@@ -171,7 +171,7 @@ where
     Ok(printed?)
 }
 
-/// Whether a run prints what an engine on this thread tells that takes the same batches.
+/// Whether a run prints what an engine on this thread does that takes the same batches.
 fn is_of_its_batches<S>(rt: &S, text: &str, workers: u32) -> Result<bool, Fail>
 where
     S: Threads + Wait + RandomSource + AllocGlobal + Sync,

@@ -178,7 +178,7 @@ impl Parts {
         job_deque::put(&mut self.jobs, job);
     }
 
-    /// Takes one answer, if there is one, and tells whether there was.
+    /// Takes one answer, if there is one, and returns whether there was.
     pub fn collect(&mut self, works: &[Option<Work>]) -> bool
         requires orderly { IsOrderly self.old }
         requires placed { HasPlaced works.now self.old }
@@ -215,7 +215,7 @@ impl Parts {
         }
     }
 
-    /// Answers one job, if there is one, and tells whether there was. Who has every part and finds no job knows that all were
+    /// Answers one job, if there is one. Returns whether there was. Who has every part and finds no job knows that all were
     /// taken.
     pub fn help<G: Gate>(&mut self, alloc: Global, works: &[Option<Work>], gate: &G) -> bool
         requires orderly { IsOrderly self.old }
@@ -234,7 +234,7 @@ impl Parts {
         }
     }
 
-    /// The value of a job, where it was answered. AllocError where its gate, or this call, was refused memory.
+    /// Returns the value of a job, where it was answered. AllocError where its gate, or this call, was out of memory.
     pub fn value(
         &self,
         alloc: Global,

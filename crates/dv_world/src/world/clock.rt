@@ -50,7 +50,7 @@ impl<'s> World<'s> {
         }
     }
 
-    /// Keeps the body of a call that was told, and binds its name to it.
+    /// Keeps the body of a call that was logged, and binds its name to it.
     fn add_call(&mut self, name: &str, call: CallId, body: BodyRef<'s>) -> Result<(), AllocError>
         ensures { OnOk result (self.new ≡ record self.old { objects = record self.old.objects { call_names = with_name name.now call self.old.objects.call_names; bodies = self.old.objects.bodies ++ body.entry ∷ [] } }) }
     {
@@ -125,7 +125,7 @@ impl<'s> World<'s> {
         self.clock.has_run(timer)
     }
 
-    /// A timer ends, where its time hasn't come. That isn't told.
+    /// A timer ends, where its time hasn't come. That isn't logged.
     #[tactic(auto, unfolding(crate::specs::World::arrange))]
     pub fn end_timer(&mut self, timer: CallId)
         ensures { self.new ≡ end_timer timer self.old }

@@ -56,7 +56,7 @@ impl<'s> World<'s> {
         self.cooperator.task(id)
     }
 
-    /// The next step is told, and the task that takes it is answered with its next body, where one is left; None where
+    /// Logs the next step, and returns the task that takes it with its next body, where one is left; None where
     /// nobody takes turns.
     #[tactic(auto, unfolding(crate::specs::World::aside))]
     pub fn take_step(&mut self) -> Result<Option<(TaskId, Option<BodyRef<'s>>)>, AllocError>
@@ -250,7 +250,7 @@ impl<'s> World<'s> {
 ghost use Rattle.dv_journal.specs.declared.entry.Entry.TheVariants.{End};
 ghost use Rattle.dv_objects.specs.Cooperator.{result_of};
 
-/// What the journal tells of the end of a task.
+/// What the journal logs for the end of a task.
 fn ending(alloc: Global, name: &str, end: &TaskEnd) -> Result<Entry, AllocError>
     ensures { IfOk result (λ entry. entry ≡ End name.now (result_of name.now end.now)) }
 {

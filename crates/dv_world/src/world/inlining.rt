@@ -11,8 +11,8 @@ use std::alloc::AllocError;
 impl<'s> World<'s> {
     ghost use Rattle.dv_world.specs.World.{add_inline, begin_await, come_to_inline, end_await, awaited_in};
 
-    /// Makes an inline body, which waits for nothing (Twisted: `inlineCallbacks`). It isn't told, and in a run that has
-    /// stopped none is made.
+    /// Makes an inline body, which waits for nothing (Twisted: `inlineCallbacks`). It isn't logged, and in a run that
+    /// has stopped none is made.
     #[tactic(auto, unfolding(crate::specs::World::arrange))]
     pub fn add_inline(&mut self) -> Result<InlineId, AllocError>
         ensures added { OnOk result (self.new ≡ add_inline self.old) }

@@ -61,7 +61,7 @@ impl<'s> World<'s> {
         }
     }
 
-    /// Adds a loop that was told, and binds its name to it.
+    /// Adds a loop that was logged, and binds its name to it.
     fn add_loop(&mut self, id: LoopId, looping: LoopingCall<'s>) -> Result<LoopId, AllocError>
         requires next { id ≡ length self.old.objects.loops }
         ensures added { OnOk result (self.new ≡ record self.old { objects = with_added_loop looping.entry self.old.objects }) }

@@ -2,7 +2,7 @@ use Rattle.std.proofs.Common.{◌≡◌, ◌++◌, map, reverse, vec_len}
 use Rattle.dv_store.specs.Outcome.{outcome_of}
 use Rattle.dv_store.proofs.outcome.outcomes_of.Given as goal
 
--- those that are told already, and then the others from the last
+-- those that are returned already, and then the others from the last
 abbrev pub invariant-loop-record : goal.invariant-loop-record
 invariant-loop-record g l = l.outcomes ++ map outcome_of (reverse l.left.items) ≡ map outcome_of l.fn.records.items
 
