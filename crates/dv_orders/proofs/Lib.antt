@@ -4,3 +4,7 @@ pub mod Cutting
 pub mod Counting
 pub mod Listing
 pub mod CheckLemmas
+pub mod SequenceLemmas
+pub mod CutLemmas
+pub mod OrderLemmas
+pub mod NumberLemmas

@@ -4,3 +4,8 @@ pub mod Listed
 pub mod Cases
 pub mod Faults
 pub mod Reading
+pub mod Counted
+pub mod Sequencing
+pub mod Batching
+pub mod Ordering
+pub mod Visiting

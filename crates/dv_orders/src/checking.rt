@@ -45,7 +45,7 @@ fn posts_or_end_fault(
 }
 
 /// How many posts each drain takes at most.
-fn drains_of(alloc: Global, events: &[Event]) -> Result<Vec<u32>, AllocError>
+pub(crate) fn drains_of(alloc: Global, events: &[Event]) -> Result<Vec<u32>, AllocError>
     ensures { IfOk result (λ drains. drains.items ≡ drains_of events.now) }
 {
     let mut drains = Vec::new(alloc);
