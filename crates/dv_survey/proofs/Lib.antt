@@ -1,0 +1,4 @@
+pub mod DeferredLemmas
+pub mod MetLemmas
+pub mod OutcomesLemmas
+pub mod TextsLemmas

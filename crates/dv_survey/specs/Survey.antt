@@ -1,0 +1,59 @@
+-- What is gathered over the runs of a script.
+use Rattle.std.specs.Prelude.{ℕ, ◌+◌, Bool, if◌then◌else◌, List, [], fold, length}
+use Rattle.dv_posts.specs.Batches.{Batch}
+use Rattle.dv_store.specs.declared.outcome.Outcome.{Outcome}
+use Rattle.dv_value.specs.declared.classes.Class.{Class}
+use Rattle.dv_survey.specs.Lines.{lines_of}
+use Rattle.dv_survey.specs.Outcomes.{outcome_text, places_after}
+use Rattle.dv_survey.specs.Tallies.{with_tally}
+use Rattle.dv_survey.specs.Texts.{place_of, with_text}
+use Rattle.dv_survey.specs.declared.lines.Line.{Line}
+use Rattle.dv_survey.specs.declared.survey.Survey.{Survey}
+
+-- a run that has ended: its batches, what became of its Deferreds, and whether it stopped at the limit of the journal
+pub record Run : Type 0 where
+  pub batches : List Batch
+  pub outcomes : List Outcome
+  pub stopped : Bool
+
+-- the run of these batches that ended so
+abbrev pub run_of : List Batch → List Outcome → Bool → Run
+run_of batches outcomes stopped = record { batches = batches; outcomes = outcomes; stopped = stopped }
+
+-- nothing is gathered yet
+abbrev pub no_runs : Survey
+no_runs = record { deferreds = []; lines = []; tallies = []; outcomes = []; stopped = 0 }
+
+-- a line came in a run of these batches
+abbrev pub with_line : List Batch → Survey → Line → Survey
+with_line batches survey line = record {
+  deferreds = with_text line.deferred survey.deferreds;
+  lines = with_text line.text survey.lines;
+  tallies = with_tally (place_of line.text survey.lines) (place_of line.deferred survey.deferreds) batches survey.tallies;
+  outcomes = survey.outcomes;
+  stopped = survey.stopped;
+}
+
+-- these lines came in a run of these batches
+abbrev pub with_lines : List Batch → List Line → Survey → Survey
+with_lines batches lines survey = fold (with_line batches) survey lines
+
+-- a run ended with the lines of these places, and stopped at the limit or didn't
+abbrev pub with_end : List ℕ → Bool → Survey → Survey
+with_end places stopped survey = record {
+  deferreds = survey.deferreds;
+  lines = survey.lines;
+  tallies = survey.tallies;
+  outcomes = with_text (outcome_text places (length survey.lines)) survey.outcomes;
+  stopped = if stopped then survey.stopped + 1 else survey.stopped;
+}
+
+-- a run is gathered
+abbrev pub with_run : List Class → Survey → Run → Survey
+with_run table survey run =
+    let lines = lines_of table run.outcomes in
+    with_end (places_after survey.lines lines) run.stopped (with_lines run.batches lines survey)
+
+-- all these runs are gathered, in this order
+abbrev pub survey_of : List Class → List Run → Survey
+survey_of table runs = fold (with_run table) no_runs runs

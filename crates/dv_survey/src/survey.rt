@@ -1,0 +1,124 @@
+ghost use Rattle.std.specs.Prelude.{◌≡◌, ◌+◌, if◌then◌else◌, length, OnOk, IfOk};
+ghost use Rattle.dv_survey.specs.Outcomes.{places_after};
+ghost use Rattle.dv_survey.specs.Texts.{place_of};
+ghost use Rattle.dv_survey.specs.Survey.{no_runs, run_of, with_end, with_line, with_lines, with_run};
+
+use crate::lines::{Line, lines_of};
+use crate::outcomes::outcome_text;
+use crate::tallies::Tallies;
+use crate::texts::Texts;
+use dv_posts::posted::Posted;
+use dv_store::outcome::Outcome;
+use dv_value::classes::Classes;
+use dv_value::items::Items;
+use std::alloc::{AllocError, Global};
+use std::hash::RandomState;
+
+/// What became of each Deferred in the runs that were added, in memory that grows with the
+/// different outcomes and not with the runs.
+#[derive(Drop)]
+pub struct Survey {
+    /// The Deferreds, each by its name and its place.
+    pub deferreds: Texts,
+    /// The different lines: a Deferred, and what became of it.
+    pub lines: Texts,
+    /// In how many runs each line came.
+    pub tallies: Tallies,
+    /// The different outcomes, each as the places of its lines: the same whichever Deferred was
+    /// made first.
+    pub outcomes: Texts,
+    /// How many runs stopped at the limit of the journal.
+    pub stopped: u64,
+}
+
+impl Survey {
+    /// Makes a survey of no runs. Names and lines are hashed with these keys.
+    pub fn new(alloc: Global, keys: RandomState) -> Survey
+        ensures { result ≡ no_runs }
+    {
+        Survey {
+            deferreds: Texts::new(alloc, keys),
+            lines: Texts::new(alloc, keys),
+            tallies: Tallies::new(alloc),
+            outcomes: Texts::new(alloc, keys),
+            stopped: 0,
+        }
+    }
+
+    /// Adds a run that took these batches, ended with these outcomes, and stopped at the limit of
+    /// the journal or didn't. Names are hashed with these keys.
+    ///
+    /// AllocError when out of memory, or where a count passes 2^64. Part of the run may be added
+    /// then.
+    pub fn add(
+        &mut self,
+        alloc: Global,
+        keys: RandomState,
+        classes: &Classes,
+        batches: &[Items<Posted>],
+        outcomes: &[Outcome],
+        stopped: bool,
+    ) -> Result<(), AllocError>
+        ensures { OnOk result (self.new ≡ with_run classes.now self.old (run_of batches.now outcomes.now stopped)) }
+    {
+        let lines = lines_of(alloc, keys, classes, outcomes)?;
+        let places = self.add_lines(alloc, batches, lines.as_slice())?;
+        self.add_end(alloc, places.as_slice(), stopped)
+    }
+
+    /// Adds lines, and returns their places.
+    #[tactic(auto, using(crate::proofs::OutcomesLemmas::places_next))]
+    fn add_lines(
+        &mut self,
+        alloc: Global,
+        batches: &[Items<Posted>],
+        lines: &[Line],
+    ) -> Result<Vec<usize>, AllocError>
+        ensures places { IfOk result (λ places. places.items ≡ places_after self.old.lines lines.now) }
+        ensures ok { OnOk result (self.new ≡ with_lines batches.now lines.now self.old) }
+    {
+        let mut places = Vec::new(alloc);
+        for line in lines {
+            places.push(self.add_line(batches, line)?)?;
+        }
+        Ok(places)
+    }
+
+    fn add_line(&mut self, batches: &[Items<Posted>], line: &Line) -> Result<usize, AllocError>
+        ensures place { IfOk result (λ place. place ≡ place_of line.now.text self.old.lines) }
+        ensures ok { OnOk result (self.new ≡ with_line batches.now self.old line.now) }
+    {
+        let deferred = self.deferreds.add(line.deferred.as_str())?;
+        let place = self.lines.add(line.text.as_str())?;
+        self.tallies.count(place, deferred, batches)?;
+        Ok(place)
+    }
+
+    fn add_end(&mut self, alloc: Global, places: &[usize], stopped: bool) -> Result<(), AllocError>
+        ensures { OnOk result (self.new ≡ with_end places.now stopped self.old) }
+    {
+        let text = outcome_text(alloc, places, self.lines.len())?;
+        self.outcomes.add(text.as_str())?;
+        self.stopped = stopped_with(self.stopped, stopped)?;
+        Ok(())
+    }
+
+    /// Counts the different outcomes of the runs, whichever Deferreds were made first.
+    pub fn outcomes_len(&self) -> usize
+        ensures { result ≡ length self.now.outcomes }
+    {
+        self.outcomes.len()
+    }
+}
+
+fn stopped_with(count: u64, stopped: bool) -> Result<u64, AllocError>
+    ensures { IfOk result (λ sum. sum ≡ (if stopped then count + 1 else count)) }
+{
+    if !stopped {
+        return Ok(count);
+    }
+    match count.checked_add(1) {
+        None => Err(AllocError),
+        Some(sum) => Ok(sum),
+    }
+}

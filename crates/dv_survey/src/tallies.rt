@@ -1,0 +1,111 @@
+ghost use Rattle.std.specs.Prelude.{◌≡◌, [], OnOk, IfOk};
+ghost use Rattle.dv_survey.specs.Tallies.{with_one_more};
+
+use dv_posts::posted::Posted;
+use dv_value::items::Items;
+use std::alloc::{AllocError, Global};
+use std::marker::Model;
+
+/// In how many runs a line came.
+#[derive(Debug, Drop)]
+pub struct Tally {
+    /// Whose line it is, by the place of that Deferred among those that were met.
+    pub deferred: usize,
+    /// In how many runs it came.
+    pub count: u64,
+    /// The batches of the first of them.
+    pub first: Items<Items<Posted>>,
+}
+
+/// A tally of each line, by the place at which the line was first met.
+#[derive(Drop)]
+pub struct Tallies {
+    alloc: Global,
+    tallies: Vec<Tally>,
+}
+
+impl Model for Tallies {
+    ghost use Rattle.std.specs.Prelude.{List};
+    ghost use Rattle.dv_survey.specs.declared.tallies.Tally.{Tally as Seen};
+
+    ghost Value = { List Seen };
+
+    ghost view = { λ t. t.tallies.items };
+}
+
+impl Tallies {
+    ghost use Rattle.dv_survey.specs.Tallies.{with_tally};
+
+    /// Makes an empty list of tallies. It takes no memory before the first line is counted.
+    pub fn new(alloc: Global) -> Tallies
+        ensures { result ≡ [] }
+    {
+        Tallies {
+            alloc,
+            tallies: Vec::new(alloc),
+        }
+    }
+
+    /// Counts the line of a place once more, or for the first time where the place is the end.
+    /// Then the batches of the run are copied. AllocError also where the count passes 2^64.
+    pub fn count(
+        &mut self,
+        place: usize,
+        deferred: usize,
+        batches: &[Items<Posted>],
+    ) -> Result<(), AllocError>
+        ensures { OnOk result (self.new ≡ with_tally place deferred batches.now self.old) }
+    {
+        if place < self.tallies.len() {
+            raise(&mut self.tallies[place])
+        } else {
+            let first = copy_of(self.alloc, batches)?;
+            self.tallies.push(Tally {
+                deferred,
+                count: 1,
+                first,
+            })?;
+            Ok(())
+        }
+    }
+
+    /// Lends the tallies, in the order in which their lines were first met.
+    pub fn as_slice(&self) -> &[Tally]
+        ensures { result.now ≡ self.now }
+    {
+        self.tallies.as_slice()
+    }
+}
+
+fn raise(tally: &mut Tally) -> Result<(), AllocError>
+    ensures { OnOk result (tally.new ≡ with_one_more tally.old) }
+{
+    let Some(count) = tally.count.checked_add(1) else {
+        return Err(AllocError);
+    };
+    tally.count = count;
+    Ok(())
+}
+
+fn copy_of(alloc: Global, batches: &[Items<Posted>]) -> Result<Items<Items<Posted>>, AllocError>
+    ensures { IfOk result (λ copy. copy ≡ batches.now) }
+{
+    let mut copy = Items::new(alloc);
+    for batch in batches {
+        copy.push(batch_copy(alloc, batch.as_slice())?)?;
+    }
+    Ok(copy)
+}
+
+fn batch_copy(alloc: Global, batch: &[Posted]) -> Result<Items<Posted>, AllocError>
+    ensures { IfOk result (λ copy. copy ≡ batch.now) }
+{
+    let mut copy = Items::new(alloc);
+    for posted in batch {
+        copy.push(Posted {
+            caller: posted.caller,
+            index: posted.index,
+        })?;
+    }
+    Ok(copy)
+}
