@@ -1,5 +1,5 @@
 -- How the program ends, by how its task does.
-use Rattle.std.proofs.Common.{◌≡◌, ℕ, List, Bool, [], Option, None, Some, Result, IfErr, IfOk, inl, inr, codes, if◌then◌else◌}
+use Rattle.std.proofs.Common.{◌≡◌, ℕ, List, Bool, [], Option, None, Some, Result, Ok, Err, IfErr, IfOk, inl, inr, codes, if◌then◌else◌}
 use Rattle.std.proofs.KnownBytes.{Keeps-refl}
 use Rattle.dv_engine.specs.declared.report.Report.{Report}
 use Rattle.dv_json.specs.Exit.{error_text as json_text, status as json_status}
@@ -11,10 +11,14 @@ use Rattle.dv_output.specs.Exit.{error_text, status}
 use Rattle.dv_output.specs.declared.error.RunFault.{RunFault}
 use Rattle.dv_posts.specs.Batches.{Batch}
 use Rattle.dv_reader.specs.declared.error.ScriptFault.{ScriptFault}
-use Rattle.dv_replay.specs.Exit.{fault_refusal, fault_status, fault_text}
+use Rattle.dv_orders.specs.declared.number.Number.{Number}
+use Rattle.dv_replay.specs.Exit.{fault_refusal, fault_status, fault_text, survey_fault_status, survey_fault_text, survey_status, too_many}
 use Rattle.dv_replay.specs.Replay as replay
 use Rattle.dv_replay.specs.Replay.{PrintsIn}
+use Rattle.dv_replay.specs.Surveying as surveying
+use Rattle.dv_replay.specs.Surveying.{Surveys}
 use Rattle.dv_replay.specs.declared.error.ReplayFault.{ReplayFault}
+use Rattle.dv_replay.specs.declared.error.SurveyFault.{SurveyFault}
 use Rattle.dv_run.specs.Headline.{Prints, Told}
 use Rattle.dv_run.specs.Run.{GivesUp}
 use Rattle.dv_run.specs.declared.words.Form.{Form}
@@ -22,7 +26,7 @@ use Rattle.dv_run.specs.declared.words.Form.TheVariants as form
 use Rattle.dv_why.specs.Explaining.{ended_status, ended_text, Explains}
 use Rattle.dv_why.specs.declared.explaining.WhyFault.{WhyFault}
 use Rattle.dv_run.specs.declared.words.Task.TheVariants as task
-use Rattle.deferreds.specs.Ending.{Does, ExplainsScript, Replays, Runs, RunsAsJson}
+use Rattle.deferreds.specs.Ending.{Does, ExplainsScript, Replays, Runs, RunsAsJson, SurveysScript}
 
 pub runs : (ended : Result Report RunFault) (code : ℕ) (said : List ℕ) (input old new : Told) → IfOk ended (Prints input old new) → IfErr ended (λ fault. GivesUp fault input old new)
     → code ≡ status ended → said ≡ error_text ended → Runs code said input old new
@@ -36,7 +40,7 @@ pub explains : (ended : Result (Option ScriptFault) WhyFault) (code : ℕ) (said
     → code ≡ ended_status ended → said ≡ ended_text ended → ExplainsScript code said input old new
 explains ended code said input old new ok is says = record { ended = ended; ok = ok; status = is; text = says }
 
--- a run in given batches went to its end, or gave up
+-- a run in given batches went to its end, or failed
 pub replays_lines : (batches : List Batch) (report : Report) (code : ℕ) (said : List ℕ) (refusal : Option OrderFault) (input old new : Told) → PrintsIn batches input old new report
     → code ≡ (if report.stopped then 1 else 0) → said ≡ [] → refusal ≡ None → Replays form.Lines batches code said refusal input old new
 replays_lines batches report code said refusal input old new prints is says accepted =
@@ -57,17 +61,26 @@ pub fails_json : (batches : List Batch) (fault : ReplayFault) (code : ℕ) (said
 fails_json batches fault code said refusal input old new gives_up is says refused =
     inr (record { fault = fault; gives_up = gives_up; ends = record { status = is; text = says; refused = refused } })
 
--- the word was read, or it says no batches, or memory was refused to its reading
-pub replays_word : (form : Form) (workers : ℕ) (word : List ℕ) (batches : List Batch) (code : ℕ) (said : List ℕ) (refusal : Option OrderFault) (input old new : Told) → batches_in word ≡ Some batches
-    → Replays form batches code said refusal input old new → Does (task.Replay form workers) word code said refusal input old new
-replays_word form workers word batches code said refusal input old new says replays = inl (record { batches = batches; says = says; replays = replays })
+-- the word was read, or it says no batches, or its reading was out of memory
+pub replays_word : (form : Form) (workers : ℕ) (word : List ℕ) (batches : List Batch) (code : ℕ) (said : List ℕ) (refusal : Option OrderFault) (many : Option Number) (input old new : Told) → batches_in word ≡ Some batches
+    → Replays form batches code said refusal input old new → Does (task.Replay form workers) word code said refusal many input old new
+replays_word form workers word batches code said refusal many input old new says replays = inl (record { batches = batches; says = says; replays = replays })
 
-pub says_none : (form : Form) (workers : ℕ) (word : List ℕ) (code : ℕ) (said : List ℕ) (refusal : Option OrderFault) (input told : Told) → batches_in word ≡ None → code ≡ 64
-    → Does (task.Replay form workers) word code said refusal input told told
-says_none form workers word code said refusal input told none is = inr (inl (record { none = none; status = is; written = Keeps-refl told }))
+pub says_none : (form : Form) (workers : ℕ) (word : List ℕ) (code : ℕ) (said : List ℕ) (refusal : Option OrderFault) (many : Option Number) (input told : Told) → batches_in word ≡ None → code ≡ 64
+    → Does (task.Replay form workers) word code said refusal many input told told
+says_none form workers word code said refusal many input told none is = inr (inl (record { none = none; status = is; written = Keeps-refl told }))
 
-pub word_fails : (form : Form) (workers : ℕ) (word : List ℕ) (code : ℕ) (said : List ℕ) (refusal : Option OrderFault) (input told : Told) → code ≡ 3 → said ≡ codes "out of memory"
-    → Does (task.Replay form workers) word code said refusal input told told
-word_fails form workers word code said refusal input told is says = inr (inr (record { status = is; text = says; written = Keeps-refl told }))
+pub word_fails : (form : Form) (workers : ℕ) (word : List ℕ) (code : ℕ) (said : List ℕ) (refusal : Option OrderFault) (many : Option Number) (input told : Told) → code ≡ 3 → said ≡ codes "out of memory"
+    → Does (task.Replay form workers) word code said refusal many input told told
+word_fails form workers word code said refusal many input told is says = inr (inr (record { status = is; text = says; written = Keeps-refl told }))
 
-pub ruleset endings = (runs, runs_as_json, explains, replays_lines, fails_lines, replays_json, fails_json, replays_word, says_none, word_fails)
+-- a run in every order ended, or failed
+pub surveys_all : (most outcomes code : ℕ) (said : List ℕ) (many : Option Number) (input old new : Told) → Surveys most input old new outcomes
+    → code ≡ survey_status outcomes → said ≡ [] → many ≡ None → SurveysScript most code said many input old new
+surveys_all most outcomes code said many input old new surveys is says few = record { ended = Ok outcomes; ok = surveys; err = tt; status = is; text = says; number = few }
+
+pub surveys_fault : (most : ℕ) (fault : SurveyFault) (code : ℕ) (said : List ℕ) (many : Option Number) (input old new : Told) → surveying.GivesUp fault most input old new
+    → code ≡ survey_fault_status fault → said ≡ survey_fault_text fault → many ≡ too_many fault → SurveysScript most code said many input old new
+surveys_fault most fault code said many input old new gives_up is says number = record { ended = Err fault; ok = tt; err = gives_up; status = is; text = says; number = number }
+
+pub ruleset endings = (surveys_all, surveys_fault, runs, runs_as_json, explains, replays_lines, fails_lines, replays_json, fails_json, replays_word, says_none, word_fails)

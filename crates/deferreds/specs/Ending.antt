@@ -11,10 +11,14 @@ use Rattle.dv_output.specs.Exit.{error_text, status}
 use Rattle.dv_output.specs.declared.error.RunFault.{RunFault}
 use Rattle.dv_posts.specs.Batches.{Batch}
 use Rattle.dv_reader.specs.declared.error.ScriptFault.{ScriptFault}
-use Rattle.dv_replay.specs.Exit.{fault_refusal, fault_status, fault_text}
+use Rattle.dv_orders.specs.declared.number.Number.{Number}
+use Rattle.dv_replay.specs.Exit.{fault_refusal, fault_status, fault_text, survey_ended, survey_said, survey_too_many}
 use Rattle.dv_replay.specs.Replay as replay
 use Rattle.dv_replay.specs.Replay.{PrintsIn}
+use Rattle.dv_replay.specs.Surveying as surveying
+use Rattle.dv_replay.specs.Surveying.{Surveys}
 use Rattle.dv_replay.specs.declared.error.ReplayFault.{ReplayFault}
+use Rattle.dv_replay.specs.declared.error.SurveyFault.{SurveyFault}
 use Rattle.dv_run.specs.Headline.{Prints, Told}
 use Rattle.dv_run.specs.Run.{GivesUp}
 use Rattle.dv_run.specs.declared.words.Form.{Form}
@@ -53,7 +57,7 @@ pub record HasEnded (stopped : Bool) (code : ℕ) (said : List ℕ) (refusal : O
   pub text : said ≡ []
   pub accepted : refusal ≡ None
 
--- a run in given batches gave up
+-- a run in given batches failed
 pub record HasGivenUp (fault : ReplayFault) (code : ℕ) (said : List ℕ) (refusal : Option OrderFault) : Type 0 where
   pub status : code ≡ fault_status fault
   pub text : said ≡ fault_text fault
@@ -65,7 +69,7 @@ pub record ReplaysLines (batches : List Batch) (code : ℕ) (said : List ℕ) (r
   pub prints : PrintsIn batches input old new report
   pub ends : HasEnded report.stopped code said refusal
 
--- or it gave up
+-- or it failed
 pub record FailsLines (batches : List Batch) (code : ℕ) (said : List ℕ) (refusal : Option OrderFault) (input old new : Told) : Type 0 where
   pub fault : ReplayFault
   pub gives_up : replay.GivesUp fault batches input old new
@@ -99,18 +103,28 @@ pub record SaysNoBatches (word : List ℕ) (code : ℕ) (old new : Told) : Type 
   pub status : code ≡ 64
   pub written : Keeps old new
 
--- memory was refused to the reading of the word, and nothing was written
+-- the reading of the word was out of memory, and nothing was written
 pub record WordFails (code : ℕ) (said : List ℕ) (old new : Told) : Type 0 where
   pub status : code ≡ 3
   pub text : said ≡ codes "out of memory"
   pub written : Keeps old new
 
+-- a run in every order ended, or failed
+pub record SurveysScript (most code : ℕ) (said : List ℕ) (many : Option Number) (input old new : Told) : Type 0 where
+  pub ended : Result ℕ SurveyFault
+  pub ok : IfOk ended (Surveys most input old new)
+  pub err : IfErr ended (λ fault. surveying.GivesUp fault most input old new)
+  pub status : code ≡ survey_ended ended
+  pub text : said ≡ survey_said ended
+  pub number : many ≡ survey_too_many ended
+
 -- how each task may end, with the word of the batches
-abbrev pub Does : Task → List ℕ → ℕ → List ℕ → Option OrderFault → Told → Told → Told → Type 0
-Does (task.Run form.Lines workers) word code said refusal input old new = Runs code said input old new
-Does (task.Run form.Json workers) word code said refusal input old new = RunsAsJson code said input old new
-Does (task.Replay form workers) word code said refusal input old new = ReplaysWord form word code said refusal input old new ⊎ SaysNoBatches word code old new ⊎ WordFails code said old new
-Does task.Why word code said refusal input old new = ExplainsScript code said input old new
+abbrev pub Does : Task → List ℕ → ℕ → List ℕ → Option OrderFault → Option Number → Told → Told → Told → Type 0
+Does (task.Run form.Lines workers) word code said refusal many input old new = Runs code said input old new
+Does (task.Run form.Json workers) word code said refusal many input old new = RunsAsJson code said input old new
+Does (task.Replay form workers) word code said refusal many input old new = ReplaysWord form word code said refusal input old new ⊎ SaysNoBatches word code old new ⊎ WordFails code said old new
+Does (task.Survey most) word code said refusal many input old new = SurveysScript most code said many input old new
+Does task.Why word code said refusal many input old new = ExplainsScript code said input old new
 
 -- who runs a script that is refused is pointed to what explains it
 abbrev pub hint_after : ℕ → List ℕ

@@ -1,16 +1,23 @@
 //! How the program ends.
 
-ghost use Rattle.std.specs.Prelude.{◌≡◌, None};
-ghost use Rattle.dv_replay.specs.Exit.{fault_refusal, fault_status, fault_text};
+ghost use Rattle.std.specs.Prelude.{◌≡◌, [], None};
+ghost use Rattle.dv_replay.specs.Exit.{fault_refusal, fault_status, fault_text, survey_fault_status, survey_fault_text, survey_status, too_many};
 ghost use Rattle.deferreds.specs.Ending.{hint_after};
 
 use dv_orders::fault::OrderFault;
-use dv_replay::error::ReplayFault;
-use dv_replay::exit::{fault_refusal, fault_status, fault_text};
+use dv_orders::number::Number;
+use dv_replay::error::{ReplayFault, SurveyFault};
+use dv_replay::exit::{
+    fault_refusal, fault_status, fault_text, survey_fault_status, survey_fault_text, survey_status,
+    too_many,
+};
 
 /// How a run in given batches is asked for.
 const BATCHES_USAGE: &str =
     "usage: deferreds [--json] --batches BATCHES [WORKERS] [FILE], with BATCHES as [[[0,0]],[]]";
+
+/// How a run in every order is asked for.
+const ORDERS_USAGE: &str = "usage: deferreds --orders [--most N] [FILE], with N from 0 to 1000000";
 
 /// The status with which the program ends, and what it says on standard error.
 #[derive(Clone, Copy)]
@@ -22,6 +29,8 @@ pub struct Exit {
     pub hint: &'static str,
     /// Why the batches that were given are refused, which is a line of its own.
     pub refusal: Option<OrderFault>,
+    /// How many orders there are where these are more than were to run, which is a line of its own.
+    pub too_many: Option<Number>,
 }
 
 impl Exit {
@@ -30,6 +39,7 @@ impl Exit {
         ensures status { result.status ≡ ended.entry.0 }
         ensures text { result.text.now ≡ ended.entry.1.now }
         ensures refusal { result.refusal ≡ None }
+        ensures few { result.too_many ≡ None }
     {
         let (status, text) = ended;
         Exit {
@@ -37,6 +47,7 @@ impl Exit {
             text,
             hint: "",
             refusal: None,
+            too_many: None,
         }
     }
 
@@ -53,10 +64,11 @@ impl Exit {
             text,
             hint: hint_after(status),
             refusal: None,
+            too_many: None,
         }
     }
 
-    /// Ends as a run in given batches that gave up.
+    /// Ends as a run in given batches that failed.
     pub fn of_replay(fault: ReplayFault) -> Exit
         ensures status { result.status ≡ fault_status fault }
         ensures text { result.text.now ≡ fault_text fault }
@@ -68,6 +80,34 @@ impl Exit {
             text: fault_text(fault),
             hint: hint_after(status),
             refusal: fault_refusal(fault),
+            too_many: None,
+        }
+    }
+
+    /// Ends after a run in every order, by the number of ways in which the runs ended.
+    pub fn of_survey(outcomes: usize) -> Exit
+        ensures status { result.status ≡ survey_status outcomes }
+        ensures text { result.text.now ≡ [] }
+        ensures refusal { result.refusal ≡ None }
+        ensures few { result.too_many ≡ None }
+    {
+        Exit::plain((survey_status(outcomes), ""))
+    }
+
+    /// Ends where a run in every order failed.
+    pub fn of_survey_fault(fault: SurveyFault) -> Exit
+        ensures status { result.status ≡ survey_fault_status fault }
+        ensures text { result.text.now ≡ survey_fault_text fault }
+        ensures refusal { result.refusal ≡ None }
+        ensures many { result.too_many ≡ too_many fault }
+    {
+        let status = survey_fault_status(fault);
+        Exit {
+            status,
+            text: survey_fault_text(fault),
+            hint: hint_after(status),
+            refusal: None,
+            too_many: too_many(fault),
         }
     }
 
@@ -81,6 +121,7 @@ impl Exit {
             text: BATCHES_USAGE,
             hint: "deferreds --help says more",
             refusal: None,
+            too_many: None,
         }
     }
 
@@ -90,6 +131,7 @@ impl Exit {
             status: 64,
             text: match words {
                 [first, ..] if first.as_str() == "--batches" => BATCHES_USAGE,
+                [first, ..] if first.as_str() == "--orders" => ORDERS_USAGE,
                 [_, second, ..] if second.as_str() == "--batches" => BATCHES_USAGE,
                 [first, ..] if first.as_bytes().first() == Some(&b'-') => {
                     "usage: deferreds [--json] [WORKERS] [FILE], or deferreds --why [FILE]"
@@ -98,11 +140,12 @@ impl Exit {
             },
             hint: "deferreds --help says more",
             refusal: None,
+            too_many: None,
         }
     }
 }
 
-/// Returns what is said to a person after a run that ended with this status.
+/// Returns what is printed for a person after a run that ended with this status.
 fn hint_after(status: u8) -> &'static str
     ensures { result.now ≡ hint_after status }
 {

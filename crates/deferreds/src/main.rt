@@ -1,5 +1,5 @@
-//! Runs a script, and prints its journal and the outcome of each Deferred, or prints the run as JSON Lines, or explains where the
-//! script is refused.
+//! Runs a script, and prints its journal and the outcome of each Deferred, or prints the run as JSON Lines, or runs it in every
+//! order of its posts, or explains where the script is refused.
 #![tactic(auto)]
 
 ghost use Rattle.std.specs.Prelude.{IfOk, IfSome};
@@ -16,6 +16,8 @@ use crate::version::VERSION;
 use dv_journal::io_sink::IoSink;
 use dv_journal::sink::{Sink, write_all};
 use dv_language::language::print_language;
+use dv_orders::number::Number;
+use dv_run::orders::{MOST_ORDERS, ORDERS};
 use dv_run::{Asked, Input, IoSource, RunFault, asked_of, batches_word, exit_of};
 use std::alloc::AllocGlobal;
 use std::io::IsTerminal;
@@ -71,6 +73,24 @@ fn main(rt: HostRuntime) -> ExitCode {
     };
     if let Some(fault) = exit.refusal {
         let _ = eprintln!(rt; "batches refused: {fault}");
+    }
+    match exit.too_many {
+        None => {}
+        Some(Number::Exactly(number)) => {
+            let noun = if number == 1 {
+                "order is"
+            } else {
+                "orders are"
+            };
+            let _ = eprintln!(rt;
+                "{number} {noun} more than --most allows: {ORDERS} where it isn't given, {MOST_ORDERS} at most"
+            );
+        }
+        Some(Number::More) => {
+            let _ = eprintln!(rt;
+                "more orders than 64 bits count, and --most allows {MOST_ORDERS} at most"
+            );
+        }
     }
     if !exit.text.is_empty() {
         let _ = eprintln!(rt; "{}", exit.text);

@@ -13,6 +13,7 @@ use dv_journal::sink::Sink;
 use dv_orders::reading::read_batches;
 use dv_posts::posted::Posted;
 use dv_replay::running::replay;
+use dv_replay::surveying::survey;
 use dv_run::{Form, Kept, RunFault, Source, Task, exit_of, run_and_keep};
 use dv_value::items::Items;
 use dv_why::explaining::explain;
@@ -30,7 +31,7 @@ where
     R: Source,
     W: Sink,
     requires { HasFewWorkers task }
-    ensures { Does task word.now result.status result.text.now result.refusal (R.left reader.old) (W.taken writer.old) (W.taken writer.new) }
+    ensures { Does task word.now result.status result.text.now result.refusal result.too_many (R.left reader.old) (W.taken writer.old) (W.taken writer.new) }
 {
     match task {
         Task::Run(Form::Lines, workers) => Exit::of_run(print_run(rt, reader, writer, workers)),
@@ -41,6 +42,10 @@ where
             Ok(batches) => replay_as(rt, form, workers, batches.as_slice(), reader, writer),
             Err(Stop::BadShape) => Exit::wrong_batches(),
             Err(Stop::OutOfMemory) => Exit::plain(exit_of(&Err(RunFault::OutOfMemory))),
+        },
+        Task::Survey(most) => match survey(rt, reader, writer, &PlainGate, most) {
+            Ok(outcomes) => Exit::of_survey(outcomes),
+            Err(fault) => Exit::of_survey_fault(fault),
         },
         Task::Why => Exit::plain(dv_why::explaining::exit_of(explain(rt.alloc(), reader, writer))),
     }

@@ -41,7 +41,7 @@ pub const CLASSES: [(&str, Option<&str>); 21] = [
 ];
 
 /// The exit statuses of the program, and when it ends with each.
-pub const STATUSES: [(u32, &str); 7] = [
+pub const STATUSES: [(u32, &str); 9] = [
     (0, "all events were performed, or the script is accepted"),
     (1, "the run stopped at the limit of its journal"),
     (2, "the script is refused: --why says where"),
@@ -51,6 +51,8 @@ pub const STATUSES: [(u32, &str); 7] = [
         5,
         "the batches are refused: they aren't an order of the script's posts",
     ),
+    (6, "--orders: the orders end in several ways"),
+    (7, "--orders: there are more orders than --most allows"),
     (64, "the words are wrong"),
 ];
 

@@ -1,3 +1,4 @@
 pub mod TakingLemmas
 pub mod ReplayLemmas
+pub mod SurveyingLemmas
 pub mod TwoRuns

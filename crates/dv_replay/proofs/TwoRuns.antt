@@ -1,18 +1,19 @@
 -- Two runs of one script in the same batches lead to one world.
-use Rattle.std.proofs.Common.{◌≡◌, ℕ, List, [], ◌∷◌, ◌++◌, Some, Contains, sym, ap, subst, ◌∙◌, inl, inr}
+use Rattle.std.proofs.Common.{◌≡◌, ℕ, All, List, [], ◌∷◌, ◌++◌, Some, Contains, sym, ap, subst, ◌∙◌, inl, inr}
+use Rattle.std.proofs.lemmas.List.Elements.{All-head, All-tail}
 use Rattle.dv_engine.specs.Report.{ReportsOf}
 use Rattle.dv_engine.specs.declared.report.Report.{Report}
 use Rattle.dv_definition.specs.Scripts.{Leads}
 use Rattle.dv_journal.specs.Line.{text_of}
 use Rattle.dv_journal.specs.declared.journal.Journal.{Journal}
 use Rattle.dv_orders.proofs.Listing.{every_order, one_order}
-use Rattle.dv_orders.proofs.Members.{In, in_from}
+use Rattle.dv_orders.proofs.Members.{In, contains_from, in_from, of_map}
 use Rattle.dv_orders.specs.Orders.{empty_batches, orders}
 use Rattle.dv_output.specs.Output.{output}
 use Rattle.dv_performing.proofs.Leading.{each_script_leads_to_one_world}
 use Rattle.dv_reader.proofs.Documents.{one_at_most}
 use Rattle.dv_reader.specs.Refusal.{Says}
-use Rattle.dv_replay.specs.Laws.{AloneAllIsDecided, AreAlike, BatchesDecide, EveryRunIsListed}
+use Rattle.dv_replay.specs.Laws.{AloneAllIsDecided, AreAlike, BatchesDecide, EveryRunIsListed, EveryRunIsSurveyed}
 use Rattle.dv_run.specs.Headline.{IsRun, SaysReport}
 use Rattle.dv_script.specs.declared.script.Script.{Script}
 use Rattle.dv_world.specs.World.{World}
@@ -64,3 +65,16 @@ alone_all_is_decided input s t a b one other none =
     let first : a.batches ≡ empty = only a.batches empty (orders s) listed (every_run s a one.runs) in
     let second : b.batches ≡ empty = only b.batches empty (orders s) listed (every_run s b (subst (λ script. IsRun script b) is other.runs)) in
     batches_decide input s t a b one other (first ∙ sym second)
+
+-- what holds of all holds of each
+of_each : {X : Type 0} (P : X → Type 0) (x : X) (xs : List X) → All P xs → In x xs → P x
+of_each P x [] all h = absurd h
+of_each P x (y ∷ ys) all (inl is) = subst P is (All-head P y ys all)
+of_each P x (y ∷ ys) all (inr h) = of_each P x ys (All-tail P y ys all) h
+
+pub every_run_is_surveyed : EveryRunIsSurveyed
+every_run_is_surveyed script survey all report runs =
+    let listed : In report.batches (orders script) = in_from report.batches (orders script) (every_run script report runs) in
+    let found = of_map (λ (r : Report). r.batches) report.batches all.reports (subst (In report.batches) (sym all.took) listed) in
+    let other = found.0 in
+    (other, contains_from other all.reports found.1, same_batches script report other runs (of_each (IsRun script) other all.reports all.runs found.1) (sym found.2))

@@ -1,10 +1,12 @@
--- Laws of two runs: what their texts depend on.
+-- Laws of several runs: what their texts depend on.
 use Rattle.std.specs.Prelude.{◌≡◌, ℕ, List, Some, Contains}
 use Rattle.dv_engine.specs.declared.report.Report.{Report}
 use Rattle.dv_orders.specs.Orders.{counts_of, orders, total}
 use Rattle.dv_output.specs.Output.{report_text}
 use Rattle.dv_run.specs.Headline.{IsRun, SaysReport}
+use Rattle.dv_replay.specs.Surveying.{HasSurveyed}
 use Rattle.dv_script.specs.declared.script.Script.{Script}
+use Rattle.dv_survey.specs.declared.survey.Survey.{Survey}
 
 -- two reports print one text, and both runs stopped or neither did
 pub record AreAlike (script other : Script) (a b : Report) : Type 0 where
@@ -24,3 +26,8 @@ AloneAllIsDecided = (input : List ℕ) (s t : Script) (a b : Report) → SaysRep
 -- the batches of every run are one of the orders of its script
 abbrev pub EveryRunIsListed : Type 0
 EveryRunIsListed = (script : Script) (report : Report) → IsRun script report → Contains (orders script) report.batches
+
+-- whatever a run of a script prints, a run in one of the orders that were surveyed prints, too
+abbrev pub EveryRunIsSurveyed : Type 0
+EveryRunIsSurveyed = (script : Script) (survey : Survey) (all : HasSurveyed script (orders script) survey) (report : Report) → IsRun script report
+    → (other : Report) × Contains all.reports other × AreAlike script script report other

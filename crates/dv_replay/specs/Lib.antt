@@ -1,3 +1,4 @@
 pub mod Replay
 pub mod Exit
 pub mod Laws
+pub mod Surveying

@@ -1,4 +1,5 @@
 use dv_orders::fault::OrderFault;
+use dv_orders::number::Number;
 use dv_output::error::RunFault;
 use std::alloc::AllocError;
 
@@ -32,4 +33,13 @@ impl From<RunFault> for ReplayFault {
     fn from(fault: RunFault) -> ReplayFault {
         ReplayFault::Run(fault)
     }
+}
+
+/// Why a survey of all orders failed.
+#[derive(Clone, Copy, Debug, PartialEq, Eq, Drop)]
+pub enum SurveyFault {
+    /// As any run does.
+    Run(RunFault),
+    /// The script has more orders than were to run. Nothing was performed, and nothing was written.
+    TooMany(Number),
 }

@@ -1,8 +1,9 @@
 ghost use Rattle.std.specs.Prelude.{◌≡◌};
-ghost use Rattle.dv_replay.specs.Exit.{fault_refusal, fault_status, fault_text};
+ghost use Rattle.dv_replay.specs.Exit.{fault_refusal, fault_status, fault_text, survey_fault_status, survey_fault_text, survey_status, too_many};
 
-use crate::error::ReplayFault;
+use crate::error::{ReplayFault, SurveyFault};
 use dv_orders::fault::OrderFault;
+use dv_orders::number::Number;
 
 /// Returns the exit status of a run in given batches that gave up: 5 where the batches are refused, and otherwise that of a run.
 pub fn fault_status(fault: ReplayFault) -> u8
@@ -31,5 +32,42 @@ pub fn fault_refusal(fault: ReplayFault) -> Option<OrderFault>
     match fault {
         ReplayFault::Run(_) => None,
         ReplayFault::BatchesRefused(fault) => Some(fault),
+    }
+}
+
+/// Returns the exit status of a survey of all orders: 0 where all runs ended in one way, and 6 where they didn't.
+pub fn survey_status(outcomes: usize) -> u8
+    ensures { result ≡ survey_status outcomes }
+{
+    if outcomes <= 1 { 0 } else { 6 }
+}
+
+/// Returns the exit status of a survey that failed: 7 where there are too many orders, and otherwise that of a run.
+pub fn survey_fault_status(fault: SurveyFault) -> u8
+    ensures { result ≡ survey_fault_status fault }
+{
+    match fault {
+        SurveyFault::Run(fault) => dv_output::exit::fault_status(fault),
+        SurveyFault::TooMany(_) => 7,
+    }
+}
+
+/// Returns what goes to standard error then: a line of this text, or nothing where it is empty.
+pub fn survey_fault_text(fault: SurveyFault) -> &'static str
+    ensures { result.now ≡ survey_fault_text fault }
+{
+    match fault {
+        SurveyFault::Run(fault) => dv_output::exit::fault_text(fault),
+        SurveyFault::TooMany(_) => "",
+    }
+}
+
+/// Returns how many orders there are where these are too many, which goes to standard error, too. None where they aren't.
+pub fn too_many(fault: SurveyFault) -> Option<Number>
+    ensures { result ≡ too_many fault }
+{
+    match fault {
+        SurveyFault::Run(_) => None,
+        SurveyFault::TooMany(number) => Some(number),
     }
 }

@@ -6,4 +6,5 @@ pub mod exit;
 pub mod laws;
 pub mod performing;
 pub mod running;
+pub mod surveying;
 pub mod taking;

@@ -1,4 +1,4 @@
-//! Performs a script in given batches, with threads for its jobs alone.
+//! Performs a script in given batches, with threads for its jobs alone, or with none.
 
 ghost use Rattle.std.specs.Prelude.{◌≡◌, ◌<◌, ◌≤◌, ◌^◌, ◌-◌, [], length, IfOk};
 ghost use Rattle.dv_orders.specs.Listed.{AreOrder};
@@ -12,6 +12,7 @@ use dv_jobs::one_thread::OneThread;
 use dv_jobs::source::JobSource;
 use dv_posts::posted::Posted;
 use dv_run::driving::Driver;
+use dv_script::limits::MOST_POOLS;
 use dv_script::script::Script;
 use dv_threads::pools::Pools;
 use dv_value::items::Items;
@@ -71,6 +72,36 @@ where
             }
         },
     )
+}
+
+/// Performs a script in these batches of its callers' posts on this thread alone: each job is done where it is submitted, whichever its
+/// pool.
+pub fn perform_alone<S, G, D>(
+    rt: &S,
+    script: &Script,
+    gate: &G,
+    batches: &[Items<Posted>],
+    driver: &D,
+) -> Result<D::End, AllocError>
+where
+    S: Threads + Wait + RandomSource + AllocGlobal,
+    G: Gate,
+    D: Driver,
+    requires limited { script.now.limit < 2 ^ 32 - 1 }
+    requires pools { length script.now.pools ≤ MOST_POOLS }
+    requires order { AreOrder script.now batches.now }
+    ensures ends { IfOk result (D.ends script.now) }
+    ensures took { IfOk result (λ end. D.took end ≡ batches.now) }
+{
+    let Ok(poller) = Poller::new(rt) else {
+        return Err(AllocError);
+    };
+    let Ok(keys) = RandomState::new(rt) else {
+        return Err(AllocError);
+    };
+    let alloc = rt.alloc();
+    let jobs = OneThread::new(alloc, MOST_POOLS as u32, gate);
+    perform_with(rt, alloc, poller, keys, jobs, script, batches, driver)
 }
 
 /// Performs a script with these batches and this source for its jobs, to which nothing was submitted yet, and which has the pools that

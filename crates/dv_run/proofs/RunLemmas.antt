@@ -24,12 +24,12 @@ use Rattle.dv_output.specs.declared.error.RunFault.TheVariants.{OutOfMemory}
 use Rattle.dv_source.specs.declared.source.ReadError.{ReadError}
 use Rattle.dv_source.specs.declared.source.ReadError.TheVariants as reading
 
--- a read that gave up: nothing was written
+-- a read that failed: nothing was written
 after_read : (input old : Told) (error : ReadError) → GivesUp (of_read error) input old old
 after_read input old reading.ReadFault = Keeps-refl old
 after_read input old reading.OutOfMemory = inl (Keeps-refl old)
 
--- bytes that are refused, for a reason other than want of memory: nothing was written
+-- bytes that are refused, for a reason other than out of memory: nothing was written
 refused_as : (input old : Told) (bytes : List ℕ) (fault : ScriptFault) → IsFrontOf input most_read bytes → Refuses fault bytes → fault ≢ script.OutOfMemory → RefusesInput input old old fault
 refused_as input old bytes fault front refused reason = record { bytes = bytes; read = front; refused = refused; reason = reason; written = Keeps-refl old }
 
@@ -45,7 +45,7 @@ after_script input old bytes script.BadClass front refused = refused_as input ol
 after_script input old bytes script.OutOfMemory front refused = inl (Keeps-refl old)
 after_script input old bytes script.BadPool front refused = refused_as input old bytes script.BadPool front refused (λ e. cc)
 
--- a script that isn't performed for want of memory: nothing was written
+-- a script that isn't performed on allocation failure: nothing was written
 pub after_perform : (input old : Told) → GivesUp OutOfMemory input old old
 after_perform input old = inl (Keeps-refl old)
 
@@ -53,7 +53,7 @@ after_perform input old = inl (Keeps-refl old)
 says_report : (input : Told) (read : Script) (report : Report) → SaysScript input read → IsRun read report → SaysReport input read report
 says_report input read report says runs = record { bytes = says.bytes; read = says.read; says = says.says; runs = runs }
 
--- a print that gave up: a prefix was written
+-- a print that failed: a prefix was written
 pub after_print : (input old new : Told) (read : Script) (report : Report) (fault : PrintFault) → SaysScript input read → IsRun read report
     → AppendsPrefix old new (report_text read.classes report) → GivesUp (of_print fault) input old new
 after_print input old new read report printing.WriteFault says runs written =
@@ -67,7 +67,7 @@ pub after_all : (input old new : Told) (read : Script) (report : Report) → Say
 after_all input old new read report says runs written =
     record { script = read; says = says_report input read report says runs; written = written }
 
--- what the reader's count says after a read that gave up
+-- what the reader's count says after a read that failed
 reader_after_read : (error : ReadError) (old new : ℕ) → ((error ≡ reading.ReadFault) → HasFailed old new) → ((error ≡ reading.OutOfMemory) → new ≡ old) → ReaderFailedBy (of_read error) old new
 unfolding ReaderFailedBy
 reader_after_read reading.ReadFault old new failed kept = failed refl
@@ -105,7 +105,7 @@ writer_after_script script.BadClass old = refl
 writer_after_script script.OutOfMemory old = refl
 writer_after_script script.BadPool old = refl
 
--- where a print gave up, the reader hasn't failed
+-- where a print failed, the reader hasn't failed
 pub reader_after_print : (fault : PrintFault) (old new : ℕ) → new ≡ old → ReaderFailedBy (of_print fault) old new
 unfolding ReaderFailedBy
 reader_after_print printing.WriteFault old new kept = kept
@@ -117,7 +117,7 @@ unfolding WriterFailedBy
 writer_after_print printing.WriteFault old new failed kept = failed refl
 writer_after_print printing.OutOfMemory old new failed kept = kept refl
 
--- a read that gave up leaves the rest
+-- a read that failed leaves the rest
 left_after_read : (error : ReadError) (input rest : Told) → ConsumesSome input rest → LeavesAfter (of_read error) input rest
 unfolding LeavesAfter
 left_after_read reading.ReadFault input rest some = some
@@ -150,7 +150,7 @@ unfolding LeavesAfter
 left_after_print printing.WriteFault input rest read = read
 left_after_print printing.OutOfMemory input rest read = some_read input rest read
 
--- a read that gave up leads to no script
+-- a read that failed leads to no script
 pub read_gives_none : (input rest : Told) (error : ReadError) (old new : ℕ) → ((error ≡ reading.ReadFault) → HasFailed old new) → ((error ≡ reading.OutOfMemory) → new ≡ old) → ConsumesSome input rest → GivesNoScript (of_read error) input rest old new
 read_gives_none input rest error old new failed kept some =
     record { untouched = λ told. after_read input told error; reader = reader_after_read error old new failed kept; writer = λ count. writer_after_read error count; left = left_after_read error input rest some }
@@ -196,7 +196,7 @@ says_few bytes read says = subst (λ (s : Script). AreFew s.callers) says.same (
   posts_few = λ c. few_at says.draft.script.callers c (and_second _ _ (and_first _ _ says.small));
 })
 
--- nor has either where a script isn't performed for want of memory
+-- nor has either where a script isn't performed on allocation failure
 pub reader_after_perform : (old new : ℕ) → new ≡ old → ReaderFailedBy OutOfMemory old new
 unfolding ReaderFailedBy
 reader_after_perform old new kept = kept

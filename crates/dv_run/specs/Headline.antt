@@ -15,7 +15,7 @@ pub record IsRun (script : Script) (report : Report) : Type 0 where
   pub reports : Reports script report
   pub complete : AreComplete script report.batches
 
--- the bytes that a reader has left, or a writer has taken, where they are told
+-- the bytes that a reader has left, or a writer has taken, where they are reported
 abbrev pub Told : Type 0
 Told = Option (List ℕ)
 

@@ -71,7 +71,7 @@ pub record HasRead (input rest : Told) : Type 0 where
   pub front : IsFrontOf input most_read bytes
   pub taken : Consumes input rest bytes
 
--- what a reader has left after a fault: where it failed, or memory was refused, only some of that may have been read
+-- what a reader has left after a fault: where it failed, or an allocation failed, only some of that may have been read
 unfoldable pub LeavesAfter : RunFault → Told → Told → Type 0
 LeavesAfter (ScriptRefused fault) input rest = HasRead input rest
 LeavesAfter OutOfMemory input rest = ConsumesSome input rest

@@ -1,7 +1,9 @@
 -- What the words after the program's name ask for.
 use Rattle.std.specs.Prelude.{Bool, false, not, ℕ, nat_eq, ◌&&◌, ◌||◌, if◌then◌else◌, List, [], ◌∷◌, Option, None, Some, bytes_eq, codes, option_and_then, ◌≤◌, ⊤}
 use Rattle.std.specs.List.{list_any}
+use Rattle.dv_run.specs.Orders.{most_in}
 use Rattle.dv_run.specs.Workers.{few_workers, number_in}
+use Rattle.dv_run.specs.declared.orders.TheConstants.{ORDERS}
 use Rattle.dv_script.specs.declared.limits.TheConstants.{MOST_WORKERS}
 use Rattle.dv_run.specs.declared.words.Form.{Form}
 use Rattle.dv_run.specs.declared.words.Form.TheVariants as form
@@ -49,6 +51,7 @@ run_in form (word ∷ second ∷ third ∷ words) = None
 abbrev pub replayed_task : Task → Input → Option Asked
 replayed_task (task.Run form workers) input = Some (asked.Script (task.Replay form workers) input)
 replayed_task (task.Replay form workers) input = None
+replayed_task (task.Survey most) input = None
 replayed_task task.Why input = None
 
 -- the same of what is asked for
@@ -68,6 +71,24 @@ abbrev pub json_in : List (List ℕ) → Option Asked
 json_in [] = run_in form.Json []
 json_in (word ∷ words) = if bytes_eq word (codes "--batches") then replay_in form.Json words else run_in form.Json (word ∷ words)
 
+-- a run in every order, where the most orders and what is read are known
+abbrev pub survey_of : Option ℕ → Option Input → Option Asked
+survey_of (Some most) (Some input) = Some (asked.Script (task.Survey most) input)
+survey_of (Some most) None = None
+survey_of None input = None
+
+-- a run in every order, up to so many: no words, or what is read
+abbrev pub survey_up_to : Option ℕ → List (List ℕ) → Option Asked
+survey_up_to most [] = survey_of most (Some Standard)
+survey_up_to most (word ∷ []) = survey_of most (input_in word)
+survey_up_to most (word ∷ second ∷ words) = None
+
+-- a run in every order: `--most` and a number, or neither, and then what is read
+abbrev pub orders_in : List (List ℕ) → Option Asked
+orders_in [] = survey_of (Some ORDERS) (Some Standard)
+orders_in (word ∷ []) = survey_of (Some ORDERS) (input_in word)
+orders_in (flag ∷ most ∷ words) = if bytes_eq flag (codes "--most") then survey_up_to (most_in most) words else None
+
 -- why a script is refused, where what is read is known
 abbrev pub why_of : Option Input → Option Asked
 why_of (Some input) = Some (asked.Script task.Why input)
@@ -86,12 +107,13 @@ alone asked (word ∷ words) = None
 
 -- the option that a word is
 abbrev pub flag_in : List ℕ → Option Flag
-flag_in word = if bytes_eq word (codes "--json") then Some flag.Json else if bytes_eq word (codes "--batches") then Some flag.Batches else if bytes_eq word (codes "--why") then Some flag.Why else if bytes_eq word (codes "--language") then Some flag.Language else if bytes_eq word (codes "--version") then Some flag.Version else if bytes_eq word (codes "--help") then Some flag.Help else None
+flag_in word = if bytes_eq word (codes "--json") then Some flag.Json else if bytes_eq word (codes "--batches") then Some flag.Batches else if bytes_eq word (codes "--orders") then Some flag.Orders else if bytes_eq word (codes "--why") then Some flag.Why else if bytes_eq word (codes "--language") then Some flag.Language else if bytes_eq word (codes "--version") then Some flag.Version else if bytes_eq word (codes "--help") then Some flag.Help else None
 
 -- what an option asks for, with the words after it
 abbrev pub asked_by : Flag → List (List ℕ) → Option Asked
 asked_by flag.Json words = json_in words
 asked_by flag.Batches words = replay_in form.Lines words
+asked_by flag.Orders words = orders_in words
 asked_by flag.Why words = why_in words
 asked_by flag.Language words = alone asked.Language words
 asked_by flag.Version words = alone asked.Version words
@@ -110,6 +132,7 @@ asked_in (word ∷ words) = asked_after (flag_in word) word words
 abbrev pub HasFewWorkers : Task → Type 0
 HasFewWorkers (task.Run form workers) = workers ≤ MOST_WORKERS
 HasFewWorkers (task.Replay form workers) = workers ≤ MOST_WORKERS
+HasFewWorkers (task.Survey most) = ⊤
 HasFewWorkers task.Why = ⊤
 
 -- no more workers than a run may have, where a run is asked for

@@ -42,10 +42,10 @@ pub trait Driver {
     /// Nothing is noted.
     fn start(&self, alloc: Global) -> Self::Notes;
 
-    /// Notes how many entries there are before the next event, or before the last batch. AllocError where memory is refused.
+    /// Notes how many entries there are before the next event, or before the last batch. AllocError when out of memory.
     fn note(&self, notes: &mut Self::Notes, told: usize) -> Result<(), AllocError>;
 
-    /// Keeps what an engine has that has taken all posts. AllocError where memory is refused.
+    /// Keeps what an engine has that has taken all posts. AllocError when out of memory.
     fn keep<'s, R, J>(
         &self,
         rt: &R,
@@ -100,7 +100,7 @@ impl Driver for Reporting {
 }
 
 /// Has an engine perform its script, of whose callers these are the bodies, while they post: at each drain it takes what is there, up to
-/// as many as that takes, and after the last event, when the callers have ended, what is left. AllocError where memory is refused.
+/// as many as that takes, and after the last event, when the callers have ended, what is left. AllocError when out of memory.
 pub fn drive<'s, R, J, D>(
     rt: &R,
     alloc: Global,

@@ -2,6 +2,7 @@
 #![tactic(auto)]
 
 pub mod driving;
+pub mod orders;
 pub mod performing;
 pub mod running;
 mod words;

@@ -31,7 +31,7 @@ use std::thread::Threads;
 /// the first event. It may wait for its threads.
 ///
 /// ScriptRefused where the input says no script, and ReadFault where the reader fails: nothing was written. OutOfMemory where
-/// memory is refused, and WriteFault where the writer fails or takes no byte: a prefix of the text was written.
+/// an allocation fails, and WriteFault where the writer fails or takes no byte: a prefix of the text was written.
 ///
 /// The input is read to its end, or to one byte more than a script may have, and nothing is written before all of it
 /// is read and performed. The run ends at the reader's or the writer's first failure: the reader has counted a failure
@@ -72,7 +72,7 @@ pub struct Kept {
     pub report: Report,
 }
 
-/// As `run`, and hands the script back with the report, so that a program which ends then need not let go of them piece by
+/// As `run`, and hands the script back with the report, so that a program which ends then need not drop them piece by
 /// piece.
 #[tactic(auto, using(crate::proofs::RunLemmas::run_rules))]
 pub fn run_and_keep<S, R, W, G>(

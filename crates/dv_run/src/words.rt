@@ -2,9 +2,10 @@
 
 ghost use Rattle.std.specs.Prelude.{◌≡◌, ◌≤◌, map, string_bytes, IfSome};
 ghost use Rattle.std.specs.List.{list_any};
-ghost use Rattle.dv_run.specs.Words.{marks_file, names_file, input_in, run_with, run_by_one, run_in, why_of, why_in, alone, batches_word, flag_in, json_in, replay_in, replayed, replayed_task, asked_by, asked_in, AsksFew, HasFewWorkers};
+ghost use Rattle.dv_run.specs.Words.{marks_file, names_file, input_in, run_with, run_by_one, run_in, why_of, why_in, alone, batches_word, orders_in, survey_of, survey_up_to, flag_in, json_in, replay_in, replayed, replayed_task, asked_by, asked_in, AsksFew, HasFewWorkers};
 ghost use Rattle.dv_script.specs.declared.limits.TheConstants.{MOST_WORKERS};
 
+use crate::orders::{ORDERS, most_in};
 use crate::workers::{few_workers, number_in};
 
 /// In which form a run is printed.
@@ -31,6 +32,8 @@ pub enum Task {
     Run(Form, u32),
     /// It runs in batches that are given, with so many workers.
     Replay(Form, u32),
+    /// It runs in every order of its posts, where there are no more than so many.
+    Survey(u32),
     /// It is explained where it is refused, and why.
     Why,
 }
@@ -53,6 +56,7 @@ pub enum Asked {
 pub enum Flag {
     Json,
     Batches,
+    Orders,
     Why,
     Language,
     Version,
@@ -60,7 +64,8 @@ pub enum Flag {
 }
 
 /// What the words after the program's name ask for. An option comes first. Behind `--json`, or without an option, come a number
-/// of workers and a FILE, each of which may be left out; behind `--why` comes a FILE alone. Behind `--batches`, which may follow
+/// of workers and a FILE, each of which may be left out; behind `--why` comes a FILE alone. Behind `--orders` comes a FILE, after
+/// `--most` and a decimal number up to `MOST_ORDERS`, or with neither. Behind `--batches`, which may follow
 /// `--json`, comes a word with the batches, and then the same as without it. A number of workers is one of one or two
 /// decimal digits, 16 at most. A FILE has a `/` or a `.` in it and doesn't begin with `-`, or is `-`, standard input, which is read too
 /// where there is no FILE. None for any other words.
@@ -84,6 +89,7 @@ fn asked_by(flag: Flag, words: &[String]) -> Option<Asked>
     match flag {
         Flag::Json => json_in(words),
         Flag::Batches => replay_in(Form::Lines, words),
+        Flag::Orders => orders_in(words),
         Flag::Why => why_in(words),
         Flag::Language => alone(Asked::Language, words),
         Flag::Version => alone(Asked::Version, words),
@@ -98,6 +104,8 @@ fn flag_in(word: &str) -> Option<Flag>
         Some(Flag::Json)
     } else if word == "--batches" {
         Some(Flag::Batches)
+    } else if word == "--orders" {
+        Some(Flag::Orders)
     } else if word == "--why" {
         Some(Flag::Why)
     } else if word == "--language" {
@@ -190,7 +198,7 @@ fn replayed_task(task: Task, input: Input) -> Option<Asked>
 {
     match task {
         Task::Run(form, workers) => Some(Asked::Script(Task::Replay(form, workers), input)),
-        Task::Replay(..) | Task::Why => None,
+        Task::Replay(..) | Task::Survey(_) | Task::Why => None,
     }
 }
 
@@ -206,6 +214,42 @@ pub fn batches_word(words: &[String]) -> &str
         } else {
             third.as_str()
         },
+    }
+}
+
+fn orders_in(words: &[String]) -> Option<Asked>
+    ensures asked { result ≡ orders_in (map string_bytes words.now) }
+    ensures few { IfSome result AsksFew }
+{
+    match words {
+        [] => survey_of(Some(ORDERS), Some(Input::Standard)),
+        [word] => survey_of(Some(ORDERS), input_in(word.as_str())),
+        [flag, most, rest @ ..] => if flag.as_str() == "--most" {
+            survey_up_to(most_in(most.as_bytes()), rest)
+        } else {
+            None
+        },
+    }
+}
+
+fn survey_up_to(most: Option<u32>, words: &[String]) -> Option<Asked>
+    ensures asked { result ≡ survey_up_to most (map string_bytes words.now) }
+    ensures few { IfSome result AsksFew }
+{
+    match words {
+        [] => survey_of(most, Some(Input::Standard)),
+        [word] => survey_of(most, input_in(word.as_str())),
+        [_, _, ..] => None,
+    }
+}
+
+fn survey_of(most: Option<u32>, input: Option<Input>) -> Option<Asked>
+    ensures asked { result ≡ survey_of most input }
+    ensures few { IfSome result AsksFew }
+{
+    match (most, input) {
+        (Some(most), Some(input)) => Some(Asked::Script(Task::Survey(most), input)),
+        (Some(_), None) | (None, _) => None,
     }
 }
 

@@ -1,0 +1,122 @@
+-- A script in every order of its posts: what is gathered of its runs, and what is written of that.
+use Rattle.std.specs.Prelude.{◌≡◌, ◌≤◌, ◌<◌, ◌⊎◌, ◌++◌, ◌^◌, ◌-◌, ℕ, ⊤, List, length, map, All, Result, Ok, Err, codes}
+use Rattle.std.specs.Io.KnownBytes.{Appends, Keeps}
+use Rattle.dv_engine.specs.declared.report.Report.{Report}
+use Rattle.dv_journal.specs.Sink.{AppendsPrefix}
+use Rattle.dv_orders.specs.Orders.{orders}
+use Rattle.dv_orders.specs.declared.number.Number.{Number}
+use Rattle.dv_orders.specs.declared.number.Number.TheVariants.{Exactly, More}
+use Rattle.dv_output.specs.declared.error.RunFault.TheVariants.{ScriptRefused, OutOfMemory, ReadFault, WriteFault}
+use Rattle.dv_posts.specs.Batches.{Batch}
+use Rattle.dv_replay.specs.declared.error.SurveyFault.{SurveyFault}
+use Rattle.dv_replay.specs.declared.error.SurveyFault.TheVariants.{Run, TooMany}
+use Rattle.dv_run.specs.Headline.{IsRun, Told}
+use Rattle.dv_run.specs.Run as run
+use Rattle.dv_run.specs.Run.{HasRead, RefusesInput, SaysScript}
+use Rattle.dv_script.specs.declared.script.Script.{Script}
+use Rattle.dv_survey.specs.Survey as gathering
+use Rattle.dv_survey.specs.Text.{counted, survey_text}
+use Rattle.dv_survey.specs.declared.survey.Survey.{Survey}
+
+-- what a survey keeps of the report of a run
+abbrev pub run_of : Report → gathering.Run
+run_of report = gathering.run_of report.batches report.outcomes report.stopped
+
+-- the survey is that of runs of the script, one in each of these orders
+pub record HasSurveyed (script : Script) (seen : List (List Batch)) (survey : Survey) : Type 0 where
+  pub reports : List Report
+  pub runs : All (IsRun script) reports
+  pub took : map (λ report. report.batches) reports ≡ seen
+  pub gathers : survey ≡ gathering.survey_of script.classes (map run_of reports)
+
+-- N orders
+abbrev pub number_line : ℕ → List ℕ
+number_line orders = counted orders (codes "order") ++ codes "\n"
+
+-- how many orders there are, and then what became of the Deferreds
+abbrev pub orders_text : ℕ → Survey → List ℕ
+orders_text orders survey = number_line orders ++ survey_text survey orders
+
+-- what became of the Deferreds in every order was written, of which there are no more than these, in so many ways
+pub record PrintsOrders (most : ℕ) (old new : Told) (outcomes : ℕ) (script : Script) : Type 0 where
+  pub few : length (orders script) ≤ most
+  pub survey : Survey
+  pub surveyed : HasSurveyed script (orders script) survey
+  pub written : Appends old new (orders_text (length (orders script)) survey)
+  pub ways : outcomes ≡ length survey.outcomes
+
+-- a prefix of that was written
+pub record PrintsSome (old new : Told) (script : Script) : Type 0 where
+  pub survey : Survey
+  pub surveyed : HasSurveyed script (orders script) survey
+  pub written : AppendsPrefix old new (orders_text (length (orders script)) survey)
+
+-- a prefix of the line of their number was written
+abbrev pub PrintsNumber : Told → Told → Script → Type 0
+PrintsNumber old new script = AppendsPrefix old new (number_line (length (orders script)))
+
+-- the script has so many orders, which are more than these, or more than 64 bits count
+abbrev pub Exceeds : Number → ℕ → Script → Type 0
+Exceeds (Exactly number) most script = (number ≡ length (orders script)) × (most < number)
+Exceeds More most script = 2 ^ 64 - 2 < length (orders script)
+
+-- the input says a script, of which this holds
+pub record InputSays (input : Told) (Holds : Script → Type 0) : Type 0 where
+  pub script : Script
+  pub says : SaysScript input script
+  pub holds : Holds script
+
+-- the input says a script, and what became of its Deferreds in every order was written
+abbrev pub Surveys : ℕ → Told → Told → Told → ℕ → Type 0
+Surveys most input old new outcomes = InputSays input (PrintsOrders most old new outcomes)
+
+-- why the orders of a script aren't performed: an allocation failed, or there are too many
+abbrev pub CountFails : SurveyFault → ℕ → Script → Type 0
+CountFails (Run (ScriptRefused fault)) most script = ⊥
+CountFails (Run OutOfMemory) most script = ⊤
+CountFails (Run ReadFault) most script = ⊥
+CountFails (Run WriteFault) most script = ⊥
+CountFails (TooMany number) most script = Exceeds number most script
+
+-- what was written before each fault, once there is a script: where there are too many orders, nothing
+abbrev pub OrdersGiveUp : SurveyFault → ℕ → Told → Told → Script → Type 0
+OrdersGiveUp (Run (ScriptRefused fault)) most old new script = ⊥
+OrdersGiveUp (Run OutOfMemory) most old new script = PrintsNumber old new script ⊎ PrintsSome old new script
+OrdersGiveUp (Run ReadFault) most old new script = ⊥
+OrdersGiveUp (Run WriteFault) most old new script = PrintsNumber old new script ⊎ PrintsSome old new script
+OrdersGiveUp (TooMany number) most old new script = Exceeds number most script × Keeps old new
+
+-- what was written before each fault: nothing where there is no script
+abbrev pub GivesUp : SurveyFault → ℕ → Told → Told → Told → Type 0
+GivesUp (Run (ScriptRefused fault)) most input old new = RefusesInput input old new fault
+GivesUp (Run OutOfMemory) most input old new = Keeps old new ⊎ InputSays input (OrdersGiveUp (Run OutOfMemory) most old new)
+GivesUp (Run ReadFault) most input old new = Keeps old new
+GivesUp (Run WriteFault) most input old new = InputSays input (OrdersGiveUp (Run WriteFault) most old new)
+GivesUp (TooMany number) most input old new = InputSays input (OrdersGiveUp (TooMany number) most old new)
+
+-- after a read fault the reader has failed meanwhile, and after any other it hasn't
+abbrev pub ReaderFailedBy : SurveyFault → ℕ → ℕ → Type 0
+ReaderFailedBy (Run fault) old new = run.ReaderFailedBy fault old new
+ReaderFailedBy (TooMany number) old new = new ≡ old
+
+abbrev pub ReaderFailed : {A : Type 0} → Result A SurveyFault → ℕ → ℕ → Type 0
+ReaderFailed (Ok answer) old new = new ≡ old
+ReaderFailed (Err fault) old new = ReaderFailedBy fault old new
+
+-- after a write fault the writer has failed meanwhile, and after any other it hasn't
+abbrev pub WriterFailedBy : SurveyFault → ℕ → ℕ → Type 0
+WriterFailedBy (Run fault) old new = run.WriterFailedBy fault old new
+WriterFailedBy (TooMany number) old new = new ≡ old
+
+abbrev pub WriterFailed : {A : Type 0} → Result A SurveyFault → ℕ → ℕ → Type 0
+WriterFailed (Ok answer) old new = new ≡ old
+WriterFailed (Err fault) old new = WriterFailedBy fault old new
+
+-- what a reader has left after a fault
+abbrev pub LeavesAfter : SurveyFault → Told → Told → Type 0
+LeavesAfter (Run fault) input rest = run.LeavesAfter fault input rest
+LeavesAfter (TooMany number) input rest = HasRead input rest
+
+abbrev pub Leaves : {A : Type 0} → Result A SurveyFault → Told → Told → Type 0
+Leaves (Ok answer) input rest = HasRead input rest
+Leaves (Err fault) input rest = LeavesAfter fault input rest

@@ -1,0 +1,248 @@
+//! Runs a script in every order of its posts, and prints what became of each Deferred in how many of them.
+
+ghost use Rattle.std.specs.Prelude.{◌≡◌, ◌≤◌, ◌<◌, ◌++◌, ◌^◌, ◌-◌, length, IfOk, IfErr, IsErrOf, OnOk, OnErr, string_bytes};
+ghost use Rattle.dv_journal.specs.Sink.{AppendsPrefix, HasFailed};
+ghost use Rattle.dv_orders.specs.Orders.{orders};
+ghost use Rattle.dv_replay.specs.Surveying.{CountFails, GivesUp, HasSurveyed, Leaves, OrdersGiveUp, PrintsOrders, ReaderFailed, Surveys, WriterFailed, number_line};
+ghost use Rattle.dv_script.specs.declared.limits.TheConstants.{MOST_POOLS};
+ghost use Rattle.dv_survey.specs.Text.{survey_text};
+ghost use Rattle.std.specs.Io.KnownBytes.{Appends};
+
+use crate::error::SurveyFault;
+use crate::performing::perform_alone;
+use dv_jobs::gate::Gate;
+use dv_journal::error::PrintFault;
+use dv_journal::sink::{Sink, SinkFault, write_all};
+use dv_orders::number::Number;
+use dv_orders::numbering::number_of_orders;
+use dv_orders::visiting::{VisitFault, Visitor, each_order};
+use dv_output::error::RunFault;
+use dv_posts::posted::Posted;
+use dv_run::driving::Reporting;
+use dv_run::running::script_of;
+use dv_script::script::Script;
+use dv_source::source::Source;
+use dv_survey::survey::Survey;
+use dv_survey::text::{write_counted, write_survey};
+use dv_value::items::Items;
+use std::alloc::{AllocError, AllocGlobal, Global};
+use std::hash::RandomState;
+use std::random::RandomSource;
+use std::sync::Wait;
+use std::thread::Threads;
+
+/// Gathers what becomes of the Deferreds of a script in the orders that it visits: each is performed on this thread.
+#[derive(Drop)]
+struct Surveyor<'s, S, G> {
+    rt: &'s S,
+    gate: &'s G,
+    script: &'s Script,
+    keys: RandomState,
+    survey: Survey,
+    ghost limited: { script.now.limit < 2 ^ 32 - 1 },
+    ghost pools_few: { length script.now.pools ≤ MOST_POOLS },
+}
+
+impl<'s, S, G> Visitor for Surveyor<'s, S, G>
+where
+    S: Threads + Wait + RandomSource + AllocGlobal,
+    G: Gate,
+{
+    type Error = AllocError;
+
+    ghost script_of = { λ surveyor. surveyor.script.now };
+
+    ghost has_seen = { λ surveyor seen. HasSurveyed surveyor.script.now seen surveyor.survey };
+
+    fn visit(&mut self, script: &Script, batches: &[Items<Posted>]) -> Result<(), AllocError> {
+        let Ok(report) = perform_alone(self.rt, script, self.gate, batches, &Reporting) else {
+            return Err(AllocError);
+        };
+        let added = self.survey.add(
+            self.rt.alloc(),
+            self.keys,
+            &script.classes,
+            batches,
+            report.outcomes.as_slice(),
+            report.stopped,
+        );
+        report.discard();
+        added
+    }
+}
+
+/// Runs a script in every order of its posts on this thread, and returns what became of its Deferreds.
+fn survey_of<S, G>(rt: &S, script: &Script, gate: &G) -> Result<Survey, AllocError>
+where
+    S: Threads + Wait + RandomSource + AllocGlobal,
+    G: Gate,
+    requires limited { script.now.limit < 2 ^ 32 - 1 }
+    requires pools { length script.now.pools ≤ MOST_POOLS }
+    ensures { IfOk result (HasSurveyed script.now (orders script.now)) }
+{
+    let Ok(keys) = RandomState::new(rt) else {
+        return Err(AllocError);
+    };
+    let alloc = rt.alloc();
+    let mut surveyor = Surveyor {
+        rt,
+        gate,
+        script,
+        keys,
+        survey: Survey::new(alloc, keys),
+    };
+    match each_order(alloc, script, &mut surveyor) {
+        Ok(()) => Ok(surveyor.survey),
+        Err(VisitFault::OutOfMemory | VisitFault::Failed(AllocError)) => Err(AllocError),
+    }
+}
+
+/// Returns how many orders a script has. TooMany where there are more than these.
+fn few_orders(alloc: Global, script: &Script, most: u32) -> Result<u64, SurveyFault>
+    ensures number { IfOk result (λ number. number ≡ length (orders script.now)) }
+    ensures few { IfOk result (λ number. number ≤ most) }
+    ensures err { IfErr result (λ fault. CountFails fault most script.now) }
+{
+    match number_of_orders(alloc, script, u64::MAX - 1) {
+        Err(AllocError) => Err(SurveyFault::Run(RunFault::OutOfMemory)),
+        Ok(Number::More) => Err(SurveyFault::TooMany(Number::More)),
+        Ok(Number::Exactly(number)) => if number <= u64::from(most) {
+            Ok(number)
+        } else {
+            Err(SurveyFault::TooMany(Number::Exactly(number)))
+        },
+    }
+}
+
+/// Writes a line with the number of orders.
+fn print_number<W: Sink>(alloc: Global, orders: u64, writer: &mut W) -> Result<(), PrintFault>
+    ensures ok { OnOk result (Appends (W.taken writer.old) (W.taken writer.new) (number_line orders)) }
+    ensures kept { OnOk result (W.failures writer.new ≡ W.failures writer.old) }
+    ensures err { OnErr result (AppendsPrefix (W.taken writer.old) (W.taken writer.new) (number_line orders)) }
+    ensures cause { IsErrOf result PrintFault.WriteFault → HasFailed (W.failures writer.old) (W.failures writer.new) }
+    ensures memory { IsErrOf result PrintFault.OutOfMemory → W.failures writer.new ≡ W.failures writer.old }
+{
+    let Ok(text) = number_text(alloc, orders) else {
+        return Err(PrintFault::OutOfMemory);
+    };
+    match write_all(writer, text.as_bytes()) {
+        Ok(()) => Ok(()),
+        Err(SinkFault) => Err(PrintFault::WriteFault),
+    }
+}
+
+fn number_text(alloc: Global, orders: u64) -> Result<String, AllocError>
+    ensures { IfOk result (λ text. string_bytes text ≡ number_line orders) }
+{
+    let mut text = String::new(alloc);
+    write_counted(&mut text, orders, "order")?;
+    text.push('\n')?;
+    Ok(text)
+}
+
+/// Writes what became of the Deferreds in so many orders.
+fn print_survey<W: Sink>(
+    alloc: Global,
+    orders: u64,
+    survey: &Survey,
+    writer: &mut W,
+) -> Result<(), PrintFault>
+    ensures ok { OnOk result (Appends (W.taken writer.old) (W.taken writer.new) (survey_text survey.now orders)) }
+    ensures kept { OnOk result (W.failures writer.new ≡ W.failures writer.old) }
+    ensures err { OnErr result (AppendsPrefix (W.taken writer.old) (W.taken writer.new) (survey_text survey.now orders)) }
+    ensures cause { IsErrOf result PrintFault.WriteFault → HasFailed (W.failures writer.old) (W.failures writer.new) }
+    ensures memory { IsErrOf result PrintFault.OutOfMemory → W.failures writer.new ≡ W.failures writer.old }
+{
+    let Ok(text) = text_of(alloc, orders, survey) else {
+        return Err(PrintFault::OutOfMemory);
+    };
+    match write_all(writer, text.as_bytes()) {
+        Ok(()) => Ok(()),
+        Err(SinkFault) => Err(PrintFault::WriteFault),
+    }
+}
+
+fn text_of(alloc: Global, orders: u64, survey: &Survey) -> Result<String, AllocError>
+    ensures { IfOk result (λ text. string_bytes text ≡ survey_text survey.now orders) }
+{
+    let mut text = String::new(alloc);
+    write_survey(&mut text, survey, orders)?;
+    Ok(text)
+}
+
+/// Runs a script in every order of its posts, where there are no more than these, and writes what became of its Deferreds. Returns in how
+/// many ways they ended.
+fn print_orders<S, W, G>(
+    rt: &S,
+    script: &Script,
+    writer: &mut W,
+    gate: &G,
+    most: u32,
+) -> Result<usize, SurveyFault>
+where
+    S: Threads + Wait + RandomSource + AllocGlobal,
+    W: Sink,
+    G: Gate,
+    requires limited { script.now.limit < 2 ^ 32 - 1 }
+    requires pools { length script.now.pools ≤ MOST_POOLS }
+    ensures ok { IfOk result (λ outcomes. PrintsOrders most (W.taken writer.old) (W.taken writer.new) outcomes script.now) }
+    ensures err { IfErr result (λ fault. OrdersGiveUp fault most (W.taken writer.old) (W.taken writer.new) script.now) }
+    ensures writer { WriterFailed result (W.failures writer.old) (W.failures writer.new) }
+{
+    let alloc = rt.alloc();
+    let orders = match few_orders(alloc, script, most) {
+        Ok(orders) => orders,
+        Err(fault) => return Err(fault),
+    };
+    if let Err(fault) = print_number(alloc, orders, writer) {
+        return Err(SurveyFault::Run(fault.into()));
+    }
+    let Ok(survey) = survey_of(rt, script, gate) else {
+        return Err(SurveyFault::Run(RunFault::OutOfMemory));
+    };
+    match print_survey(alloc, orders, &survey, writer) {
+        Ok(()) => Ok(survey.outcomes_len()),
+        Err(fault) => Err(SurveyFault::Run(fault.into())),
+    }
+}
+
+/// Reads a script to the end of the input, and runs it in every order in which its callers' posts may be taken, where there are no more
+/// orders than these: each run is that of `replay` in its batches, on this thread alone. The number of orders is written before the first
+/// run, and after the last one what became of each Deferred: a line for each of its ends, with the number of orders in which it came and
+/// the batches of the first. Returns in how many ways the runs ended: 1 where no order makes a difference to any Deferred.
+///
+/// TooMany where there are more orders: nothing was performed, and nothing written. The other errors come as in `dv_run::run`, and memory
+/// grows with the different ends, not with the orders.
+pub fn survey<S, R, W, G>(
+    rt: &S,
+    reader: &mut R,
+    writer: &mut W,
+    gate: &G,
+    most: u32,
+) -> Result<usize, SurveyFault>
+where
+    S: Threads + Wait + RandomSource + AllocGlobal,
+    R: Source,
+    W: Sink,
+    G: Gate,
+    ensures ok { IfOk result (λ outcomes. Surveys most (R.left reader.old) (W.taken writer.old) (W.taken writer.new) outcomes) }
+    ensures err { IfErr result (λ fault. GivesUp fault most (R.left reader.old) (W.taken writer.old) (W.taken writer.new)) }
+    ensures reader { ReaderFailed result (R.failures reader.old) (R.failures reader.new) }
+    ensures writer { WriterFailed result (W.failures writer.old) (W.failures writer.new) }
+    ensures left { Leaves result (R.left reader.old) (R.left reader.new) }
+{
+    let script = match script_of(rt.alloc(), reader) {
+        Ok(script) => script,
+        Err(fault) => return Err(SurveyFault::Run(fault)),
+    };
+    match print_orders(rt, &script, writer, gate, most) {
+        Ok(outcomes) => {
+            script.discard();
+            Ok(outcomes)
+        }
+        Err(fault) => {
+            script.discard();
+            Err(fault)
+        }
+    }
+}
