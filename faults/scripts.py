@@ -1,7 +1,7 @@
 """The scripts of the sweep, and what each comes to where nothing fails.
 
 Beside `scripts/NAME.json` stands `scripts/NAME.txt`, the text that it prints, which is worked out by hand from
-`docs/SCRIPT.md` and never taken from a run.
+`docs/SCRIPT.md`, and in every order from `docs/ORDERS.md`, too, and never taken from a run.
 """
 from __future__ import annotations
 
@@ -9,24 +9,36 @@ from dataclasses import dataclass
 from pathlib import Path
 
 FOLDER = Path(__file__).resolve().parent / "scripts"
+REFUSED = b"batches refused: post 1 of batch 0 isn't the next one of its caller\n"
+TOO_MANY = b"2 orders are more than --most allows: 20000 where it isn't given, 1000000 at most\n"
 
 
 @dataclass(frozen=True)
 class Script:
-    """A script, and what its run prints and how it ends."""
+    """A script, what its run prints and how it ends, and the words that ask for this run."""
 
     name: str
     source: bytes
     text: bytes
     status: int = 0
     errors: bytes = b""
+    words: tuple[str, ...] = ()
+
+    @property
+    def has_workers(self) -> bool:
+        """Whether a number of workers follows the words: runs in every order are on one thread."""
+        return "--orders" not in self.words
+
+    def words_with(self, workers: int) -> list[str]:
+        """The words that ask for a run with so many workers."""
+        return [*self.words, str(workers)] if self.has_workers else list(self.words)
 
 
-def script(name: str, status: int = 0, errors: bytes = b"") -> Script:
+def script(name: str, status: int = 0, errors: bytes = b"", words: tuple[str, ...] = ()) -> Script:
     """The script of this name in the folder."""
     source = (FOLDER / f"{name}.json").read_bytes()
     text = (FOLDER / f"{name}.txt").read_bytes()
-    return Script(name, source, text, status, errors)
+    return Script(name, source, text, status, errors, words)
 
 
 def all_scripts() -> list[Script]:
@@ -47,6 +59,11 @@ def all_scripts() -> list[Script]:
         script("cancelled_again", status=1),
         script("unknown_action", status=2, errors=b"script refused: 4 BadShape\n"),
         script("no_utf8", status=2, errors=b"script refused: 2 NotJson\n"),
+        script("lock_in_batches", words=("--batches", "[[[1,0],[0,0]]]")),
+        script("batches_refused", status=5, errors=REFUSED, words=("--batches", "[[[1,0],[1,0]]]")),
+        script("lock_in_orders", words=("--orders",)),
+        script("fired_in_orders", status=6, words=("--orders",)),
+        script("too_many_orders", status=7, errors=TOO_MANY, words=("--orders", "--most", "1")),
     ]
 
 
@@ -57,6 +74,12 @@ def told_scripts() -> list[Script]:
 
 
 def sample_scripts() -> list[Script]:
-    """A few that take seconds: a hand-over, jobs and posts on threads of their own, and a script that is refused."""
-    names = {"chained_hand_over", "posts", "unknown_action"}
+    """A few that take seconds: a hand-over, jobs and posts on threads of their own, posts in every order, and a script that is
+    refused."""
+    names = {"chained_hand_over", "posts", "fired_in_orders", "unknown_action"}
     return [script for script in all_scripts() if script.name in names]
+
+
+def told_sample_scripts() -> list[Script]:
+    """Those of the few of which the run is swept as JSON too: every order is told in lines alone."""
+    return [script for script in sample_scripts() if not script.words]

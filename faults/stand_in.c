@@ -1,12 +1,12 @@
 /* Stands in for the program in the tests of the sweep: it prints what it has read, to a full stop, each line from
-   memory of its own.
+   memory of its own. With the word `--orders`, and no number of workers, it ends by status 6.
    With WRONG it does one thing that the sweep has to find. */
 #include <stdio.h>
 #include <stdlib.h>
 #include <string.h>
 #include <unistd.h>
 
-enum { NOTHING, FORGETS_A_REFUSAL, WRITES_ON, HANGS, HIDES_A_FAILED_READ, WRITES_FIRST };
+enum { NOTHING, FORGETS_A_REFUSAL, WRITES_ON, HANGS, HIDES_A_FAILED_READ, WRITES_FIRST, HIDES_A_STATUS };
 
 #ifndef WRONG
 #define WRONG NOTHING
@@ -67,12 +67,23 @@ static void print_line(const char *line, size_t size)
     free(copy);
 }
 
-int main(void)
+/* how it ends where all is printed */
+static int status_for(int count, char **words)
 {
+    if (count < 2 || strcmp(words[1], "--orders") != 0)
+        return 0;
+    if (count > 2)
+        end(64, "usage\n");
+    return WRONG == HIDES_A_STATUS ? 0 : 6;
+}
+
+int main(int count, char **words)
+{
+    int status = status_for(count, words);
     if (WRONG == WRITES_FIRST)
         write_all("a\n", 2);
     read_all();
     for (size_t at = WRONG == WRITES_FIRST ? 2 : 0; at < length; at += line_at(at))
         print_line(script + at, line_at(at));
-    return 0;
+    return status;
 }

@@ -3,8 +3,8 @@
 
     faults/sweep.py [--cmd PROGRAM] [--cc COMPILER] [--sample]
 
-Runs are swept on all scripts, and runs as JSON on some. What is printed as JSON where nothing fails is first held against the text of
-the script, line by line. A sample takes a few scripts, and seconds.
+Runs are swept on all scripts, and runs as JSON on some. Some scripts run in every order of their posts. What is printed as JSON
+where nothing fails is first held against the text of the script, line by line. A sample takes a few scripts, and seconds.
 
 Each run is given one fault by a shim that is preloaded, and the next one the next number, until three in a row have met none.
 A run that wants memory ends by status 3 with a prefix of its text, or has done without. A run whose reader or writer failed
@@ -27,7 +27,7 @@ from pathlib import Path
 from threading import Lock
 
 from faults import End, Fault, Kind, is_right
-from scripts import Script, all_scripts, sample_scripts, told_scripts
+from scripts import Script, all_scripts, sample_scripts, told_sample_scripts, told_scripts
 
 HERE = Path(__file__).resolve().parent
 LAUNCHER = HERE.parent / "deferreds"
@@ -97,7 +97,6 @@ class Program:
     path: Path
     shim: Path
     seconds: float
-    words: tuple[str, ...] = ()
 
     def run(self, script: Script, workers: int, fault: Fault) -> End:
         """Runs a script under a fault."""
@@ -105,7 +104,7 @@ class Program:
 
     def run_in(self, script: Script, workers: int, environment: dict[str, str]) -> End:
         """Runs a script in an environment."""
-        words = [str(self.path), *self.words, str(workers)]
+        words = [str(self.path), *script.words_with(workers)]
         return run_under(self.shim, words, script.source, environment, self.seconds)
 
 
@@ -126,13 +125,18 @@ class Row:
         return self.kind not in (Kind.WRITE_FAILS, Kind.WRITE_TAKES_NOTHING) or bool(self.script.text)
 
     def __str__(self) -> str:
-        return f"{self.script.name} with {self.workers} workers"
+        return f"{self.script.name} with {self.workers} workers" if self.script.has_workers else self.script.name
+
+
+def with_workers(scripts: list[Script]) -> Iterator[tuple[Script, int]]:
+    """Each of these scripts, with each number of workers, or with none where it takes none."""
+    return ((script, workers) for script in scripts for workers in (WORKERS if script.has_workers else (0,)))
 
 
 def rows(scripts: list[Script]) -> Iterator[Row]:
     """Each row of runs of these scripts. Bytes are moved one by one where the text is short, and with no workers, which neither
     read nor write."""
-    for script, workers, kind in product(scripts, WORKERS, Kind):
+    for (script, workers), kind in product(with_workers(scripts), Kind):
         yield Row(script, workers, kind, 0)
         if not kind.is_of_memory and workers == 0 and len(script.text) < LONG_TEXT:
             yield Row(script, workers, kind, 1)
@@ -162,10 +166,11 @@ def joined(output: bytes) -> bytes:
 def told_as_json(program: Program, scripts: list[Script], findings: Findings) -> Iterator[Script]:
     """The scripts, with what the program comes to where nothing fails, which tells what is printed of them."""
     for script in scripts:
-        end = program.run_in(script, 0, {})
+        told = replace(script, name=f"{script.name} as JSON", words=("--json", *script.words))
+        end = program.run_in(told, 0, {})
         if (end.status, end.errors, joined(end.output)) != (script.status, script.errors, script.text):
-            findings.add_wrong(f"{script.name} as JSON: {end}, and doesn't tell what is printed")
-        yield replace(script, name=f"{script.name} as JSON", text=end.output)
+            findings.add_wrong(f"{told.name}: {end}, and doesn't tell what is printed")
+        yield replace(told, text=end.output)
 
 
 def sweep(program: Program, scripts: list[Script], findings: Findings) -> Findings:
@@ -205,13 +210,11 @@ def main() -> int:
     if not os.access(path, os.X_OK):
         print(f"{path} isn't there, or can't be run", file=sys.stderr)
         return 2
-    scripts, told = (sample_scripts(), sample_scripts()) if asked.sample else (all_scripts(), told_scripts())
+    scripts, told = (sample_scripts(), told_sample_scripts()) if asked.sample else (all_scripts(), told_scripts())
     findings = Findings()
     with tempfile.TemporaryDirectory() as folder:
-        runs = Program(path.resolve(), compiled_shim(asked.cc, Path(folder)), 20)
-        sweep(runs, scripts, findings)
-        runs_as_json = replace(runs, words=("--json",))
-        sweep(runs_as_json, list(told_as_json(runs_as_json, told, findings)), findings)
+        program = Program(path.resolve(), compiled_shim(asked.cc, Path(folder)), 20)
+        sweep(program, [*scripts, *told_as_json(program, told, findings)], findings)
     print(findings)
     return 0 if findings.wrong == 0 else 1
 

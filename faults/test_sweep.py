@@ -5,14 +5,17 @@ import contextlib
 import io
 import tempfile
 import unittest
+from dataclasses import replace
 from pathlib import Path
 
 from faults import End, Fault, Kind, is_right
 from scripts import Script, all_scripts
-from sweep import HERE, Findings, Program, compiled, compiled_shim, sweep
+from sweep import HERE, WORKERS, Findings, Program, compiled, compiled_shim, rows, sweep
 
 LINES = b"a\nbc\ndef."
 SCRIPT = Script("three_lines", LINES, LINES)
+IN_ORDERS = replace(SCRIPT, status=6, words=("--orders",))
+TOO_MANY = Script("too_many", LINES, b"", 7, b"too many\n", ("--orders", "--most", "1"))
 
 
 class SweepOfStandIns(unittest.TestCase):
@@ -28,11 +31,11 @@ class SweepOfStandIns(unittest.TestCase):
         cls.folder = Path(folder.name)
         cls.shim = compiled_shim("cc", cls.folder)
 
-    def sweep(self, wrong: str) -> Findings:
+    def sweep(self, wrong: str, script: Script = SCRIPT) -> Findings:
         """Sweeps the stand-in that does this wrong."""
         path = compiled("cc", HERE / "stand_in.c", self.folder / wrong.lower(), f"-DWRONG={wrong}")
         with contextlib.redirect_stdout(io.StringIO()):
-            return sweep(Program(path, self.shim, 1), [SCRIPT], Findings())
+            return sweep(Program(path, self.shim, 1), [script], Findings())
 
     def test_nothing_is_found_in_a_program_that_is_right(self) -> None:
         found = self.sweep("NOTHING")
@@ -44,6 +47,17 @@ class SweepOfStandIns(unittest.TestCase):
             with self.subTest(wrong):
                 self.assertGreater(self.sweep(wrong).wrong, 0)
 
+    def test_a_script_is_run_with_its_words(self) -> None:
+        found = self.sweep("NOTHING", IN_ORDERS)
+        self.assertEqual(found.wrong, 0)
+        self.assertGreater(found.refused, 0)
+        self.assertGreater(self.sweep("NOTHING", replace(IN_ORDERS, words=())).wrong, 0)
+
+    def test_what_is_wrong_in_every_order_is_found(self) -> None:
+        for wrong in ("FORGETS_A_REFUSAL", "WRITES_ON", "HIDES_A_STATUS"):
+            with self.subTest(wrong):
+                self.assertGreater(self.sweep(wrong, IN_ORDERS).wrong, 0)
+
     def test_a_program_that_the_shim_does_not_reach_is_found(self) -> None:
         path = compiled("cc", HERE / "stand_in.c", self.folder / "static", "-static")
         with contextlib.redirect_stdout(io.StringIO()):
@@ -53,12 +67,14 @@ class SweepOfStandIns(unittest.TestCase):
 class Ends(unittest.TestCase):
     """Which ends are right."""
 
-    def assert_ends(self, kind: Kind, right: list[End], wrong: list[End], piece: int = 0, number: int = 3) -> None:
+    def assert_ends(
+        self, kind: Kind, right: list[End], wrong: list[End], piece: int = 0, number: int = 3, script: Script = SCRIPT
+    ) -> None:
         fault = Fault(kind, number, piece)
         for end in right:
-            self.assertTrue(is_right(SCRIPT, fault, end), f"{fault}: {end}")
+            self.assertTrue(is_right(script, fault, end), f"{fault}: {end}")
         for end in wrong:
-            self.assertFalse(is_right(SCRIPT, fault, end), f"{fault}: {end}")
+            self.assertFalse(is_right(script, fault, end), f"{fault}: {end}")
 
     def test_a_refused_growth(self) -> None:
         right = [End(3, b"a\n", b"out of memory\n", 1), End(3, b"", b"out of memory\n", 1), End(0, LINES, b"", 1)]
@@ -94,9 +110,32 @@ class Ends(unittest.TestCase):
             self.assert_ends(kind, right, wrong)
             self.assert_ends(kind, right, [End(4, b"a", b"write failed\n", 1)], piece=1)
 
+    def test_a_refused_growth_in_every_order(self) -> None:
+        right = [End(3, b"", b"out of memory\n", 1), End(3, b"a\n", b"out of memory\n", 1), End(6, LINES, b"", 1)]
+        wrong = [
+            End(0, LINES, b"", 1),
+            End(6, b"a\n", b"", 1),
+            End(3, b"bc\n", b"out of memory\n", 1),
+            End(6, LINES, b"out of memory\n", 1),
+        ]
+        self.assert_ends(Kind.GROWTH, right, wrong, script=IN_ORDERS)
+
+    def test_a_refused_growth_with_too_many_orders(self) -> None:
+        right = [End(3, b"", b"out of memory\n", 1), End(7, b"", b"too many\n", 1)]
+        wrong = [End(3, b"a\n", b"out of memory\n", 1), End(7, b"a\n", b"too many\n", 1), End(7, b"", b"", 1)]
+        self.assert_ends(Kind.GROWTH, right, wrong, script=TOO_MANY)
+
 
 class Scripts(unittest.TestCase):
-    """The scripts of the folder."""
+    """The scripts of the folder, and their words."""
+
+    def test_runs_in_every_order_take_no_number_of_workers(self) -> None:
+        self.assertEqual(IN_ORDERS.words_with(2), ["--orders"])
+        self.assertEqual({row.workers for row in rows([IN_ORDERS])}, {0})
+
+    def test_other_runs_take_a_number_of_workers_last(self) -> None:
+        self.assertEqual(replace(SCRIPT, words=("--json",)).words_with(2), ["--json", "2"])
+        self.assertEqual({row.workers for row in rows([SCRIPT])}, set(WORKERS))
 
     def test_each_file_is_swept(self) -> None:
         names = {script.name for script in all_scripts()}
