@@ -7,59 +7,21 @@ these scripts is run in every order that Python finds, all of which have to be t
 from __future__ import annotations
 
 import json
-import re
 import sys
 from functools import partial
 from pathlib import Path
 from typing import Callable, Dict, Iterator, List, NamedTuple, Optional
 
 from deferreds.orders import Order, orders, posting_of
-from programs import TOP, Ran, first_difference, program_here, run, run_all
+from programs import TOP, Ran, program_here, run, run_all
+from worded import Row, difference, read_rows
 
 _FILE = TOP / "checks" / "batches.rows"
-_BATCHES = re.compile(r"-- batches (.*)")
-_ENDING = re.compile(r"-- (\d+) ?(.*)")
 _TOLD = ("entry", "deferred")
 #: the statuses of a run that went to its end, or to the limit of its journal, and that of batches that are refused
 _PERFORMED, _REFUSED = (0, 1), 5
 #: a caller that no script has
 _NOBODY = 8
-
-
-class Row(NamedTuple):
-    """A script, the batches that it is run in, and what is expected of that run."""
-
-    name: str
-    script: str
-    batches: str
-    expected: Ran
-
-
-def read_rows(path: Path) -> Iterator[Row]:
-    """Yields the rows of a file: of each script, one for each of its batches."""
-    text = path.read_text(encoding="utf-8")
-    for part in text.removeprefix("== ").split("\n\n== "):
-        name, *lines = part.rstrip("\n").split("\n")
-        places = [place for place, line in enumerate(lines) if _BATCHES.fullmatch(line)]
-        for place, end in zip(places, [*places[1:], len(lines)]):
-            yield row_of(name, "\n".join(lines[: places[0]]), lines[place:end])
-
-
-def row_of(name: str, script: str, lines: List[str]) -> Row:
-    """Returns the row of these lines: the batches, the ending, and what is printed."""
-    batches, ending = _BATCHES.fullmatch(lines[0]), _ENDING.fullmatch(lines[1])
-    if batches is None or ending is None:
-        raise ValueError(f"{name}: no batches and no ending: {lines[:2]}")
-    output = "".join(line + "\n" for line in lines[2:])
-    errors = f"{ending.group(2)}\n" if ending.group(2) else ""
-    return Row(name, script, batches.group(1), Ran(int(ending.group(1)), output, errors))
-
-
-def difference(expected: Ran, ran: Ran) -> Optional[str]:
-    """Returns in what a run differs from its row."""
-    if (ran.status, ran.errors) != (expected.status, expected.errors):
-        return f"status {ran.status} {ran.errors!r}, not {expected.status} {expected.errors!r}"
-    return None if ran.output == expected.output else first_difference(expected.output, ran.output)
 
 
 def json_difference(row: Row, ran: Ran) -> Optional[str]:
@@ -70,7 +32,7 @@ def json_difference(row: Row, ran: Ran) -> Optional[str]:
     if wrong is not None or not told:
         return wrong
     taken = told[-1]["batches"]
-    return None if taken == json.loads(row.batches) else f"the batches {taken} were taken"
+    return None if taken == json.loads(row.words) else f"the batches {taken} were taken"
 
 
 class InOrder(NamedTuple):
@@ -111,17 +73,17 @@ def check_order(program: Path, case: InOrder) -> Optional[str]:
 
 def check_row(program: Path, row: Row) -> Optional[str]:
     """Runs a row in both forms."""
-    words = ["--batches", row.batches]
+    words = ["--batches", row.words]
     wrong = difference(row.expected, run(program, words, row.script))
     as_json = json_difference(row, run(program, ["--json", *words], row.script))
     if wrong is None and as_json is None:
         return None
-    return f"{_FILE.name}: {row.name}: {row.batches}: {wrong or f'as JSON: {as_json}'}"
+    return f"{_FILE.name}: {row.name}: {row.words}: {wrong or f'as JSON: {as_json}'}"
 
 
 def main() -> int:
     program = program_here()
-    rows = list(read_rows(_FILE))
+    rows = list(read_rows(_FILE, "batches"))
     checks: List[Callable[[], Optional[str]]] = [
         *(partial(check_row, program, row) for row in rows),
         *(partial(check_order, program, case) for case in all_orders(rows)),

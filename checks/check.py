@@ -70,7 +70,9 @@ def unittests(folder: str, *words: str) -> List[str]:
 STAGES = [
     Stage("release", "the release is whole, and names its own sources", [["./make_release", "--check"]]),
     Stage("launcher", "./deferreds runs the right program, or says why it runs none", [unittests("checks")]),
-    Stage("rows", "each row ends and prints as it says", [[_PYTHON, "checks/rows.py"], [_PYTHON, "checks/batches.py"]]),
+    Stage("rows", "each row ends and prints as it says", [
+        [_PYTHON, "checks/rows.py"], [_PYTHON, "checks/batches.py"], [_PYTHON, "checks/orders.py", "--random", "30"],
+    ]),
     Stage("outputs", "each output that a page shows is what is printed", [[_PYTHON, "checks/documented.py"]]),
     Stage("language", "pages and the schema of scripts say what the language is", [unittests("python/language_tests", "-t", "python")],
           variables={"EACH": "4"}),

@@ -67,8 +67,12 @@ def orders(posting: Posting) -> Iterator[Order]:
 
 def number_of_orders(posting: Posting) -> int:
     """Returns how many orders there are, by the numbers alone."""
-    total = sum(posting.counts)
-    return factorial(total) // prod(factorial(count) for count in posting.counts) * number_of_cuts(total, posting.drains)
+    return number_of_sequences(posting.counts) * number_of_cuts(sum(posting.counts), posting.drains)
+
+
+def number_of_sequences(counts: Sequence[int]) -> int:
+    """Returns how many sequences of the posts keep those of each caller in order."""
+    return factorial(sum(counts)) // prod(factorial(count) for count in counts)
 
 
 def number_of_cuts(total: int, drains: Sequence[int]) -> int:
@@ -77,3 +81,50 @@ def number_of_cuts(total: int, drains: Sequence[int]) -> int:
     for most in reversed(drains):
         ways = [sum(ways[left - taken] for taken in range(min(most, left) + 1)) for left in range(total + 1)]
     return ways[total]
+
+
+def order_at(posting: Posting, place: int) -> Order:
+    """Returns the order of a place, from 0, in the sequence of `orders`, without those before it."""
+    total = sum(posting.counts)
+    before, cut_place = divmod(place, number_of_cuts(total, posting.drains))
+    return cut(sequence_at(posting.counts, before), lengths_at(total, posting.drains, cut_place))
+
+
+def some_orders(posting: Posting, most: int) -> Iterator[Order]:
+    """Yields every order, or where there are more, so many of them, spread evenly over the sequence of `orders`."""
+    number = number_of_orders(posting)
+    taken = min(number, most)
+    for place in range(taken):
+        yield order_at(posting, place * number // taken)
+
+
+def sequence_at(counts: Sequence[int], place: int) -> Tuple[Post, ...]:
+    """Returns the sequence of a place in that of `sequences`."""
+    left, number, callers = list(counts), number_of_sequences(counts), []
+    for total in range(sum(counts), 0, -1):
+        shares = [number * count // total for count in left]
+        caller, place = chosen(shares, place)
+        number = shares[caller]
+        left[caller] -= 1
+        callers.append(caller)
+    return with_indices(callers)
+
+
+def lengths_at(total: int, drains: Sequence[int], place: int) -> List[int]:
+    """Returns how many posts each drain takes, in the cut of a place in the sequence of `cuts`."""
+    lengths: List[int] = []
+    for number, most in enumerate(drains):
+        shares = [number_of_cuts(total - taken, drains[number + 1 :]) for taken in range(min(most, total) + 1)]
+        taken, place = chosen(shares, place)
+        lengths.append(taken)
+        total -= taken
+    return lengths
+
+
+def chosen(shares: Sequence[int], place: int) -> Tuple[int, int]:
+    """Returns in which of these shares, one behind the other, a place is, and its place there."""
+    for number, share in enumerate(shares):
+        if place < share:
+            return number, place
+        place -= share
+    raise ValueError("there is no such place")

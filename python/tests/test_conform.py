@@ -143,6 +143,11 @@ class OursTest(ConformTest):
             ["--rows", "--progress", "-1"],
             ["--rows", "--show", "-1"],
             ["--rows", "--show", "some"],
+            ["--rows", "--most", "2"],
+            ["--rows", "--orders", "--most", "0"],
+            ["--rows", "--orders", "--most", "1000001"],
+            ["--rows", "--orders", "--most", "few"],
+            ["--orders"],
             [],
         ):
             with self.subTest(words=words), self.assertRaises(SystemExit) as ended:
@@ -233,6 +238,65 @@ class ShownTest(ConformTest):
             timeout=_LONG,
             check=False,
         )
+
+
+class OrdersTest(ConformTest):
+    """`--orders`: a script with posts is compared in every order."""
+
+    #: answers with the batches that it was given, but otherwise in one order
+    _WRONG = """cat >/dev/null; case $2 in '') echo 'note "a"';; '[[], [[1, 0], [0, 0]]]') echo other;; *) echo "$2";; esac"""
+
+    def setUp(self) -> None:
+        super().setUp()
+        self.ours = self.folder / "ours"
+        self.ours.write_text('#!/bin/sh\ncat >/dev/null\necho "$2"\n', encoding="utf-8")
+        self.ours.chmod(0o700)
+        text = (
+            '== no posts\n{"version":1,"events":[["note","a"]]}\n-- 0\nnote "a"\n\n'
+            '== two posts\n{"version":1,"callers":[[{}],[{}]],"events":[["drain",1]]}\n-- 0\ndrain\n'
+        )
+        (self.folder / "small.rows").write_text(text, encoding="utf-8")
+
+    def in_orders(self, command: str, *words: str) -> Ran:
+        """Compares in every order with what answers with its batches."""
+        return conforming("--rows", "--orders", "--ours", str(self.ours), *words, "--", command)
+
+    def test_a_difference_in_one_order_is_told_with_it(self) -> None:
+        ran = self.in_orders(self.shell(self._WRONG))
+        self.assertEqual(ran.status, 1)
+        self.assertEqual(
+            ran.output,
+            "small.rows: two posts: line 1 differs\n  deferreds: [[], [[1, 0], [0, 0]]]\n  command:   other\n"
+            "  --batches '[[],[[1,0],[0,0]]]'\n"
+            '  {"version":1,"callers":[[{}],[{}]],"events":[["drain",1]]}\n'
+            "1 script has posts, and was compared in every order\n1 passed, 1 failed\n",
+        )
+
+    def test_with_many_the_batches_are_handed_over_too(self) -> None:
+        answer = """text = line.partition(b' ')[2] or b'note "a"\\n'; sys.stdout.buffer.write(b'0 %d 0\\n' % len(text) + text)"""
+        ran = self.in_orders(self.many(answer), "--many")
+        self.assertEqual(ran.output.splitlines()[-1], "2 passed, 0 failed")
+
+    def test_of_more_orders_than_are_asked_for_some_are_compared(self) -> None:
+        ran = self.in_orders(self.shell(self._WRONG), "--most", "2")
+        self.assertEqual(
+            ran.output.splitlines()[-2:],
+            ["1 script has more than 2 orders, and was compared in 2 of them; --most N allows more", "1 passed, 1 failed"],
+        )
+        ran = self.in_orders(self.shell(self._WRONG), "--most", "1")
+        self.assertEqual((ran.status, ran.output.splitlines()[-1]), (0, "2 passed, 0 failed"))
+
+    def test_a_random_script_is_cut_down_in_its_orders(self) -> None:
+        words = ["--random", "2", "--seed", "1", "--orders", "--most", "3", "--trials", "30", "--ours", str(self.ours)]
+        ran = conforming(*words, "--", self.shell("cat >/dev/null; [ -z \"$2\" ] && echo || echo other"))
+        self.assertEqual(ran.status, 1)
+        self.assertRegex(ran.output, r"\n  command:   other\n  --batches '\[\[.*\]\]'\n  \{")
+
+    def test_our_program_is_needed_for_rows_too(self) -> None:
+        absent = subprocess.CompletedProcess(["deferreds"], 70, stdout="", stderr="")
+        with mock.patch("deferreds.program.subprocess.run", return_value=absent):
+            ran = conforming("--rows", "--orders", "--", "true")
+        self.assertEqual((ran.status, ran.output), (70, ""))
 
 
 class WaitingTest(ConformTest):

@@ -8,7 +8,7 @@ import unittest
 from pathlib import Path
 from typing import List
 
-from deferreds.orders import Order, Posting, number_of_orders, orders, posting_of
+from deferreds.orders import Order, Posting, number_of_orders, order_at, orders, posting_of, some_orders
 
 _TOP = Path(__file__).resolve().parents[2]
 
@@ -57,6 +57,26 @@ class Orders(unittest.TestCase):
             self.assertEqual(len(listed), number_of_orders(posting))
             self.assertEqual(len(set(listed)), len(listed))
             self.assertTrue(all(is_order(order, posting) for order in listed))
+            self.assertEqual([order_at(posting, place) for place in range(len(listed))], listed)
+
+    def test_some_orders_are_spread_evenly(self) -> None:
+        posting = Posting((2, 2), (2,))
+        listed = list(orders(posting))
+        self.assertEqual(list(some_orders(posting, 18)), listed)
+        self.assertEqual(list(some_orders(posting, 20)), listed)
+        self.assertEqual(list(some_orders(posting, 6)), listed[::3])
+        self.assertEqual(list(some_orders(posting, 1)), listed[:1])
+
+    def test_an_order_is_found_among_more_than_can_be_listed(self) -> None:
+        posting = Posting((64,) * 8, (512, 1))
+        last = number_of_orders(posting) - 1
+        self.assertGreater(last, 2**64)
+        self.assertEqual([len(batch) for batch in order_at(posting, 0)], [0, 0, 512])
+        self.assertTrue(is_order(order_at(posting, last // 3), posting))
+        self.assertEqual(order_at(posting, last)[0][0], (7, 0))
+        self.assertEqual([len(batch) for batch in order_at(posting, last)], [512, 0, 0])
+        with self.assertRaises(ValueError):
+            order_at(posting, last + 1)
 
 
 if __name__ == "__main__":

@@ -28,7 +28,7 @@ _ELEMENTS = frozenset(
 )
 _ATTRIBUTES = frozenset(
     "lang charset name content http-equiv class id href data-f data-d data-to data-x data-y data-h title hidden role width height "
-    "x y cx cy r d aria-hidden type placeholder aria-label data-n data-g data-shut data-tick data-r data-from data-to data-w data-s data-l x1 x2 y1 y2".split()
+    "x y cx cy r d aria-hidden type placeholder aria-label data-n data-g data-shut data-tick data-r data-from data-to data-w data-s data-l x1 x2 y1 y2 target".split()
 )
 _NUMBERS = re.compile(r"[a-z-]*=?\d*")
 

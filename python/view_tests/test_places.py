@@ -107,7 +107,7 @@ class ShownTest(unittest.TestCase):
     def test_a_file_beside_the_script_is_used(self) -> None:
         self.write("run.places.json", json.dumps(_PLACES))
         page = self.page(*self.journal())
-        link = f'<a class=at href="{_ADDRESS}" title="/srv/a b/&lt;i&gt;.py:12"><bdi>&lt;i&gt;.py:12</bdi></a>'
+        link = f'<a class=at target=_top href="{_ADDRESS}" title="/srv/a b/&lt;i&gt;.py:12"><bdi>&lt;i&gt;.py:12</bdi></a>'
         self.assertEqual(page.count(link), 2)  # in the report, and at the outcome
         self.assertIn('<span class=at title="relative.py:3"><bdi>relative.py:3</bdi></span>', page)
         self.assertIn("<th>Made at</th>", page)

@@ -6,6 +6,7 @@ import json
 import re
 from typing import Callable, Iterator, List, NamedTuple, Optional, Sequence, Set, Tuple
 
+from ..orders import Order
 from . import grammar
 from .children import last_line, named_status
 from .classes import BUILT_IN
@@ -31,6 +32,8 @@ class Difference(NamedTuple):
     #: whether theirs isn't whole, and whether it was waited for in vain
     lacks: bool = False
     is_late: bool = False
+    #: in which order posts were taken, where every order is compared
+    order: Optional[Order] = None
 
 
 def compared(ours: Answer, theirs: Answer) -> Optional[Tuple[int, str, str]]:
@@ -106,6 +109,14 @@ def _go_together(twisted: Run, theirs: Answer, line: int) -> bool:
     return twisted.output.splitlines()[:line] == theirs.output.splitlines()[:line]
 
 
+class Case(NamedTuple):
+    """A run that is compared: what is expected of it, and how its posts are taken, where it has some."""
+
+    expected: Answer
+    batches: Optional[List[Batch]]
+    order: Optional[Order] = None
+
+
 class Comparison:
     """Compares one program with ours, script by script."""
 
@@ -113,6 +124,12 @@ class Comparison:
         self._ours = ours
         self._theirs = theirs
         self._trials = trials
+        #: how many answers theirs was asked for
+        self._asked = 0
+
+    def _answer(self, script: str, batches: Optional[List[Batch]]) -> Answer:
+        self._asked += 1
+        return self._theirs.answer(script, batches)
 
     def of_script(self, script: str) -> Optional[Difference]:
         """In what the programs differ on a script."""
@@ -124,26 +141,35 @@ class Comparison:
         Where the batches of that can't be told apart, the program has to agree for some of them.
         """
         found: Optional[Difference] = None
-        for batches in _batches(script, expected):
-            answer = self._theirs.answer(script, batches)
-            other = difference(script, expected, answer, batches)
-            if other is None or other.lacks:
-                return other
-            if found is None or (found.entry is None and other.entry is not None):
-                found = other
+        for case in self._cases(script, expected):
+            other = difference(script, case.expected, self._answer(script, case.batches), case.batches)
+            if self._settles(other):
+                return other and other._replace(order=case.order)
+            if other is not None and (found is None or (found.entry is None and other.entry is not None)):
+                found = other._replace(order=case.order)
         return found
+
+    def _cases(self, script: str, expected: Answer) -> Iterator[Case]:
+        """The runs of a script that are compared."""
+        for batches in _batches(script, expected):
+            yield Case(expected, batches)
+
+    def _settles(self, found: Optional[Difference]) -> bool:
+        """Whether no more runs have to be compared."""
+        return found is None or found.lacks
 
     def cut_down(self, script: str, found: Difference, tried: Callable[[int], None]) -> str:
         """The smallest script on which the programs differ by the same entry, or by none, as on this one.
 
-        `tried` is told how many scripts were tried. No more are where one wasn't answered in time.
+        `tried` is told how many scripts were tried. No more are where one wasn't answered in time, or where all runs are used up.
         """
         count = 0
         late = found.is_late
+        last = self._asked + self._trials
 
         def shows(smaller: str) -> bool:
             nonlocal count, late
-            if late:
+            if late or self._asked >= last:
                 return False
             count += 1
             tried(count)

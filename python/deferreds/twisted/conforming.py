@@ -9,7 +9,9 @@ import time
 from typing import Callable, Counter, Iterator, List, Optional, TextIO
 
 from ..checkout import command_name
+from ..survey import batches_text
 from .comparing import Comparison, Difference, is_of_level
+from .in_orders import InOrders, Orders
 from .programs import MOST_LATE, MOST_UNANSWERED, Answer, Many, Once, Program, ours
 from .randoms import Scripts
 from .rows import Expected, read_rows, row_files
@@ -94,9 +96,13 @@ class Conforming:
         if arguments.many:
             theirs = Many(arguments.command, arguments.timeout)
         named = arguments.ours.split() if arguments.ours else None
-        mine = ours(named, arguments.timeout) if named or arguments.random else theirs
+        mine = ours(named, arguments.timeout, arguments.orders) if named or arguments.random or arguments.orders else theirs
         self._programs = (mine, theirs)
         self._comparison = Comparison(mine, theirs, arguments.trials)
+        self._orders: Optional[Orders] = None
+        if arguments.orders:
+            self._comparison = InOrders(mine, theirs, arguments.trials, arguments.most)
+            self._orders = Orders(arguments.most)
         self._rows = list(self._chosen()) if arguments.rows else []
         self._total: int = len(self._rows) + arguments.random
         self._tally = Tally()
@@ -132,7 +138,7 @@ class Conforming:
         """Compares the rows; why it has given up, where it has."""
         for row in self._rows:
             found = self._comparison.of_row(row.script, Answer(row.status, row.output, row.errors))
-            self._count(found)
+            self._count(row.script, found)
             if found is not None and self._may_show(found):
                 self._show(f"{row.file}: {row.name}", row.script, found)
             if self._tally.given_up():
@@ -146,7 +152,7 @@ class Conforming:
         for number in range(self._arguments.random):
             script = scripts.script(number)
             found = self._comparison.of_script(script)
-            self._count(found)
+            self._count(script, found)
             if found is not None and self._may_show(found):
                 name = f"random script {number} of seed {seed}, level {self._level}"
                 smaller = self._comparison.cut_down(script, found, self._cutting)
@@ -157,8 +163,10 @@ class Conforming:
                 break
         return self._tally.given_up()
 
-    def _count(self, found: Optional[Difference]) -> None:
+    def _count(self, script: str, found: Optional[Difference]) -> None:
         self._tally.count(found)
+        if self._orders is not None:
+            self._orders.count(script)
         self._progress.say(self._tally.runs, self._tally.failed)
 
     def _cutting(self, tried: int) -> None:
@@ -179,7 +187,8 @@ class Conforming:
         self._progress.clear()
         entry = f" ({found.entry.value} in docs/PROFILE.md)" if found.entry else ""
         print(f"{name}: line {found.line} differs{entry}")
-        print(f"  deferreds: {found.ours}\n  command:   {found.theirs}\n  {_one_line(script)}", flush=True)
+        order = f"  --batches '{batches_text(found.order)}'\n" if found.order is not None else ""
+        print(f"  deferreds: {found.ours}\n  command:   {found.theirs}\n{order}  {_one_line(script)}", flush=True)
 
     def _tell(self, why: Optional[str]) -> None:
         """The last lines."""
@@ -190,6 +199,7 @@ class Conforming:
         lines += [
             f"{count} differ as docs/PROFILE.md says: {name}" for name, count in sorted(self._tally.named.items())
         ]
+        lines += self._orders.lines() if self._orders is not None else []
         left = self._total - self._tally.runs
         if why is not None and left:
             lines.append(f"{left} of {self._total} runs are left out, since {why}")

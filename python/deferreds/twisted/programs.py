@@ -204,11 +204,11 @@ def _text(data: bytes) -> str:
     return data.decode("utf-8", "replace")
 
 
-def ours(command: Optional[Sequence[str]] = None, seconds: float = SECONDS) -> Program:
+def ours(command: Optional[Sequence[str]] = None, seconds: float = SECONDS, takes_batches: bool = False) -> Program:
     """Our own program: the one that is named, or else the one that is found, or in a checkout built. Raises Broken."""
     if command:
-        return Once(command, takes_batches=False, seconds=seconds)
+        return Once(command, takes_batches, seconds)
     try:
-        return Once([os.fspath(built())], takes_batches=False, seconds=seconds)
+        return Once([os.fspath(built())], takes_batches, seconds)
     except NotRun as why:
         raise Broken(f"{why}; --ours names another program") from None

@@ -6,9 +6,10 @@ With several scripts FILE is a folder, and a second one of a name gets `NAME_2.h
 standard output. `--text` prints the view instead, and `--trace` writes a trace of Chrome's. Without SCRIPT the script is standard
 input. `--journal FILE` shows a journal with its outcomes, as `./deferreds`, `./on_twisted` or `./record` has given
 it, and runs nothing; `--json FILE` shows what `./deferreds --json` has told. `--compare A B` shows two runs beside
-each other. `--batches BATCHES` runs a script with its posts in that order. FILE may be `-`, for standard input.
+each other. `--batches BATCHES` runs a script with its posts in that order. `--orders` performs it in every order, and writes
+a page, `NAME.orders.html`, of what becomes of each Deferred in how many of them. FILE may be `-`, for standard input.
 
-Status 0: shown; 2: the script is refused, with what `./deferreds --why` says of it on standard error; 3, 4, 5, 70: as for `./deferreds`, 4 also
+Status 0: shown; 2: the script is refused, with what `./deferreds --why` says of it on standard error; 3, 4, 5, 7, 70: as for `./deferreds`, 4 also
 where standard output can't be written; 64: the words are wrong; 66: what is to be shown can't be read, or isn't what
 it is given as; 73: the page can't be written. With several scripts it is the first status that isn't 0.
 """
@@ -27,16 +28,21 @@ from typing import IO, Callable, Iterator, List, NoReturn, Optional, Set
 
 from ..checkout import as_called, command_name
 from ..ending import ended, open_streams, say, writing
+from ..survey import MOST_ORDERS, ORDERS
 from .batches import NotBatches, parse_batches
 from .branches import found
 from .compared import Compared
 from .compared_forms import ComparedPage, text_lines
-from .inputs import NO_INPUT, NO_OUTPUT, STANDARD, USAGE, Failed, Inputs, read_any
+from .inputs import NO_INPUT, NO_OUTPUT, STANDARD, USAGE, Failed, InEveryOrder, Inputs, read_any
+from .orders_page import OrdersPage
 from .page import MOST_ROWS, Page
 from .run import Run
 from .terminal import Terminal
 from .texts import clipped, visible
 from .trace import SUFFIX, Trace
+
+
+_ORDERS_SUFFIX = ".orders.html"
 
 
 class _Parser(argparse.ArgumentParser):
@@ -116,6 +122,15 @@ def _arguments(words: List[str]) -> argparse.Namespace:
             "run SCRIPT in these batches, as ./deferreds --batches does; with --compare, twice: those of A, and those of B"
         ),
     )
+    add(
+        "--orders",
+        action="store_true",
+        help=as_called(
+            "perform SCRIPT in every order of its posts, as ./deferreds --orders does, and write one page: what becomes of each "
+            "Deferred in how many orders, the chart of the first order of each outcome, and two of these orders beside each other"
+        ),
+    )
+    add("--most", type=int, metavar="N", help=f"with --orders: perform N orders at most ({ORDERS}; {MOST_ORDERS} may be asked for)")
     add("--from", dest="first", type=int, metavar="N", help="the first line that the chart shows (1)")
     add("--to", dest="last", type=int, metavar="N", help="the last line (5000 lines at most)")
     add("scripts", nargs="*", metavar="SCRIPT", help="a script")
@@ -151,6 +166,10 @@ def _mistake(parsed: argparse.Namespace) -> str:
         return "with --compare, --batches is given twice: for A, and for B"
     if not all(map(_are_batches, parsed.batches)):
         return "BATCHES is an array of arrays of posts, [CALLER,POST], as the last line of ./deferreds --json has it"
+    if parsed.orders and (parsed.text or parsed.trace or parsed.journal or parsed.json or parsed.compare or parsed.batches or numbers):
+        return as_called("--orders writes a page of a SCRIPT; of other options it takes -o, --open, --places and --most; ./deferreds --orders prints a text")
+    if parsed.most is not None and not (parsed.orders and 0 <= parsed.most <= MOST_ORDERS):
+        return f"--most is a number from 0 to {MOST_ORDERS}, and goes with --orders"
     if parsed.trace and parsed.open:
         return "--open is for a page, which --trace doesn't write"
     if parsed.output == STANDARD and (several or parsed.open):
@@ -190,7 +209,7 @@ def _targets(arguments: argparse.Namespace, inputs: List[Inputs]) -> Iterator[st
             yield output
             continue
         stem = "script" if one.main == STANDARD else Path(one.main).stem
-        ending = SUFFIX if arguments.trace else ".html"
+        ending = SUFFIX if arguments.trace else _ORDERS_SUFFIX if arguments.orders else ".html"
         names = (f"{stem}{f'_{number}' if number > 1 else ''}{ending}" for number in range(1, len(inputs) + 1))
         name = next(name for name in names if name not in taken)
         taken.add(name)
@@ -249,8 +268,14 @@ def _show_page(run: Run, arguments: argparse.Namespace, target: str) -> None:
     elif len(page.window) < len(run.fold.rows):
         part = f", of which the chart shows {page.window.start + 1} to {page.window.stop}"
     _say_written(target, run, part)
-    if arguments.open:
-        webbrowser.open(Path(target).resolve().as_uri())
+    _open(arguments, target)
+
+
+def _show_orders(script: InEveryOrder, arguments: argparse.Namespace, target: str) -> None:
+    page = OrdersPage(script.title, script.orders, script.run)
+    _write(page.html(), target)
+    _say(f"{_shown_target(target)}: {page.counts}")
+    _open(arguments, target)
 
 
 def _write_trace(run: Run, target: str) -> None:
@@ -260,7 +285,17 @@ def _write_trace(run: Run, target: str) -> None:
 
 
 def _say_written(target: str, run: Run, more: str) -> None:
-    _say(f"{'standard output' if target == STANDARD else target}: {run.counts}{more}")
+    _say(f"{_shown_target(target)}: {run.counts}{more}")
+
+
+def _shown_target(target: str) -> str:
+    return "standard output" if target == STANDARD else target
+
+
+def _open(arguments: argparse.Namespace, target: str) -> None:
+    """Opens the page in the browser, where that is asked for."""
+    if arguments.open:
+        webbrowser.open(Path(target).resolve().as_uri())
 
 
 def main(words: List[str]) -> int:
@@ -293,6 +328,8 @@ def _show(one: Inputs, arguments: argparse.Namespace, inputs: List[Inputs], targ
     if arguments.text:
         return _print_text(one.run(), arguments.deferred)
     _check_target(target, inputs)
+    if arguments.orders:
+        return _show_orders(InEveryOrder(one, arguments.most), arguments, target)
     if arguments.trace:
         return _write_trace(one.run(), target)
     return _show_page(one.run(), arguments, target)
@@ -315,9 +352,8 @@ def _compare(arguments: argparse.Namespace) -> None:
                 print(line)
         return
     _write(ComparedPage(compared).html(), target)
-    _say(f"{'standard output' if target == STANDARD else target}: {compared.verdict}")
-    if arguments.open:
-        webbrowser.open(Path(target).resolve().as_uri())
+    _say(f"{_shown_target(target)}: {compared.verdict}")
+    _open(arguments, target)
 
 
 if __name__ == "__main__":

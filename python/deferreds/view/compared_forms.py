@@ -19,11 +19,12 @@ _MOST_LINE, _MOST_VALUE, _DEEPEST = 200, 200, 12
 
 
 class ComparedPage:
-    """Writes the page."""
+    """Writes the page, or what it holds below its title, with so many lines at most."""
 
-    def __init__(self, compared: Compared) -> None:
+    def __init__(self, compared: Compared, most: int = MOST_LINES) -> None:
         self._compared = compared
         self._sides = (compared.first, compared.second)
+        self._most = most
 
     def html(self) -> Html:
         """The whole page."""
@@ -36,13 +37,17 @@ class ComparedPage:
                 Html(f'<meta http-equiv=Content-Security-Policy content="{policy}">'),
                 Html(f"<title>{names[0]} | {names[1]}</title><style>{style}</style></head><body class=compared><main>"),
                 Html(f"<h1><bdi>{names[0]}</bdi> and <bdi>{names[1]}</bdi></h1>"),
-                Html(f'<p><span class="verdict {self._look()}">{escaped(self._compared.verdict)}</span></p>'),
-                *(self._about(side) for side in self._sides),
-                *self._outcomes(),
-                *self._lines(),
+                *self.pieces(),
                 Html("</main></body></html>\n"),
             ]
         )
+
+    def pieces(self) -> Iterator[Html]:
+        """What differs: the verdict, the outcomes, the lines."""
+        yield Html(f'<p><span class="verdict {self._look()}">{escaped(self._compared.verdict)}</span></p>')
+        yield from map(self._about, self._sides)
+        yield from self._outcomes()
+        yield from self._lines()
 
     def _look(self) -> str:
         return "clean" if self._compared.is_same else "left"
@@ -78,7 +83,7 @@ class ComparedPage:
         common, sides = self._compared.common, self._sides
         first = max(0, common - _BEFORE)
         rows = [side.run.fold.rows for side in sides]
-        last = min(max(map(len, rows)), common + MOST_LINES)
+        last = min(max(map(len, rows)), common + self._most)
         yield Html("<h2>From the first line that differs on</h2>" if last > common else "<h2>The last lines</h2>")
         if first:
             yield Html(f"<p class=facts>{first} lines before these are the same</p>")

@@ -1,4 +1,5 @@
-"""What a run is made of: a script that is run, a journal, what `./deferreds --json` has printed, the places of a program."""
+"""What a run is made of: a script that is run, a journal, what `./deferreds --json` has printed, the places of a program; and a script
+that is run in every order of its posts."""
 
 from __future__ import annotations
 
@@ -12,8 +13,11 @@ from typing import NamedTuple, Optional, Tuple
 from ..checkout import as_called, command_name
 from ..ending import say
 from ..program import NOT_RUN, NotRun, found
+from ..survey import ONE_OUTCOME, SEVERAL_OUTCOMES, TOO_MANY
+from .batches import Batches, text_of
 from .facts import NotFacts, read_facts
 from .lines import WORDS
+from .orders import NotOrders, Orders, read_orders
 from .places import NOWHERE, SUFFIX, NotPlaces, Places, read_places
 from .refusals import read_refusal
 from .run import Run, run_of_facts, run_of_journal
@@ -64,9 +68,14 @@ class Inputs(NamedTuple):
     def run(self) -> Run:
         """The run. Raises Failed."""
         run = self._run()
-        run.places = self._places()
-        run.tick = tick_beside(self.main) or tick_beside(self.script or STANDARD)
+        run.places = self.read_places()
+        run.tick = self.tick
         return run
+
+    @property
+    def tick(self) -> str:
+        """How long a tick was where the run was recorded, or an empty text."""
+        return tick_beside(self.main) or tick_beside(self.script or STANDARD)
 
     def _run(self) -> Run:
         if self.journal is None and self.facts is None:
@@ -77,7 +86,7 @@ class Inputs(NamedTuple):
             return _facts(_read(self.facts), self.facts, script)
         return _journal(_text(_read(self.main), self.main), self.main, script)
 
-    def _places(self) -> Places:
+    def read_places(self) -> Places:
         """The places that are given, or that stand beside the script or the journal. What is wrong with the latter is a warning."""
         if self.places:
             try:
@@ -94,6 +103,39 @@ class Inputs(NamedTuple):
             reason = why.strerror if isinstance(why, OSError) else why
             say(f"{command_name('view')}: {path} isn't used, since it doesn't tell places: {reason}")
             return NOWHERE
+
+
+class InEveryOrder:
+    """A script that is performed in every order of its posts, and then in some of them to be shown. It is read once."""
+
+    def __init__(self, inputs: Inputs, most: Optional[int]) -> None:
+        self._name = inputs.main
+        self._data = _read(self._name)
+        self.title = _title(self._name)
+        self.orders = _survey(self._data, self._name, most)
+        self._places, self._tick = inputs.read_places(), inputs.tick
+
+    def run(self, batches: Batches, label: str) -> Run:
+        """The run in this order, which the label tells from others. Raises Failed."""
+        run = run_script(self._data, self._name, text_of(batches))
+        run.title = f"{self.title}, {label}"
+        run.places, run.tick = self._places, self._tick
+        return run
+
+
+def _survey(data: bytes, name: str, most: Optional[int]) -> Orders:
+    """Has `./deferreds` perform a script in every order, of which there may be so many, and reads what it prints."""
+    status, told = _deferreds(data, "--orders", *(() if most is None else ("--most", str(most))))
+    if status == TOO_MANY:  # it has said so, with their number
+        raise Failed(status)
+    if status == USAGE:
+        raise Failed(NOT_RUN, "the program that is found doesn't know --orders")
+    if status not in (ONE_OUTCOME, SEVERAL_OUTCOMES):
+        raise Failed(status, _why_not(status, data, name))
+    try:
+        return read_orders(_text(told, name))
+    except NotOrders:
+        raise Failed(NOT_RUN, f"what the program prints of every order of {shown_name(name)} can't be read") from None
 
 
 def read_any(name: str, batches: Optional[str] = None) -> Run:

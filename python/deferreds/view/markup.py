@@ -100,11 +100,11 @@ def isolated(text: str) -> Html:
 
 
 def placed(place: Place) -> Html:
-    """A line of a file: a link to the file, where its path is known as a whole."""
+    """A line of a file: a link to the file, where its path is known as a whole; it leads out of a frame."""
     shown, title = isolated(clipped(place.text, _MOST_PLACE)), attribute("title", place.whole)
     if place.address is None:
         return Html(f"<span class=at{title}>{shown}</span>")
-    return Html(f'<a class=at href="{escaped(place.address)}"{title}>{shown}</a>')
+    return Html(f'<a class=at target=_top href="{escaped(place.address)}"{title}>{shown}</a>')
 
 
 def attribute(name: str, text: Optional[str]) -> Html:

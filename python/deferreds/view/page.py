@@ -5,7 +5,7 @@ from __future__ import annotations
 import base64
 import hashlib
 from pathlib import Path
-from typing import Dict, Iterator, List, Optional
+from typing import Dict, Iterator, List, Optional, Sequence
 
 from .axis import Axis
 from .events import Events
@@ -24,6 +24,9 @@ MOST_ROWS = 5_000
 
 #: how many lines a page has at most, in windows of so many rows
 MOST_LINES = 100_000
+
+#: the address of a page that is the text of a frame, and how a content security policy allows it as the base of links
+FRAME, FRAME_BASE = "about:srcdoc", "about:"
 
 _SCRIPTS = ("rows.js", "focus.js", "folds.js", "filter.js", "whole.js", "stories.js", "windows.js")
 #: up to which width of the screen lanes are folded away; `style.css` has the same number
@@ -75,15 +78,22 @@ class Page:
 
     def html(self) -> Html:
         """The whole page."""
-        style, script = self._style(), script_of_page()
-        policy = f"default-src 'none'; style-src '{policy_hash(style)}'; script-src '{policy_hash(script)}'; base-uri 'none'; form-action 'none'"
+        return self._html("'none'", "")
+
+    def in_frame(self) -> Html:
+        """The whole page as the text of a frame of another page: its links lead to places within the frame."""
+        return self._html(FRAME_BASE, f"<base href={FRAME}>")
+
+    def _html(self, bases: str, base: str) -> Html:
+        style, script = self.style, script_of_page()
+        policy = f"default-src 'none'; style-src '{policy_hash(style)}'; script-src '{policy_hash(script)}'; base-uri {bases}; form-action 'none'"
         title = escaped(self._run.title)
         return joined(
             [
                 Html(
                     '<!doctype html><html lang=en><head><meta charset=utf-8><meta name=viewport content="width=device-width">'
                 ),
-                Html(f'<meta http-equiv=Content-Security-Policy content="{policy}">'),
+                Html(f'<meta http-equiv=Content-Security-Policy content="{policy}">{base}'),
                 Html(f"<title>{title}</title><style>{style}</style></head><body><main>"),
                 *self._verdict(title),
                 *self._report(),
@@ -104,7 +114,9 @@ class Page:
             ]
         )
 
-    def _style(self) -> str:
+    @property
+    def style(self) -> str:
+        """The style of the page."""
         shown, paper = self._shown, max(_PAPER, self._shown.width + 48)
         return (
             f"{asset('style.css')}#chart{{width:{shown.width}px;--side:min({shown.side}px,62vw)}}#last{{height:{shown.rest}px}}"
@@ -296,9 +308,9 @@ def asset(name: str) -> str:
     return (_FOLDER / name).read_text(encoding="utf-8")
 
 
-def script_of_page() -> str:
+def script_of_page(names: Sequence[str] = _SCRIPTS) -> str:
     """The script of the page, whose files are parts of one function; without indents and comments, which a page needs not."""
-    lines = (line.strip() for name in _SCRIPTS for line in asset(name).split("\n"))
+    lines = (line.strip() for name in names for line in asset(name).split("\n"))
     kept = "\n".join(line for line in lines if line and not line.startswith("//"))
     return f'(function () {{\n"use strict";\n{kept}\n}})();\n'
 

@@ -34,6 +34,11 @@ def escaped(text: str) -> Html:
     return Html(html.escape(visible(text), quote=True))
 
 
+def framed(page: Html) -> Html:
+    """A page as an attribute in double quotes holds it, for a frame of another page."""
+    return Html(html.escape(page, quote=True))
+
+
 def joined(pieces: Iterable[Html]) -> Html:
     """The pieces one after the other."""
     return Html("".join(pieces))

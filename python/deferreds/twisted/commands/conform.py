@@ -1,8 +1,11 @@
-"""`./conform [--rows] [--random N --seed S] [--level LEVEL] -- COMMAND..`: compares an implementation with `deferreds`.
+"""`./conform [--rows] [--random N --seed S] [--level LEVEL] [--orders] -- COMMAND..`: compares an implementation with `deferreds`.
 
 COMMAND reads a script on standard input, and prints journal and outcomes, as `./on_twisted` does. Each difference is
 told by its first line; where Twisted does as COMMAND does, and `docs/PROFILE.md` has an entry for that, the entry is
 named, and the run counts as passed. The last line is `N passed, M failed`, and the status is 0 exactly where M is 0.
+
+With --orders a script with posts is compared in every order in which they may be taken, and not in the one that happened.
+Where it has more than --most N, it is compared in N of them, spread evenly. A difference is told with its order.
 
 A COMMAND that ends early, or gives no answer within the time, fails that run, and is told with the script. After
 {late} scripts in a row without an answer in time no more are asked, nor after the first {unanswered} where none was
@@ -21,10 +24,12 @@ from typing import List, Optional
 
 from ...checkout import as_called, command_name
 from ...ending import writing
+from ...survey import MOST_ORDERS
 from .. import grammar
 from ..programs import MOST_LATE, MOST_UNANSWERED, SECONDS, Broken
 
 _SHOWN = 20
+_ORDERS = 100
 _PROGRESS = 10.0
 
 
@@ -53,6 +58,13 @@ def _shown(word: str) -> Optional[int]:
     return int(word)
 
 
+def _most(word: str) -> int:
+    """How many orders of a script are compared."""
+    if not word.isdecimal() or not 1 <= int(word) <= MOST_ORDERS:
+        raise argparse.ArgumentTypeError(f"it isn't a number from 1 to {MOST_ORDERS}")
+    return int(word)
+
+
 def _arguments(words: List[str]) -> argparse.Namespace:
     about = __doc__.format(late=MOST_LATE, unanswered=MOST_UNANSWERED)
     parser = argparse.ArgumentParser(
@@ -71,6 +83,8 @@ def _arguments(words: List[str]) -> argparse.Namespace:
         help="only what this level and those before it have (all)",
     )
     add("--no-refusals", action="store_true", help="leave out the rows whose scripts are refused")
+    add("--orders", action="store_true", help="compare a script with posts in every order of them")
+    add("--most", type=_most, metavar="N", help=f"with --orders: in N orders of a script at most ({_ORDERS})")
     add("--all", action="store_true", help="tell of the differences that have an entry, too")
     add("--show", type=_shown, metavar="N", default=_SHOWN, help=f"show N differences at most, or `all` ({_SHOWN})")
     add("--many", action="store_true", help="COMMAND takes --many, as docs/PORTING.md says")
@@ -102,6 +116,10 @@ def _arguments(words: List[str]) -> argparse.Namespace:
     if not parsed.rows and not parsed.random:
         print(f"{command_name('conform')}: one of --rows and --random N is needed", file=sys.stderr)
         raise SystemExit(64)
+    if parsed.most is not None and not parsed.orders:
+        print(f"{command_name('conform')}: --most is for --orders", file=sys.stderr)
+        raise SystemExit(64)
+    parsed.most = parsed.most or _ORDERS
     return parsed
 
 

@@ -1,0 +1,250 @@
+"""Every order of a script's posts as a page: what becomes of each Deferred, the charts of first orders, and two of these beside each
+other.
+
+Each chart is the page of its run, in a frame. So its links, its keys and its script are its own, and it shows without scripts, too.
+"""
+
+from __future__ import annotations
+
+import base64
+import zlib
+from itertools import combinations
+from typing import Callable, Dict, Iterator, NamedTuple, Sequence
+
+from ..checkout import as_called
+from .batches import Batches, text_of
+from .compared import Compared
+from .compared_forms import ComparedPage
+from .markup import isolated
+from .orders import Endings, Orders, Way
+from .page import FRAME_BASE, MOST_ROWS, Page, asset, policy_hash, script_of_page
+from .phrases import several
+from .records import ended
+from .run import Run
+from .shapes import CLASSES, SIGNS
+from .texts import Html, escaped, framed, joined, shortened
+
+#: how many charts the page has at most, and how many lines these have together
+MOST_CHARTS, MOST_CHART_LINES = 16, 10_000
+#: how many Deferreds each table has at most, and how many lines stand beside each other
+MOST_DEFERREDS, MOST_COMPARED = 500, 500
+
+_LETTERS = "ABCDEFGHIJKLMNOPQRSTUVWXYZ"
+_MOST_VALUE, _MOST_BATCHES, _MOST_FIRSTS = 200, 400, 6
+_SCRIPTS = ("orders.js",)
+
+
+class Shown(NamedTuple):
+    """An order whose chart the page has."""
+
+    letter: str
+    batches: Batches
+    run: Run
+    page: Page
+
+    @property
+    def height(self) -> int:
+        """About how high the chart's page is, in pixels. Its frame is no higher than the screen."""
+        return 420 + 20 * len(self.page.window) + 26 * (len(self.run.report.findings) + len(self.run.fold.records))
+
+
+class OrdersPage:
+    """Writes the page of a script of this name; `run` has it performed in one order, under a label."""
+
+    def __init__(self, title: str, orders: Orders, run: Callable[[Batches, str], Run]) -> None:
+        self._title = title
+        self._orders = orders
+        self.shown = list(_shown(orders.firsts, run))
+        self._letters: Dict[Batches, str] = {one.batches: one.letter for one in self.shown}
+
+    @property
+    def counts(self) -> str:
+        """What the page shows, in words."""
+        return f"{self._orders.counts}; {several(len(self.shown), 'chart', 'charts')}"
+
+    def html(self) -> Html:
+        """The whole page."""
+        style, script, title = asset("style.css") + asset("orders.css"), script_of_page(_SCRIPTS), escaped(self._title)
+        return joined(
+            [
+                Html('<!doctype html><html lang=en><head><meta charset=utf-8><meta name=viewport content="width=device-width">'),
+                Html(f'<meta http-equiv=Content-Security-Policy content="{self._policy(style, script)}">'),
+                Html(f"<title>{title}: every order</title><style>{style}</style></head><body class=compared><main>"),
+                *self._verdict(title),
+                *self._endings(),
+                *self._charts(),
+                *self._both(),
+                Html(f"</main><script>{script}</script></body></html>\n"),
+            ]
+        )
+
+    def _policy(self, style: str, script: str) -> str:
+        """The policy of the page, which holds for its frames, too."""
+        styles = dict.fromkeys([style, *(one.page.style for one in self.shown)])
+        scripts = [script, script_of_page()]
+        return (
+            f"default-src 'none'; style-src {_hashes(list(styles))}; script-src {_hashes(scripts)}; base-uri {FRAME_BASE}; form-action 'none'"
+        )
+
+    # above the tables
+
+    def _verdict(self, title: Html) -> Iterator[Html]:
+        orders = self._orders
+        yield Html("<nav><a href=#endings>what becomes of each</a>")
+        yield Html(" · <a href=#charts>charts</a>" if self.shown else "")
+        yield Html(" · <a href=#both>two orders</a></nav>" if len(self.shown) > 1 else "</nav>")
+        yield Html(f"<h1><bdi>{title}</bdi>: every order</h1><p>")
+        if orders.outcomes == 1:
+            yield Html('<span class="verdict clean">one outcome</span>')
+        else:
+            yield Html(f'<span class="verdict left">{orders.outcomes} outcomes</span>')
+        if orders.stopped:
+            stopped = several(orders.stopped, "order", "orders")
+            yield Html(f'<span class="verdict bad">{stopped} stopped at the limit of the journal</span>')
+        yield Html(f"<span class=facts>{escaped(orders.counts)}</span></p>")
+        if orders.total == 1:
+            yield Html(f"<p>{self._why_one()} So every run prints the same.</p>")
+        elif orders.outcomes == 1:
+            yield Html("<p class=facts>No Deferred ends otherwise in another order.</p>")
+
+    def _why_one(self) -> str:
+        posts = any(batch for first in self._orders.firsts for batch in first)
+        if self._orders.firsts and not posts:
+            return "There is one order, since no caller posts anything."
+        return "There is one order in which the posts can be taken."
+
+    # what becomes of each Deferred
+
+    def _endings(self) -> Iterator[Html]:
+        endings = self._orders.endings
+        yield Html("<h2 id=endings>What becomes of each Deferred</h2>")
+        if not endings:
+            yield Html("<p class=facts>No Deferred is made in any order.</p>")
+        differing = [one for one in endings if self._orders.differs(one)]
+        alike = [one for one in endings if not self._orders.differs(one)]
+        for title, group in (("Ends in more than one way", differing), ("Ends the same in every order", alike)):
+            if group:
+                yield from self._table(title, group)
+
+    def _table(self, title: str, group: Sequence[Endings]) -> Iterator[Html]:
+        heads = "<th>Deferred</th><th>How it ends</th><th>Orders</th><th>Share</th><th>First order</th>"
+        rows = joined(row for one in group[:MOST_DEFERREDS] for row in self._rows(one))
+        yield Html(f"<h3>{title}: {several(len(group), 'Deferred', 'Deferreds')}</h3>")
+        yield Html(f"<div class=wide><table class=ways><tr>{heads}</tr>{rows}</table></div>")
+        if len(group) > MOST_DEFERREDS:
+            yield Html(f"<p class=facts>and {len(group) - MOST_DEFERREDS} more</p>")
+
+    def _rows(self, one: Endings) -> Iterator[Html]:
+        """A row for each way in which a Deferred ends, and for the orders in which it isn't made."""
+        unmade = self._orders.unmade(one)
+        count = len(one.ways) + bool(unmade)
+        look = " class=many" if count > 1 else ""
+        name = Html(f'<td class="mono name">{escaped(one.label)}</td>')
+        mark = Html(f'<td class="mono name">{escaped(one.label)} <span class="verdict left">{count} ways</span></td>')
+        for place, way in enumerate(one.ways):
+            yield self._row(look, mark if place == 0 and count > 1 else name, way)
+        if unmade:
+            yield Html(f"<tr{look}>{name}<td class=facts>isn't made</td>{self._numbers(unmade)}<td></td></tr>")
+
+    def _row(self, look: str, name: Html, way: Way) -> Html:
+        letter, shown = self._letters.get(way.first), _state(way.state)
+        if letter is None:
+            batches = isolated(shortened(text_of(way.first), _MOST_BATCHES))
+            return Html(f"<tr{look}>{name}<td>{shown}</td>{self._numbers(way.orders)}<td><code>{batches}</code></td></tr>")
+        return Html(
+            f"<tr{look} data-o={letter}>{name}<td><a href=#order-{letter}>{shown}</a></td>{self._numbers(way.orders)}<td>order {letter}</td></tr>"
+        )
+
+    def _numbers(self, orders: int) -> Html:
+        return Html(f"<td class=count>{orders}</td><td class=count>{escaped(share(orders, self._orders.total))}</td>")
+
+    # the charts
+
+    def _charts(self) -> Iterator[Html]:
+        if not self.shown:
+            return
+        firsts = len(self._orders.firsts)
+        yield Html("<div id=charts>")
+        if len(self.shown) < firsts:
+            yield Html(
+                f"<p class=facts>This page has the charts of {len(self.shown)} of these {firsts} first orders: {MOST_CHARTS} at most, of "
+                f"{MOST_CHART_LINES:,} lines together. {_command('--batches BATCHES SCRIPT')} shows any other.</p>"
+            )
+        yield from map(self._chart, self.shown)
+        yield Html("</div>")
+
+    def _chart(self, one: Shown) -> Html:
+        return Html(
+            f"<section class=order id=order-{one.letter} data-o={one.letter}><h2>Order {one.letter}</h2><p class=facts>{self._firsts(one)}</p>"
+            f"<details class=order><summary>the order in which posts are taken</summary><code>{escaped(_batches_word(one.batches))}</code></details>"
+            f'<iframe title="The chart of order {one.letter}" height={one.height} srcdoc="{framed(one.page.in_frame())}"></iframe></section>'
+        )
+
+    def _firsts(self, shown: Shown) -> Html:
+        """Of which ways this is the first order: those that differ stand first."""
+        firsts = [(one, way) for one in self._orders.endings for way in one.ways if way.first == shown.batches]
+        firsts.sort(key=lambda pair: not self._orders.differs(pair[0]))
+        told = [Html(f"<b class=mono>{escaped(one.label)}</b> {_state(way.state)}") for one, way in firsts[:_MOST_FIRSTS]]
+        more = f", and {len(firsts) - _MOST_FIRSTS} more" if len(firsts) > _MOST_FIRSTS else ""
+        return Html(f"The first order in which these end so: {', '.join(told)}{more}.")
+
+    # two orders beside each other
+
+    def _both(self) -> Iterator[Html]:
+        if len(self.shown) < 2:
+            return
+        yield Html("<section id=both><h2>Two orders beside each other</h2><p id=pick></p><div id=pair></div>")
+        yield Html(
+            "<noscript><p>Without scripts this page can't show two orders beside each other. "
+            f"{_command('--compare SCRIPT SCRIPT --batches BATCHES --batches BATCHES')} writes a page that does.</p></noscript></section>"
+        )
+        for first, second in combinations(self.shown, 2):
+            yield _pair(first, second)
+
+
+def _command(words: str) -> Html:
+    """The view with these words, as it is called here."""
+    return Html(f"<code>{escaped(as_called(f'./view {words}'))}</code>")
+
+
+def _shown(firsts: Sequence[Batches], run: Callable[[Batches, str], Run]) -> Iterator[Shown]:
+    """The orders that are shown, each with its run: as many of the first ones as the page has room for."""
+    lines = 0
+    for letter, batches in zip(_LETTERS, firsts[:MOST_CHARTS]):
+        one = run(batches, f"order {letter}")
+        page = Page(one, 1, MOST_ROWS)
+        lines += len(page.window)
+        if lines > MOST_CHART_LINES:
+            return
+        yield Shown(letter, batches, one, page)
+
+
+def _pair(first: Shown, second: Shown) -> Html:
+    """Two orders beside each other as a block, which the page's script opens: compressed, as base 64."""
+    pieces = ComparedPage(Compared(first.run, second.run), MOST_COMPARED).pieces()
+    data = zlib.compress("".join(pieces).encode("utf-8"))
+    return Html(f'<pre class=block hidden data-o="{first.letter} {second.letter}">{base64.b64encode(data).decode("ascii")}</pre>')
+
+
+def _state(state: str) -> Html:
+    """A state with its sign and its colour."""
+    end = ended(state)
+    word, _, rest = state.partition(" ")
+    shown = Html(f" <bdi class=mono>{escaped(shortened(rest, _MOST_VALUE))}</bdi>") if rest else Html("")
+    return Html(f'<span class="state t-{CLASSES[end]}">{SIGNS[end]} {escaped(word)}</span>{shown}')
+
+
+def _batches_word(batches: Batches) -> str:
+    return f"--batches '{text_of(batches)}'"
+
+
+def share(part: int, whole: int) -> str:
+    """A part in percent. Only all is 100%, and only nothing is 0%."""
+    if part == whole:
+        return "100%"
+    percent = 100 * part / whole
+    return f"{min(percent, 99.9):.1f}%" if percent >= 0.1 else "<0.1%"
+
+
+def _hashes(texts: Sequence[str]) -> str:
+    return " ".join(f"'{policy_hash(text)}'" for text in texts)

@@ -1,0 +1,104 @@
+"""Tests of the model of `--orders`."""
+
+from __future__ import annotations
+
+import unittest
+
+from deferreds.survey import (
+    MOST_ORDERS,
+    ONE_OUTCOME,
+    ORDERS,
+    SEVERAL_OUTCOMES,
+    Line,
+    Run,
+    lines_of,
+    survey_of,
+    too_many,
+)
+
+_FIRST, _SECOND, _THIRD = (((0, 0),), ()), (((1, 0),), ((0, 0),)), ((), ((0, 0), (1, 0)))
+
+
+class Lines(unittest.TestCase):
+    """What became of each Deferred of a run."""
+
+    def test_a_deferred_is_known_by_its_name_and_its_place(self) -> None:
+        output = 'new #0 d\nnote "#0 d ok 1"\n#0 d ok 1\n#1 - ok null\n#2 d unfired\n#3 - fail RuntimeError "so"\n#4 e ok "d 9"\n'
+        self.assertEqual(
+            [str(line) for line in lines_of(output)],
+            ["d 1 ok 1", "- 1 ok null", "d 2 unfired", '- 2 fail RuntimeError "so"', 'e 1 ok "d 9"'],
+        )
+
+    def test_one_that_waits_names_the_other(self) -> None:
+        output = '#0 d waiting #2\n#1 e paused waiting #0\n#2 d waiting #7\n#3 f ok "waiting #0"\n#4 g paused unfired\n'
+        self.assertEqual(
+            lines_of(output),
+            [
+                Line("d 1", "waiting d 2"),
+                Line("e 1", "paused waiting d 1"),
+                Line("d 2", "waiting -"),
+                Line("f 1", 'ok "waiting #0"'),
+                Line("g 1", "paused unfired"),
+            ],
+        )
+
+    def test_a_text_may_hold_what_ends_lines_elsewhere(self) -> None:
+        self.assertEqual(lines_of('#0 d ok "a\u2028#1 e"\n'), [Line("d 1", 'ok "a\u2028#1 e"')])
+
+
+class Surveys(unittest.TestCase):
+    """What is printed of the runs."""
+
+    def test_deferreds_and_their_ends_stand_in_the_order_in_which_they_were_met(self) -> None:
+        survey = survey_of(
+            [
+                Run(_FIRST, "#0 d ok 1\n#1 e unfired\n"),
+                Run(_SECOND, "#0 f ok 2\n#1 d unfired\n", stopped=True),
+                Run(_THIRD, "#0 d ok 1\n#1 e ok 2\n"),
+            ]
+        )
+        self.assertEqual(
+            survey.text(),
+            "3 orders\n"
+            "d 1 ok 1 in 2 orders, first [[[0,0]],[]]\n"
+            "d 1 unfired in 1 order, first [[[1,0]],[[0,0]]]\n"
+            "e 1 unfired in 1 order, first [[[0,0]],[]]\n"
+            "e 1 ok 2 in 1 order, first [[],[[0,0],[1,0]]]\n"
+            "f 1 ok 2 in 1 order, first [[[1,0]],[[0,0]]]\n"
+            "1 order stopped at the limit of the journal\n"
+            "3 orders, 3 outcomes\n",
+        )
+        self.assertEqual(survey.status, SEVERAL_OUTCOMES)
+
+    def test_in_which_order_deferreds_were_made_makes_no_outcome(self) -> None:
+        survey = survey_of([Run(_FIRST, "#0 d ok 1\n#1 e waiting #0\n"), Run(_SECOND, "#0 e waiting #1\n#1 d ok 1\n")])
+        self.assertEqual(
+            survey.text(),
+            "2 orders\n"
+            "d 1 ok 1 in 2 orders, first [[[0,0]],[]]\n"
+            "e 1 waiting d 1 in 2 orders, first [[[0,0]],[]]\n"
+            "2 orders, 1 outcome\n",
+        )
+        self.assertEqual(survey.status, ONE_OUTCOME)
+
+    def test_the_place_of_an_equal_name_does(self) -> None:
+        survey = survey_of([Run(_FIRST, "#0 d ok 1\n#1 d ok 2\n"), Run(_SECOND, "#0 d ok 2\n#1 d ok 1\n")])
+        self.assertEqual((survey.text().splitlines()[-1], survey.status), ("2 orders, 2 outcomes", SEVERAL_OUTCOMES))
+
+    def test_one_order_has_one_outcome_though_there_is_no_deferred(self) -> None:
+        survey = survey_of([Run(((),), "")])
+        self.assertEqual((survey.text(), survey.status), ("1 order\n1 order, 1 outcome\n", ONE_OUTCOME))
+
+
+class TooMany(unittest.TestCase):
+    """What is said where there are more orders than may run."""
+
+    def test_the_number_is_said_up_to_that_of_64_bits(self) -> None:
+        most = 2**64 - 2
+        allowed = f"are more than --most allows: {ORDERS} where it isn't given, {MOST_ORDERS} at most"
+        self.assertEqual(too_many(most), f"18446744073709551614 orders {allowed}")
+        self.assertEqual(too_many(most + 1), "more orders than 64 bits count, and --most allows 1000000 at most")
+
+
+if __name__ == "__main__":
+    unittest.main()
