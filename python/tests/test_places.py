@@ -162,7 +162,7 @@ class RecordTest(unittest.TestCase):
             self.assertEqual(record.main(["-o", name, "--view", str(program)]), 0)
             page = Path(f"{name}.html").read_text(encoding="utf-8")
             address = program.as_uri()
-            link = f'<a class=at href="{address}" title="{program}:2"><bdi>a b.py:2</bdi></a>'
+            link = f'<a class=at target=_top href="{address}" title="{program}:2"><bdi>a b.py:2</bdi></a>'
             self.assertEqual(page.count(link), 3)  # at the outcome, and at two events
             self.assertIn("%20", address)
 
