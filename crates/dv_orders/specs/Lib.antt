@@ -9,3 +9,5 @@ pub mod Sequencing
 pub mod Batching
 pub mod Ordering
 pub mod Visiting
+pub mod Ranking
+pub mod Sampling

@@ -8,6 +8,8 @@ pub mod laws;
 pub mod number;
 pub mod numbering;
 mod order;
+pub mod ranking;
 pub mod reading;
+pub mod sampling;
 mod sequencing;
 pub mod visiting;

@@ -37,7 +37,7 @@ pub trait Visitor {
     /// Why a visit fails.
     type Error;
 
-    ghost use Rattle.std.specs.Prelude.{◌≡◌, List, [], ◌∷◌, OnOk};
+    ghost use Rattle.std.specs.Prelude.{◌≡◌, ℕ, List, [], ◌∷◌, OnOk};
     ghost use Rattle.dv_posts.specs.Batches.{Batch};
     ghost use Rattle.dv_script.specs.declared.script.Script.{Script};
     ghost use Rattle.dv_orders.specs.Listed.{AreOrder};
@@ -46,8 +46,9 @@ pub trait Visitor {
     /// The script whose orders it visits.
     ghost script_of: { Self → Script };
 
-    /// Whether these are the orders that it has visited so far, as far as it tells.
-    ghost has_seen: { Self → List (List Batch) → Type 0 };
+    /// Whether these are the orders that it has visited so far, as far as it says. The mark stands for
+    /// what it was made for, and stays.
+    ghost has_seen: { Self → ℕ → List (List Batch) → Type 0 };
 
     /// Visits an order: the batches in which all posts of the script are taken.
     fn visit(&mut self, script: &Script, batches: &[Items<Posted>]) -> Result<(), Self::Error>

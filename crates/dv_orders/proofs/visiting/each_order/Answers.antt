@@ -19,6 +19,6 @@ loop-order-preserved g c =
       seen = (
         seen.0 ++ batches ∷ [],
         seen.1 ∙ ap (λ l. seen.0 ++ batches ∷ l) next ∙ sym (append_assoc seen.0 (batches ∷ []) (batches_of c.advance.new.self ∷ later_orders c.advance.new.self)),
-        λ before has. subst (g.V.Visitor.has_seen c.visit.new.visitor) (append_assoc before seen.0 (batches ∷ [])) (c.in_ok-visit.ensures.ok (before ++ seen.0) (seen.2 before has)),
+        λ mark before has. subst (g.V.Visitor.has_seen c.visit.new.visitor mark) (append_assoc before seen.0 (batches ∷ [])) (c.in_ok-visit.ensures.ok mark (before ++ seen.0) (seen.2 mark before has)),
       );
     }
