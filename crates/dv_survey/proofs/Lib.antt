@@ -1,4 +1,5 @@
 pub mod DeferredLemmas
 pub mod MetLemmas
 pub mod OutcomesLemmas
+pub mod Pieces
 pub mod TextsLemmas

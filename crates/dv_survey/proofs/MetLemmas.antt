@@ -8,6 +8,7 @@ use Rattle.dv_objects.specs.Names.{Names, number_of, with_name}
 use Rattle.dv_store.specs.declared.outcome.Outcome.{Outcome}
 use Rattle.dv_survey.specs.Lines.{label, labels_after, labels_of}
 use Rattle.dv_survey.specs.Met.{met_of}
+use Rattle.dv_survey.specs.declared.format.Format.{Format}
 
 twice : {A : Type 0} (a b c : A) (t : Bool) → (if t then a else c) ≡ (if t then a else (if t then b else c))
 twice a b c true = refl
@@ -51,28 +52,28 @@ counts_next met names name counts x =
     by false e = omega (arith, counts x)
 
 -- the names of the Deferreds so far are counted, and the labels of those that are left follow theirs
-pub record HasLabeled (met : Names ℕ) (labels : List (List ℕ)) (left outcomes : List Outcome) : Type 0 where
+pub record HasLabeled (format : Format) (met : Names ℕ) (labels : List (List ℕ)) (left outcomes : List Outcome) : Type 0 where
   pub names : List (List ℕ)
   pub counts : Counts met names
-  pub made : labels ++ labels_after names left ≡ labels_of outcomes
+  pub made : labels ++ labels_after format names left ≡ labels_of format outcomes
 
-pub labeled_next : (met : Names ℕ) (labels : List (List ℕ)) (o : Outcome) (left outcomes : List Outcome) → HasLabeled met labels (o ∷ left) outcomes
-    → HasLabeled (with_name (name_text o.name) (met_of (name_text o.name) met + 1) met) (labels ++ label (name_text o.name) (met_of (name_text o.name) met + 1) ∷ []) left outcomes
-labeled_next met labels o left outcomes so_far =
+pub labeled_next : (format : Format) (met : Names ℕ) (labels : List (List ℕ)) (o : Outcome) (left outcomes : List Outcome) → HasLabeled format met labels (o ∷ left) outcomes
+    → HasLabeled format (with_name (name_text o.name) (met_of (name_text o.name) met + 1) met) (labels ++ label format (name_text o.name) (met_of (name_text o.name) met + 1) ∷ []) left outcomes
+labeled_next format met labels o left outcomes so_far =
     let name = name_text o.name in
     record {
       names = name ∷ so_far.names;
       counts = counts_next met so_far.names name so_far.counts;
       made =
           append_assoc labels _ _
-          ∙ ap (λ (n : ℕ). labels ++ label name (n + 1) ∷ labels_after (name ∷ so_far.names) left) (so_far.counts name)
+          ∙ ap (λ (n : ℕ). labels ++ label format name (n + 1) ∷ labels_after format (name ∷ so_far.names) left) (so_far.counts name)
           ∙ so_far.made;
     }
 
 -- the same, where those that are left are the last ones of all
-pub labeled_at : (met : Names ℕ) (labels : List (List ℕ)) (outcomes : List Outcome) (n : ℕ) (o : Outcome) → n < length outcomes → o ≡ get_or outcomes n o
-    → HasLabeled met labels (drop n outcomes) outcomes
-    → HasLabeled (with_name (name_text o.name) (met_of (name_text o.name) met + 1) met) (labels ++ label (name_text o.name) (met_of (name_text o.name) met + 1) ∷ []) (drop (n + 1) outcomes) outcomes
-labeled_at met labels outcomes n o within found so_far =
+pub labeled_at : (format : Format) (met : Names ℕ) (labels : List (List ℕ)) (outcomes : List Outcome) (n : ℕ) (o : Outcome) → n < length outcomes → o ≡ get_or outcomes n o
+    → HasLabeled format met labels (drop n outcomes) outcomes
+    → HasLabeled format (with_name (name_text o.name) (met_of (name_text o.name) met + 1) met) (labels ++ label format (name_text o.name) (met_of (name_text o.name) met + 1) ∷ []) (drop (n + 1) outcomes) outcomes
+labeled_at format met labels outcomes n o within found so_far =
     let left : drop n outcomes ≡ o ∷ drop (n + 1) outcomes = drop_more outcomes n o within ∙ ap (λ (x : Outcome). x ∷ drop (n + 1) outcomes) (sym found) in
-    labeled_next met labels o (drop (n + 1) outcomes) outcomes (subst (λ (l : List Outcome). HasLabeled met labels l outcomes) left so_far)
+    labeled_next format met labels o (drop (n + 1) outcomes) outcomes (subst (λ (l : List Outcome). HasLabeled format met labels l outcomes) left so_far)

@@ -7,6 +7,7 @@ use Rattle.dv_survey.specs.Lines.{lines_of}
 use Rattle.dv_survey.specs.Outcomes.{outcome_text, places_after}
 use Rattle.dv_survey.specs.Tallies.{with_tally}
 use Rattle.dv_survey.specs.Texts.{place_of, with_text}
+use Rattle.dv_survey.specs.declared.format.Format.{Format}
 use Rattle.dv_survey.specs.declared.lines.Line.{Line}
 use Rattle.dv_survey.specs.declared.survey.Survey.{Survey}
 
@@ -21,12 +22,13 @@ abbrev pub run_of : List Batch → List Outcome → Bool → Run
 run_of batches outcomes stopped = record { batches = batches; outcomes = outcomes; stopped = stopped }
 
 -- nothing is gathered yet
-abbrev pub no_runs : Survey
-no_runs = record { deferreds = []; lines = []; tallies = []; outcomes = []; stopped = 0 }
+abbrev pub no_runs : Format → Survey
+no_runs format = record { format = format; deferreds = []; lines = []; tallies = []; outcomes = []; stopped = 0 }
 
 -- a line came in a run of these batches
 abbrev pub with_line : List Batch → Survey → Line → Survey
 with_line batches survey line = record {
+  format = survey.format;
   deferreds = with_text line.deferred survey.deferreds;
   lines = with_text line.text survey.lines;
   tallies = with_tally (place_of line.text survey.lines) (place_of line.deferred survey.deferreds) batches survey.tallies;
@@ -41,6 +43,7 @@ with_lines batches lines survey = fold (with_line batches) survey lines
 -- a run ended with the lines of these places, and stopped at the limit or didn't
 abbrev pub with_end : List ℕ → Bool → Survey → Survey
 with_end places stopped survey = record {
+  format = survey.format;
   deferreds = survey.deferreds;
   lines = survey.lines;
   tallies = survey.tallies;
@@ -51,9 +54,9 @@ with_end places stopped survey = record {
 -- a run is gathered
 abbrev pub with_run : List Class → Survey → Run → Survey
 with_run table survey run =
-    let lines = lines_of table run.outcomes in
+    let lines = lines_of survey.format table run.outcomes in
     with_end (places_after survey.lines lines) run.stopped (with_lines run.batches lines survey)
 
 -- all these runs are gathered, in this order
-abbrev pub survey_of : List Class → List Run → Survey
-survey_of table runs = fold (with_run table) no_runs runs
+abbrev pub survey_of : Format → List Class → List Run → Survey
+survey_of format table runs = fold (with_run table) (no_runs format) runs

@@ -2,6 +2,7 @@
 //! different outcomes and not with the runs.
 #![tactic(auto)]
 
+pub mod format;
 pub mod lines;
 pub mod outcomes;
 pub mod survey;

@@ -3,6 +3,7 @@ ghost use Rattle.dv_survey.specs.Outcomes.{places_after};
 ghost use Rattle.dv_survey.specs.Texts.{place_of};
 ghost use Rattle.dv_survey.specs.Survey.{no_runs, run_of, with_end, with_line, with_lines, with_run};
 
+use crate::format::Format;
 use crate::lines::{Line, lines_of};
 use crate::outcomes::outcome_text;
 use crate::tallies::Tallies;
@@ -18,6 +19,8 @@ use std::hash::RandomState;
 /// different outcomes and not with the runs.
 #[derive(Drop)]
 pub struct Survey {
+    /// How it is written.
+    pub format: Format,
     /// The Deferreds, each by its name and its place.
     pub deferreds: Texts,
     /// The different lines: a Deferred, and what became of it.
@@ -32,11 +35,12 @@ pub struct Survey {
 }
 
 impl Survey {
-    /// Makes a survey of no runs. Names and lines are hashed with these keys.
-    pub fn new(alloc: Global, keys: RandomState) -> Survey
-        ensures { result ≡ no_runs }
+    /// Makes a survey of no runs, to be written in this format. Names and lines are hashed with these keys.
+    pub fn new(alloc: Global, keys: RandomState, format: Format) -> Survey
+        ensures { result ≡ no_runs format }
     {
         Survey {
+            format,
             deferreds: Texts::new(alloc, keys),
             lines: Texts::new(alloc, keys),
             tallies: Tallies::new(alloc),
@@ -61,7 +65,7 @@ impl Survey {
     ) -> Result<(), AllocError>
         ensures { OnOk result (self.new ≡ with_run classes.now self.old (run_of batches.now outcomes.now stopped)) }
     {
-        let lines = lines_of(alloc, keys, classes, outcomes)?;
+        let lines = lines_of(alloc, keys, self.format, classes, outcomes)?;
         let places = self.add_lines(alloc, batches, lines.as_slice())?;
         self.add_end(alloc, places.as_slice(), stopped)
     }

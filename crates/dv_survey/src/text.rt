@@ -2,9 +2,11 @@
 
 ghost use Rattle.std.specs.Prelude.{◌≡◌, ◌++◌, codes, OnOk, string_bytes};
 ghost use Rattle.dv_survey.specs.Text.{batch_text, batches_text, counted, posted_text};
-ghost use Rattle.dv_survey.specs.Text.{deferred_text, deferreds_text, tally_text, text_if_of};
-ghost use Rattle.dv_survey.specs.Text.{stopped_text, sum_text, survey_text};
+ghost use Rattle.dv_survey.specs.Text.{deferred_text, deferreds_text, tally_json, tally_text, text_if_of};
+ghost use Rattle.dv_survey.specs.Text.{number_text, stopped_text, sum_text, sums_text, survey_text};
+ghost use Rattle.dv_survey.specs.declared.format.Format.TheVariants as Format;
 
+use crate::format::Format;
 use crate::survey::Survey;
 use crate::tallies::Tally;
 use crate::texts::Texts;
@@ -20,32 +22,61 @@ pub fn write_survey(out: &mut String, survey: &Survey, orders: u64) -> Result<()
     ensures { OnOk result (string_bytes out.new ≡ string_bytes out.old ++ survey_text survey.now orders) }
 {
     write_deferreds(out, survey)?;
-    write_stopped(out, survey.stopped)?;
-    write_sum(out, orders, survey.outcomes_len() as u64)
+    write_sums(
+        out,
+        survey.format,
+        survey.stopped,
+        orders,
+        survey.outcomes_len() as u64,
+    )
+}
+
+/// Adds the line with the number of orders, which comes before all others.
+pub fn write_number(out: &mut String, format: Format, orders: u64) -> Result<(), AllocError>
+    ensures { OnOk result (string_bytes out.new ≡ string_bytes out.old ++ number_text format orders) }
+{
+    match format {
+        Format::Lines => {
+            write_counted(out, orders, "order")?;
+            out.push('\n')
+        }
+        Format::Json => {
+            write_text(out, "{\"orders\":")?;
+            write_u64(out, orders)?;
+            write_text(out, ",\"type\":\"orders\"}\n")
+        }
+    }
 }
 
 fn write_deferreds(out: &mut String, survey: &Survey) -> Result<(), AllocError>
     ensures { OnOk result (string_bytes out.new ≡ string_bytes out.old ++ deferreds_text survey.now) }
 {
     for deferred in 0..survey.deferreds.len() {
-        write_deferred(out, deferred, &survey.lines, survey.tallies.as_slice())?;
+        write_deferred(
+            out,
+            survey.format,
+            deferred,
+            &survey.lines,
+            survey.tallies.as_slice(),
+        )?;
     }
     Ok(())
 }
 
 fn write_deferred(
     out: &mut String,
+    format: Format,
     deferred: usize,
     lines: &Texts,
     tallies: &[Tally],
 ) -> Result<(), AllocError>
-    ensures { OnOk result (string_bytes out.new ≡ string_bytes out.old ++ deferred_text deferred tallies.now lines.now) }
+    ensures { OnOk result (string_bytes out.new ≡ string_bytes out.old ++ deferred_text format deferred tallies.now lines.now) }
 {
     for (place, tally) in tallies.iter().enumerate() {
         let Some(line) = lines.at(place) else {
             return Ok(());
         };
-        write_if_of(out, deferred, line, tally)?;
+        write_if_of(out, format, deferred, line, tally)?;
     }
     Ok(())
 }
@@ -53,21 +84,25 @@ fn write_deferred(
 /// Adds a line, where it is one of this Deferred.
 fn write_if_of(
     out: &mut String,
+    format: Format,
     deferred: usize,
     line: &str,
     tally: &Tally,
 ) -> Result<(), AllocError>
-    ensures { OnOk result (string_bytes out.new ≡ string_bytes out.old ++ text_if_of deferred tally.now line.now) }
+    ensures { OnOk result (string_bytes out.new ≡ string_bytes out.old ++ text_if_of format deferred tally.now line.now) }
 {
     if tally.deferred == deferred {
-        write_tally(out, line, tally)
+        match format {
+            Format::Lines => write_tally(out, line, tally),
+            Format::Json => write_tally_json(out, line, tally),
+        }
     } else {
         Ok(())
     }
 }
 
 fn write_tally(out: &mut String, line: &str, tally: &Tally) -> Result<(), AllocError>
-    ensures { OnOk result (string_bytes out.new ≡ string_bytes out.old ++ tally_text tally.now line.now) }
+    ensures { OnOk result (string_bytes out.new ≡ string_bytes out.old ++ tally_text Format.Lines tally.now line.now) }
 {
     write_text(out, line)?;
     write_text(out, " in ")?;
@@ -75,6 +110,59 @@ fn write_tally(out: &mut String, line: &str, tally: &Tally) -> Result<(), AllocE
     write_text(out, ", first ")?;
     write_batches(out, tally.first.as_slice())?;
     out.push('\n')
+}
+
+fn write_tally_json(out: &mut String, line: &str, tally: &Tally) -> Result<(), AllocError>
+    ensures { OnOk result (string_bytes out.new ≡ string_bytes out.old ++ tally_text Format.Json tally.now line.now) }
+{
+    write_tally_members(out, tally)?;
+    write_text(out, line)?;
+    write_text(out, "}\n")
+}
+
+fn write_tally_members(out: &mut String, tally: &Tally) -> Result<(), AllocError>
+    ensures { OnOk result (string_bytes out.new ≡ string_bytes out.old ++ tally_json tally.now) }
+{
+    write_text(out, "{\"batches\":")?;
+    write_batches(out, tally.first.as_slice())?;
+    write_text(out, ",\"count\":")?;
+    write_u64(out, tally.count)?;
+    write_text(out, ",")
+}
+
+fn write_sums(
+    out: &mut String,
+    format: Format,
+    stopped: u64,
+    orders: u64,
+    outcomes: u64,
+) -> Result<(), AllocError>
+    ensures { OnOk result (string_bytes out.new ≡ string_bytes out.old ++ sums_text format stopped orders outcomes) }
+{
+    match format {
+        Format::Lines => {
+            write_stopped(out, stopped)?;
+            write_sum(out, orders, outcomes)
+        }
+        Format::Json => write_sums_json(out, stopped, orders, outcomes),
+    }
+}
+
+fn write_sums_json(
+    out: &mut String,
+    stopped: u64,
+    orders: u64,
+    outcomes: u64,
+) -> Result<(), AllocError>
+    ensures { OnOk result (string_bytes out.new ≡ string_bytes out.old ++ sums_text Format.Json stopped orders outcomes) }
+{
+    write_text(out, "{\"orders\":")?;
+    write_u64(out, orders)?;
+    write_text(out, ",\"outcomes\":")?;
+    write_u64(out, outcomes)?;
+    write_text(out, ",\"stopped\":")?;
+    write_u64(out, stopped)?;
+    write_text(out, ",\"type\":\"end\"}\n")
 }
 
 fn write_stopped(out: &mut String, stopped: u64) -> Result<(), AllocError>
