@@ -23,6 +23,7 @@ use Rattle.dv_run.specs.Headline.{Prints, Told}
 use Rattle.dv_run.specs.Run.{GivesUp}
 use Rattle.dv_run.specs.declared.words.Form.{Form}
 use Rattle.dv_run.specs.declared.words.Form.TheVariants as form
+use Rattle.dv_survey.specs.declared.format.Format.{Format}
 use Rattle.dv_why.specs.Explaining.{ended_status, ended_text, Explains}
 use Rattle.dv_why.specs.declared.explaining.WhyFault.{WhyFault}
 use Rattle.dv_run.specs.declared.words.Task.TheVariants as task
@@ -75,12 +76,12 @@ pub word_fails : (form : Form) (workers : ℕ) (word : List ℕ) (code : ℕ) (s
 word_fails form workers word code said refusal many input told is says = inr (inr (record { status = is; text = says; written = Keeps-refl told }))
 
 -- a run in every order ended, or failed
-pub surveys_all : (most outcomes code : ℕ) (said : List ℕ) (many : Option Number) (input old new : Told) → Surveys most input old new outcomes
-    → code ≡ survey_status outcomes → said ≡ [] → many ≡ None → SurveysScript most code said many input old new
-surveys_all most outcomes code said many input old new surveys is says few = record { ended = Ok outcomes; ok = surveys; err = tt; status = is; text = says; number = few }
+pub surveys_all : (format : Format) (most outcomes code : ℕ) (said : List ℕ) (many : Option Number) (input old new : Told) → Surveys format most input old new outcomes
+    → code ≡ survey_status outcomes → said ≡ [] → many ≡ None → SurveysScript format most code said many input old new
+surveys_all format most outcomes code said many input old new surveys is says few = record { ended = Ok outcomes; ok = surveys; err = tt; status = is; text = says; number = few }
 
-pub surveys_fault : (most : ℕ) (fault : SurveyFault) (code : ℕ) (said : List ℕ) (many : Option Number) (input old new : Told) → surveying.GivesUp fault most input old new
-    → code ≡ survey_fault_status fault → said ≡ survey_fault_text fault → many ≡ too_many fault → SurveysScript most code said many input old new
-surveys_fault most fault code said many input old new gives_up is says number = record { ended = Err fault; ok = tt; err = gives_up; status = is; text = says; number = number }
+pub surveys_fault : (format : Format) (most : ℕ) (fault : SurveyFault) (code : ℕ) (said : List ℕ) (many : Option Number) (input old new : Told) → surveying.GivesUp format fault most input old new
+    → code ≡ survey_fault_status fault → said ≡ survey_fault_text fault → many ≡ too_many fault → SurveysScript format most code said many input old new
+surveys_fault format most fault code said many input old new gives_up is says number = record { ended = Err fault; ok = tt; err = gives_up; status = is; text = says; number = number }
 
 pub ruleset endings = (surveys_all, surveys_fault, runs, runs_as_json, explains, replays_lines, fails_lines, replays_json, fails_json, replays_word, says_none, word_fails)

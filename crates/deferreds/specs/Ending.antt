@@ -25,6 +25,8 @@ use Rattle.dv_run.specs.declared.words.Form.{Form}
 use Rattle.dv_run.specs.declared.words.Form.TheVariants as form
 use Rattle.dv_run.specs.declared.words.Task.{Task}
 use Rattle.dv_run.specs.declared.words.Task.TheVariants as task
+use Rattle.dv_survey.specs.declared.format.Format.{Format}
+use Rattle.dv_survey.specs.declared.format.Format.TheVariants as format
 use Rattle.dv_why.specs.Explaining.{ended_status, ended_text, Explains}
 use Rattle.dv_why.specs.declared.explaining.WhyFault.{WhyFault}
 
@@ -109,11 +111,16 @@ pub record WordFails (code : ℕ) (said : List ℕ) (old new : Told) : Type 0 wh
   pub text : said ≡ codes "out of memory"
   pub written : Keeps old new
 
+-- the format of a survey in this form
+abbrev pub format_for : Form → Format
+format_for form.Lines = format.Lines
+format_for form.Json = format.Json
+
 -- a run in every order ended, or failed
-pub record SurveysScript (most code : ℕ) (said : List ℕ) (many : Option Number) (input old new : Told) : Type 0 where
+pub record SurveysScript (format : Format) (most code : ℕ) (said : List ℕ) (many : Option Number) (input old new : Told) : Type 0 where
   pub ended : Result ℕ SurveyFault
-  pub ok : IfOk ended (Surveys most input old new)
-  pub err : IfErr ended (λ fault. surveying.GivesUp fault most input old new)
+  pub ok : IfOk ended (Surveys format most input old new)
+  pub err : IfErr ended (λ fault. surveying.GivesUp format fault most input old new)
   pub status : code ≡ survey_ended ended
   pub text : said ≡ survey_said ended
   pub number : many ≡ survey_too_many ended
@@ -123,7 +130,7 @@ abbrev pub Does : Task → List ℕ → ℕ → List ℕ → Option OrderFault �
 Does (task.Run form.Lines workers) word code said refusal many input old new = Runs code said input old new
 Does (task.Run form.Json workers) word code said refusal many input old new = RunsAsJson code said input old new
 Does (task.Replay form workers) word code said refusal many input old new = ReplaysWord form word code said refusal input old new ⊎ SaysNoBatches word code old new ⊎ WordFails code said old new
-Does (task.Survey most) word code said refusal many input old new = SurveysScript most code said many input old new
+Does (task.Survey form most) word code said refusal many input old new = SurveysScript (format_for form) most code said many input old new
 Does task.Why word code said refusal many input old new = ExplainsScript code said input old new
 
 -- who runs a script that is refused is pointed to what explains it

@@ -17,7 +17,8 @@ const BATCHES_USAGE: &str =
     "usage: deferreds [--json] --batches BATCHES [WORKERS] [FILE], with BATCHES as [[[0,0]],[]]";
 
 /// How a run in every order is asked for.
-const ORDERS_USAGE: &str = "usage: deferreds --orders [--most N] [FILE], with N from 0 to 1000000";
+const ORDERS_USAGE: &str =
+    "usage: deferreds [--json] --orders [--most N] [FILE], with N from 0 to 1000000";
 
 /// The status with which the program ends, and what it says on standard error.
 #[derive(Clone, Copy)]
@@ -31,6 +32,8 @@ pub struct Exit {
     pub refusal: Option<OrderFault>,
     /// How many orders there are where these are more than were to run, which is a line of its own.
     pub too_many: Option<Number>,
+    /// How many were to run then.
+    pub most: u32,
 }
 
 impl Exit {
@@ -48,6 +51,7 @@ impl Exit {
             hint: "",
             refusal: None,
             too_many: None,
+            most: 0,
         }
     }
 
@@ -65,6 +69,7 @@ impl Exit {
             hint: hint_after(status),
             refusal: None,
             too_many: None,
+            most: 0,
         }
     }
 
@@ -81,6 +86,7 @@ impl Exit {
             hint: hint_after(status),
             refusal: fault_refusal(fault),
             too_many: None,
+            most: 0,
         }
     }
 
@@ -94,12 +100,13 @@ impl Exit {
         Exit::plain((survey_status(outcomes), ""))
     }
 
-    /// Ends where a run in every order failed.
-    pub fn of_survey_fault(fault: SurveyFault) -> Exit
+    /// Ends where a run in every order failed, of which no more than these were to run.
+    pub fn of_survey_fault(fault: SurveyFault, most: u32) -> Exit
         ensures status { result.status ≡ survey_fault_status fault }
         ensures text { result.text.now ≡ survey_fault_text fault }
         ensures refusal { result.refusal ≡ None }
         ensures many { result.too_many ≡ too_many fault }
+        ensures most { result.most ≡ most }
     {
         let status = survey_fault_status(fault);
         Exit {
@@ -108,6 +115,7 @@ impl Exit {
             hint: hint_after(status),
             refusal: None,
             too_many: too_many(fault),
+            most,
         }
     }
 
@@ -122,6 +130,7 @@ impl Exit {
             hint: "deferreds --help says more",
             refusal: None,
             too_many: None,
+            most: 0,
         }
     }
 
@@ -132,6 +141,7 @@ impl Exit {
             text: match words {
                 [first, ..] if first.as_str() == "--batches" => BATCHES_USAGE,
                 [first, ..] if first.as_str() == "--orders" => ORDERS_USAGE,
+                [_, second, ..] if second.as_str() == "--orders" => ORDERS_USAGE,
                 [_, second, ..] if second.as_str() == "--batches" => BATCHES_USAGE,
                 [first, ..] if first.as_bytes().first() == Some(&b'-') => {
                     "usage: deferreds [--json] [WORKERS] [FILE], or deferreds --why [FILE]"
@@ -141,6 +151,7 @@ impl Exit {
             hint: "deferreds --help says more",
             refusal: None,
             too_many: None,
+            most: 0,
         }
     }
 }

@@ -4,7 +4,7 @@ deferreds [WORKERS] [FILE]         runs a script, and prints its journal and the
 deferreds --json [WORKERS] [FILE]  prints the run as JSON Lines, for tools
 deferreds [--json] --batches BATCHES [WORKERS] [FILE]
                                    runs a script with the posts of its callers in these batches
-deferreds --orders [--most N] [FILE]
+deferreds [--json] --orders [--most N] [FILE]
                                    runs a script in every order of these posts, and prints what becomes of each Deferred in how many
 deferreds --why [FILE]             prints, as a line of JSON, where a script is refused, and why
 deferreds --language               prints the language as JSON: its words, its keys, the lines of the journal

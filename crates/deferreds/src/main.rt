@@ -17,7 +17,7 @@ use dv_journal::io_sink::IoSink;
 use dv_journal::sink::{Sink, write_all};
 use dv_language::language::print_language;
 use dv_orders::number::Number;
-use dv_run::orders::{MOST_ORDERS, ORDERS};
+use dv_run::orders::MOST_ORDERS;
 use dv_run::{Asked, Input, IoSource, RunFault, asked_of, batches_word, exit_of};
 use std::alloc::AllocGlobal;
 use std::io::IsTerminal;
@@ -77,14 +77,21 @@ fn main(rt: HostRuntime) -> ExitCode {
     match exit.too_many {
         None => {}
         Some(Number::Exactly(number)) => {
+            let most = exit.most;
             let noun = if number == 1 {
                 "order is"
             } else {
                 "orders are"
             };
-            let _ = eprintln!(rt;
-                "{number} {noun} more than --most allows: {ORDERS} where it isn't given, {MOST_ORDERS} at most"
-            );
+            if number <= u64::from(MOST_ORDERS) {
+                let _ = eprintln!(rt;
+                    "{number} {noun} more than the {most} that may run; --most {number} allows them"
+                );
+            } else {
+                let _ = eprintln!(rt;
+                    "{number} {noun} more than the {most} that may run, and --most allows {MOST_ORDERS} at most"
+                );
+            }
         }
         Some(Number::More) => {
             let _ = eprintln!(rt;

@@ -2,7 +2,7 @@
 
 ghost use Rattle.std.specs.Prelude.{◌≡◌, ◌≤◌, Ok};
 ghost use Rattle.dv_output.specs.Exit.{error_text, status};
-ghost use Rattle.deferreds.specs.Ending.{Does, Replays, Runs};
+ghost use Rattle.deferreds.specs.Ending.{Does, Replays, Runs, format_for};
 ghost use Rattle.dv_run.specs.Words.{HasFewWorkers};
 ghost use Rattle.dv_script.specs.declared.limits.TheConstants.{MOST_WORKERS};
 
@@ -15,6 +15,7 @@ use dv_posts::posted::Posted;
 use dv_replay::running::replay;
 use dv_replay::surveying::survey;
 use dv_run::{Form, Kept, RunFault, Source, Task, exit_of, run_and_keep};
+use dv_survey::format::Format;
 use dv_value::items::Items;
 use dv_why::explaining::explain;
 use std::alloc::AllocGlobal;
@@ -43,11 +44,22 @@ where
             Err(Stop::BadShape) => Exit::wrong_batches(),
             Err(Stop::OutOfMemory) => Exit::plain(exit_of(&Err(RunFault::OutOfMemory))),
         },
-        Task::Survey(most) => match survey(rt, reader, writer, &PlainGate, most) {
-            Ok(outcomes) => Exit::of_survey(outcomes),
-            Err(fault) => Exit::of_survey_fault(fault),
-        },
+        Task::Survey(form, most) => {
+            match survey(rt, reader, writer, &PlainGate, format_for(form), most) {
+                Ok(outcomes) => Exit::of_survey(outcomes),
+                Err(fault) => Exit::of_survey_fault(fault, most),
+            }
+        }
         Task::Why => Exit::plain(dv_why::explaining::exit_of(explain(rt.alloc(), reader, writer))),
+    }
+}
+
+fn format_for(form: Form) -> Format
+    ensures { result ≡ format_for form }
+{
+    match form {
+        Form::Lines => Format::Lines,
+        Form::Json => Format::Json,
     }
 }
 

@@ -17,24 +17,26 @@ use Rattle.dv_output.specs.declared.error.RunFault.{RunFault}
 use Rattle.dv_output.specs.declared.error.RunFault.TheVariants.{ScriptRefused, OutOfMemory, ReadFault, WriteFault}
 use Rattle.dv_posts.specs.Batches.{Batch}
 use Rattle.dv_replay.specs.Surveying as surveying
-use Rattle.dv_replay.specs.Surveying.{CountFails, GivesUp, HasSurveyed, InputSays, OrdersGiveUp, PrintsOrders, Surveys, number_line, orders_text, run_of}
+use Rattle.dv_replay.specs.Surveying.{CountFails, GivesUp, HasSurveyed, OrdersGiveUp, format_of, PrintsOrders, Surveys, orders_text, run_of}
 use Rattle.dv_replay.specs.declared.error.SurveyFault.{SurveyFault}
 use Rattle.dv_replay.specs.declared.error.SurveyFault.TheVariants as failing
 use Rattle.dv_run.specs.Headline.{IsRun, Told}
 use Rattle.dv_run.specs.Run.{GivesNoScript, HasRead, LeavesAfter, ReaderFailedBy, SaysScript, WriterFailedBy}
 use Rattle.dv_script.specs.declared.script.Script.{Script}
 use Rattle.dv_survey.specs.Survey.{Run, no_runs, survey_of, with_run}
-use Rattle.dv_survey.specs.Text.{survey_text}
+use Rattle.dv_survey.specs.Text.{number_text, survey_text}
+use Rattle.dv_survey.specs.declared.format.Format.{Format}
+use Rattle.dv_survey.specs.declared.format.Format.TheVariants.{Lines, Json}
 use Rattle.dv_survey.specs.declared.survey.Survey.{Survey}
 
 -- nothing was performed yet
-none_yet : (script : Script) → HasSurveyed script [] no_runs
-none_yet script = record { reports = []; runs = All-nil (IsRun script); took = refl; gathers = refl }
+none_yet : (format : Format) (script : Script) → HasSurveyed format script [] (no_runs format)
+none_yet format script = record { reports = []; runs = All-nil (IsRun script); took = refl; gathers = refl }
 
 -- a run in one order more was gathered
-one_more : (script : Script) (seen : List (List Batch)) (old new : Survey) (batches : List Batch) (report : Report) (run : Run) → IsRun script report → report.batches ≡ batches → run ≡ run_of report
-    → new ≡ with_run script.classes old run → HasSurveyed script seen old → HasSurveyed script (seen ++ batches ∷ []) new
-one_more script seen old new batches report run runs took is added has = record {
+one_more : (format : Format) (script : Script) (seen : List (List Batch)) (old new : Survey) (batches : List Batch) (report : Report) (run : Run) → IsRun script report → report.batches ≡ batches → run ≡ run_of report
+    → new ≡ with_run script.classes old run → HasSurveyed format script seen old → HasSurveyed format script (seen ++ batches ∷ []) new
+one_more format script seen old new batches report run runs took is added has = record {
   reports = has.reports ++ report ∷ [];
   runs = All-append (IsRun script) has.reports (report ∷ []) has.runs (All-cons (IsRun script) report [] runs (All-nil (IsRun script)));
   took = map-append (λ (r : Report). r.batches) has.reports (report ∷ []) ∙ ap (λ l. l ++ report.batches ∷ []) has.took ∙ ap (λ b. seen ++ b ∷ []) took;
@@ -42,32 +44,38 @@ one_more script seen old new batches report run runs took is added has = record 
       added
       ∙ ap (with_run script.classes old) is
       ∙ ap (λ s. with_run script.classes s (run_of report)) has.gathers
-      ∙ sym (fold-append (with_run script.classes) no_runs (map run_of has.reports) (run_of report ∷ []))
-      ∙ ap (survey_of script.classes) (sym (map-append run_of has.reports (report ∷ [])));
+      ∙ sym (fold-append (with_run script.classes) (no_runs format) (map run_of has.reports) (run_of report ∷ []))
+      ∙ ap (survey_of format script.classes) (sym (map-append run_of has.reports (report ∷ [])));
 }
 
 -- the same of a script that is the surveyor's own
-pub visited : (script own : Script) (old new : Survey) (batches : List Batch) (report : Report) (run : Run) → script ≡ own → IsRun script report → report.batches ≡ batches → run ≡ run_of report
-    → new ≡ with_run script.classes old run → (seen : List (List Batch)) → HasSurveyed own seen old → HasSurveyed own (seen ++ batches ∷ []) new
-visited script own old new batches report run same runs took is added seen =
-    subst (λ s. HasSurveyed s seen old → HasSurveyed s (seen ++ batches ∷ []) new) same (one_more script seen old new batches report run runs took is added)
+pub visited : (format : Format) (script own : Script) (old new : Survey) (batches : List Batch) (report : Report) (run : Run) → script ≡ own → IsRun script report → report.batches ≡ batches → run ≡ run_of report
+    → new ≡ with_run script.classes old run → (seen : List (List Batch)) → HasSurveyed format own seen old → HasSurveyed format own (seen ++ batches ∷ []) new
+visited format script own old new batches report run same runs took is added seen =
+    subst (λ s. HasSurveyed format s seen old → HasSurveyed format s (seen ++ batches ∷ []) new) same (one_more format script seen old new batches report run runs took is added)
 
 -- all orders were visited, from none on
-pub all_visited : (script own : Script) (all : List (List Batch)) (none new : Survey) → own ≡ script → none ≡ no_runs
-    → ((seen : List (List Batch)) → HasSurveyed script seen none → HasSurveyed own (seen ++ all) new) → HasSurveyed script all new
-all_visited script own all none new is are more = subst (λ s. HasSurveyed s all new) is (more [] (subst (HasSurveyed script []) (sym are) (none_yet script)))
+all_visited : (format : Format) (script own : Script) (all : List (List Batch)) (none new : Survey) → own ≡ script → none ≡ no_runs format
+    → ((seen : List (List Batch)) → HasSurveyed format script seen none → HasSurveyed format own (seen ++ all) new) → HasSurveyed format script all new
+all_visited format script own all none new is are more = subst (λ s. HasSurveyed format s all new) is (more [] (subst (HasSurveyed format script []) (sym are) (none_yet format script)))
+
+-- whatever the format
+pub all_surveyed : (format : Format) (script own : Script) (all : List (List Batch)) (none new : Survey) → own ≡ script → none ≡ no_runs format
+    → ((mark : ℕ) (seen : List (List Batch)) → HasSurveyed (format_of mark) script seen none → HasSurveyed (format_of mark) own (seen ++ all) new) → HasSurveyed format script all new
+all_surveyed Lines script own all none new is are more = all_visited Lines script own all none new is are (more 0)
+all_surveyed Json script own all none new is are more = all_visited Json script own all none new is are (more 1)
 
 pub on_ok : {A E P Q : Type 0} (result : Result A E) → OnOk result P → (P → Q) → OnOk result Q
 on_ok (Ok a) p more = more p
 on_ok (Err e) p more = tt
 
 -- the orders aren't performed: nothing was written
-pub count_fails : (fault : SurveyFault) (most : ℕ) (told : Told) (script : Script) → CountFails fault most script → OrdersGiveUp fault most told told script
-count_fails (failing.Run (ScriptRefused fault)) most told script none = none
-count_fails (failing.Run OutOfMemory) most told script none = inl (number_line (length (orders script)), but_all told (number_line (length (orders script))))
-count_fails (failing.Run ReadFault) most told script none = none
-count_fails (failing.Run WriteFault) most told script none = absurd none
-count_fails (failing.TooMany number) most told script exceeds = (exceeds, Keeps-refl told)
+pub count_fails : (format : Format) (fault : SurveyFault) (most : ℕ) (told : Told) (script : Script) → CountFails fault most script → OrdersGiveUp format fault most told told script
+count_fails format (failing.Run (ScriptRefused fault)) most told script none = none
+count_fails format (failing.Run OutOfMemory) most told script none = inl (number_text format (length (orders script)), but_all told (number_text format (length (orders script))))
+count_fails format (failing.Run ReadFault) most told script none = none
+count_fails format (failing.Run WriteFault) most told script none = absurd none
+count_fails format (failing.TooMany number) most told script exceeds = (exceeds, Keeps-refl told)
 
 pub count_writer : (fault : SurveyFault) (most count : ℕ) (script : Script) → CountFails fault most script → surveying.WriterFailedBy fault count count
 unfolding WriterFailedBy
@@ -78,37 +86,37 @@ count_writer (failing.Run WriteFault) most count script none = absurd none
 count_writer (failing.TooMany number) most count script exceeds = refl
 
 -- the line of their number wasn't written whole
-pub number_fails : (fault : PrintFault) (most n : ℕ) (old new : Told) (script : Script) → n ≡ length (orders script) → AppendsPrefix old new (number_line n) → OrdersGiveUp (failing.Run (of_print fault)) most old new script
-number_fails printing.WriteFault most n old new script number cut = inl (subst (λ m. AppendsPrefix old new (number_line m)) number cut)
-number_fails printing.OutOfMemory most n old new script number cut = inl (subst (λ m. AppendsPrefix old new (number_line m)) number cut)
+pub number_fails : (format : Format) (fault : PrintFault) (most n : ℕ) (old new : Told) (script : Script) → n ≡ length (orders script) → AppendsPrefix old new (number_text format n) → OrdersGiveUp format (failing.Run (of_print fault)) most old new script
+number_fails format printing.WriteFault most n old new script number cut = inl (subst (λ m. AppendsPrefix old new (number_text format m)) number cut)
+number_fails format printing.OutOfMemory most n old new script number cut = inl (subst (λ m. AppendsPrefix old new (number_text format m)) number cut)
 
 -- what was written whole is a prefix of itself
 whole : (old new : Told) (text : List ℕ) → Appends old new text → AppendsPrefix old new text
 whole old new text written = ([], (text, written, sym (append-nil text)))
 
 -- the runs failed after that line
-pub runs_fail : (most n : ℕ) (old new : Told) (script : Script) → n ≡ length (orders script) → Appends old new (number_line n) → OrdersGiveUp (failing.Run OutOfMemory) most old new script
-runs_fail most n old new script number written = inl (subst (λ m. AppendsPrefix old new (number_line m)) number (whole old new (number_line n) written))
+pub runs_fail : (format : Format) (most n : ℕ) (old new : Told) (script : Script) → n ≡ length (orders script) → Appends old new (number_text format n) → OrdersGiveUp format (failing.Run OutOfMemory) most old new script
+runs_fail format most n old new script number written = inl (subst (λ m. AppendsPrefix old new (number_text format m)) number (whole old new (number_text format n) written))
 
 -- the rest wasn't written whole
-some_of : (n : ℕ) (old mid new : Told) (script : Script) (survey : Survey) → n ≡ length (orders script) → Appends old mid (number_line n) → AppendsPrefix mid new (survey_text survey n)
-    → AppendsPrefix old new (orders_text (length (orders script)) survey)
-some_of n old mid new script survey number line cut =
-    subst (λ m. AppendsPrefix old new (orders_text m survey)) number (first_then_prefix old mid new (number_line n) (survey_text survey n) line cut)
+some_of : (format : Format) (n : ℕ) (old mid new : Told) (script : Script) (survey : Survey) → n ≡ length (orders script) → Appends old mid (number_text format n) → AppendsPrefix mid new (survey_text survey n)
+    → AppendsPrefix old new (orders_text format (length (orders script)) survey)
+some_of format n old mid new script survey number line cut =
+    subst (λ m. AppendsPrefix old new (orders_text format m survey)) number (first_then_prefix old mid new (number_text format n) (survey_text survey n) line cut)
 
-pub survey_fails : (fault : PrintFault) (most n : ℕ) (old mid new : Told) (script : Script) (survey : Survey) → n ≡ length (orders script) → HasSurveyed script (orders script) survey
-    → Appends old mid (number_line n) → AppendsPrefix mid new (survey_text survey n) → OrdersGiveUp (failing.Run (of_print fault)) most old new script
-survey_fails printing.WriteFault most n old mid new script survey number has line cut = inr (record { survey = survey; surveyed = has; written = some_of n old mid new script survey number line cut })
-survey_fails printing.OutOfMemory most n old mid new script survey number has line cut = inr (record { survey = survey; surveyed = has; written = some_of n old mid new script survey number line cut })
+pub survey_fails : (format : Format) (fault : PrintFault) (most n : ℕ) (old mid new : Told) (script : Script) (survey : Survey) → n ≡ length (orders script) → HasSurveyed format script (orders script) survey
+    → Appends old mid (number_text format n) → AppendsPrefix mid new (survey_text survey n) → OrdersGiveUp format (failing.Run (of_print fault)) most old new script
+survey_fails format printing.WriteFault most n old mid new script survey number has line cut = inr (record { survey = survey; surveyed = has; written = some_of format n old mid new script survey number line cut })
+survey_fails format printing.OutOfMemory most n old mid new script survey number has line cut = inr (record { survey = survey; surveyed = has; written = some_of format n old mid new script survey number line cut })
 
 -- all was written
-pub all_written : (most n ways : ℕ) (old mid new : Told) (script : Script) (survey : Survey) → n ≡ length (orders script) → n ≤ most → HasSurveyed script (orders script) survey
-    → Appends old mid (number_line n) → Appends mid new (survey_text survey n) → ways ≡ length survey.outcomes → PrintsOrders most old new ways script
-all_written most n ways old mid new script survey number few has line text counted = record {
+pub all_written : (format : Format) (most n ways : ℕ) (old mid new : Told) (script : Script) (survey : Survey) → n ≡ length (orders script) → n ≤ most → HasSurveyed format script (orders script) survey
+    → Appends old mid (number_text format n) → Appends mid new (survey_text survey n) → ways ≡ length survey.outcomes → PrintsOrders format most old new ways script
+all_written format most n ways old mid new script survey number few has line text counted = record {
   few = subst (λ m. m ≤ most) number few;
   survey = survey;
   surveyed = has;
-  written = subst (λ m. Appends old new (orders_text m survey)) number (Appends-trans old mid new (number_line n) (survey_text survey n) line text);
+  written = subst (λ m. Appends old new (orders_text format m survey)) number (Appends-trans old mid new (number_text format n) (survey_text survey n) line text);
   ways = counted;
 }
 
@@ -118,37 +126,37 @@ unfolding WriterFailedBy
 memory_writer old new kept = kept
 
 -- there is no script: nothing was written
-pub no_script : (fault : RunFault) (most : ℕ) (input rest told : Told) (old new : ℕ) → GivesNoScript fault input rest old new → GivesUp (failing.Run fault) most input told told
+pub no_script : (format : Format) (fault : RunFault) (most : ℕ) (input rest told : Told) (old new : ℕ) → GivesNoScript fault input rest old new → GivesUp format (failing.Run fault) most input told told
 unfolding WriterFailedBy
-no_script (ScriptRefused fault) most input rest told old new none = none.untouched told
-no_script OutOfMemory most input rest told old new none = inl (Keeps-refl told)
-no_script ReadFault most input rest told old new none = none.untouched told
-no_script WriteFault most input rest told old new none = elim (none.writer 0) [ inl fewer ↦ absurd (omega (arith, fewer)) | inr most ↦ absurd (omega (arith, most)) ]
+no_script format (ScriptRefused fault) most input rest told old new none = none.untouched told
+no_script format OutOfMemory most input rest told old new none = inl (Keeps-refl told)
+no_script format ReadFault most input rest told old new none = none.untouched told
+no_script format WriteFault most input rest told old new none = elim (none.writer 0) [ inl fewer ↦ absurd (omega (arith, fewer)) | inr most ↦ absurd (omega (arith, most)) ]
 
 -- the input says the script, whose orders were all performed or weren't
-pub says_all : (most outcomes : ℕ) (input old new : Told) (script : Script) → SaysScript input script → PrintsOrders most old new outcomes script → Surveys most input old new outcomes
-says_all most outcomes input old new script says prints = record { script = script; says = says; holds = prints }
+pub says_all : (format : Format) (most outcomes : ℕ) (input old new : Told) (script : Script) → SaysScript input script → PrintsOrders format most old new outcomes script → Surveys format most input old new outcomes
+says_all format most outcomes input old new script says prints = record { script = script; says = says; holds = prints }
 
-pub says_fault : (fault : SurveyFault) (most : ℕ) (input old new : Told) (script : Script) → SaysScript input script → OrdersGiveUp fault most old new script → GivesUp fault most input old new
-says_fault (failing.Run (ScriptRefused fault)) most input old new script says holds = absurd holds
-says_fault (failing.Run OutOfMemory) most input old new script says holds = inr (record { script = script; says = says; holds = holds })
-says_fault (failing.Run ReadFault) most input old new script says holds = absurd holds
-says_fault (failing.Run WriteFault) most input old new script says holds = record { script = script; says = says; holds = holds }
-says_fault (failing.TooMany number) most input old new script says holds = record { script = script; says = says; holds = holds }
+pub says_fault : (format : Format) (fault : SurveyFault) (most : ℕ) (input old new : Told) (script : Script) → SaysScript input script → OrdersGiveUp format fault most old new script → GivesUp format fault most input old new
+says_fault format (failing.Run (ScriptRefused fault)) most input old new script says holds = absurd holds
+says_fault format (failing.Run OutOfMemory) most input old new script says holds = inr (record { script = script; says = says; holds = holds })
+says_fault format (failing.Run ReadFault) most input old new script says holds = absurd holds
+says_fault format (failing.Run WriteFault) most input old new script says holds = record { script = script; says = says; holds = holds }
+says_fault format (failing.TooMany number) most input old new script says holds = record { script = script; says = says; holds = holds }
 
 -- the reader hasn't failed, and was read to its end
-pub fault_reader : (fault : SurveyFault) (most : ℕ) (told after : Told) (script : Script) (old new : ℕ) → OrdersGiveUp fault most told after script → new ≡ old → surveying.ReaderFailedBy fault old new
+pub fault_reader : (format : Format) (fault : SurveyFault) (most : ℕ) (told after : Told) (script : Script) (old new : ℕ) → OrdersGiveUp format fault most told after script → new ≡ old → surveying.ReaderFailedBy fault old new
 unfolding ReaderFailedBy
-fault_reader (failing.Run (ScriptRefused fault)) most told after script old new holds kept = kept
-fault_reader (failing.Run OutOfMemory) most told after script old new holds kept = kept
-fault_reader (failing.Run ReadFault) most told after script old new holds kept = absurd holds
-fault_reader (failing.Run WriteFault) most told after script old new holds kept = kept
-fault_reader (failing.TooMany number) most told after script old new holds kept = kept
+fault_reader format (failing.Run (ScriptRefused fault)) most told after script old new holds kept = kept
+fault_reader format (failing.Run OutOfMemory) most told after script old new holds kept = kept
+fault_reader format (failing.Run ReadFault) most told after script old new holds kept = absurd holds
+fault_reader format (failing.Run WriteFault) most told after script old new holds kept = kept
+fault_reader format (failing.TooMany number) most told after script old new holds kept = kept
 
-pub fault_left : (fault : SurveyFault) (most : ℕ) (told after : Told) (script : Script) (input rest : Told) → OrdersGiveUp fault most told after script → HasRead input rest → surveying.LeavesAfter fault input rest
+pub fault_left : (format : Format) (fault : SurveyFault) (most : ℕ) (told after : Told) (script : Script) (input rest : Told) → OrdersGiveUp format fault most told after script → HasRead input rest → surveying.LeavesAfter fault input rest
 unfolding LeavesAfter
-fault_left (failing.Run (ScriptRefused fault)) most told after script input rest holds read = absurd holds
-fault_left (failing.Run OutOfMemory) most told after script input rest holds read = (read.bytes, read.taken)
-fault_left (failing.Run ReadFault) most told after script input rest holds read = absurd holds
-fault_left (failing.Run WriteFault) most told after script input rest holds read = read
-fault_left (failing.TooMany number) most told after script input rest holds read = read
+fault_left format (failing.Run (ScriptRefused fault)) most told after script input rest holds read = absurd holds
+fault_left format (failing.Run OutOfMemory) most told after script input rest holds read = (read.bytes, read.taken)
+fault_left format (failing.Run ReadFault) most told after script input rest holds read = absurd holds
+fault_left format (failing.Run WriteFault) most told after script input rest holds read = read
+fault_left format (failing.TooMany number) most told after script input rest holds read = read

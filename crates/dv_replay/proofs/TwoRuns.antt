@@ -73,7 +73,7 @@ of_each P x (y ∷ ys) all (inl is) = subst P is (All-head P y ys all)
 of_each P x (y ∷ ys) all (inr h) = of_each P x ys (All-tail P y ys all) h
 
 pub every_run_is_surveyed : EveryRunIsSurveyed
-every_run_is_surveyed script survey all report runs =
+every_run_is_surveyed format script survey all report runs =
     let listed : In report.batches (orders script) = in_from report.batches (orders script) (every_run script report runs) in
     let found = of_map (λ (r : Report). r.batches) report.batches all.reports (subst (In report.batches) (sym all.took) listed) in
     let other = found.0 in

@@ -6,6 +6,7 @@ use Rattle.dv_output.specs.Output.{report_text}
 use Rattle.dv_run.specs.Headline.{IsRun, SaysReport}
 use Rattle.dv_replay.specs.Surveying.{HasSurveyed}
 use Rattle.dv_script.specs.declared.script.Script.{Script}
+use Rattle.dv_survey.specs.declared.format.Format.{Format}
 use Rattle.dv_survey.specs.declared.survey.Survey.{Survey}
 
 -- two reports print one text, and both runs stopped or neither did
@@ -29,5 +30,5 @@ EveryRunIsListed = (script : Script) (report : Report) → IsRun script report �
 
 -- whatever a run of a script prints, a run in one of the orders that were surveyed prints, too
 abbrev pub EveryRunIsSurveyed : Type 0
-EveryRunIsSurveyed = (script : Script) (survey : Survey) (all : HasSurveyed script (orders script) survey) (report : Report) → IsRun script report
+EveryRunIsSurveyed = (format : Format) (script : Script) (survey : Survey) (all : HasSurveyed format script (orders script) survey) (report : Report) → IsRun script report
     → (other : Report) × Contains all.reports other × AreAlike script script report other

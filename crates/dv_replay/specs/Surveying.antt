@@ -1,5 +1,5 @@
 -- A script in every order of its posts: what is gathered of its runs, and what is written of that.
-use Rattle.std.specs.Prelude.{◌≡◌, ◌≤◌, ◌<◌, ◌⊎◌, ◌++◌, ◌^◌, ◌-◌, ℕ, ⊤, List, length, map, All, Result, Ok, Err, codes}
+use Rattle.std.specs.Prelude.{◌≡◌, ◌≤◌, ◌<◌, ◌⊎◌, ◌++◌, ◌^◌, ◌-◌, ℕ, zero, suc, ⊤, List, length, map, All, Result, Ok, Err}
 use Rattle.std.specs.Io.KnownBytes.{Appends, Keeps}
 use Rattle.dv_engine.specs.declared.report.Report.{Report}
 use Rattle.dv_journal.specs.Sink.{AppendsPrefix}
@@ -15,7 +15,9 @@ use Rattle.dv_run.specs.Run as run
 use Rattle.dv_run.specs.Run.{HasRead, RefusesInput, SaysScript}
 use Rattle.dv_script.specs.declared.script.Script.{Script}
 use Rattle.dv_survey.specs.Survey as gathering
-use Rattle.dv_survey.specs.Text.{counted, survey_text}
+use Rattle.dv_survey.specs.Text.{number_text, survey_text}
+use Rattle.dv_survey.specs.declared.format.Format.{Format}
+use Rattle.dv_survey.specs.declared.format.Format.TheVariants.{Lines, Json}
 use Rattle.dv_survey.specs.declared.survey.Survey.{Survey}
 
 -- what a survey keeps of the report of a run
@@ -23,37 +25,38 @@ abbrev pub run_of : Report → gathering.Run
 run_of report = gathering.run_of report.batches report.outcomes report.stopped
 
 -- the survey is that of runs of the script, one in each of these orders
-pub record HasSurveyed (script : Script) (seen : List (List Batch)) (survey : Survey) : Type 0 where
+pub record HasSurveyed (format : Format) (script : Script) (seen : List (List Batch)) (survey : Survey) : Type 0 where
   pub reports : List Report
   pub runs : All (IsRun script) reports
   pub took : map (λ report. report.batches) reports ≡ seen
-  pub gathers : survey ≡ gathering.survey_of script.classes (map run_of reports)
+  pub gathers : survey ≡ gathering.survey_of format script.classes (map run_of reports)
 
--- N orders
-abbrev pub number_line : ℕ → List ℕ
-number_line orders = counted orders (codes "order") ++ codes "\n"
+-- the format that a mark stands for
+abbrev pub format_of : ℕ → Format
+format_of zero = Lines
+format_of (suc mark) = Json
 
 -- how many orders there are, and then what became of the Deferreds
-abbrev pub orders_text : ℕ → Survey → List ℕ
-orders_text orders survey = number_line orders ++ survey_text survey orders
+abbrev pub orders_text : Format → ℕ → Survey → List ℕ
+orders_text format orders survey = number_text format orders ++ survey_text survey orders
 
 -- what became of the Deferreds in every order was written, of which there are no more than these, in so many ways
-pub record PrintsOrders (most : ℕ) (old new : Told) (outcomes : ℕ) (script : Script) : Type 0 where
+pub record PrintsOrders (format : Format) (most : ℕ) (old new : Told) (outcomes : ℕ) (script : Script) : Type 0 where
   pub few : length (orders script) ≤ most
   pub survey : Survey
-  pub surveyed : HasSurveyed script (orders script) survey
-  pub written : Appends old new (orders_text (length (orders script)) survey)
+  pub surveyed : HasSurveyed format script (orders script) survey
+  pub written : Appends old new (orders_text format (length (orders script)) survey)
   pub ways : outcomes ≡ length survey.outcomes
 
 -- a prefix of that was written
-pub record PrintsSome (old new : Told) (script : Script) : Type 0 where
+pub record PrintsSome (format : Format) (old new : Told) (script : Script) : Type 0 where
   pub survey : Survey
-  pub surveyed : HasSurveyed script (orders script) survey
-  pub written : AppendsPrefix old new (orders_text (length (orders script)) survey)
+  pub surveyed : HasSurveyed format script (orders script) survey
+  pub written : AppendsPrefix old new (orders_text format (length (orders script)) survey)
 
 -- a prefix of the line of their number was written
-abbrev pub PrintsNumber : Told → Told → Script → Type 0
-PrintsNumber old new script = AppendsPrefix old new (number_line (length (orders script)))
+abbrev pub PrintsNumber : Format → Told → Told → Script → Type 0
+PrintsNumber format old new script = AppendsPrefix old new (number_text format (length (orders script)))
 
 -- the script has so many orders, which are more than these, or more than 64 bits count
 abbrev pub Exceeds : Number → ℕ → Script → Type 0
@@ -67,8 +70,8 @@ pub record InputSays (input : Told) (Holds : Script → Type 0) : Type 0 where
   pub holds : Holds script
 
 -- the input says a script, and what became of its Deferreds in every order was written
-abbrev pub Surveys : ℕ → Told → Told → Told → ℕ → Type 0
-Surveys most input old new outcomes = InputSays input (PrintsOrders most old new outcomes)
+abbrev pub Surveys : Format → ℕ → Told → Told → Told → ℕ → Type 0
+Surveys format most input old new outcomes = InputSays input (PrintsOrders format most old new outcomes)
 
 -- why the orders of a script aren't performed: an allocation failed, or there are too many
 abbrev pub CountFails : SurveyFault → ℕ → Script → Type 0
@@ -79,20 +82,20 @@ CountFails (Run WriteFault) most script = ⊥
 CountFails (TooMany number) most script = Exceeds number most script
 
 -- what was written before each fault, once there is a script: where there are too many orders, nothing
-abbrev pub OrdersGiveUp : SurveyFault → ℕ → Told → Told → Script → Type 0
-OrdersGiveUp (Run (ScriptRefused fault)) most old new script = ⊥
-OrdersGiveUp (Run OutOfMemory) most old new script = PrintsNumber old new script ⊎ PrintsSome old new script
-OrdersGiveUp (Run ReadFault) most old new script = ⊥
-OrdersGiveUp (Run WriteFault) most old new script = PrintsNumber old new script ⊎ PrintsSome old new script
-OrdersGiveUp (TooMany number) most old new script = Exceeds number most script × Keeps old new
+abbrev pub OrdersGiveUp : Format → SurveyFault → ℕ → Told → Told → Script → Type 0
+OrdersGiveUp format (Run (ScriptRefused fault)) most old new script = ⊥
+OrdersGiveUp format (Run OutOfMemory) most old new script = PrintsNumber format old new script ⊎ PrintsSome format old new script
+OrdersGiveUp format (Run ReadFault) most old new script = ⊥
+OrdersGiveUp format (Run WriteFault) most old new script = PrintsNumber format old new script ⊎ PrintsSome format old new script
+OrdersGiveUp format (TooMany number) most old new script = Exceeds number most script × Keeps old new
 
 -- what was written before each fault: nothing where there is no script
-abbrev pub GivesUp : SurveyFault → ℕ → Told → Told → Told → Type 0
-GivesUp (Run (ScriptRefused fault)) most input old new = RefusesInput input old new fault
-GivesUp (Run OutOfMemory) most input old new = Keeps old new ⊎ InputSays input (OrdersGiveUp (Run OutOfMemory) most old new)
-GivesUp (Run ReadFault) most input old new = Keeps old new
-GivesUp (Run WriteFault) most input old new = InputSays input (OrdersGiveUp (Run WriteFault) most old new)
-GivesUp (TooMany number) most input old new = InputSays input (OrdersGiveUp (TooMany number) most old new)
+abbrev pub GivesUp : Format → SurveyFault → ℕ → Told → Told → Told → Type 0
+GivesUp format (Run (ScriptRefused fault)) most input old new = RefusesInput input old new fault
+GivesUp format (Run OutOfMemory) most input old new = Keeps old new ⊎ InputSays input (OrdersGiveUp format (Run OutOfMemory) most old new)
+GivesUp format (Run ReadFault) most input old new = Keeps old new
+GivesUp format (Run WriteFault) most input old new = InputSays input (OrdersGiveUp format (Run WriteFault) most old new)
+GivesUp format (TooMany number) most input old new = InputSays input (OrdersGiveUp format (TooMany number) most old new)
 
 -- after a read fault the reader has failed meanwhile, and after any other it hasn't
 abbrev pub ReaderFailedBy : SurveyFault → ℕ → ℕ → Type 0

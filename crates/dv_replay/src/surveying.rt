@@ -3,9 +3,9 @@
 ghost use Rattle.std.specs.Prelude.{◌≡◌, ◌≤◌, ◌<◌, ◌++◌, ◌^◌, ◌-◌, length, IfOk, IfErr, IsErrOf, OnOk, OnErr, string_bytes};
 ghost use Rattle.dv_journal.specs.Sink.{AppendsPrefix, HasFailed};
 ghost use Rattle.dv_orders.specs.Orders.{orders};
-ghost use Rattle.dv_replay.specs.Surveying.{CountFails, GivesUp, HasSurveyed, Leaves, OrdersGiveUp, PrintsOrders, ReaderFailed, Surveys, WriterFailed, number_line};
+ghost use Rattle.dv_replay.specs.Surveying.{CountFails, GivesUp, format_of, HasSurveyed, Leaves, OrdersGiveUp, PrintsOrders, ReaderFailed, Surveys, WriterFailed};
 ghost use Rattle.dv_script.specs.declared.limits.TheConstants.{MOST_POOLS};
-ghost use Rattle.dv_survey.specs.Text.{survey_text};
+ghost use Rattle.dv_survey.specs.Text.{number_text, survey_text};
 ghost use Rattle.std.specs.Io.KnownBytes.{Appends};
 
 use crate::error::SurveyFault;
@@ -22,8 +22,9 @@ use dv_run::driving::Reporting;
 use dv_run::running::script_of;
 use dv_script::script::Script;
 use dv_source::source::Source;
+use dv_survey::format::Format;
 use dv_survey::survey::Survey;
-use dv_survey::text::{write_counted, write_survey};
+use dv_survey::text::{write_number, write_survey};
 use dv_value::items::Items;
 use std::alloc::{AllocError, AllocGlobal, Global};
 use std::hash::RandomState;
@@ -52,7 +53,7 @@ where
 
     ghost script_of = { λ surveyor. surveyor.script.now };
 
-    ghost has_seen = { λ surveyor seen. HasSurveyed surveyor.script.now seen surveyor.survey };
+    ghost has_seen = { λ surveyor mark seen. HasSurveyed (format_of mark) surveyor.script.now seen surveyor.survey };
 
     fn visit(&mut self, script: &Script, batches: &[Items<Posted>]) -> Result<(), AllocError> {
         let Ok(report) = perform_alone(self.rt, script, self.gate, batches, &Reporting) else {
@@ -72,13 +73,13 @@ where
 }
 
 /// Runs a script in every order of its posts on this thread, and returns what became of its Deferreds.
-fn survey_of<S, G>(rt: &S, script: &Script, gate: &G) -> Result<Survey, AllocError>
+fn survey_of<S, G>(rt: &S, script: &Script, gate: &G, format: Format) -> Result<Survey, AllocError>
 where
     S: Threads + Wait + RandomSource + AllocGlobal,
     G: Gate,
     requires limited { script.now.limit < 2 ^ 32 - 1 }
     requires pools { length script.now.pools ≤ MOST_POOLS }
-    ensures { IfOk result (HasSurveyed script.now (orders script.now)) }
+    ensures { IfOk result (HasSurveyed format script.now (orders script.now)) }
 {
     let Ok(keys) = RandomState::new(rt) else {
         return Err(AllocError);
@@ -89,7 +90,7 @@ where
         gate,
         script,
         keys,
-        survey: Survey::new(alloc, keys),
+        survey: Survey::new(alloc, keys, format),
     };
     match each_order(alloc, script, &mut surveyor) {
         Ok(()) => Ok(surveyor.survey),
@@ -115,14 +116,19 @@ fn few_orders(alloc: Global, script: &Script, most: u32) -> Result<u64, SurveyFa
 }
 
 /// Writes a line with the number of orders.
-fn print_number<W: Sink>(alloc: Global, orders: u64, writer: &mut W) -> Result<(), PrintFault>
-    ensures ok { OnOk result (Appends (W.taken writer.old) (W.taken writer.new) (number_line orders)) }
+fn print_number<W: Sink>(
+    alloc: Global,
+    format: Format,
+    orders: u64,
+    writer: &mut W,
+) -> Result<(), PrintFault>
+    ensures ok { OnOk result (Appends (W.taken writer.old) (W.taken writer.new) (number_text format orders)) }
     ensures kept { OnOk result (W.failures writer.new ≡ W.failures writer.old) }
-    ensures err { OnErr result (AppendsPrefix (W.taken writer.old) (W.taken writer.new) (number_line orders)) }
+    ensures err { OnErr result (AppendsPrefix (W.taken writer.old) (W.taken writer.new) (number_text format orders)) }
     ensures cause { IsErrOf result PrintFault.WriteFault → HasFailed (W.failures writer.old) (W.failures writer.new) }
     ensures memory { IsErrOf result PrintFault.OutOfMemory → W.failures writer.new ≡ W.failures writer.old }
 {
-    let Ok(text) = number_text(alloc, orders) else {
+    let Ok(text) = number_line(alloc, format, orders) else {
         return Err(PrintFault::OutOfMemory);
     };
     match write_all(writer, text.as_bytes()) {
@@ -131,12 +137,11 @@ fn print_number<W: Sink>(alloc: Global, orders: u64, writer: &mut W) -> Result<(
     }
 }
 
-fn number_text(alloc: Global, orders: u64) -> Result<String, AllocError>
-    ensures { IfOk result (λ text. string_bytes text ≡ number_line orders) }
+fn number_line(alloc: Global, format: Format, orders: u64) -> Result<String, AllocError>
+    ensures { IfOk result (λ text. string_bytes text ≡ number_text format orders) }
 {
     let mut text = String::new(alloc);
-    write_counted(&mut text, orders, "order")?;
-    text.push('\n')?;
+    write_number(&mut text, format, orders)?;
     Ok(text)
 }
 
@@ -177,6 +182,7 @@ fn print_orders<S, W, G>(
     script: &Script,
     writer: &mut W,
     gate: &G,
+    format: Format,
     most: u32,
 ) -> Result<usize, SurveyFault>
 where
@@ -185,8 +191,8 @@ where
     G: Gate,
     requires limited { script.now.limit < 2 ^ 32 - 1 }
     requires pools { length script.now.pools ≤ MOST_POOLS }
-    ensures ok { IfOk result (λ outcomes. PrintsOrders most (W.taken writer.old) (W.taken writer.new) outcomes script.now) }
-    ensures err { IfErr result (λ fault. OrdersGiveUp fault most (W.taken writer.old) (W.taken writer.new) script.now) }
+    ensures ok { IfOk result (λ outcomes. PrintsOrders format most (W.taken writer.old) (W.taken writer.new) outcomes script.now) }
+    ensures err { IfErr result (λ fault. OrdersGiveUp format fault most (W.taken writer.old) (W.taken writer.new) script.now) }
     ensures writer { WriterFailed result (W.failures writer.old) (W.failures writer.new) }
 {
     let alloc = rt.alloc();
@@ -194,10 +200,10 @@ where
         Ok(orders) => orders,
         Err(fault) => return Err(fault),
     };
-    if let Err(fault) = print_number(alloc, orders, writer) {
+    if let Err(fault) = print_number(alloc, format, orders, writer) {
         return Err(SurveyFault::Run(fault.into()));
     }
-    let Ok(survey) = survey_of(rt, script, gate) else {
+    let Ok(survey) = survey_of(rt, script, gate, format) else {
         return Err(SurveyFault::Run(RunFault::OutOfMemory));
     };
     match print_survey(alloc, orders, &survey, writer) {
@@ -209,7 +215,7 @@ where
 /// Reads a script to the end of the input, and runs it in every order in which its callers' posts may be taken, where there are no more
 /// orders than these: each run is that of `replay` in its batches, on this thread alone. The number of orders is written before the first
 /// run, and after the last one what became of each Deferred: a line for each of its ends, with the number of orders in which it came and
-/// the batches of the first. Returns in how many ways the runs ended: 1 where no order makes a difference to any Deferred.
+/// the batches of the first. All is written in this format. Returns in how many ways the runs ended: 1 where no order makes a difference to any Deferred.
 ///
 /// TooMany where there are more orders: nothing was performed, and nothing written. The other errors come as in `dv_run::run`, and memory
 /// grows with the different ends, not with the orders.
@@ -218,6 +224,7 @@ pub fn survey<S, R, W, G>(
     reader: &mut R,
     writer: &mut W,
     gate: &G,
+    format: Format,
     most: u32,
 ) -> Result<usize, SurveyFault>
 where
@@ -225,8 +232,8 @@ where
     R: Source,
     W: Sink,
     G: Gate,
-    ensures ok { IfOk result (λ outcomes. Surveys most (R.left reader.old) (W.taken writer.old) (W.taken writer.new) outcomes) }
-    ensures err { IfErr result (λ fault. GivesUp fault most (R.left reader.old) (W.taken writer.old) (W.taken writer.new)) }
+    ensures ok { IfOk result (λ outcomes. Surveys format most (R.left reader.old) (W.taken writer.old) (W.taken writer.new) outcomes) }
+    ensures err { IfErr result (λ fault. GivesUp format fault most (R.left reader.old) (W.taken writer.old) (W.taken writer.new)) }
     ensures reader { ReaderFailed result (R.failures reader.old) (R.failures reader.new) }
     ensures writer { WriterFailed result (W.failures writer.old) (W.failures writer.new) }
     ensures left { Leaves result (R.left reader.old) (R.left reader.new) }
@@ -235,7 +242,7 @@ where
         Ok(script) => script,
         Err(fault) => return Err(SurveyFault::Run(fault)),
     };
-    match print_orders(rt, &script, writer, gate, most) {
+    match print_orders(rt, &script, writer, gate, format, most) {
         Ok(outcomes) => {
             script.discard();
             Ok(outcomes)

@@ -51,7 +51,7 @@ run_in form (word ∷ second ∷ third ∷ words) = None
 abbrev pub replayed_task : Task → Input → Option Asked
 replayed_task (task.Run form workers) input = Some (asked.Script (task.Replay form workers) input)
 replayed_task (task.Replay form workers) input = None
-replayed_task (task.Survey most) input = None
+replayed_task (task.Survey form most) input = None
 replayed_task task.Why input = None
 
 -- the same of what is asked for
@@ -66,28 +66,31 @@ abbrev pub replay_in : Form → List (List ℕ) → Option Asked
 replay_in form [] = None
 replay_in form (batches ∷ words) = option_and_then replayed (run_in form words)
 
--- a run that is printed as JSON Lines, in given batches where `--batches` comes first
-abbrev pub json_in : List (List ℕ) → Option Asked
-json_in [] = run_in form.Json []
-json_in (word ∷ words) = if bytes_eq word (codes "--batches") then replay_in form.Json words else run_in form.Json (word ∷ words)
-
 -- a run in every order, where the most orders and what is read are known
-abbrev pub survey_of : Option ℕ → Option Input → Option Asked
-survey_of (Some most) (Some input) = Some (asked.Script (task.Survey most) input)
-survey_of (Some most) None = None
-survey_of None input = None
+abbrev pub survey_of : Form → Option ℕ → Option Input → Option Asked
+survey_of form (Some most) (Some input) = Some (asked.Script (task.Survey form most) input)
+survey_of form (Some most) None = None
+survey_of form None input = None
 
 -- a run in every order, up to so many: no words, or what is read
-abbrev pub survey_up_to : Option ℕ → List (List ℕ) → Option Asked
-survey_up_to most [] = survey_of most (Some Standard)
-survey_up_to most (word ∷ []) = survey_of most (input_in word)
-survey_up_to most (word ∷ second ∷ words) = None
+abbrev pub survey_up_to : Form → Option ℕ → List (List ℕ) → Option Asked
+survey_up_to form most [] = survey_of form most (Some Standard)
+survey_up_to form most (word ∷ []) = survey_of form most (input_in word)
+survey_up_to form most (word ∷ second ∷ words) = None
 
 -- a run in every order: `--most` and a number, or neither, and then what is read
-abbrev pub orders_in : List (List ℕ) → Option Asked
-orders_in [] = survey_of (Some ORDERS) (Some Standard)
-orders_in (word ∷ []) = survey_of (Some ORDERS) (input_in word)
-orders_in (flag ∷ most ∷ words) = if bytes_eq flag (codes "--most") then survey_up_to (most_in most) words else None
+abbrev pub orders_in : Form → List (List ℕ) → Option Asked
+orders_in form [] = survey_of form (Some ORDERS) (Some Standard)
+orders_in form (word ∷ []) = survey_of form (Some ORDERS) (input_in word)
+orders_in form (flag ∷ most ∷ words) = if bytes_eq flag (codes "--most") then survey_up_to form (most_in most) words else None
+
+-- what is printed as JSON Lines: a run, in given batches where `--batches` comes first, or in every order where `--orders` does
+abbrev pub json_in : List (List ℕ) → Option Asked
+json_in [] = run_in form.Json []
+json_in (word ∷ words) =
+    if bytes_eq word (codes "--batches") then replay_in form.Json words
+    else if bytes_eq word (codes "--orders") then orders_in form.Json words
+    else run_in form.Json (word ∷ words)
 
 -- why a script is refused, where what is read is known
 abbrev pub why_of : Option Input → Option Asked
@@ -113,7 +116,7 @@ flag_in word = if bytes_eq word (codes "--json") then Some flag.Json else if byt
 abbrev pub asked_by : Flag → List (List ℕ) → Option Asked
 asked_by flag.Json words = json_in words
 asked_by flag.Batches words = replay_in form.Lines words
-asked_by flag.Orders words = orders_in words
+asked_by flag.Orders words = orders_in form.Lines words
 asked_by flag.Why words = why_in words
 asked_by flag.Language words = alone asked.Language words
 asked_by flag.Version words = alone asked.Version words
@@ -132,7 +135,7 @@ asked_in (word ∷ words) = asked_after (flag_in word) word words
 abbrev pub HasFewWorkers : Task → Type 0
 HasFewWorkers (task.Run form workers) = workers ≤ MOST_WORKERS
 HasFewWorkers (task.Replay form workers) = workers ≤ MOST_WORKERS
-HasFewWorkers (task.Survey most) = ⊤
+HasFewWorkers (task.Survey form most) = ⊤
 HasFewWorkers task.Why = ⊤
 
 -- no more workers than a run may have, where a run is asked for

@@ -33,7 +33,7 @@ pub enum Task {
     /// It runs in batches that are given, with so many workers.
     Replay(Form, u32),
     /// It runs in every order of its posts, where there are no more than so many.
-    Survey(u32),
+    Survey(Form, u32),
     /// It is explained where it is refused, and why.
     Why,
 }
@@ -64,8 +64,8 @@ pub enum Flag {
 }
 
 /// What the words after the program's name ask for. An option comes first. Behind `--json`, or without an option, come a number
-/// of workers and a FILE, each of which may be left out; behind `--why` comes a FILE alone. Behind `--orders` comes a FILE, after
-/// `--most` and a decimal number up to `MOST_ORDERS`, or with neither. Behind `--batches`, which may follow
+/// of workers and a FILE, each of which may be left out; behind `--why` comes a FILE alone. Behind `--orders`, which may follow `--json`, comes a
+/// FILE, after `--most` and a decimal number up to `MOST_ORDERS`, or with neither. Behind `--batches`, which may follow
 /// `--json`, comes a word with the batches, and then the same as without it. A number of workers is one of one or two
 /// decimal digits, 16 at most. A FILE has a `/` or a `.` in it and doesn't begin with `-`, or is `-`, standard input, which is read too
 /// where there is no FILE. None for any other words.
@@ -89,7 +89,7 @@ fn asked_by(flag: Flag, words: &[String]) -> Option<Asked>
     match flag {
         Flag::Json => json_in(words),
         Flag::Batches => replay_in(Form::Lines, words),
-        Flag::Orders => orders_in(words),
+        Flag::Orders => orders_in(Form::Lines, words),
         Flag::Why => why_in(words),
         Flag::Language => alone(Asked::Language, words),
         Flag::Version => alone(Asked::Version, words),
@@ -163,6 +163,7 @@ fn json_in(words: &[String]) -> Option<Asked>
 {
     match words {
         [word, rest @ ..] if word.as_str() == "--batches" => replay_in(Form::Json, rest),
+        [word, rest @ ..] if word.as_str() == "--orders" => orders_in(Form::Json, rest),
         [] | [_, ..] => run_in(Form::Json, words),
     }
 }
@@ -198,7 +199,7 @@ fn replayed_task(task: Task, input: Input) -> Option<Asked>
 {
     match task {
         Task::Run(form, workers) => Some(Asked::Script(Task::Replay(form, workers), input)),
-        Task::Replay(..) | Task::Survey(_) | Task::Why => None,
+        Task::Replay(..) | Task::Survey(..) | Task::Why => None,
     }
 }
 
@@ -217,38 +218,38 @@ pub fn batches_word(words: &[String]) -> &str
     }
 }
 
-fn orders_in(words: &[String]) -> Option<Asked>
-    ensures asked { result ≡ orders_in (map string_bytes words.now) }
+fn orders_in(form: Form, words: &[String]) -> Option<Asked>
+    ensures asked { result ≡ orders_in form (map string_bytes words.now) }
     ensures few { IfSome result AsksFew }
 {
     match words {
-        [] => survey_of(Some(ORDERS), Some(Input::Standard)),
-        [word] => survey_of(Some(ORDERS), input_in(word.as_str())),
+        [] => survey_of(form, Some(ORDERS), Some(Input::Standard)),
+        [word] => survey_of(form, Some(ORDERS), input_in(word.as_str())),
         [flag, most, rest @ ..] => if flag.as_str() == "--most" {
-            survey_up_to(most_in(most.as_bytes()), rest)
+            survey_up_to(form, most_in(most.as_bytes()), rest)
         } else {
             None
         },
     }
 }
 
-fn survey_up_to(most: Option<u32>, words: &[String]) -> Option<Asked>
-    ensures asked { result ≡ survey_up_to most (map string_bytes words.now) }
+fn survey_up_to(form: Form, most: Option<u32>, words: &[String]) -> Option<Asked>
+    ensures asked { result ≡ survey_up_to form most (map string_bytes words.now) }
     ensures few { IfSome result AsksFew }
 {
     match words {
-        [] => survey_of(most, Some(Input::Standard)),
-        [word] => survey_of(most, input_in(word.as_str())),
+        [] => survey_of(form, most, Some(Input::Standard)),
+        [word] => survey_of(form, most, input_in(word.as_str())),
         [_, _, ..] => None,
     }
 }
 
-fn survey_of(most: Option<u32>, input: Option<Input>) -> Option<Asked>
-    ensures asked { result ≡ survey_of most input }
+fn survey_of(form: Form, most: Option<u32>, input: Option<Input>) -> Option<Asked>
+    ensures asked { result ≡ survey_of form most input }
     ensures few { IfSome result AsksFew }
 {
     match (most, input) {
-        (Some(most), Some(input)) => Some(Asked::Script(Task::Survey(most), input)),
+        (Some(most), Some(input)) => Some(Asked::Script(Task::Survey(form, most), input)),
         (Some(_), None) | (None, _) => None,
     }
 }
