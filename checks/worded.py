@@ -1,6 +1,7 @@
 """Files of rows that have a script, and then for each of some words how a run with these ends and what it prints.
 
-The words stand in a line `-- WORD ..`, then comes the line `-- STATUS ERRORS`, and then the output.
+The words stand in a line `-- WORD ..`, then comes the line `-- STATUS ERRORS`, and then the output. In a line `-- json WORD ..` they are
+those of a run as JSON.
 """
 
 from __future__ import annotations
@@ -21,11 +22,12 @@ class Row(NamedTuple):
     script: str
     words: str
     expected: Ran
+    is_json: bool = False
 
 
 def read_rows(path: Path, word: str) -> Iterator[Row]:
     """Yields the rows of a file: of each script, one for each of its lines that begin with this word."""
-    asked = re.compile(f"-- {word}(?: (.*))?")
+    asked = re.compile(f"-- (json )?{word}(?: (.*))?")
     text = path.read_text(encoding="utf-8")
     for part in text.removeprefix("== ").split("\n\n== "):
         name, *lines = part.rstrip("\n").split("\n")
@@ -41,7 +43,7 @@ def row_of(name: str, script: str, asked: "re.Pattern[str]", lines: List[str]) -
         raise ValueError(f"{name}: no words and no ending: {lines[:2]}")
     output = "".join(line + "\n" for line in lines[2:])
     errors = f"{ending.group(2)}\n" if ending.group(2) else ""
-    return Row(name, script, words.group(1) or "", Ran(int(ending.group(1)), output, errors))
+    return Row(name, script, words.group(2) or "", Ran(int(ending.group(1)), output, errors), words.group(1) is not None)
 
 
 def difference(expected: Ran, ran: Ran) -> Optional[str]:

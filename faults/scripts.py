@@ -1,16 +1,17 @@
 """The scripts of the sweep, and what each comes to where nothing fails.
 
 Beside `scripts/NAME.json` stands `scripts/NAME.txt`, the text that it prints, which is worked out by hand from
-`docs/SCRIPT.md`, and in every order from `docs/ORDERS.md`, too, and never taken from a run.
+`docs/SCRIPT.md`, and in every order from `docs/ORDERS.md`, too, and never taken from a run. `scripts/NAME.jsonl` is the
+same of `--json --orders`, worked out from `docs/JSON.md`.
 """
 from __future__ import annotations
 
-from dataclasses import dataclass
+from dataclasses import dataclass, replace
 from pathlib import Path
 
 FOLDER = Path(__file__).resolve().parent / "scripts"
 REFUSED = b"batches refused: post 1 of batch 0 isn't the next one of its caller\n"
-TOO_MANY = b"2 orders are more than --most allows: 20000 where it isn't given, 1000000 at most\n"
+TOO_MANY = b"2 orders are more than the 1 that may run; --most 2 allows them\n"
 
 
 @dataclass(frozen=True)
@@ -41,6 +42,12 @@ def script(name: str, status: int = 0, errors: bytes = b"", words: tuple[str, ..
     return Script(name, source, text, status, errors, words)
 
 
+def script_as_json(name: str, status: int = 0, words: tuple[str, ...] = ()) -> Script:
+    """The script of this name in the folder, where the text that it prints as JSON stands there, too."""
+    plain = script(name, status, words=("--json", *words))
+    return replace(plain, name=f"{name} as JSON", text=(FOLDER / f"{name}.jsonl").read_bytes())
+
+
 def all_scripts() -> list[Script]:
     """Each script of the folder."""
     return [
@@ -63,6 +70,8 @@ def all_scripts() -> list[Script]:
         script("batches_refused", status=5, errors=REFUSED, words=("--batches", "[[[1,0],[1,0]]]")),
         script("lock_in_orders", words=("--orders",)),
         script("fired_in_orders", status=6, words=("--orders",)),
+        script_as_json("lock_in_orders", words=("--orders",)),
+        script_as_json("fired_in_orders", status=6, words=("--orders",)),
         script("too_many_orders", status=7, errors=TOO_MANY, words=("--orders", "--most", "1")),
     ]
 
@@ -74,12 +83,12 @@ def told_scripts() -> list[Script]:
 
 
 def sample_scripts() -> list[Script]:
-    """A few that take seconds: a hand-over, jobs and posts on threads of their own, posts in every order, and a script that is
-    refused."""
-    names = {"chained_hand_over", "posts", "fired_in_orders", "unknown_action"}
+    """A few that take seconds: a hand-over, jobs and posts on threads of their own, posts in every order, as JSON too, and a
+    script that is refused."""
+    names = {"chained_hand_over", "posts", "fired_in_orders", "fired_in_orders as JSON", "unknown_action"}
     return [script for script in all_scripts() if script.name in names]
 
 
 def told_sample_scripts() -> list[Script]:
-    """Those of the few of which the run is swept as JSON too: every order is told in lines alone."""
+    """Those of the few of which the run is swept as JSON too, beside those whose JSON stands in the folder."""
     return [script for script in sample_scripts() if not script.words]

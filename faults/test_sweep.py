@@ -138,9 +138,11 @@ class Scripts(unittest.TestCase):
         self.assertEqual({row.workers for row in rows([SCRIPT])}, set(WORKERS))
 
     def test_each_file_is_swept(self) -> None:
-        names = {script.name for script in all_scripts()}
+        plain = {script.name for script in all_scripts() if "--json" not in script.words}
+        as_json = {script.name for script in all_scripts() if "--json" in script.words}
         for ending in ("json", "txt"):
-            self.assertEqual({path.stem for path in (HERE / "scripts").glob(f"*.{ending}")}, names)
+            self.assertEqual({path.stem for path in (HERE / "scripts").glob(f"*.{ending}")}, plain)
+        self.assertEqual({f"{path.stem} as JSON" for path in (HERE / "scripts").glob("*.jsonl")}, as_json)
 
 
 if __name__ == "__main__":

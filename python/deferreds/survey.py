@@ -1,14 +1,14 @@
-"""What became of each Deferred in every order of a script's posts: what `--orders` is held against.
+"""What became of each Deferred in every order of a script's posts: what `--orders` is held against, and `--json --orders`.
 
-Each order is given by its batches, and by what `--batches` prints of it. From one order to the next a Deferred is known by its name and its
-place: the how-manieth it is of that name, in order of making.
+Each order is given by its batches, and by what `--batches` prints of it, with `--json`, too, where the survey is written as JSON. From one
+order to the next a Deferred is known by its name and its place: the how-manieth it is of that name, in order of making.
 """
 
 from __future__ import annotations
 
 import json
 import re
-from typing import Dict, FrozenSet, Iterable, List, NamedTuple, Set
+from typing import Dict, FrozenSet, Iterable, List, NamedTuple, Sequence, Set
 
 from .orders import Order
 
@@ -22,6 +22,12 @@ _MOST_COUNTED = 2**64 - 2
 _OUTCOME = re.compile(r"#\d+ (\S+) (.*)")
 _WAITING = re.compile(r"(paused )?waiting #(\d+)")
 
+#: the keys of an object of JSON, and what each shows
+Shown = Dict[str, object]
+
+#: what a survey shows of a Deferred as its run does
+_KEPT = ("state", "type", "value")
+
 
 class Run(NamedTuple):
     """A run of a script in one order: its batches, what was printed, and whether it stopped at the limit of its journal."""
@@ -29,6 +35,8 @@ class Run(NamedTuple):
     batches: Order
     output: str
     stopped: bool = False
+    #: what was printed of it as JSON, where the survey is written as JSON
+    told: str = ""
 
 
 class Line(NamedTuple):
@@ -42,10 +50,11 @@ class Line(NamedTuple):
 
 
 class Tally(NamedTuple):
-    """In how many orders a line came, and the batches of the first of them."""
+    """In how many orders a line came, and the batches of the first of them, with what JSON shows of it there."""
 
     orders: int
     first: Order
+    shown: Shown
 
 
 def lines_of(output: str) -> List[Line]:
@@ -70,6 +79,26 @@ def state_of(text: str, labels: List[str]) -> str:
     return f"{waiting[1] or ''}waiting {labels[number] if number < len(labels) else '-'}"
 
 
+def shown_of(told: str, lines: Sequence[Line]) -> List[Shown]:
+    """Returns what JSON shows of each Deferred of a run, where this was printed of it as JSON, and these are its lines."""
+    deferreds = [keys for keys in map(json.loads, told.split("\n")[:-1]) if keys["type"] == "deferred"]
+    names: List[Shown] = [{"name": keys["name"], "place": place_in(line)} for keys, line in zip(deferreds, lines)]
+    return [
+        {
+            **{key: keys[key] for key in _KEPT},
+            "deferred": name,
+            "paused": keys["pauses"] > 0,
+            "waits_for": names[keys["waits_for"]["number"]] if keys["waits_for"] else None,
+        }
+        for keys, name in zip(deferreds, names)
+    ]
+
+
+def place_in(line: Line) -> int:
+    """Returns the PLACE of a line."""
+    return int(line.deferred.rsplit(" ", 1)[1])
+
+
 class Survey:
     """Gathers the runs of a script, order by order."""
 
@@ -83,16 +112,17 @@ class Survey:
     def add(self, run: Run) -> None:
         """Adds a run, which is the next in the sequence of orders."""
         lines = lines_of(run.output)
-        for line in lines:
-            self._count(line, run.batches)
+        shown = shown_of(run.told, lines) if run.told else [{} for _ in lines]
+        for line, keys in zip(lines, shown):
+            self._count(line, Tally(0, run.batches, keys))
         self._outcomes.add(frozenset(lines))
         self._stopped += run.stopped
         self._orders += 1
 
-    def _count(self, line: Line, batches: Order) -> None:
+    def _count(self, line: Line, first: Tally) -> None:
         states = self._tallies.setdefault(line.deferred, {})
-        before = states.get(line.state, Tally(0, batches))
-        states[line.state] = Tally(before.orders + 1, before.first)
+        before = states.get(line.state, first)
+        states[line.state] = before._replace(orders=before.orders + 1)
 
     @property
     def status(self) -> int:
@@ -105,6 +135,13 @@ class Survey:
         stopped = [f"{counted(self._stopped, 'order')} stopped at the limit of the journal"] if self._stopped else []
         last = f"{orders}, {counted(len(self._outcomes), 'outcome')}"
         return "".join(f"{line}\n" for line in [orders, *self._told(), *stopped, last])
+
+    def json_lines(self) -> str:
+        """Returns what `--json --orders` prints, where each run was added with what was printed of it as JSON."""
+        tallies = [tally for states in self._tallies.values() for tally in states.values()]
+        first: Shown = {"type": "orders", "orders": self._orders}
+        last: Shown = {"type": "end", "orders": self._orders, "outcomes": len(self._outcomes), "stopped": self._stopped}
+        return "".join(f"{json_text(line)}\n" for line in [first, *map(tally_keys, tallies), last])
 
     def _told(self) -> List[str]:
         return [
@@ -127,6 +164,16 @@ def tally_text(line: Line, tally: Tally) -> str:
     return f"{line} in {counted(tally.orders, 'order')}, first {batches_text(tally.first)}"
 
 
+def tally_keys(tally: Tally) -> Shown:
+    """Returns the keys of the line of JSON that tells how often a Deferred ended in a way."""
+    return {**tally.shown, "batches": tally.first, "count": tally.orders}
+
+
+def json_text(keys: Shown) -> str:
+    """Returns a line of JSON: the keys in order, with no spaces."""
+    return json.dumps(keys, separators=(",", ":"), sort_keys=True, ensure_ascii=False)
+
+
 def batches_text(order: Order) -> str:
     """Returns batches as one word, which `--batches` takes."""
     return json.dumps(order, separators=(",", ":"))
@@ -137,8 +184,11 @@ def counted(count: int, noun: str) -> str:
     return f"{count} {noun}" if count == 1 else f"{count} {noun}s"
 
 
-def too_many(orders: int) -> str:
-    """Returns what is said of so many orders, where they are more than may run."""
+def too_many(orders: int, most: int) -> str:
+    """Returns what is said of so many orders, where no more than `most` may run."""
     if orders > _MOST_COUNTED:
         return f"more orders than 64 bits count, and --most allows {MOST_ORDERS} at most"
-    return f"{orders} orders are more than --most allows: {ORDERS} where it isn't given, {MOST_ORDERS} at most"
+    more = f"{orders} {'order is' if orders == 1 else 'orders are'} more than the {most} that may run"
+    if orders <= MOST_ORDERS:
+        return f"{more}; --most {orders} allows them"
+    return f"{more}, and --most allows {MOST_ORDERS} at most"

@@ -2,7 +2,9 @@
 
 from __future__ import annotations
 
+import json
 import unittest
+from typing import Dict
 
 from deferreds.survey import (
     MOST_ORDERS,
@@ -90,14 +92,60 @@ class Surveys(unittest.TestCase):
         self.assertEqual((survey.text(), survey.status), ("1 order\n1 order, 1 outcome\n", ONE_OUTCOME))
 
 
+def _told(*deferreds: Dict[str, object]) -> str:
+    """What `--json --batches` prints of these Deferreds, and of nothing else."""
+    keys = {"type": "deferred", "pauses": 0, "state": "unfired", "value": None, "waits_for": None, "fired_by": None}
+    lines = [{"type": "start", "version": 1}, *({**keys, **deferred} for deferred in deferreds), {"type": "end"}]
+    return "".join(json.dumps(line) + "\n" for line in lines)
+
+
+class JsonLines(unittest.TestCase):
+    """What is printed of the runs as JSON."""
+
+    def test_each_line_of_a_deferred_has_the_keys_of_the_first_of_its_orders(self) -> None:
+        failure = {"fail": "ValueError", "message": "\u00fc\n"}
+        survey = survey_of(
+            [
+                Run(_FIRST, "#0 d paused unfired\n", told=_told({"name": "d", "number": 0, "pauses": 1})),
+                Run(
+                    _SECOND,
+                    '#0 d fail ValueError "\u00fc\\n"\n',
+                    True,
+                    _told({"name": "d", "number": 0, "state": "fail", "value": failure, "fired_by": 3}),
+                ),
+                Run(_THIRD, "#0 d paused unfired\n", told=_told({"name": "d", "number": 0, "pauses": 2})),
+            ]
+        )
+        self.assertEqual(
+            survey.json_lines(),
+            '{"orders":3,"type":"orders"}\n'
+            '{"batches":[[[0,0]],[]],"count":2,"deferred":{"name":"d","place":1},"paused":true,"state":"unfired","type":"deferred",'
+            '"value":null,"waits_for":null}\n'
+            '{"batches":[[[1,0]],[[0,0]]],"count":1,"deferred":{"name":"d","place":1},"paused":false,"state":"fail","type":"deferred",'
+            '"value":{"fail":"ValueError","message":"\u00fc\\n"},"waits_for":null}\n'
+            '{"orders":3,"outcomes":2,"stopped":1,"type":"end"}\n',
+        )
+
+    def test_one_that_waits_names_the_other_by_its_place(self) -> None:
+        waits = {"state": "waiting", "waits_for": {"name": None, "number": 1}}
+        told = _told({"name": None, "number": 0}, {"name": None, "number": 1}, {"name": "d", "number": 2, **waits})
+        survey = survey_of([Run(((),), "#0 - unfired\n#1 - unfired\n#2 d waiting #1\n", told=told)])
+        lines = [json.loads(line) for line in survey.json_lines().splitlines()]
+        self.assertEqual([line["deferred"] for line in lines[1:3]], [{"name": None, "place": 1}, {"name": None, "place": 2}])
+        self.assertEqual(lines[3]["waits_for"], {"name": None, "place": 2})
+
+
 class TooMany(unittest.TestCase):
     """What is said where there are more orders than may run."""
 
     def test_the_number_is_said_up_to_that_of_64_bits(self) -> None:
         most = 2**64 - 2
-        allowed = f"are more than --most allows: {ORDERS} where it isn't given, {MOST_ORDERS} at most"
-        self.assertEqual(too_many(most), f"18446744073709551614 orders {allowed}")
-        self.assertEqual(too_many(most + 1), "more orders than 64 bits count, and --most allows 1000000 at most")
+        self.assertEqual(
+            too_many(most, ORDERS),
+            f"18446744073709551614 orders are more than the {ORDERS} that may run, and --most allows {MOST_ORDERS} at most",
+        )
+        self.assertEqual(too_many(most + 1, 5), "more orders than 64 bits count, and --most allows 1000000 at most")
+        self.assertEqual(too_many(6, 5), "6 orders are more than the 5 that may run; --most 6 allows them")
 
 
 if __name__ == "__main__":

@@ -216,6 +216,10 @@ class OfCommand(unittest.TestCase):
         self.assertEqual(view("--orders", _FULL_QUEUE, "-o", self.folder / "x.html")[0], 0)
         self.assertEqual((self.folder / "x.html").read_text(encoding="utf-8"), output)
 
+    def test_a_name_that_ends_with_a_slash_is_a_folder(self) -> None:
+        self.assertEqual(view("--orders", _FULL_QUEUE, "-o", f"{self.folder}/pages/")[0], 0)
+        self.assertTrue((self.folder / "pages" / "full_queue.orders.html").is_file())
+
     def test_a_script_without_callers_has_one_order(self) -> None:
         _, output, _ = view("--orders", "-o", "-", _EXAMPLES / "retried.json")
         self.assertIn("There is one order, since no caller posts anything. So every run prints the same.", output)

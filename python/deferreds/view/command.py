@@ -199,10 +199,15 @@ def _inputs(arguments: argparse.Namespace) -> List[Inputs]:
     ]
 
 
+def _is_folder(output: str) -> bool:
+    """Whether pages are written into a folder of this name: one that is there, or that ends as a folder does."""
+    return output != STANDARD and (output.endswith("/") or Path(output).is_dir())
+
+
 def _targets(arguments: argparse.Namespace, inputs: List[Inputs]) -> Iterator[str]:
     """Where each page is written: two have never the same name."""
     output = arguments.output
-    is_folder = len(inputs) > 1 or (output not in (None, STANDARD) and Path(output).is_dir())
+    is_folder = len(inputs) > 1 or (output is not None and _is_folder(output))
     taken: Set[str] = set()
     for one in inputs:
         if output and not is_folder:
@@ -339,7 +344,7 @@ def _compare(arguments: argparse.Namespace) -> None:
     """Shows two runs beside each other."""
     inputs = [Inputs(name) for name in arguments.compare]
     target = arguments.output
-    if target is None or (target != STANDARD and Path(target).is_dir()):
+    if target is None or _is_folder(target):
         stems = ("script" if name == STANDARD else Path(name).stem for name in arguments.compare)
         target = os.fspath(Path(target or "", f"{'_and_'.join(stems)}.html"))
     if not arguments.text:
