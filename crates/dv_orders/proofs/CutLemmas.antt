@@ -145,7 +145,7 @@ pub flat_shift : {Y : Type 0} (f : ℕ → List Y) (a n : ℕ) → flat_map f (r
 flat_shift f a zero = refl
 flat_shift f a (suc n) = ap (λ l. f (a + 1) ++ l) (flat_shift f (a + 1) n)
 
-splits_are : {Y : Type 0} (f : Split → List Y) (most : ℕ) (sequence : Batch) → flat_map f (splits most sequence) ≡ flat_map (λ k. f (record { taken = take k sequence; left = drop k sequence })) (range_with_len 0 (suc (min most (length sequence))))
+pub splits_are : {Y : Type 0} (f : Split → List Y) (most : ℕ) (sequence : Batch) → flat_map f (splits most sequence) ≡ flat_map (λ k. f (record { taken = take k sequence; left = drop k sequence })) (range_with_len 0 (suc (min most (length sequence))))
 splits_are f zero sequence = let e : min 0 (length sequence) ≡ 0 = omega arith in rw e refl
 splits_are f (suc most) [] = let e : min (suc most) 0 ≡ 0 = omega arith in rw e refl
 splits_are f (suc most) (p ∷ sequence) =

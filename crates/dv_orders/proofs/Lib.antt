@@ -8,3 +8,4 @@ pub mod SequenceLemmas
 pub mod CutLemmas
 pub mod OrderLemmas
 pub mod NumberLemmas
+pub mod RankingLemmas

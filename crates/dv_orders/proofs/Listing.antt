@@ -17,7 +17,7 @@ length-below ℕ.zero = refl
 length-below (ℕ.suc n) = omega (arith, length-append (below n) (n ∷ []), length-below n)
 
 -- each caller has as many posts as bodies
-same_counts : (c : ℕ) (callers : Callers) → counts_of (posts_from c callers) ≡ counts_of callers
+pub same_counts : (c : ℕ) (callers : Callers) → counts_of (posts_from c callers) ≡ counts_of callers
 same_counts c [] = refl
 same_counts c (bodies ∷ callers) = ap (λ n. n ∷ counts_of (posts_from (ℕ.suc c) callers)) (length-map (below (length bodies)) (post c) ∙ length-below (length bodies)) ∙ ap (λ l. length bodies ∷ l) (same_counts (ℕ.suc c) callers)
 

@@ -1,5 +1,5 @@
 -- Numbers up to a cap.
-use Rattle.std.proofs.Common.{arith, ◌≡◌, ℕ, zero, suc, ◌+◌, ◌-◌, ◌*◌, ◌<◌, ◌≤◌, ◌∙◌, List, [], ◌∷◌, ◌++◌, length, drop, min, slice_index_or, refl, sym, ap, subst, zero-mul, mul-zero}
+use Rattle.std.proofs.Common.{arith, ◌≡◌, ℕ, zero, suc, ◌+◌, ◌-◌, ◌*◌, ◌<◌, ◌≤◌, ◌∙◌, List, [], ◌∷◌, ◌++◌, length, drop, min, slice_index, refl, sym, ap, subst, zero-mul, mul-zero}
 use Rattle.std.proofs.lemmas.List.{drop_more}
 use Rattle.std.proofs.lemmas.Bool.{cases_lt}
 use mathlib.Core.Logic.{inl, inr}
@@ -87,20 +87,20 @@ total_more [] x = omega arith
 total_more (y ∷ xs) x = omega (arith, total_more xs x)
 
 -- the sequences of one more caller's posts
-pub sequences_more : {A : Type 0} (callers : List (List A)) (place i : ℕ) (own : List A) (number others w p cap : ℕ) → place ≡ i + 1 → i < length callers → own ≡ slice_index_or callers i own → 0 < cap
-    → others ≡ total (counts_of (drop place callers)) → number ≡ min (number_of_sequences (counts_of (drop place callers))) cap → w ≡ min (ways (length own) others) cap → p ≡ min (w * number) cap
-    → (p ≡ min (number_of_sequences (counts_of (drop i callers))) cap) × (others + length own ≡ total (counts_of (drop i callers)))
-sequences_more {A} callers place i own number others w p cap at low is some all so_far here product =
-    let rest = drop place callers in
-    let first : drop i callers ≡ own ∷ rest = drop_more callers i own low ∙ ap (λ (x : List A). x ∷ drop (i + 1) callers) (sym is) ∙ ap (λ n. own ∷ drop n callers) (sym at) in
-    let sequences = number_of_sequences (counts_of rest) in
-    let way : w ≡ min (ways (length own) (total (counts_of rest))) cap = here ∙ ap (λ n. min (ways (length own) n) cap) all in (
+pub sequences_more : (counts : List ℕ) (place i own number others w p cap : ℕ) → place ≡ i + 1 → i < length counts → own ≡ slice_index counts i → 0 < cap
+    → others ≡ total (drop place counts) → number ≡ min (number_of_sequences (drop place counts)) cap → w ≡ min (ways own others) cap → p ≡ min (w * number) cap
+    → (p ≡ min (number_of_sequences (drop i counts)) cap) × (others + own ≡ total (drop i counts))
+sequences_more counts place i own number others w p cap at low is some all so_far here product =
+    let rest = drop place counts in
+    let first : drop i counts ≡ own ∷ rest = drop_more counts i 0 low ∙ ap (λ n. n ∷ drop (i + 1) counts) (sym is) ∙ ap (λ n. own ∷ drop n counts) (sym at) in
+    let sequences = number_of_sequences rest in
+    let way : w ≡ min (ways own (total rest)) cap = here ∙ ap (λ n. min (ways own n) cap) all in (
       product
           ∙ ap (λ n. min (n * number) cap) way
-          ∙ ap (λ n. min (min (ways (length own) (total (counts_of rest))) cap * n) cap) so_far
-          ∙ min_product (ways (length own) (total (counts_of rest))) sequences cap some
-          ∙ ap (λ (l : List (List A)). min (number_of_sequences (counts_of l)) cap) (sym first),
-      let e = ap (λ (l : List (List A)). total (counts_of l)) first in omega arith,
+          ∙ ap (λ n. min (min (ways own (total rest)) cap * n) cap) so_far
+          ∙ min_product (ways own (total rest)) sequences cap some
+          ∙ ap (λ (l : List ℕ). min (number_of_sequences l) cap) (sym first),
+      let e = ap (λ (l : List ℕ). total l) first in omega arith,
     )
 
 -- the product of the numbers of sequences and of cuts is the number of orders
@@ -122,7 +122,7 @@ counts_all script most n sequences cuts product cap limit first second is counts
     by_number More counts = omega (arith, whole)
 
 -- each sequence is cut in one way at least
-cuts_some : (events : List Event) (count : ℕ) → 0 < number_of_cuts events count
+pub cuts_some : (events : List Event) (count : ℕ) → 0 < number_of_cuts events count
 cuts_some [] count = omega arith
 cuts_some (event.Action action ∷ events) count = cuts_some events count
 cuts_some (event.Advance ticks ∷ events) count = cuts_some events count

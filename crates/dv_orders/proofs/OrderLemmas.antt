@@ -21,12 +21,12 @@ use Rattle.dv_orders.proofs.SequenceLemmas.{beyond_none}
 use mathlib.Core.Logic.{inl}
 
 -- so many posts of a caller, from this index on
-abbrev posts_at : ℕ → ℕ → ℕ → Batch
+abbrev pub posts_at : ℕ → ℕ → ℕ → Batch
 posts_at c index zero = []
 posts_at c index (suc n) = post c index ∷ posts_at c (index + 1) n
 
 -- what is left of each caller's posts, of so many each, where so many are taken; the first caller has this number
-abbrev left_of : ℕ → List ℕ → List ℕ → List Batch
+abbrev pub left_of : ℕ → List ℕ → List ℕ → List Batch
 left_of c [] taken = []
 left_of c (count ∷ counts) [] = posts_at c 0 count ∷ left_of (suc c) counts []
 left_of c (count ∷ counts) (t ∷ taken) = posts_at c t (count - t) ∷ left_of (suc c) counts taken
@@ -100,14 +100,14 @@ first_are c (suc n) =
     ∙ sym (posts_end c 0 n ∙ ap (λ k. posts_at c 0 n ++ post c k ∷ []) (zero-add n))
 
 -- at the beginning all posts are left
-start_left : (c : ℕ) (callers : Callers) → posts_from c callers ≡ left_of c (counts_of callers) (replicate (length callers) 0)
+pub start_left : (c : ℕ) (callers : Callers) → posts_from c callers ≡ left_of c (counts_of callers) (replicate (length callers) 0)
 start_left c [] = refl
 start_left c (bodies ∷ callers) =
     ap (λ l. l ∷ posts_from (suc c) callers) (first_are c (length bodies) ∙ ap (posts_at c 0) (sym (sub-zero (length bodies))))
     ∙ ap (λ l. posts_at c 0 (length bodies - 0) ∷ l) (start_left (suc c) callers)
 
 -- the sequences of what is left
-sequences_are : (n : ℕ) (counts taken : List ℕ) → length taken ≡ length counts → sequences n (left_of 0 counts taken) ≡ sequences_on counts n taken
+pub sequences_are : (n : ℕ) (counts taken : List ℕ) → length taken ≡ length counts → sequences n (left_of 0 counts taken) ≡ sequences_on counts n taken
 unfolding sequences_on
 sequences_are zero counts taken len = refl
 sequences_are (suc n) counts taken len =
@@ -118,15 +118,15 @@ sequences_are (suc n) counts taken len =
     ap (λ l. cond (has_left counts taken k) (map (λ s. post (0 + k) (slice_index taken k) ∷ s) l) []) (sequences_are n counts (with_taken taken k) (length-set taken k (slice_index taken k + 1) ∙ len))
     ∙ ap (λ c. cond (has_left counts taken k) (map (λ s. post c (slice_index taken k) ∷ s) (sequences_on counts n (with_taken taken k))) []) (zero-add k))
 
-total_sum : (counts : List ℕ) → total counts ≡ sum counts
+pub total_sum : (counts : List ℕ) → total counts ≡ sum counts
 total_sum [] = refl
 total_sum (count ∷ counts) = ap (λ n. count + n) (total_sum counts) ∙ sym (sum_by-cons (λ (k : ℕ). k) count counts)
 
-sum_zeros : (n : ℕ) → sum (replicate n 0) ≡ 0
+pub sum_zeros : (n : ℕ) → sum (replicate n 0) ≡ 0
 sum_zeros zero = refl
 sum_zeros (suc n) = sum_by-cons (λ (k : ℕ). k) 0 (replicate n 0) ∙ omega (arith, sum_zeros n)
 
-length-zeros : (n : ℕ) → length {A = ℕ} (replicate n 0) ≡ n
+pub length-zeros : (n : ℕ) → length {A = ℕ} (replicate n 0) ≡ n
 length-zeros zero = refl
 length-zeros (suc n) = ap suc (length-zeros n)
 

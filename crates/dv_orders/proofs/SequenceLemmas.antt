@@ -28,11 +28,11 @@ from_past : (counts : List ℕ) (n : ℕ) (taken : List ℕ) (c : ℕ) → lengt
 unfolding sequences_from
 from_past counts n taken c high = ap (flat_map (sequences_by counts n taken)) (range_past c (length counts) high)
 
-by_none : (counts : List ℕ) (n : ℕ) (taken : List ℕ) (c : ℕ) → has_left counts taken c ≡ false → sequences_by counts n taken c ≡ []
+pub by_none : (counts : List ℕ) (n : ℕ) (taken : List ℕ) (c : ℕ) → has_left counts taken c ≡ false → sequences_by counts n taken c ≡ []
 unfolding sequences_by
 by_none counts n taken c none = ap (λ (b : Bool). cond b (map (λ sequence. post c (slice_index taken c) ∷ sequence) (sequences_on counts n (with_taken taken c))) []) none
 
-by_some : (counts : List ℕ) (n : ℕ) (taken : List ℕ) (c : ℕ) → has_left counts taken c ≡ true
+pub by_some : (counts : List ℕ) (n : ℕ) (taken : List ℕ) (c : ℕ) → has_left counts taken c ≡ true
     → sequences_by counts n taken c ≡ map (λ sequence. post c (slice_index taken c) ∷ sequence) (sequences_on counts n (with_taken taken c))
 unfolding sequences_by
 by_some counts n taken c some = ap (λ (b : Bool). cond b (map (λ sequence. post c (slice_index taken c) ∷ sequence) (sequences_on counts n (with_taken taken c))) []) some
@@ -46,10 +46,10 @@ from_skips counts n taken c (suc d) low none =
     ∙ ap (λ l. l ++ sequences_from counts n taken (c + d + 1)) (by_none counts n taken (c + d) (none (c + d) (omega arith) (omega arith)))
     ∙ ap (sequences_from counts n taken) (omega arith)
 
-none_left : (counts taken : List ℕ) (k : ℕ) → slice_index counts k ≤ slice_index taken k → has_left counts taken k ≡ false
+pub none_left : (counts taken : List ℕ) (k : ℕ) → slice_index counts k ≤ slice_index taken k → has_left counts taken k ≡ false
 none_left counts taken k high = grind (arith, nat_tests)
 
-some_left : (counts taken : List ℕ) (k : ℕ) → slice_index taken k < slice_index counts k → has_left counts taken k ≡ true
+pub some_left : (counts taken : List ℕ) (k : ℕ) → slice_index taken k < slice_index counts k → has_left counts taken k ≡ true
 some_left counts taken k some = grind (arith, nat_tests)
 
 first_found : (counts : List ℕ) (n : ℕ) (taken : List ℕ) (from c : ℕ) → FindsCaller (Some c) counts taken from → sequences_from counts n taken from ≡ sequences_by counts n taken c ++ sequences_from counts n taken (c + 1)
@@ -71,11 +71,11 @@ none_found counts n taken from none = elim (cases_lt from (length counts)) [
 ]
 
 -- all sequences are those of the first caller and those after it
-on_step : (counts : List ℕ) (n : ℕ) (taken : List ℕ) → sequences_on counts (suc n) taken ≡ sequences_from counts n taken 0
+pub on_step : (counts : List ℕ) (n : ℕ) (taken : List ℕ) → sequences_on counts (suc n) taken ≡ sequences_from counts n taken 0
 unfolding sequences_on sequences_from sequences_by
 on_step counts n taken = rw sub-zero refl
 
-on_zero : (counts taken : List ℕ) → sequences_on counts 0 taken ≡ [] ∷ []
+pub on_zero : (counts taken : List ℕ) → sequences_on counts 0 taken ≡ [] ∷ []
 unfolding sequences_on
 on_zero counts taken = refl
 

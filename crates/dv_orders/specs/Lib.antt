@@ -9,3 +9,4 @@ pub mod Sequencing
 pub mod Batching
 pub mod Ordering
 pub mod Visiting
+pub mod Ranking

@@ -74,7 +74,7 @@ pub(crate) fn batches(
 }
 
 /// A batch of these posts.
-fn batch_of(alloc: Global, posts: &[Posted]) -> Result<Items<Posted>, AllocError>
+pub(crate) fn batch_of(alloc: Global, posts: &[Posted]) -> Result<Items<Posted>, AllocError>
     ensures { IfOk result (λ batch. batch ≡ posts.now) }
 {
     let mut batch = Items::new(alloc);

@@ -8,6 +8,7 @@ pub mod laws;
 pub mod number;
 pub mod numbering;
 mod order;
+pub mod ranking;
 pub mod reading;
 mod sequencing;
 pub mod visiting;

@@ -6,6 +6,7 @@ ghost use Rattle.dv_orders.specs.Numbers.{next_line, number_of_cuts, number_of_s
 ghost use Rattle.dv_orders.specs.Orders.{counts_of, total};
 
 use crate::number::Number;
+use crate::sequencing::counts_of;
 use dv_script::body::Body;
 use dv_script::event::Event;
 use dv_script::script::Script;
@@ -19,7 +20,8 @@ pub fn number_of_orders(alloc: Global, script: &Script, most: u64) -> Result<Num
 {
     let cap = most.min(u64::MAX - 1) + 1;
     let callers = script.callers.as_slice();
-    let sequences = number_of_sequences(alloc, callers, cap)?;
+    let counts = counts_of(alloc, callers)?;
+    let sequences = number_of_sequences(alloc, counts.as_slice(), cap)?;
     if sequences == cap {
         return Ok(Number::More);
     }
@@ -61,7 +63,7 @@ fn capped_product(one: u64, other: u64, cap: u64) -> u64
 }
 
 /// How many posts all callers have. AllocError where they are more than 2^64 - 2, for which there is no table.
-fn number_of_posts(callers: &[Items<Body>]) -> Result<usize, AllocError>
+pub(crate) fn number_of_posts(callers: &[Items<Body>]) -> Result<usize, AllocError>
     ensures { IfOk result (λ posts. (posts ≡ total (counts_of callers.now)) × (posts + 1 < 2 ^ 64)) }
 {
     let mut posts = 0;
@@ -75,17 +77,21 @@ fn number_of_posts(callers: &[Items<Body>]) -> Result<usize, AllocError>
     Ok(posts)
 }
 
-/// How many sequences there are of the posts of all callers, up to the cap.
-fn number_of_sequences(alloc: Global, callers: &[Items<Body>], cap: u64) -> Result<u64, AllocError>
+/// How many sequences there are of so many posts of each caller, up to the cap.
+pub(crate) fn number_of_sequences(
+    alloc: Global,
+    counts: &[u32],
+    cap: u64,
+) -> Result<u64, AllocError>
     requires { 0 < cap }
-    ensures { IfOk result (λ number. number ≡ min (number_of_sequences (counts_of callers.now)) cap) }
+    ensures { IfOk result (λ number. number ≡ min (number_of_sequences counts.now) cap) }
 {
     let mut number = 1;
     let mut others = 0;
-    let mut place = callers.len();
+    let mut place = counts.len();
     while place > 0 {
         place -= 1;
-        let own = callers[place].as_slice().len();
+        let own = counts[place] as usize;
         number = capped_product(ways(alloc, own, others, cap)?, number, cap);
         if own >= usize::MAX - others {
             return Err(AllocError);
@@ -120,7 +126,7 @@ fn next_line(line: &mut Vec<u64>, cap: u64)
 }
 
 /// In how many ways a sequence of so many posts is cut, up to the cap.
-fn number_of_cuts(
+pub(crate) fn number_of_cuts(
     alloc: Global,
     events: &[Event],
     posts: usize,
@@ -129,6 +135,22 @@ fn number_of_cuts(
     requires cap { 0 < cap }
     requires fits { posts + 1 < 2 ^ 64 }
     ensures { IfOk result (λ number. number ≡ min (number_of_cuts events.now posts) cap) }
+{
+    let line = line_of_cuts(alloc, events, posts, cap)?;
+    Ok(line[posts])
+}
+
+/// In how many ways sequences of none, one and more posts are cut, up to so many posts, each up to the cap.
+pub(crate) fn line_of_cuts(
+    alloc: Global,
+    events: &[Event],
+    posts: usize,
+    cap: u64,
+) -> Result<Vec<u64>, AllocError>
+    requires cap { 0 < cap }
+    requires fits { posts + 1 < 2 ^ 64 }
+    ensures len { IfOk result (λ line. length line.items ≡ posts + 1) }
+    ensures line { IfOk result (λ line. IsLine (number_of_cuts events.now) cap line.items) }
 {
     let mut line = vec![in alloc; 1_u64; posts + 1]?;
     let mut place = events.len();
@@ -139,7 +161,7 @@ fn number_of_cuts(
             Event::Action(_) | Event::Advance(_) => {}
         }
     }
-    Ok(line[posts])
+    Ok(line)
 }
 
 /// Goes on from the numbers of cuts at the events after a drain to those with it, up to the cap.

@@ -21,6 +21,20 @@ pub(crate) struct Sequence {
 }
 
 impl Sequence {
+    /// The sequence of no posts.
+    pub(crate) fn empty(alloc: Global, callers: &[Items<Body>]) -> Result<Sequence, AllocError>
+        ensures counts { IfOk result (λ s. s.counts.items ≡ counts_of callers.now) }
+        ensures taken { IfOk result (λ s. s.taken.items ≡ replicate (length callers.now) 0) }
+        ensures posts { IfOk result (λ s. s.posts.items ≡ []) }
+        ensures path { IfOk result (λ s. IsPath s.counts.items s.taken.items s.posts.items) }
+    {
+        Ok(Sequence {
+            counts: counts_of(alloc, callers)?,
+            taken: vec![in alloc; 0_u32; callers.len()]?,
+            posts: Vec::new(alloc),
+        })
+    }
+
     /// The first sequence of all posts.
     pub(crate) fn first(alloc: Global, callers: &[Items<Body>]) -> Result<Sequence, AllocError>
         ensures counts { IfOk result (λ s. s.counts.items ≡ counts_of callers.now) }
@@ -28,11 +42,7 @@ impl Sequence {
         ensures full { IfOk result (λ s. length s.posts.items ≡ sum s.counts.items) }
         ensures first { IfOk result (λ s. listed_sequences s.counts.items (replicate (length callers.now) 0) [] ≡ s.posts.items ∷ later_sequences s.counts.items s.taken.items s.posts.items) }
     {
-        let mut sequence = Sequence {
-            counts: counts_of(alloc, callers)?,
-            taken: vec![in alloc; 0_u32; callers.len()]?,
-            posts: Vec::new(alloc),
-        };
+        let mut sequence = Sequence::empty(alloc, callers)?;
         sequence.complete()?;
         Ok(sequence)
     }
@@ -87,7 +97,7 @@ impl Sequence {
     }
 
     /// Adds the next post of this caller.
-    fn take(&mut self, caller: u32) -> Result<(), AllocError>
+    pub(crate) fn take(&mut self, caller: u32) -> Result<(), AllocError>
         requires within { caller < length self.old.taken.items }
         requires small { slice_index self.old.taken.items caller + 1 < 2 ^ 32 }
         ensures counts { self.new.counts.items ≡ self.old.counts.items }
@@ -117,7 +127,7 @@ fn caller_from(counts: &[u32], taken: &[u32], from: u32) -> Option<u32>
 }
 
 /// How many posts each caller has. AllocError where the callers or the posts of one are more than 2^32 - 1.
-fn counts_of(alloc: Global, callers: &[Items<Body>]) -> Result<Vec<u32>, AllocError>
+pub(crate) fn counts_of(alloc: Global, callers: &[Items<Body>]) -> Result<Vec<u32>, AllocError>
     ensures counts { IfOk result (λ counts. counts.items ≡ counts_of callers.now) }
     ensures few { IfOk result (λ counts. length counts.items < 2 ^ 32) }
 {

@@ -1,14 +1,14 @@
 use Rattle.std.proofs.Common.{◌≡◌, ◌+◌, ◌^◌, ◌<◌, ◌≤◌, drop, length, min}
 use Rattle.dv_orders.specs.Numbers.{number_of_sequences}
-use Rattle.dv_orders.specs.Orders.{counts_of, total}
+use Rattle.dv_orders.specs.Orders.{total}
 use Rattle.dv_orders.proofs.numbering.number_of_sequences.Given as goal
 
 -- so many of the callers from here on, who have so many posts
 abbrev pub invariant-loop-place : goal.invariant-loop-place
 invariant-loop-place l = record {
-  within : l.place ≤ length l.callers;
-  number : l.number ≡ min (number_of_sequences (counts_of (drop l.place l.callers))) l.cap;
-  others : l.others ≡ total (counts_of (drop l.place l.callers));
+  within : l.place ≤ length l.counts;
+  number : l.number ≡ min (number_of_sequences (drop l.place l.counts)) l.cap;
+  others : l.others ≡ total (drop l.place l.counts);
   fits : l.others + 1 < 2 ^ 64;
 }
 

@@ -1,7 +1,7 @@
 use Rattle.std.proofs.Common.{◌≡◌, ◌+◌, ◌≤◌, drop, length}
 use Rattle.dv_orders.specs.Counted.{IsLine}
 use Rattle.dv_orders.specs.Numbers.{number_of_cuts}
-use Rattle.dv_orders.proofs.numbering.number_of_cuts.Given as goal
+use Rattle.dv_orders.proofs.numbering.line_of_cuts.Given as goal
 
 -- the numbers of cuts at the events from here on
 abbrev pub invariant-loop-place : goal.invariant-loop-place
