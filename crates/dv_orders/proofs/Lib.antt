@@ -9,3 +9,4 @@ pub mod CutLemmas
 pub mod OrderLemmas
 pub mod NumberLemmas
 pub mod RankingLemmas
+pub mod SamplingLemmas

@@ -10,3 +10,4 @@ pub mod Batching
 pub mod Ordering
 pub mod Visiting
 pub mod Ranking
+pub mod Sampling

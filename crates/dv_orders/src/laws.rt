@@ -3,6 +3,7 @@
 ghost use Rattle.dv_orders.specs.Cases.{TwoCallersHaveEighteenOrders, TwoDrainsHaveThreeOrders, DrainsTakeFewPosts, NobodyPosts, PostsAtTheEndTakeTurns};
 ghost use Rattle.dv_orders.specs.Faults.{FaultsAreOfNoOrder};
 ghost use Rattle.dv_orders.specs.Listed.{EveryOrderIsListed, NoOrderIsListedTwice, OneOrderWithoutPosts, OrdersAreCounted};
+ghost use Rattle.dv_orders.specs.Sampling.{FirstNumbersArePublished};
 
 /// The list holds each order in which the posts of a script may be taken, once, and nothing else. Its length is the number of orders. A
 /// script without posts has one order.
@@ -25,4 +26,9 @@ pub fn orders_are_worked_out()
     ensures few { DrainsTakeFewPosts }
     ensures none { NobodyPosts }
     ensures end { PostsAtTheEndTakeTurns }
+{}
+
+/// The generator gives the numbers of SplitMix64.
+pub fn generator_is_splitmix()
+    ensures { FirstNumbersArePublished }
 {}

@@ -10,5 +10,6 @@ pub mod numbering;
 mod order;
 pub mod ranking;
 pub mod reading;
+pub mod sampling;
 mod sequencing;
 pub mod visiting;
