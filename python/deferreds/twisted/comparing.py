@@ -161,7 +161,7 @@ class Comparison:
     def cut_down(self, script: str, found: Difference, tried: Callable[[int], None]) -> str:
         """The smallest script on which the programs differ by the same entry, or by none, as on this one.
 
-        `tried` is told how many scripts were tried. No more are where one wasn't answered in time, or where all runs are used up.
+        `tried` is called with how many scripts were tried. No more are where one wasn't answered in time, or where all runs are used up.
         """
         count = 0
         late = found.is_late
