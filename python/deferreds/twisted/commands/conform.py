@@ -5,7 +5,7 @@ told by its first line; where Twisted does as COMMAND does, and `docs/PROFILE.md
 named, and the run counts as passed. The last line is `N passed, M failed`, and the status is 0 exactly where M is 0.
 
 With --orders a script with posts is compared in every order in which they may be taken, and not in the one that happened.
-Where it has more than --most N, it is compared in N of them, spread evenly. A difference is told with its order.
+Where it has more than --most N, it is compared in N of them, spread evenly. A difference is reported with its order.
 
 A COMMAND that ends early, or gives no answer within the time, fails that run, and is told with the script. After
 {late} scripts in a row without an answer in time no more are asked, nor after the first {unanswered} where none was
