@@ -1,4 +1,4 @@
-"""The queue of full_queue.py, mended: a job is put when there is room for it, and whoever takes one makes room.
+"""The queue of full_queue.py, mended: a job is put when there is room for it, and taking one makes room.
 
     python3 examples/python/full_queue_mended.py
 
