@@ -1,4 +1,4 @@
-"""Reads files of rows: scripts, how their runs end, and what they print (the format is in CONTRIBUTING.md)."""
+"""Reads files of rows: scripts, how their runs end, and what they print (the format is in crates/dv_rows/README.md)."""
 
 from __future__ import annotations
 

@@ -1,0 +1,1 @@
+"""What pages print from the sources: the list of crates, and the definitions in reading order."""
