@@ -16,7 +16,7 @@ from deferreds.twisted.script import Refused, read  # noqa: E402
 
 #: the classes of the table that workloads use
 CLASSES = ("Exception", "ValueError", "TypeError")
-PAGE = HERE.parent / "docs" / "PERFORMANCE.md"
+PAGE = HERE / "FIGURES.md"
 
 
 def all_scripts() -> Iterator[tuple[Workload, int, Script]]:
