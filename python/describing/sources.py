@@ -12,10 +12,10 @@ _MODULE = re.compile(r"^pub mod (\w+)$", re.MULTILINE)
 
 
 class Missing(Exception):
-    """A source has no comment that describes it."""
+    """A source isn't there, or has no comment that describes it."""
 
     def __init__(self, path: Path) -> None:
-        super().__init__(f"{path}: its first line is no comment that describes it")
+        super().__init__(f"{path} has no comment in its first line that describes it")
 
 
 class Module(NamedTuple):
@@ -36,7 +36,7 @@ class Crate(NamedTuple):
 def first_comment(path: Path, mark: str) -> str:
     """The comment with which a file begins, as one line; each of its lines begins with this mark."""
     said: List[str] = []
-    for line in path.read_text(encoding="utf-8").splitlines():
+    for line in path.read_text(encoding="utf-8").splitlines() if path.is_file() else []:
         if not line.startswith(mark):
             break
         said.append(line[len(mark) :].strip())
@@ -48,10 +48,16 @@ def first_comment(path: Path, mark: str) -> str:
 def crates(top: Path = TOP) -> Iterator[Crate]:
     """The crates, in the order of `crates.txt`: each stands below those that use it."""
     for line in (top / "crates.txt").read_text(encoding="utf-8").splitlines():
-        name = line.partition(":")[0].strip()
-        folder = top / "crates" / name
-        roots = [path for path in (folder / "src" / "lib.rt", folder / "src" / "main.rt") if path.is_file()]
-        yield Crate(name, first_comment(roots[0], "//!"), folder)
+        name = line.partition("#")[0].partition(":")[0].strip()
+        if name:
+            folder = top / "crates" / name
+            yield Crate(name, first_comment(root_of(folder), "//!"), folder)
+
+
+def root_of(folder: Path) -> Path:
+    """The root file of a crate: of a library, or else of a program."""
+    library, program = folder / "src" / "lib.rt", folder / "src" / "main.rt"
+    return program if program.is_file() else library
 
 
 def modules(crate: Crate) -> Iterator[Module]:

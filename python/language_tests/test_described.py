@@ -43,7 +43,7 @@ class OfASmallTree(unittest.TestCase):
         folder = tempfile.TemporaryDirectory()
         self.addCleanup(folder.cleanup)
         self.top = Path(folder.name)
-        self.add("crates.txt", "low: json\nhigh: low\n")
+        self.add("crates.txt", "low: json\n\nhigh: low # above it\n")
         self.add("crates/low/src/lib.rt", "//! What is\n//! low. It has more.\n#![tactic(auto)]\n")
         self.add("crates/high/src/main.rt", "//! What is high.\n")
         self.add("crates/low/specs/Lib.antt", "pub mod Second\npub mod First\npub mod Kept\n")
@@ -76,6 +76,11 @@ class OfASmallTree(unittest.TestCase):
         with self.assertRaisesRegex(Missing, "First.antt"):
             list(modules(Crate("low", "", self.top / "crates" / "low")))
         self.assertEqual(first_comment(self.top / "crates/high/src/main.rt", "//!"), "What is high.")
+
+    def test_a_crate_without_a_root_is_named(self) -> None:
+        self.add("crates.txt", "new: low\n")
+        with self.assertRaisesRegex(Missing, "new/src/lib.rt"):
+            list(crates(self.top))
 
     def test_the_table_of_a_page_is_replaced_and_nothing_else(self) -> None:
         page = self.top / "MAP.md"
