@@ -457,7 +457,7 @@ class Compared(RecordingCase):
     def test_a_difference_of_the_profile_is_named(self) -> None:
         ended = self.record("unpaused.py")
         self.assertEqual(ended.status, 0, ended.said)
-        self.assertIn("./deferreds prints the same up to line 2, by unpause-at-zero of docs/PROFILE.md", ended.said)
+        self.assertIn("./deferreds prints the same up to line 2, by unpause-at-zero of docs/TWISTED.md", ended.said)
         self.assertIn("unpaused.json", self.files())
 
 

@@ -45,7 +45,7 @@ def recorded(level: str, number: int) -> Said:
 
 
 def difference(said: Said) -> Optional[object]:
-    """The first line that `deferreds`, or else Twisted, prints otherwise, unless an entry of docs/PROFILE.md says so."""
+    """The first line that `deferreds`, or else Twisted, prints otherwise, unless an entry of docs/TWISTED.md says so."""
     program = ours()
     answer = Answer(0, run(said.text.encode()).output, "") if program is None else program.answer(said.text)
     first = compared(answer, Answer(0, said.output, ""))

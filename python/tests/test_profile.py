@@ -1,4 +1,4 @@
-"""The entries that runs can come to stand in docs/PROFILE.md, by their names."""
+"""The entries that runs can come to stand in docs/TWISTED.md, by their names."""
 
 from __future__ import annotations
 
@@ -15,7 +15,7 @@ class Profile(unittest.TestCase):
     """Names of entries."""
 
     def test_each_entry_has_a_row_of_the_page(self) -> None:
-        page = (TOP / "docs" / "PROFILE.md").read_text(encoding="utf-8")
+        page = (TOP / "docs" / "TWISTED.md").read_text(encoding="utf-8")
         names = re.findall(r"^\| `([a-z-]+)` \|", page, re.MULTILINE)
         self.assertEqual(len(names), len(set(names)))
         self.assertLessEqual({entry.value for entry in Entry}, set(names))

@@ -62,7 +62,7 @@ BY_VERSION = {
     "loop_of_coroutine": (None, TURNS),
 }
 
-#: the recorded programs in which Twisted does what an entry of docs/PROFILE.md says, so that a line differs
+#: the recorded programs in which Twisted does what an entry of docs/TWISTED.md says, so that a line differs
 ENTRIES: Dict[str, str] = {"cancelled_coroutine": "cancelled-inline"}
 
 

@@ -169,7 +169,7 @@ class RealReactor(unittest.TestCase):
 
     def test_a_coroutine_that_is_cancelled_is_told_to_be_otherwise(self) -> None:
         recording = Recording("cancelled_handler")
-        self.assertIn("docs/PROFILE.md says of cancelled-inline", recording.said)
+        self.assertIn("docs/TWISTED.md says of cancelled-inline", recording.said)
         self.assertIn('note "failed: CancelledError"', recording.lines)
 
 

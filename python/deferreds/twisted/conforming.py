@@ -185,7 +185,7 @@ class Conforming:
 
     def _show(self, name: str, script: str, found: Difference) -> None:
         self._progress.clear()
-        entry = f" ({found.entry.value} in docs/PROFILE.md)" if found.entry else ""
+        entry = f" ({found.entry.value} in docs/TWISTED.md)" if found.entry else ""
         print(f"{name}: line {found.line} differs{entry}")
         order = f"  --batches '{batches_text(found.order)}'\n" if found.order is not None else ""
         print(f"  deferreds: {found.ours}\n  command:   {found.theirs}\n{order}  {_one_line(script)}", flush=True)
@@ -197,7 +197,7 @@ class Conforming:
             more = "more difference isn't" if self._hidden == 1 else "more differences aren't"
             lines.append(f"{self._hidden} {more} shown; --show all shows each")
         lines += [
-            f"{count} differ as docs/PROFILE.md says: {name}" for name, count in sorted(self._tally.named.items())
+            f"{count} differ as docs/TWISTED.md says: {name}" for name, count in sorted(self._tally.named.items())
         ]
         lines += self._orders.lines() if self._orders is not None else []
         left = self._total - self._tally.runs

@@ -1,4 +1,4 @@
-"""The entries of docs/PROFILE.md that a run can come to, by the names that they have there."""
+"""The entries of docs/TWISTED.md that a run can come to, by the names that they have there."""
 
 from __future__ import annotations
 
@@ -6,7 +6,7 @@ import enum
 
 
 class Entry(enum.Enum):
-    """A place where Twisted does otherwise than `deferreds`: its name in docs/PROFILE.md."""
+    """A place where Twisted does otherwise than `deferreds`: its name in docs/TWISTED.md."""
 
     PAUSED_RECEIVER = "paused-receiver"
     ABANDONED_CHAIN = "abandoned-chain"

@@ -43,7 +43,7 @@ def row(name: str, script: str) -> Expected:
     """The row of what Twisted prints for a script."""
     ran = run(script.encode())
     if ran.quirks:
-        raise Quirky(f"{name}: Twisted does here what docs/PROFILE.md says of {ran.quirks[0][1].value}")
+        raise Quirky(f"{name}: Twisted does here what docs/TWISTED.md says of {ran.quirks[0][1].value}")
     return Expected(ROWS.name, name, script, int(ran.stopped), "", ran.output)
 
 

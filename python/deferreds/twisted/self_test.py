@@ -36,7 +36,7 @@ SCRIPT = b"""
 ["advance",1],["stopLoop","m"],["advance",1]]}
 """
 
-#: what Twisted does in it, and then in the program. (`deferreds` has two lines of the script elsewhere, as docs/PROFILE.md says
+#: what Twisted does in it, and then in the program. (`deferreds` has two lines of the script elsewhere, as docs/TWISTED.md says
 #: of `cancelled-inline` and of `tick-scheduled-in-a-tick`.)
 EXPECTED = """
 new #0 a

@@ -430,7 +430,7 @@ class Observer:
         self.top = self.frame = Frame("event") if top is None else top
         #: whether Twisted's own code performs an action; where it doesn't, nobody has to ask whether this is `quiet`
         self.acting = False
-        #: where Twisted did what an entry of docs/PROFILE.md names: how many parts were told before, and the entry
+        #: where Twisted did what an entry of docs/TWISTED.md names: how many parts were told before, and the entry
         self.quirks: List[Tuple[int, Entry]] = []
         #: the told time, where the clock is a real reactor
         self.pace: Any = None

@@ -1,7 +1,7 @@
 """`./conform [--rows] [--random N --seed S] [--level LEVEL] [--orders] -- COMMAND..`: compares an implementation with `deferreds`.
 
 COMMAND reads a script on standard input, and prints journal and outcomes, as `./on_twisted` does. Each difference is
-told by its first line; where Twisted does as COMMAND does, and `docs/PROFILE.md` has an entry for that, the entry is
+told by its first line; where Twisted does as COMMAND does, and `docs/TWISTED.md` has an entry for that, the entry is
 named, and the run counts as passed. The last line is `N passed, M failed`, and the status is 0 exactly where M is 0.
 
 With --orders a script with posts is compared in every order in which they may be taken, and not in the one that happened.

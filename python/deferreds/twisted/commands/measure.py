@@ -1,8 +1,8 @@
 """`python/measure [MODULE..]`: records each test of Twisted's own modules, and compares it with `deferreds`.
 
-It prints the table of docs/TWISTED.md. The status is 0 exactly where each test passes under the recorder that passes
+It prints a row a module, whose sums docs/TWISTED.md has. The status is 0 exactly where each test passes under the recorder that passes
 without it, but for those that compare attributes that the recorder sets, and no difference lacks an entry in
-docs/PROFILE.md; 70: a module can't be loaded, the program can't be run, or Twisted isn't known. `python/measure --slower`
+docs/TWISTED.md; 70: a module can't be loaded, the program can't be run, or Twisted isn't known. `python/measure --slower`
 prints how much slower a program is that is recorded, and `python/measure --slower-tests [MODULE..]` each test. In the
 place of a module a package can be named, for all of its modules `test_*`.
 """

@@ -18,7 +18,7 @@ What was before that is forgotten. Each script begins with the Deferreds as they
 before are told as the Python that they are made of, and so are locks and queues.
 
 Where `./deferreds` is there, it runs the script, and its lines are compared with those of the run. Where they differ, and
-docs/PROFILE.md has no entry for that, no script is left.
+docs/TWISTED.md has no entry for that, no script is left.
 
 The status is the program's own, and a program that is ended by a signal ends this command by it. Where the program has ended with
 0: 0: recorded; 65: refused; 66: nothing was recorded; 73: a file couldn't be written. With --test the status is 1 where

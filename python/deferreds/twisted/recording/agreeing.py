@@ -45,7 +45,7 @@ def agreement(said: Said, asked: Optional[Program]) -> Agreement:
     line, mine, other = first
     before = [entry for place, entry in said.quirks if place < line]
     if before:
-        return Agreement(False, f"{name} prints the same up to line {line}, by {before[-1].value} of docs/PROFILE.md")
+        return Agreement(False, f"{name} prints the same up to line {line}, by {before[-1].value} of docs/TWISTED.md")
     if has_posts(json.loads(said.text)):
         return Agreement(False, f"{name} took posts in other batches, from line {line} on")
     return Agreement(True, f"{name} prints line {line} otherwise: {mine} and not {other}")

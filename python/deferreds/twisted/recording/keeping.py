@@ -147,7 +147,7 @@ class Keeping:
 
     def _tell(self, said: Said, name: str, agreed: Agreement) -> None:
         for entry in sorted({entry.value for _, entry in said.quirks}):
-            self.messages.say(f"Twisted does here what docs/PROFILE.md says of {entry}")
+            self.messages.say(f"Twisted does here what docs/TWISTED.md says of {entry}")
         if said.tick:
             self.messages.say(f"1 tick = {said.tick}")
         if said.elsewhere:
