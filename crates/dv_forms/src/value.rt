@@ -31,7 +31,7 @@ pub fn value(alloc: Global, json: &Json) -> Result<Value, Stop>
 fn values(alloc: Global, items: &[Json]) -> Result<Items<Value>, Stop>
     ensures { Reads result (values_at (items_view items.now)) }
 {
-    let mut values = Items::new(alloc);
+    let mut values = Items::with_capacity(alloc, items.len())?;
     for item in items {
         values.push(value(alloc, item)?)?;
     }

@@ -108,7 +108,7 @@ pub fn actions(
 ) -> Result<Items<Action>, Stop>
     ensures { Reads result (each (action_at classes.now levels) (items_view items.now)) }
 {
-    let mut actions = Items::new(alloc);
+    let mut actions = Items::with_capacity(alloc, items.len())?;
     for item in items {
         actions.push(action(alloc, classes, levels, item)?)?;
     }

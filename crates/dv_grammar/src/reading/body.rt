@@ -41,7 +41,7 @@ pub fn bodies(
 ) -> Result<Items<Body>, Stop>
     ensures { Reads result (each (body_at classes.now levels) (items_view items.now)) }
 {
-    let mut bodies = Items::new(alloc);
+    let mut bodies = Items::with_capacity(alloc, items.len())?;
     for item in items {
         bodies.push(body(alloc, classes, levels, item)?)?;
     }

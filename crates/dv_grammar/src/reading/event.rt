@@ -53,7 +53,7 @@ fn event_of(word: EventWord, arguments: &[Json]) -> Result<Event, Stop>
 pub fn events(alloc: Global, classes: &Classes, items: &[Json]) -> Result<Items<Event>, Stop>
     ensures { Reads result (each (event_at classes.now) (items_view items.now)) }
 {
-    let mut events = Items::new(alloc);
+    let mut events = Items::with_capacity(alloc, items.len())?;
     for item in items {
         events.push(event(alloc, classes, item)?)?;
     }

@@ -87,7 +87,7 @@ pub fn statements(
 ) -> Result<Items<Statement>, Stop>
     ensures { Reads result (each (statement_at classes.now levels) (items_view items.now)) }
 {
-    let mut statements = Items::new(alloc);
+    let mut statements = Items::with_capacity(alloc, items.len())?;
     for item in items {
         statements.push(statement(alloc, classes, levels, item)?)?;
     }
