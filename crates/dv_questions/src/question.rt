@@ -1,6 +1,6 @@
 //! What may be asked of the texts of a script.
 
-ghost use Rattle.std.specs.Prelude.{◌≡◌, ◌≤◌, ℕ, true};
+ghost use Rattle.std.specs.Prelude.{◌≡◌, ◌≤◌, ◌&&◌, ℕ, true};
 ghost use Rattle.dv_forms.specs.Words.{may_stand};
 ghost use Rattle.dv_questions.specs.Questions.{is_found_named, is_named, is_class, is_pool, is_known, is_among, is_pooled, asked_by};
 
@@ -126,6 +126,27 @@ fn is_pooled(pools: &[NamedPool], leaf: Leaf, name: &str) -> bool
     !is_pool(leaf) || is_among(name, pools)
 }
 
+/// Whether a text at the place of a leaf is well named, and is found if a class or a pool is looked up there.
+fn suits_every(classes: &Classes, pools: &[NamedPool], leaf: Leaf, name: &str) -> bool
+    ensures { result ≡ (is_named leaf name.now && is_known classes.now leaf name.now && is_pooled pools.now leaf name.now) }
+{
+    match leaf {
+        Leaf::Found(Object::Deferred) => names_one(name),
+        Leaf::Found(Object::Class) => classes.find(name).is_some(),
+        Leaf::Found(Object::Pool) => is_name(name) && is_among(name, pools),
+        Leaf::New(_)
+        | Leaf::Found(Object::Lock | Object::Queue | Object::Call | Object::Loop | Object::Task) =>
+            is_name(name),
+        Leaf::Text
+        | Leaf::Integer
+        | Leaf::Number(_, _)
+        | Leaf::Boolean
+        | Leaf::Bound
+        | Leaf::ListFlag
+        | Leaf::GatherFlag => true,
+    }
+}
+
 impl Question<'_> {
     /// Whether a text answers well at the place of a leaf.
     pub fn of_leaf(&self, leaf: Leaf, name: &str) -> bool
@@ -136,11 +157,7 @@ impl Question<'_> {
             Question::Names => is_named(leaf, name),
             Question::Classes(classes) => is_known(classes, leaf, name),
             Question::Pools(pools) => is_pooled(pools, leaf, name),
-            Question::Every(_, classes, pools) => {
-                is_named(leaf, name)
-                    && is_known(classes, leaf, name)
-                    && is_pooled(pools, leaf, name)
-            }
+            Question::Every(_, classes, pools) => suits_every(classes, pools, leaf, name),
         }
     }
 
