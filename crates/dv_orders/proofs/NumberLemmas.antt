@@ -103,6 +103,29 @@ sequences_more counts place i own number others w p cap at low is some all so_fa
       let e = ap (λ (l : List ℕ). total l) first in omega arith,
     )
 
+-- more posts come in no fewer ways
+more_ways : (own others : ℕ) → ways own others ≤ ways (suc own) others
+more_ways own zero = omega arith
+more_ways own (suc others) = omega arith
+
+pub ways_grow : (own more others : ℕ) → ways own others ≤ ways (own + more) others
+ways_grow own zero others = let e : own + 0 ≡ own = omega arith in rw e (omega arith)
+ways_grow own (suc more) others = let e : own + suc more ≡ suc (own + more) = omega arith in rw e (omega (arith, ways_grow own more others, more_ways (own + more) others))
+
+ways_some : (own others : ℕ) → 0 < ways own others
+ways_some zero others = omega arith
+ways_some (suc own) others = omega (arith, ways_some own others, more_ways own others)
+
+-- more callers have no fewer sequences
+pub sequences_grow : (counts : List ℕ) (n : ℕ) → number_of_sequences (drop n counts) ≤ number_of_sequences counts
+sequences_grow counts zero = omega arith
+sequences_grow [] (suc n) = omega arith
+sequences_grow (count ∷ counts) (suc n) = omega (arith, sequences_grow counts n, one_times (ways count (total counts)) (number_of_sequences counts) (ways_some count (total counts)))
+
+-- what has reached the cap is no less with more
+pub at_cap : (number fewer all cap : ℕ) → number ≡ min fewer cap → cap ≤ number → fewer ≤ all → number ≡ min all cap
+at_cap number fewer all cap is past grows = omega (arith, is, past, grows)
+
 -- the product of the numbers of sequences and of cuts is the number of orders
 pub counts_all : (script : Script) (most : ℕ) (n : Number) (sequences cuts product cap : ℕ) → cap ≡ limit_of most + 1
     → sequences ≡ min (number_of_sequences (counts_of script.callers)) cap → cuts ≡ min (number_of_cuts script.events (total (counts_of script.callers))) cap → product ≡ min (sequences * cuts) cap

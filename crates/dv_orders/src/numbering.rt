@@ -89,7 +89,7 @@ pub(crate) fn number_of_sequences(
     let mut number = 1;
     let mut others = 0;
     let mut place = counts.len();
-    while place > 0 {
+    while place > 0 && number < cap {
         place -= 1;
         let own = counts[place] as usize;
         number = capped_product(ways(alloc, own, others, cap)?, number, cap);
@@ -108,8 +108,10 @@ fn ways(alloc: Global, own: usize, others: usize, cap: u64) -> Result<u64, Alloc
     ensures { IfOk result (λ number. number ≡ min (ways own others) cap) }
 {
     let mut line = vec![in alloc; 1_u64; others + 1]?;
-    for _ in 0..own {
+    let mut posts = 0;
+    while posts < own && line[others] < cap {
         next_line(&mut line, cap);
+        posts += 1;
     }
     Ok(line[others])
 }

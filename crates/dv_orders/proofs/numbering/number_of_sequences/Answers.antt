@@ -1,5 +1,6 @@
-use Rattle.std.proofs.Common.{arith, ◌≡◌, ◌+◌, ◌-◌, ◌<◌, length, slice_index, refl}
-use Rattle.dv_orders.proofs.NumberLemmas.{sequences_more}
+use Rattle.std.proofs.Common.{arith, ◌≡◌, ◌+◌, ◌-◌, ◌<◌, drop, length, slice_index, refl}
+use Rattle.dv_orders.specs.Numbers.{number_of_sequences}
+use Rattle.dv_orders.proofs.NumberLemmas.{at_cap, sequences_grow, sequences_more}
 use Rattle.dv_orders.proofs.numbering.number_of_sequences.Goals as goal
 
 pub loop-place-preserved : goal.loop-place-preserved
@@ -18,3 +19,9 @@ loop-place-preserved c =
       others = more.1;
       fits = omega (arith, invariant.fits, c.if-own-others.false);
     }
+
+pub returns-else-number-cap : goal.returns-else-number-cap
+returns-else-number-cap c =
+    let counts = c.args.counts.now in
+    let place = c.loop-place.place in
+    at_cap c.loop-place.number (number_of_sequences (drop place counts)) (number_of_sequences counts) c.args.cap c.loop-place.invariant.number c.if-number-cap.false (sequences_grow counts place)
