@@ -9,7 +9,7 @@ ghost use Rattle.dv_replay.specs.Replay.{HasTakenAll, HasTakenOne};
 use dv_engine::engine::{Engine, Next};
 use dv_engine::error::EngineFault;
 use dv_jobs::source::JobSource;
-use dv_posts::posted::Posted;
+use dv_posts::posted::{Posted, copy_of_batch};
 use dv_run::driving::Driver;
 use dv_value::items::Items;
 use std::alloc::{AllocError, AllocGlobal, Global};
@@ -96,25 +96,11 @@ where
     requires next { AreNext engine.old.script.callers (joined batches.now) }
     ensures { OnOk result (HasTakenOne engine.old engine.new batches.now number) }
 {
-    let batch = copy_of(alloc, batches[number].as_slice())?;
+    let batch = copy_of_batch(alloc, batches[number].as_slice())?;
     match engine.drain(rt, batch) {
         Ok(()) => Ok(()),
         Err(EngineFault::OutOfMemory) => Err(AllocError),
         Err(EngineFault::NotNow) => unreachable!(),
         Err(EngineFault::Stranger) => unreachable!(),
     }
-}
-
-/// Returns a copy of a batch.
-fn copy_of(alloc: Global, batch: &[Posted]) -> Result<Items<Posted>, AllocError>
-    ensures { IfOk result (λ copy. copy ≡ batch.now) }
-{
-    let mut copy = Items::new(alloc);
-    for posted in batch {
-        copy.push(Posted {
-            caller: posted.caller,
-            index: posted.index,
-        })?;
-    }
-    Ok(copy)
 }

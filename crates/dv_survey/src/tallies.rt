@@ -1,7 +1,7 @@
 ghost use Rattle.std.specs.Prelude.{◌≡◌, [], OnOk, IfOk};
 ghost use Rattle.dv_survey.specs.Tallies.{with_one_more};
 
-use dv_posts::posted::Posted;
+use dv_posts::posted::{Posted, copy_of_batch};
 use dv_value::items::Items;
 use std::alloc::{AllocError, Global};
 use std::marker::Model;
@@ -90,22 +90,9 @@ fn raise(tally: &mut Tally) -> Result<(), AllocError>
 fn copy_of(alloc: Global, batches: &[Items<Posted>]) -> Result<Items<Items<Posted>>, AllocError>
     ensures { IfOk result (λ copy. copy ≡ batches.now) }
 {
-    let mut copy = Items::new(alloc);
+    let mut copy = Items::with_capacity(alloc, batches.len())?;
     for batch in batches {
-        copy.push(batch_copy(alloc, batch.as_slice())?)?;
-    }
-    Ok(copy)
-}
-
-fn batch_copy(alloc: Global, batch: &[Posted]) -> Result<Items<Posted>, AllocError>
-    ensures { IfOk result (λ copy. copy ≡ batch.now) }
-{
-    let mut copy = Items::new(alloc);
-    for posted in batch {
-        copy.push(Posted {
-            caller: posted.caller,
-            index: posted.index,
-        })?;
+        copy.push(copy_of_batch(alloc, batch.as_slice())?)?;
     }
     Ok(copy)
 }

@@ -1,5 +1,5 @@
 use Rattle.std.proofs.Common.{◌≡◌, take}
-use Rattle.dv_replay.proofs.taking.copy_of.Given as goal
+use Rattle.dv_posts.proofs.posted.copy_of_batch.Given as goal
 
 abbrev pub invariant-loop-posted : goal.invariant-loop-posted
 invariant-loop-posted l = l.copy ≡ take l.posted-index l.batch

@@ -1,5 +1,0 @@
-use Rattle.std.proofs.Common.{◌≡◌, take}
-use Rattle.dv_survey.proofs.tallies.batch_copy.Given as goal
-
-abbrev pub invariant-loop-posted : goal.invariant-loop-posted
-invariant-loop-posted l = l.copy ≡ take l.posted-index l.batch
