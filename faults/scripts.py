@@ -2,7 +2,7 @@
 
 Beside `scripts/NAME.json` stands `scripts/NAME.txt`, the text that it prints, which is worked out by hand from
 `docs/SCRIPT.md`, and in every order from `docs/ORDERS.md`, too, and never taken from a run. `scripts/NAME.jsonl` is the
-same of `--json --orders`, worked out from `docs/JSON.md`.
+same of `--json --orders`, worked out from `docs/JSON.md`. Which orders a sample has is what `deferreds.sampling` draws.
 """
 from __future__ import annotations
 
@@ -11,7 +11,7 @@ from pathlib import Path
 
 FOLDER = Path(__file__).resolve().parent / "scripts"
 REFUSED = b"batches refused: post 1 of batch 0 isn't the next one of its caller\n"
-TOO_MANY = b"2 orders are more than the 1 that may run; --most 2 allows them\n"
+TOO_MANY = b"2 orders are more than the 1 that may run; --most 2 allows them, --sample K --seed S draws some\n"
 
 
 @dataclass(frozen=True)
@@ -72,6 +72,8 @@ def all_scripts() -> list[Script]:
         script("fired_in_orders", status=6, words=("--orders",)),
         script_as_json("lock_in_orders", words=("--orders",)),
         script_as_json("fired_in_orders", status=6, words=("--orders",)),
+        script_as_json("fired_in_sample", status=6, words=("--orders", "--sample", "2", "--seed", "1")),
+        script("fired_in_sample", status=6, words=("--orders", "--sample", "2", "--seed", "1")),
         script("too_many_orders", status=7, errors=TOO_MANY, words=("--orders", "--most", "1")),
     ]
 

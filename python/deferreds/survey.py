@@ -1,4 +1,5 @@
-"""What became of each Deferred in every order of a script's posts: what `--orders` is held against, and `--json --orders`.
+"""What became of each Deferred in every order of a script's posts, or in a sample of them: what `--orders` is held against, and
+`--json --orders`.
 
 Each order is given by its batches, and by what `--batches` prints of it, with `--json`, too, where the survey is written as JSON. From one
 order to the next a Deferred is known by its name and its place: the how-manieth it is of that name, in order of making.
@@ -8,17 +9,18 @@ from __future__ import annotations
 
 import json
 import re
-from typing import Dict, FrozenSet, Iterable, List, NamedTuple, Sequence, Set
+from typing import Dict, FrozenSet, Iterable, List, NamedTuple, Optional, Sequence
 
 from .orders import Order
+from .sampling import MOST_DRAWN_FROM
 
 #: how many orders run at most where no number is given, and the most that may be asked for
 ORDERS, MOST_ORDERS = 20_000, 1_000_000
 #: the statuses: every order has the same outcome, there are several, there are more orders than may run
 ONE_OUTCOME, SEVERAL_OUTCOMES, TOO_MANY = 0, 6, 7
+#: what is said where a sample is asked for of more orders than are counted
+NO_SAMPLE = "more orders than 64 bits count: no sample is drawn"
 
-#: more orders than this aren't counted
-_MOST_COUNTED = 2**64 - 2
 _OUTCOME = re.compile(r"#\d+ (\S+) (.*)")
 _WAITING = re.compile(r"(paused )?waiting #(\d+)")
 
@@ -50,11 +52,16 @@ class Line(NamedTuple):
 
 
 class Tally(NamedTuple):
-    """In how many orders a line came, and the batches of the first of them, with what JSON shows of it there."""
+    """In how many orders something came, and the batches of the first of them, with what JSON shows of it there."""
 
     orders: int
     first: Order
     shown: Shown
+
+    @property
+    def one_more(self) -> Tally:
+        """The same, where it came in one order more."""
+        return self._replace(orders=self.orders + 1)
 
 
 def lines_of(output: str) -> List[Line]:
@@ -100,72 +107,95 @@ def place_in(line: Line) -> int:
 
 
 class Survey:
-    """Gathers the runs of a script, order by order."""
+    """Gathers the runs of a script, order by order: of every order, or of a sample, drawn from so many orders."""
 
-    def __init__(self) -> None:
+    def __init__(self, drawn_from: Optional[int] = None) -> None:
+        self._drawn_from = drawn_from
         self._orders = 0
-        self._stopped = 0
         #: of each Deferred, and of each of its states, the tally; both in order of first meeting
         self._tallies: Dict[str, Dict[str, Tally]] = {}
-        self._outcomes: Set[FrozenSet[Line]] = set()
+        #: of each outcome
+        self._outcomes: Dict[FrozenSet[Line], Tally] = {}
+        #: of the stops at the limit of the journal, where there are any
+        self._stops: Optional[Tally] = None
 
     def add(self, run: Run) -> None:
         """Adds a run, which is the next in the sequence of orders."""
         lines = lines_of(run.output)
         shown = shown_of(run.told, lines) if run.told else [{} for _ in lines]
         for line, keys in zip(lines, shown):
-            self._count(line, Tally(0, run.batches, keys))
-        self._outcomes.add(frozenset(lines))
-        self._stopped += run.stopped
+            states = self._tallies.setdefault(line.deferred, {})
+            states[line.state] = states.get(line.state, Tally(0, run.batches, keys)).one_more
+        self._end(run, frozenset(lines))
         self._orders += 1
 
-    def _count(self, line: Line, first: Tally) -> None:
-        states = self._tallies.setdefault(line.deferred, {})
-        before = states.get(line.state, first)
-        states[line.state] = before._replace(orders=before.orders + 1)
+    def _end(self, run: Run, outcome: FrozenSet[Line]) -> None:
+        keys: Shown = {"type": "outcome", "outcome": len(self._outcomes) + 1}
+        self._outcomes[outcome] = self._outcomes.get(outcome, Tally(0, run.batches, keys)).one_more
+        if run.stopped:
+            self._stops = (self._stops or Tally(0, run.batches, {"type": "stopped"})).one_more
 
     @property
     def status(self) -> int:
         """The status with which `--orders` ends."""
         return ONE_OUTCOME if len(self._outcomes) == 1 else SEVERAL_OUTCOMES
 
+    @property
+    def _sample(self) -> Optional[int]:
+        """How many orders the sample has, where these are one."""
+        return None if self._drawn_from is None else self._orders
+
+    @property
+    def _total(self) -> int:
+        """How many orders the script has."""
+        return self._orders if self._drawn_from is None else self._drawn_from
+
+    @property
+    def _noun(self) -> str:
+        return "order" if self._drawn_from is None else "sampled order"
+
     def text(self) -> str:
         """Returns what `--orders` prints."""
-        orders = counted(self._orders, "order")
-        stopped = [f"{counted(self._stopped, 'order')} stopped at the limit of the journal"] if self._stopped else []
-        last = f"{orders}, {counted(len(self._outcomes), 'outcome')}"
-        return "".join(f"{line}\n" for line in [orders, *self._told(), *stopped, last])
-
-    def json_lines(self) -> str:
-        """Returns what `--json --orders` prints, where each run was added with what was printed of it as JSON."""
-        tallies = [tally for states in self._tallies.values() for tally in states.values()]
-        first: Shown = {"type": "orders", "orders": self._orders}
-        last: Shown = {"type": "end", "orders": self._orders, "outcomes": len(self._outcomes), "stopped": self._stopped}
-        return "".join(f"{json_text(line)}\n" for line in [first, *map(tally_keys, tallies), last])
+        sample = "" if self._sample is None else f", a sample of {self._sample}"
+        first = f"{counted(self._total, 'order')}{sample}"
+        last = f"{counted(self._orders, self._noun)}, {counted(len(self._outcomes), 'outcome')}"
+        return "".join(f"{line}\n" for line in [first, *self._told(), last])
 
     def _told(self) -> List[str]:
-        return [
-            tally_text(Line(deferred, state), tally)
+        ways = [
+            self._tally_text(f"{deferred} {state}", tally)
             for deferred, states in self._tallies.items()
             for state, tally in states.items()
         ]
+        outcomes = [self._tally_text(f"outcome {number}", tally) for number, tally in enumerate(self._outcomes.values(), 1)]
+        stops = [self._tally_text("stopped at the limit of the journal", self._stops)] if self._stops else []
+        return [*ways, *outcomes, *stops]
+
+    def _tally_text(self, what: str, tally: Tally) -> str:
+        """Returns the line that says in how many orders this came."""
+        return f"{what} in {counted(tally.orders, self._noun)}, first {batches_text(tally.first)}"
+
+    def json_lines(self) -> str:
+        """Returns what `--json --orders` prints, where each run was added with what was printed of it as JSON."""
+        ways = [tally for states in self._tallies.values() for tally in states.values()]
+        tallies = [*ways, *self._outcomes.values(), *([self._stops] if self._stops else [])]
+        first: Shown = {"type": "orders", "orders": self._total}
+        stopped = self._stops.orders if self._stops else 0
+        last: Shown = {"type": "end", "orders": self._orders, "outcomes": len(self._outcomes), "stopped": stopped}
+        lines = [first, *map(tally_keys, tallies), last]
+        return "".join(f"{json_text({**line, 'sample': self._sample})}\n" for line in lines)
 
 
-def survey_of(runs: Iterable[Run]) -> Survey:
-    """Gathers these runs, which are those of every order, in sequence."""
-    survey = Survey()
+def survey_of(runs: Iterable[Run], drawn_from: Optional[int] = None) -> Survey:
+    """Gathers these runs, which are those of every order, in sequence, or of a sample, drawn from so many orders."""
+    survey = Survey(drawn_from)
     for run in runs:
         survey.add(run)
     return survey
 
 
-def tally_text(line: Line, tally: Tally) -> str:
-    """Returns the line that tells how often a Deferred ended in a way."""
-    return f"{line} in {counted(tally.orders, 'order')}, first {batches_text(tally.first)}"
-
-
 def tally_keys(tally: Tally) -> Shown:
-    """Returns the keys of the line of JSON that tells how often a Deferred ended in a way."""
+    """Returns the keys of the line of JSON that says in how many orders something came."""
     return {**tally.shown, "batches": tally.first, "count": tally.orders}
 
 
@@ -186,9 +216,9 @@ def counted(count: int, noun: str) -> str:
 
 def too_many(orders: int, most: int) -> str:
     """Returns what is said of so many orders, where no more than `most` may run."""
-    if orders > _MOST_COUNTED:
+    if orders > MOST_DRAWN_FROM:
         return f"more orders than 64 bits count, and --most allows {MOST_ORDERS} at most"
     more = f"{orders} {'order is' if orders == 1 else 'orders are'} more than the {most} that may run"
     if orders <= MOST_ORDERS:
-        return f"{more}; --most {orders} allows them"
-    return f"{more}, and --most allows {MOST_ORDERS} at most"
+        return f"{more}; --most {orders} allows them, --sample K --seed S draws some"
+    return f"{more}, and --most allows {MOST_ORDERS} at most; --sample K --seed S draws some"

@@ -147,6 +147,10 @@ class OursTest(ConformTest):
             ["--rows", "--orders", "--most", "0"],
             ["--rows", "--orders", "--most", "1000001"],
             ["--rows", "--orders", "--most", "few"],
+            ["--rows", "--sample", "2"],
+            ["--rows", "--orders", "--sample", "0"],
+            ["--rows", "--orders", "--sample", "2", "--most", "2"],
+            ["--rows", "--orders", "--sample", "2", "--seed", "-1"],
             ["--orders"],
             [],
         ):
@@ -285,6 +289,15 @@ class OrdersTest(ConformTest):
         )
         ran = self.in_orders(self.shell(self._WRONG), "--most", "1")
         self.assertEqual((ran.status, ran.output.splitlines()[-1]), (0, "2 passed, 0 failed"))
+
+    def test_of_more_orders_than_are_drawn_a_sample_is_compared(self) -> None:
+        last = ["1 script has more than 2 orders, and was compared in a sample of 2", "1 passed, 1 failed"]
+        ran = self.in_orders(self.shell(self._WRONG), "--sample", "2", "--seed", "2")  # (which draws the third order, twice)
+        self.assertEqual((ran.status, ran.output.splitlines()[-2:]), (1, last))
+        ran = self.in_orders(self.shell(self._WRONG), "--sample", "2", "--seed", "1")  # (the second and the fourth)
+        self.assertEqual((ran.status, ran.output.splitlines()[-1]), (0, "2 passed, 0 failed"))
+        ran = self.in_orders(self.shell(self._WRONG), "--sample", "4", "--seed", "1")
+        self.assertEqual(ran.output.splitlines()[-2], "1 script has posts, and was compared in every order")
 
     def test_a_random_script_is_cut_down_in_its_orders(self) -> None:
         words = ["--random", "2", "--seed", "1", "--orders", "--most", "3", "--trials", "30", "--ours", str(self.ours)]

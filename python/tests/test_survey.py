@@ -67,7 +67,10 @@ class Surveys(unittest.TestCase):
             "e 1 unfired in 1 order, first [[[0,0]],[]]\n"
             "e 1 ok 2 in 1 order, first [[],[[0,0],[1,0]]]\n"
             "f 1 ok 2 in 1 order, first [[[1,0]],[[0,0]]]\n"
-            "1 order stopped at the limit of the journal\n"
+            "outcome 1 in 1 order, first [[[0,0]],[]]\n"
+            "outcome 2 in 1 order, first [[[1,0]],[[0,0]]]\n"
+            "outcome 3 in 1 order, first [[],[[0,0],[1,0]]]\n"
+            "stopped at the limit of the journal in 1 order, first [[[1,0]],[[0,0]]]\n"
             "3 orders, 3 outcomes\n",
         )
         self.assertEqual(survey.status, SEVERAL_OUTCOMES)
@@ -79,6 +82,7 @@ class Surveys(unittest.TestCase):
             "2 orders\n"
             "d 1 ok 1 in 2 orders, first [[[0,0]],[]]\n"
             "e 1 waiting d 1 in 2 orders, first [[[0,0]],[]]\n"
+            "outcome 1 in 2 orders, first [[[0,0]],[]]\n"
             "2 orders, 1 outcome\n",
         )
         self.assertEqual(survey.status, ONE_OUTCOME)
@@ -89,7 +93,31 @@ class Surveys(unittest.TestCase):
 
     def test_one_order_has_one_outcome_though_there_is_no_deferred(self) -> None:
         survey = survey_of([Run(((),), "")])
-        self.assertEqual((survey.text(), survey.status), ("1 order\n1 order, 1 outcome\n", ONE_OUTCOME))
+        self.assertEqual((survey.text(), survey.status), ("1 order\noutcome 1 in 1 order, first [[]]\n1 order, 1 outcome\n", ONE_OUTCOME))
+
+    def test_outcomes_and_stops_are_counted_apart(self) -> None:
+        survey = survey_of([Run(_FIRST, ""), Run(_SECOND, "#0 d ok 1\n", stopped=True), Run(_THIRD, "", stopped=True)])
+        self.assertEqual(
+            survey.text().splitlines()[2:],
+            [
+                "outcome 1 in 2 orders, first [[[0,0]],[]]",
+                "outcome 2 in 1 order, first [[[1,0]],[[0,0]]]",
+                "stopped at the limit of the journal in 2 orders, first [[[1,0]],[[0,0]]]",
+                "3 orders, 2 outcomes",
+            ],
+        )
+
+    def test_a_sample_is_counted_apart_from_the_orders_it_is_drawn_from(self) -> None:
+        survey = survey_of([Run(_SECOND, "#0 d ok 1\n"), Run(_FIRST, "#0 d ok 2\n"), Run(_SECOND, "#0 d ok 1\n")], drawn_from=1)
+        self.assertEqual(
+            survey.text(),
+            "1 order, a sample of 3\n"
+            "d 1 ok 1 in 2 sampled orders, first [[[1,0]],[[0,0]]]\n"
+            "d 1 ok 2 in 1 sampled order, first [[[0,0]],[]]\n"
+            "outcome 1 in 2 sampled orders, first [[[1,0]],[[0,0]]]\n"
+            "outcome 2 in 1 sampled order, first [[[0,0]],[]]\n"
+            "3 sampled orders, 2 outcomes\n",
+        )
 
 
 def _told(*deferreds: Dict[str, object]) -> str:
@@ -118,12 +146,24 @@ class JsonLines(unittest.TestCase):
         )
         self.assertEqual(
             survey.json_lines(),
-            '{"orders":3,"type":"orders"}\n'
-            '{"batches":[[[0,0]],[]],"count":2,"deferred":{"name":"d","place":1},"paused":true,"state":"unfired","type":"deferred",'
-            '"value":null,"waits_for":null}\n'
-            '{"batches":[[[1,0]],[[0,0]]],"count":1,"deferred":{"name":"d","place":1},"paused":false,"state":"fail","type":"deferred",'
-            '"value":{"fail":"ValueError","message":"\u00fc\\n"},"waits_for":null}\n'
-            '{"orders":3,"outcomes":2,"stopped":1,"type":"end"}\n',
+            '{"orders":3,"sample":null,"type":"orders"}\n'
+            '{"batches":[[[0,0]],[]],"count":2,"deferred":{"name":"d","place":1},"paused":true,"sample":null,"state":"unfired",'
+            '"type":"deferred","value":null,"waits_for":null}\n'
+            '{"batches":[[[1,0]],[[0,0]]],"count":1,"deferred":{"name":"d","place":1},"paused":false,"sample":null,"state":"fail",'
+            '"type":"deferred","value":{"fail":"ValueError","message":"\u00fc\\n"},"waits_for":null}\n'
+            '{"batches":[[[0,0]],[]],"count":2,"outcome":1,"sample":null,"type":"outcome"}\n'
+            '{"batches":[[[1,0]],[[0,0]]],"count":1,"outcome":2,"sample":null,"type":"outcome"}\n'
+            '{"batches":[[[1,0]],[[0,0]]],"count":1,"sample":null,"type":"stopped"}\n'
+            '{"orders":3,"outcomes":2,"sample":null,"stopped":1,"type":"end"}\n',
+        )
+
+    def test_each_line_of_a_sample_has_its_size(self) -> None:
+        survey = survey_of([Run(_FIRST, ""), Run(_FIRST, "")], drawn_from=6)
+        self.assertEqual(
+            survey.json_lines(),
+            '{"orders":6,"sample":2,"type":"orders"}\n'
+            '{"batches":[[[0,0]],[]],"count":2,"outcome":1,"sample":2,"type":"outcome"}\n'
+            '{"orders":2,"outcomes":1,"sample":2,"stopped":0,"type":"end"}\n',
         )
 
     def test_one_that_waits_names_the_other_by_its_place(self) -> None:
@@ -142,10 +182,13 @@ class TooMany(unittest.TestCase):
         most = 2**64 - 2
         self.assertEqual(
             too_many(most, ORDERS),
-            f"18446744073709551614 orders are more than the {ORDERS} that may run, and --most allows {MOST_ORDERS} at most",
+            f"18446744073709551614 orders are more than the {ORDERS} that may run, and --most allows {MOST_ORDERS} at most; "
+            "--sample K --seed S draws some",
         )
         self.assertEqual(too_many(most + 1, 5), "more orders than 64 bits count, and --most allows 1000000 at most")
-        self.assertEqual(too_many(6, 5), "6 orders are more than the 5 that may run; --most 6 allows them")
+        self.assertEqual(
+            too_many(6, 5), "6 orders are more than the 5 that may run; --most 6 allows them, --sample K --seed S draws some"
+        )
 
 
 if __name__ == "__main__":

@@ -10,14 +10,15 @@ import tempfile
 import unittest
 import zlib
 from pathlib import Path
-from typing import Any, List, Tuple
+from typing import Any, List, Optional, Tuple
 from unittest import mock
 
 from deferreds.checkout import TOP
+from deferreds.sampling import MOST_SEED
 from deferreds.survey import MOST_ORDERS
 from deferreds.view import inputs, orders_page, texts
 from deferreds.view.batches import Batches, text_of
-from deferreds.view.orders import NotOrders, Orders, read_orders
+from deferreds.view.orders import Came, NotOrders, Orders, read_orders
 from deferreds.view.orders_page import MOST_CHARTS, OrdersPage, share
 from deferreds.view.run import Run
 
@@ -30,12 +31,62 @@ from .test_page import _ATTRIBUTES, _ELEMENTS, Read
 _EXAMPLES = TOP / "examples"
 _FULL_QUEUE, _CROSSED_LOCKS = _EXAMPLES / "full_queue.json", _EXAMPLES / "crossed_locks.json"
 
-_PRINTED = """6 orders
-ann 1 ok "resize" in 6 orders, first [[[0,0],[0,1],[1,0],[1,1]]]
-bob 1 unfired in 1 order, first [[[0,0],[0,1],[1,0],[1,1]]]
-bob 1 ok "scan" in 5 orders, first [[[0,0],[1,0],[0,1],[1,1]]]
-6 orders, 2 outcomes
-"""
+_ANN_FIRST, _BOB_SAVED = "[[[0,0],[0,1],[1,0],[1,1]]]", "[[[1,0],[1,1],[0,0],[0,1]]]"
+
+
+def line(kind: str, sample: Optional[int] = None, **keys: Any) -> str:
+    """A line of JSON of this type."""
+    return json.dumps({**keys, "type": kind, "sample": sample}, ensure_ascii=False) + "\n"
+
+
+def deferred(
+    label: str, state: str, count: int, first: str, value: Any = None, waits_for: Any = None, paused: bool = False, sample: Optional[int] = None
+) -> str:
+    """A line of a Deferred by its NAME PLACE, in which a dash is no name."""
+    name, place = label.split()
+    named = {"name": None if name == "-" else name, "place": int(place)}
+    keys = {"deferred": named, "state": state, "value": value, "waits_for": waits_for, "paused": paused}
+    return line("deferred", sample, count=count, batches=json.loads(first), **keys)
+
+
+def outcome(number: int, count: int, first: str, sample: Optional[int] = None) -> str:
+    """A line of an outcome."""
+    return line("outcome", sample, outcome=number, count=count, batches=json.loads(first))
+
+
+def stopped(count: int, first: str, sample: Optional[int] = None) -> str:
+    """The line of the orders that stopped."""
+    return line("stopped", sample, count=count, batches=json.loads(first))
+
+
+def printed_of(*lines: str, orders: int = 6, sample: Optional[int] = None, stops: int = 0) -> str:
+    """What is printed with these lines, and with an outcome of its own for each first order where they have none."""
+    told = [json.loads(one) for one in lines]
+    firsts = dict.fromkeys(json.dumps(one["batches"]) for one in told)
+    more = [outcome(number, 1, first, sample) for number, first in enumerate(firsts, 1)]
+    if any(one["type"] == "outcome" for one in told):
+        more = []
+    outcomes = len(more) + sum(one["type"] == "outcome" for one in told)
+    last = line("end", sample, orders=sample or orders, outcomes=outcomes, stopped=stops)
+    return "".join([line("orders", sample, orders=orders), *lines, *more, last])
+
+
+_ANN = deferred("ann 1", "ok", 6, _ANN_FIRST, "resize")
+_PRINTED = printed_of(
+    _ANN,
+    deferred("bob 1", "unfired", 1, _ANN_FIRST),
+    deferred("bob 1", "ok", 5, "[[[0,0],[1,0],[0,1],[1,1]]]", "scan"),
+    outcome(1, 1, _ANN_FIRST),
+    outcome(2, 5, "[[[0,0],[1,0],[0,1],[1,1]]]"),
+)
+_SAMPLED = printed_of(
+    deferred("ann 1", "ok", 4, _BOB_SAVED, "resize", sample=4),
+    deferred("bob 1", "ok", 3, _BOB_SAVED, "scan", sample=4),
+    deferred("bob 1", "unfired", 1, _ANN_FIRST, sample=4),
+    outcome(1, 3, _BOB_SAVED, 4),
+    outcome(2, 1, _ANN_FIRST, 4),
+    sample=4,
+)
 
 
 def page_of(printed: str, *runs: Run) -> OrdersPage:
@@ -51,55 +102,84 @@ def page_of(printed: str, *runs: Run) -> OrdersPage:
     return OrdersPage("t.json", read_orders(printed), run)
 
 
-def printed_of(*lines: str, orders: int = 6, outcomes: int = 2) -> str:
-    """What is printed with these lines."""
-    return "".join(f"{line}\n" for line in [f"{orders} orders", *lines, f"{orders} orders, {outcomes} outcomes"])
-
-
 def many_ways(count: int) -> str:
     """What is printed of a Deferred that ends in so many ways, each first in another order."""
-    lines = (f"d 1 ok {way} in 1 order, first [[[0,{way}]]]" for way in range(count))
-    return printed_of(*lines, orders=count, outcomes=count)
+    return printed_of(*(deferred("d 1", "ok", 1, f"[[[0,{way}]]]", way) for way in range(count)), orders=count)
 
 
-def rows(page: str) -> List[List[str]]:
-    """The rows of the tables of endings, by the texts of their cells."""
-    tables = re.findall("<table class=ways>(.*?)</table>", page)
+def rows(page: str, look: str = "ways") -> List[List[str]]:
+    """The rows of the tables of endings, or of those of another look, by the texts of their cells."""
+    tables = re.findall(f"<table class={look}>(.*?)</table>", page)
     found = [re.findall("<td[^>]*>(.*?)</td>", row) for table in tables for row in table.split("<tr")]
     return [[html.unescape(re.sub("<[^>]*>", "", cell)) for cell in row] for row in found if row]
 
 
+#: the look of the table of outcomes
+_OUTCOMES = '"ways outcomes"'
+
+
 class OfText(unittest.TestCase):
-    """What `./deferreds --orders` prints, read."""
+    """What `./deferreds --json --orders` prints, read."""
 
     def test_the_ways_of_each_deferred(self) -> None:
         orders = read_orders(_PRINTED)
-        self.assertEqual((orders.total, orders.stopped, orders.outcomes), (6, 0, 2))
+        self.assertEqual((orders.total, orders.ran, orders.is_sample, orders.stops, len(orders.outcomes)), (6, 6, False, None, 2))
         self.assertEqual(
             [(one.label, [(way.state, way.orders) for way in one.ways]) for one in orders.endings],
             [("ann 1", [('ok "resize"', 6)]), ("bob 1", [("unfired", 1), ('ok "scan"', 5)])],
         )
-        self.assertEqual(list(map(text_of, orders.firsts)), ["[[[0,0],[0,1],[1,0],[1,1]]]", "[[[0,0],[1,0],[0,1],[1,1]]]"])
+        self.assertEqual(list(map(text_of, orders.firsts)), [_ANN_FIRST, "[[[0,0],[1,0],[0,1],[1,1]]]"])
         self.assertEqual([orders.differs(one) for one in orders.endings], [False, True])
 
+    def test_a_sample_has_the_number_of_all_orders_and_of_its_own(self) -> None:
+        orders = read_orders(_SAMPLED)
+        self.assertEqual((orders.total, orders.ran, orders.is_sample), (6, 4, True))
+        self.assertEqual(orders.counts, "a sample of 4 of 6 orders, 2 outcomes")
+        self.assertEqual([orders.unmade(one) for one in orders.endings], [0, 0])
+        self.assertEqual([(came.orders, text_of(came.first)) for came in orders.outcomes], [(3, _BOB_SAVED), (1, _ANN_FIRST)])
+
     def test_orders_that_stopped_and_no_deferred(self) -> None:
-        self.assertEqual(read_orders("1 order\n1 order, 1 outcome\n"), Orders(1, (), 0, 1))
-        stopped = "2 orders\n2 orders stopped at the limit of the journal\n2 orders, 1 outcome\n"
-        self.assertEqual(read_orders(stopped), Orders(2, (), 2, 1))
+        nothing = printed_of(outcome(1, 1, "[[]]"), orders=1)
+        self.assertEqual(read_orders(nothing), Orders(1, 1, False, (), (Came(1, ((),)),)))
+        text = printed_of(outcome(1, 2, "[[[0,0]]]"), stopped(2, "[[[0,0]]]"), orders=2, stops=2)
+        self.assertEqual(read_orders(text).stops, Came(2, (((0, 0),),)))
 
     def test_one_that_isn_t_made_in_some_orders_differs(self) -> None:
-        orders = read_orders(printed_of("- 1 ok null in 4 orders, first [[]]"))
+        orders = read_orders(printed_of(deferred("- 1", "ok", 4, "[[]]")))
         self.assertEqual((orders.unmade(orders.endings[0]), orders.differs(orders.endings[0])), (2, True))
 
-    def test_a_text_that_looks_like_the_end_of_a_line_is_a_text(self) -> None:
-        state = 'ok "x in 3 orders, first [[]]\u2028y"'
-        way = read_orders(printed_of(f"d 1 {state} in 6 orders, first [[[0,0]]]")).endings[0].ways[0]
-        self.assertEqual((way.state, way.orders, way.first), (state, 6, (((0, 0),),)))
+    def test_states_are_as_in_the_lines_of_a_run(self) -> None:
+        failure = {"fail": "ValueError", "message": 'n"o'}
+        first = {"fail": "FirstError", "index": 1, "message": "", "sub": failure}
+        told = [
+            (deferred("d 1", "ok", 1, "[[]]", ["\u00fc\u2028", 2, [False, failure]], paused=True), 'paused ok ["\u00fc\u2028",2,[false,{"fail":"ValueError","message":"n\\"o"}]]'),
+            (deferred("d 1", "fail", 1, "[[]]", first), 'fail FirstError "" at 1 of ValueError "n\\"o"'),
+            (deferred("d 1", "waiting", 1, "[[]]", waits_for={"name": None, "place": 3}), "waiting - 3"),
+            (deferred("d 1", "waiting", 1, "[[]]", paused=True), "paused waiting -"),
+            (deferred("d 1", "unfired", 1, "[[]]", paused=True), "paused unfired"),
+        ]
+        self.assertEqual([read_orders(printed_of(one)).endings[0].ways[0].state for one, _ in told], [state for _, state in told])
+
+    def test_a_kind_that_isn_t_known_is_passed_over(self) -> None:
+        self.assertEqual(read_orders(_PRINTED.replace(_ANN, _ANN + line("more"))), read_orders(_PRINTED))
+
+    def test_first_orders_of_ways_and_of_the_stop_come_before_those_of_other_outcomes(self) -> None:
+        first, second, third, last = ("[[[0,0]]]", "[[[0,1]]]", "[[[0,2]]]", "[[[0,3]]]")
+        ways = [deferred("d 1", "ok", 2, first, 1), deferred("d 1", "unfired", 2, third)]
+        outcomes = [outcome(number, 1, one) for number, one in enumerate((first, second, third, last), 1)]
+        orders = read_orders(printed_of(*ways, *outcomes, stopped(1, last), orders=4, stops=1))
+        self.assertEqual(list(map(text_of, orders.charted(3))), [first, third, last])
+        self.assertEqual(list(map(text_of, orders.charted(9))), [first, second, third, last])
 
     def test_what_is_none(self) -> None:
-        for text in ("", "\n", "6 orders\n", _PRINTED[:-1], _PRINTED.replace("6 orders\n", "", 1), _PRINTED.replace("6 orders,", "7 orders,"),
-                     _PRINTED.replace("bob 1", "bob"), _PRINTED.replace("first [[[0,0],[1", "first [[[0],[1"), "new #0 d\n#0 d unfired\n"):  # fmt: skip
-            with self.assertRaises(NotOrders, msg=text[:40]):
+        first, *counted, last = _PRINTED.splitlines(keepends=True)
+        middle = "".join(counted)
+        for text in ("", "\n", first, _PRINTED[:-1], middle + last, first + middle, first.replace("6", "7") + middle + last,
+                     first + middle + last.replace("6", "5"), first + middle + last.replace(": 2", ": 3"), first.replace("null", "6") + middle + last[:-1],
+                     first + middle + last.replace('stopped": 0', 'stopped": 1'), _PRINTED.replace('"place": 1', '"place": "1"'),
+                     _PRINTED.replace("[1, 0]", "[1]"), _PRINTED.replace('"ok"', '"good"'), _PRINTED.replace('"bob"', "7"),
+                     _PRINTED.replace('"count": 5', '"count": true'), "7\n7\n", "[]\n[]\n", "new #0 d\n#0 d unfired\n", "[" * 9999 + "\n"):  # fmt: skip
+            with self.assertRaises(NotOrders, msg=text[:90]):
                 read_orders(text)
 
     def test_shares(self) -> None:
@@ -121,10 +201,10 @@ class OfPage(unittest.TestCase):
         )
         self.assertIn("2 outcomes</span>", page)
         self.assertIn("Ends in more than one way: 1 Deferred<", page)
-        self.assertEqual(page.count("<a href=#order-A>"), 2)
+        self.assertEqual(page.count("<a href=#order-A>"), 3)
 
     def test_orders_in_which_one_isn_t_made_are_counted(self) -> None:
-        page = page_of(printed_of("- 1 ok null in 4 orders, first [[]]"), lost()).html()
+        page = page_of(printed_of(deferred("- 1", "ok", 4, "[[]]")), lost()).html()
         self.assertEqual(rows(page), [["- 1 2 ways", "✓ ok null", "4", "66.7%", "order A"], ["- 1", "isn't made", "2", "33.3%", ""]])
 
     def test_each_first_order_is_there_once(self) -> None:
@@ -151,19 +231,53 @@ class OfPage(unittest.TestCase):
 
     def test_one_order_and_one_outcome(self) -> None:
         for first, why in (("[[],[]]", "since no caller posts anything"), ("[[[0,0]]]", "one order in which the posts can be taken")):
-            page = page_of(f"1 order\nd 1 unfired in 1 order, first {first}\n1 order, 1 outcome\n", lost()).html()
+            page = page_of(printed_of(deferred("d 1", "unfired", 1, first), orders=1), lost()).html()
             self.assertIn(why, page)
             self.assertIn("one outcome</span>", page)
             self.assertNotIn("Two orders beside each other", page)
-        self.assertIn("No Deferred is made in any order", page_of("1 order\n1 order, 1 outcome\n").html())
-        self.assertIn("No Deferred ends otherwise", page_of(printed_of(outcomes=1)).html())
+        self.assertIn("No Deferred is made in any order", page_of(printed_of(outcome(1, 1, "[[]]"), orders=1), lost()).html())
+        self.assertIn("No Deferred ends otherwise", page_of(printed_of(_ANN), lost()).html())
 
     def test_orders_that_stopped_are_said(self) -> None:
-        page = page_of("3 orders\n2 orders stopped at the limit of the journal\n3 orders, 1 outcome\n").html()
+        printed = printed_of(outcome(1, 3, "[[[0,0]]]"), stopped(2, "[[[0,1]]]"), orders=3, stops=2)
+        page = page_of(printed, lost(), mended()).html()
         self.assertIn("2 orders stopped at the limit of the journal</span>", page)
+        self.assertIn("The first order that stopped at the limit of the journal.", page)
+        self.assertEqual(rows(page, _OUTCOMES)[1], ["stopped at the limit of the journal", "2", "66.7%", "order B"])
+
+    def test_each_outcome_opens_the_chart_of_its_first_order(self) -> None:
+        page = page_of(_PRINTED, lost(), mended()).html()
+        self.assertEqual(rows(page, _OUTCOMES), [["outcome 1", "1", "16.7%", "order A"], ["outcome 2", "5", "83.3%", "order B"]])
+        self.assertIn("<tr data-o=B><td><a href=#order-B>outcome 2</a>", page)
+        self.assertIn("The first order of outcome 2. The first order in which these end so: <b class=mono>bob 1</b>", page)
+
+    def test_an_outcome_without_a_chart_has_its_batches(self) -> None:
+        page = page_of(many_ways(MOST_CHARTS + 1), mended()).html()
+        self.assertEqual(rows(page, _OUTCOMES)[-1], [f"outcome {MOST_CHARTS + 1}", "1", "5.9%", f"[[[0,{MOST_CHARTS}]]]"])
+        with mock.patch.object(orders_page, "MOST_OUTCOMES", 5):
+            page = page_of(many_ways(MOST_CHARTS), mended()).html()
+        self.assertEqual(len(rows(page, _OUTCOMES)), 5)
+        self.assertIn(f"and {MOST_CHARTS - 5} more", page)
+
+    def test_a_sample_is_said_at_the_head_and_in_each_table(self) -> None:
+        page = page_of(_SAMPLED, mended(), lost()).html()
+        self.assertIn("<bdi>t.json</bdi>: a sample of 4 of 6 orders</h1>", page)
+        self.assertIn("Orders that weren't drawn may end otherwise.", page)
+        titles = re.findall("<h3>(.*?)</h3>|<h2 id=outcomes>(.*?)</h2>", page)
+        self.assertEqual(
+            ["".join(title) for title in titles],
+            [
+                "Ends in more than one way: 1 Deferred, in a sample of 4 orders",
+                "Ends the same in every sampled order: 1 Deferred, in a sample of 4 orders",
+                "2 outcomes, in a sample of 4 orders",
+            ],
+        )
+        self.assertEqual(rows(page)[0], ["bob 1 2 ways", '✓ ok "scan"', "3", "75.0%", "order A"])
+        self.assertIn("The first sampled order of outcome 1.", page)
+        self.assertNotIn("a sample", page_of(_PRINTED, lost()).html())
 
     def test_hostile_texts_are_texts(self) -> None:
-        lines = [f"d{place} 1 ok {json.dumps(text, ensure_ascii=False)} in 6 orders, first [[[0,{place}]]]" for place, text in enumerate(samples.HOSTILE)]
+        lines = [deferred(f"d{place} 1", "ok", 6, f"[[[0,{place}]]]", text) for place, text in enumerate(samples.HOSTILE)]
         orders = read_orders(printed_of(*lines))
         hostile = samples.hostile()
         page = OrdersPage("".join(samples.HOSTILE[:8]), orders, lambda batches, label: hostile).html()
@@ -230,6 +344,17 @@ class OfCommand(unittest.TestCase):
             self.assertEqual(found, (7, "", ""))  # (the program itself says so)
             self.assertFalse((self.folder / "x.html").exists())
 
+    def test_a_sample(self) -> None:
+        status, output, errors = view("--orders", "--sample", 4, "--seed", 1, _FULL_QUEUE, "-o", self.folder)
+        target = self.folder / "full_queue.orders.html"
+        self.assertEqual((status, output, errors), (0, "", f"view: {target}: a sample of 4 of 6 orders, 2 outcomes; 2 charts\n"))
+        self.assertEqual(rows(target.read_text(encoding="utf-8"), _OUTCOMES)[0], ["outcome 1", "3", "75.0%", "order A"])
+
+    def test_a_sample_of_more_orders_than_may_run(self) -> None:
+        script = self.script(callers=[[{"do": []}] * 4] * 4, events=[])
+        self.assertEqual(view("--orders", "--sample", 2, "--seed", 0, script, "-o", self.folder)[0], 0)
+        self.assertIn("a sample of 2 of 63063000 orders", (self.folder / "s.orders.html").read_text(encoding="utf-8"))
+
     def test_a_script_that_is_refused(self) -> None:
         status, _, errors = view("--orders", self.script(events=[["deferred", 7]]), "-o", self.folder)
         self.assertEqual((status, errors.count("\n")), (2, 1))
@@ -248,6 +373,13 @@ class OfCommand(unittest.TestCase):
             ["--orders", "--most", -1, _FULL_QUEUE],
             ["--orders", "--most", MOST_ORDERS + 1, _FULL_QUEUE],
             ["--most", 5, _FULL_QUEUE],
+            ["--sample", 5, "--seed", 1, _FULL_QUEUE],
+            ["--orders", "--sample", 5, _FULL_QUEUE],
+            ["--orders", "--seed", 1, _FULL_QUEUE],
+            ["--orders", "--most", 5, "--sample", 5, "--seed", 1, _FULL_QUEUE],
+            ["--orders", "--sample", 0, "--seed", 1, _FULL_QUEUE],
+            ["--orders", "--sample", MOST_ORDERS + 1, "--seed", 1, _FULL_QUEUE],
+            ["--orders", "--sample", 5, "--seed", MOST_SEED + 1, _FULL_QUEUE],
         ):
             status, output, errors = view(*words)
             self.assertEqual((status, output, errors.count("\n")), (64, "", 1), words)
@@ -296,7 +428,7 @@ class Seen(InBrowser):
         self.waited("location.hash === '#order-B'")
         self.browser.settle()
         self.assertEqual(self.shown(), ["B"])
-        self.assertEqual(self.asked("[...document.querySelectorAll('tr.on')].map(row => row.querySelector('td').innerText)"), ["ann_safe 1", "bob_door 1"])
+        self.assertEqual(self.asked("[...document.querySelectorAll('tr.on')].map(row => row.querySelector('td').innerText)"), ["ann_safe 1", "bob_door 1", "outcome 2"])
         self.browser.click("tr[data-o=A] .count")
         self.waited("location.hash === '#order-A'")
         self.browser.settle()
@@ -362,7 +494,7 @@ class Seen(InBrowser):
         )
 
     def test_hostile_texts_do_nothing_and_are_shown(self) -> None:
-        lines = [f"d{place} 1 ok {json.dumps(text, ensure_ascii=False)} in 6 orders, first [[[0,{place % 2}]]]" for place, text in enumerate(samples.HOSTILE)]
+        lines = [deferred(f"d{place} 1", "ok", 6, f"[[[0,{place % 2}]]]", text) for place, text in enumerate(samples.HOSTILE)]
         hostile = samples.hostile()
         page = OrdersPage("".join(samples.HOSTILE[:8]), read_orders(printed_of(*lines)), lambda batches, label: hostile)
         self.path.write_text(page.html(), encoding="utf-8")

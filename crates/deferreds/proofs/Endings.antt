@@ -21,6 +21,7 @@ use Rattle.dv_replay.specs.declared.error.ReplayFault.{ReplayFault}
 use Rattle.dv_replay.specs.declared.error.SurveyFault.{SurveyFault}
 use Rattle.dv_run.specs.Headline.{Prints, Told}
 use Rattle.dv_run.specs.Run.{GivesUp}
+use Rattle.dv_run.specs.declared.orders.Chosen.{Chosen}
 use Rattle.dv_run.specs.declared.words.Form.{Form}
 use Rattle.dv_run.specs.declared.words.Form.TheVariants as form
 use Rattle.dv_survey.specs.declared.format.Format.{Format}
@@ -75,13 +76,13 @@ pub word_fails : (form : Form) (workers : ℕ) (word : List ℕ) (code : ℕ) (s
     → Does (task.Replay form workers) word code said refusal many input told told
 word_fails form workers word code said refusal many input told is says = inr (inr (record { status = is; text = says; written = Keeps-refl told }))
 
--- a run in every order ended, or failed
-pub surveys_all : (format : Format) (most outcomes code : ℕ) (said : List ℕ) (many : Option Number) (input old new : Told) → Surveys format most input old new outcomes
-    → code ≡ survey_status outcomes → said ≡ [] → many ≡ None → SurveysScript format most code said many input old new
-surveys_all format most outcomes code said many input old new surveys is says few = record { ended = Ok outcomes; ok = surveys; err = tt; status = is; text = says; number = few }
+-- a run in the chosen orders ended, or failed
+pub surveys_all : (format : Format) (chosen : Chosen) (outcomes code : ℕ) (said : List ℕ) (many : Option Number) (input old new : Told) → Surveys format chosen input old new outcomes
+    → code ≡ survey_status outcomes → said ≡ [] → many ≡ None → SurveysScript format chosen code said many input old new
+surveys_all format chosen outcomes code said many input old new surveys is says few = record { ended = Ok outcomes; ok = surveys; err = tt; status = is; text = says; number = few }
 
-pub surveys_fault : (format : Format) (most : ℕ) (fault : SurveyFault) (code : ℕ) (said : List ℕ) (many : Option Number) (input old new : Told) → surveying.GivesUp format fault most input old new
-    → code ≡ survey_fault_status fault → said ≡ survey_fault_text fault → many ≡ too_many fault → SurveysScript format most code said many input old new
-surveys_fault format most fault code said many input old new gives_up is says number = record { ended = Err fault; ok = tt; err = gives_up; status = is; text = says; number = number }
+pub surveys_fault : (format : Format) (chosen : Chosen) (fault : SurveyFault) (code : ℕ) (said : List ℕ) (many : Option Number) (input old new : Told) → surveying.GivesUp format fault chosen input old new
+    → code ≡ survey_fault_status fault → said ≡ survey_fault_text fault → many ≡ too_many fault → SurveysScript format chosen code said many input old new
+surveys_fault format chosen fault code said many input old new gives_up is says number = record { ended = Err fault; ok = tt; err = gives_up; status = is; text = says; number = number }
 
 pub ruleset endings = (surveys_all, surveys_fault, runs, runs_as_json, explains, replays_lines, fails_lines, replays_json, fails_json, replays_word, says_none, word_fails)

@@ -21,6 +21,8 @@ use Rattle.dv_replay.specs.declared.error.ReplayFault.{ReplayFault}
 use Rattle.dv_replay.specs.declared.error.SurveyFault.{SurveyFault}
 use Rattle.dv_run.specs.Headline.{Prints, Told}
 use Rattle.dv_run.specs.Run.{GivesUp}
+use Rattle.dv_run.specs.declared.orders.Chosen.{Chosen}
+use Rattle.dv_run.specs.declared.orders.Chosen.TheVariants as chosen
 use Rattle.dv_run.specs.declared.words.Form.{Form}
 use Rattle.dv_run.specs.declared.words.Form.TheVariants as form
 use Rattle.dv_run.specs.declared.words.Task.{Task}
@@ -111,16 +113,21 @@ pub record WordFails (code : ℕ) (said : List ℕ) (old new : Told) : Type 0 wh
   pub text : said ≡ codes "out of memory"
   pub written : Keeps old new
 
--- the format of a survey in this form
-abbrev pub format_for : Form → Format
-format_for form.Lines = format.Lines
-format_for form.Json = format.Json
+-- the size of a sample
+abbrev pub size_of : Chosen → Option ℕ
+size_of (chosen.Every most) = None
+size_of (chosen.Sample size seed) = Some size
 
--- a run in every order ended, or failed
-pub record SurveysScript (format : Format) (most code : ℕ) (said : List ℕ) (many : Option Number) (input old new : Told) : Type 0 where
+-- the format of a survey of these orders in this form
+abbrev pub format_for : Form → Chosen → Format
+format_for form.Lines chosen = format.Lines (size_of chosen)
+format_for form.Json chosen = format.Json (size_of chosen)
+
+-- a run in the chosen orders ended, or failed
+pub record SurveysScript (format : Format) (chosen : Chosen) (code : ℕ) (said : List ℕ) (many : Option Number) (input old new : Told) : Type 0 where
   pub ended : Result ℕ SurveyFault
-  pub ok : IfOk ended (Surveys format most input old new)
-  pub err : IfErr ended (λ fault. surveying.GivesUp format fault most input old new)
+  pub ok : IfOk ended (Surveys format chosen input old new)
+  pub err : IfErr ended (λ fault. surveying.GivesUp format fault chosen input old new)
   pub status : code ≡ survey_ended ended
   pub text : said ≡ survey_said ended
   pub number : many ≡ survey_too_many ended
@@ -130,7 +137,7 @@ abbrev pub Does : Task → List ℕ → ℕ → List ℕ → Option OrderFault �
 Does (task.Run form.Lines workers) word code said refusal many input old new = Runs code said input old new
 Does (task.Run form.Json workers) word code said refusal many input old new = RunsAsJson code said input old new
 Does (task.Replay form workers) word code said refusal many input old new = ReplaysWord form word code said refusal input old new ⊎ SaysNoBatches word code old new ⊎ WordFails code said old new
-Does (task.Survey form most) word code said refusal many input old new = SurveysScript (format_for form) most code said many input old new
+Does (task.Survey form chosen) word code said refusal many input old new = SurveysScript (format_for form chosen) chosen code said many input old new
 Does task.Why word code said refusal many input old new = ExplainsScript code said input old new
 
 -- who runs a script that is refused is pointed to what explains it

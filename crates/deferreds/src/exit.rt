@@ -11,6 +11,7 @@ use dv_replay::exit::{
     fault_refusal, fault_status, fault_text, survey_fault_status, survey_fault_text, survey_status,
     too_many,
 };
+use dv_run::orders::Chosen;
 
 /// How a run in given batches is asked for.
 const BATCHES_USAGE: &str =
@@ -18,7 +19,7 @@ const BATCHES_USAGE: &str =
 
 /// How a run in every order is asked for.
 const ORDERS_USAGE: &str =
-    "usage: deferreds [--json] --orders [--most N] [FILE], with N from 0 to 1000000";
+    "usage: deferreds [--json] --orders [--most N | --sample K --seed S] [FILE], with N up to 1000000, K from 1 to 1000000, S up to 4294967295";
 
 /// The status with which the program ends, and what it says on standard error.
 #[derive(Clone, Copy)]
@@ -32,8 +33,8 @@ pub struct Exit {
     pub refusal: Option<OrderFault>,
     /// How many orders there are where these are more than were to run, which is a line of its own.
     pub too_many: Option<Number>,
-    /// How many were to run then.
-    pub most: u32,
+    /// Which orders were to run then.
+    pub chosen: Chosen,
 }
 
 impl Exit {
@@ -51,7 +52,7 @@ impl Exit {
             hint: "",
             refusal: None,
             too_many: None,
-            most: 0,
+            chosen: Chosen::Every(0),
         }
     }
 
@@ -69,7 +70,7 @@ impl Exit {
             hint: hint_after(status),
             refusal: None,
             too_many: None,
-            most: 0,
+            chosen: Chosen::Every(0),
         }
     }
 
@@ -86,7 +87,7 @@ impl Exit {
             hint: hint_after(status),
             refusal: fault_refusal(fault),
             too_many: None,
-            most: 0,
+            chosen: Chosen::Every(0),
         }
     }
 
@@ -100,13 +101,13 @@ impl Exit {
         Exit::plain((survey_status(outcomes), ""))
     }
 
-    /// Ends where a run in every order failed, of which no more than these were to run.
-    pub fn of_survey_fault(fault: SurveyFault, most: u32) -> Exit
+    /// Ends where a run in these orders failed.
+    pub fn of_survey_fault(fault: SurveyFault, chosen: Chosen) -> Exit
         ensures status { result.status ≡ survey_fault_status fault }
         ensures text { result.text.now ≡ survey_fault_text fault }
         ensures refusal { result.refusal ≡ None }
         ensures many { result.too_many ≡ too_many fault }
-        ensures most { result.most ≡ most }
+        ensures chosen { result.chosen ≡ chosen }
     {
         let status = survey_fault_status(fault);
         Exit {
@@ -115,7 +116,7 @@ impl Exit {
             hint: hint_after(status),
             refusal: None,
             too_many: too_many(fault),
-            most,
+            chosen,
         }
     }
 
@@ -130,7 +131,7 @@ impl Exit {
             hint: "deferreds --help says more",
             refusal: None,
             too_many: None,
-            most: 0,
+            chosen: Chosen::Every(0),
         }
     }
 
@@ -151,7 +152,7 @@ impl Exit {
             hint: "deferreds --help says more",
             refusal: None,
             too_many: None,
-            most: 0,
+            chosen: Chosen::Every(0),
         }
     }
 }

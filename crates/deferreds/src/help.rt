@@ -4,8 +4,9 @@ deferreds [WORKERS] [FILE]         runs a script, and prints its journal and the
 deferreds --json [WORKERS] [FILE]  prints the run as JSON Lines, for tools
 deferreds [--json] --batches BATCHES [WORKERS] [FILE]
                                    runs a script with the posts of its callers in these batches
-deferreds [--json] --orders [--most N] [FILE]
-                                   runs a script in every order of these posts, and prints what becomes of each Deferred in how many
+deferreds [--json] --orders [--most N | --sample K --seed S] [FILE]
+                                   runs a script in every order of these posts, or in a sample of them, and prints what becomes of
+                                   each Deferred in how many
 deferreds --why [FILE]             prints, as a line of JSON, where a script is refused, and why
 deferreds --language               prints the language as JSON: its words, its keys, the lines of the journal
 deferreds --version                prints the version, the checksum of the sources, and the kit that proved them
@@ -16,6 +17,8 @@ A formally verified simulator of Twisted's Deferreds, on a virtual clock.
 WORKERS  the number of threads that do the jobs of deferToThread, 0 to 16 (0: the program's own thread does them)
 BATCHES  JSON in one word: an array for each drain and one for the end, in each the posts [CALLER,POST] that it takes, counted from 0
 N        the most orders that run, up to 1000000 (without it 20000)
+K        how many orders are drawn, 1 to 1000000; each may be drawn again
+S        what the draws follow from, 0 to 4294967295: the same orders for the same number
 FILE     a script as JSON; its name has a . or a / in it. None, or -, is standard input
 
 Example:
@@ -31,6 +34,6 @@ Status:
   4   a read or a write failed
   5   the batches are refused: they aren't an order of the script's posts
   6   --orders: the orders end in several ways
-  7   --orders: there are more orders than --most allows
+  7   --orders: there are more orders than --most allows, or than 64 bits count
   64  the words are wrong
 ";

@@ -17,7 +17,7 @@ use dv_journal::io_sink::IoSink;
 use dv_journal::sink::{Sink, write_all};
 use dv_language::language::print_language;
 use dv_orders::number::Number;
-use dv_run::orders::MOST_ORDERS;
+use dv_run::orders::{Chosen, MOST_ORDERS};
 use dv_run::{Asked, Input, IoSource, RunFault, asked_of, batches_word, exit_of};
 use std::alloc::AllocGlobal;
 use std::io::IsTerminal;
@@ -74,10 +74,9 @@ fn main(rt: HostRuntime) -> ExitCode {
     if let Some(fault) = exit.refusal {
         let _ = eprintln!(rt; "batches refused: {fault}");
     }
-    match exit.too_many {
-        None => {}
-        Some(Number::Exactly(number)) => {
-            let most = exit.most;
+    match (exit.too_many, exit.chosen) {
+        (None, _) => {}
+        (Some(Number::Exactly(number)), Chosen::Every(most)) => {
             let noun = if number == 1 {
                 "order is"
             } else {
@@ -85,18 +84,21 @@ fn main(rt: HostRuntime) -> ExitCode {
             };
             if number <= u64::from(MOST_ORDERS) {
                 let _ = eprintln!(rt;
-                    "{number} {noun} more than the {most} that may run; --most {number} allows them"
+                    "{number} {noun} more than the {most} that may run; --most {number} allows them, --sample K --seed S draws some"
                 );
             } else {
                 let _ = eprintln!(rt;
-                    "{number} {noun} more than the {most} that may run, and --most allows {MOST_ORDERS} at most"
+                    "{number} {noun} more than the {most} that may run, and --most allows {MOST_ORDERS} at most; --sample K --seed S draws some"
                 );
             }
         }
-        Some(Number::More) => {
+        (Some(Number::More), Chosen::Every(_)) => {
             let _ = eprintln!(rt;
                 "more orders than 64 bits count, and --most allows {MOST_ORDERS} at most"
             );
+        }
+        (Some(Number::Exactly(_) | Number::More), Chosen::Sample(_, _)) => {
+            let _ = eprintln!(rt; "more orders than 64 bits count: no sample is drawn");
         }
     }
     if !exit.text.is_empty() {

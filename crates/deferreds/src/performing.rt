@@ -2,7 +2,7 @@
 
 ghost use Rattle.std.specs.Prelude.{◌≡◌, ◌≤◌, Ok};
 ghost use Rattle.dv_output.specs.Exit.{error_text, status};
-ghost use Rattle.deferreds.specs.Ending.{Does, Replays, Runs, format_for};
+ghost use Rattle.deferreds.specs.Ending.{Does, Replays, Runs, format_for, size_of};
 ghost use Rattle.dv_run.specs.Words.{HasFewWorkers};
 ghost use Rattle.dv_script.specs.declared.limits.TheConstants.{MOST_WORKERS};
 
@@ -14,6 +14,7 @@ use dv_orders::reading::read_batches;
 use dv_posts::posted::Posted;
 use dv_replay::running::replay;
 use dv_replay::surveying::survey;
+use dv_run::orders::Chosen;
 use dv_run::{Form, Kept, RunFault, Source, Task, exit_of, run_and_keep};
 use dv_survey::format::Format;
 use dv_value::items::Items;
@@ -44,22 +45,39 @@ where
             Err(Stop::BadShape) => Exit::wrong_batches(),
             Err(Stop::OutOfMemory) => Exit::plain(exit_of(&Err(RunFault::OutOfMemory))),
         },
-        Task::Survey(form, most) => {
-            match survey(rt, reader, writer, &PlainGate, format_for(form), most) {
+        Task::Survey(form, chosen) => {
+            match survey(
+                rt,
+                reader,
+                writer,
+                &PlainGate,
+                format_for(form, chosen),
+                chosen,
+            ) {
                 Ok(outcomes) => Exit::of_survey(outcomes),
-                Err(fault) => Exit::of_survey_fault(fault, most),
+                Err(fault) => Exit::of_survey_fault(fault, chosen),
             }
         }
         Task::Why => Exit::plain(dv_why::explaining::exit_of(explain(rt.alloc(), reader, writer))),
     }
 }
 
-fn format_for(form: Form) -> Format
-    ensures { result ≡ format_for form }
+fn format_for(form: Form, chosen: Chosen) -> Format
+    ensures { result ≡ format_for form chosen }
 {
     match form {
-        Form::Lines => Format::Lines,
-        Form::Json => Format::Json,
+        Form::Lines => Format::Lines(size_of(chosen)),
+        Form::Json => Format::Json(size_of(chosen)),
+    }
+}
+
+/// Returns the size of a sample.
+fn size_of(chosen: Chosen) -> Option<u32>
+    ensures { result ≡ size_of chosen }
+{
+    match chosen {
+        Chosen::Every(_) => None,
+        Chosen::Sample(size, _) => Some(size),
     }
 }
 

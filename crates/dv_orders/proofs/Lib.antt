@@ -10,3 +10,4 @@ pub mod OrderLemmas
 pub mod NumberLemmas
 pub mod RankingLemmas
 pub mod SamplingLemmas
+pub mod SampledLemmas

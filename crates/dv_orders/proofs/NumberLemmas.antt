@@ -11,6 +11,7 @@ use Rattle.dv_orders.specs.Numbers.{number_of_cuts, number_of_sequences, sum_ove
 use Rattle.dv_orders.specs.Orders.{counts_of, orders, total}
 use Rattle.dv_orders.specs.declared.number.Number.{Number}
 use Rattle.dv_orders.specs.declared.number.Number.TheVariants.{Exactly, More}
+use Rattle.dv_orders.specs.Listed.{ThereIsAnOrder}
 use Rattle.dv_orders.proofs.Listing.{all_counted}
 
 -- the sum over splits, but for the first of them
@@ -157,3 +158,16 @@ sequences_past script most sequences cap limit is past =
     let ways = number_of_sequences (counts_of script.callers) in
     let cuts = number_of_cuts script.events (total (counts_of script.callers)) in
     omega (arith, times_one ways cuts (cuts_some script.events (total (counts_of script.callers))), all_counted script)
+
+-- the posts come in one sequence at least
+sequences_some : (counts : List ℕ) → 0 < number_of_sequences counts
+sequences_some [] = omega arith
+sequences_some (count ∷ counts) =
+    omega (arith, sequences_some counts, one_times (ways count (total counts)) (number_of_sequences counts) (ways_some count (total counts)))
+
+pub there_is_one : ThereIsAnOrder
+there_is_one script =
+    let counts = counts_of script.callers in
+    let sequences = number_of_sequences counts in
+    let cuts = number_of_cuts script.events (total counts) in
+    omega (arith, all_counted script, one_times sequences cuts (sequences_some counts), cuts_some script.events (total counts))

@@ -11,3 +11,4 @@ pub mod Ordering
 pub mod Visiting
 pub mod Ranking
 pub mod Sampling
+pub mod Sampled

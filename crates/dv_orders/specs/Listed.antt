@@ -1,5 +1,5 @@
 -- That the list of orders is right: what `dv_posts` says of batches is all of it, each once.
-use Rattle.std.specs.Prelude.{◌≡◌, ◌≢◌, ◌↔◌, List, [], ◌∷◌, length, AllPairs, Contains}
+use Rattle.std.specs.Prelude.{◌≡◌, ◌≢◌, ◌↔◌, ◌<◌, List, [], ◌∷◌, length, AllPairs, Contains}
 use Rattle.dv_script.specs.declared.script.Script.{Script}
 use Rattle.dv_posts.specs.Batches.{AreComplete, AreLawful, Batch}
 use Rattle.dv_orders.specs.Numbers.{number_of_orders}
@@ -21,6 +21,10 @@ NoOrderIsListedTwice = (script : Script) → AllPairs (λ one another. one ≢ a
 -- there are as many as follows from the numbers of posts and the drains
 abbrev pub OrdersAreCounted : Type 0
 OrdersAreCounted = (script : Script) → length (orders script) ≡ number_of_orders script
+
+-- there is one at least
+abbrev pub ThereIsAnOrder : Type 0
+ThereIsAnOrder = (script : Script) → 0 < length (orders script)
 
 -- where nobody posts, there is one order, whose batches are empty
 abbrev pub OneOrderWithoutPosts : Type 0

@@ -2,15 +2,17 @@
 
 ghost use Rattle.dv_orders.specs.Cases.{TwoCallersHaveEighteenOrders, TwoDrainsHaveThreeOrders, DrainsTakeFewPosts, NobodyPosts, PostsAtTheEndTakeTurns};
 ghost use Rattle.dv_orders.specs.Faults.{FaultsAreOfNoOrder};
-ghost use Rattle.dv_orders.specs.Listed.{EveryOrderIsListed, NoOrderIsListedTwice, OneOrderWithoutPosts, OrdersAreCounted};
+ghost use Rattle.dv_orders.specs.Listed.{EveryOrderIsListed, NoOrderIsListedTwice, OneOrderWithoutPosts, OrdersAreCounted, ThereIsAnOrder};
+ghost use Rattle.dv_orders.specs.Sampled.{SamplesAreOrders};
 ghost use Rattle.dv_orders.specs.Sampling.{FirstNumbersArePublished};
 
-/// The list holds each order in which the posts of a script may be taken, once, and nothing else. Its length is the number of orders. A
-/// script without posts has one order.
+/// The list holds each order in which the posts of a script may be taken, once, and nothing else. Its length is the number of orders, which
+/// is one at least. A script without posts has one order.
 pub fn every_order_is_listed()
     ensures all { EveryOrderIsListed }
     ensures once { NoOrderIsListedTwice }
     ensures counted { OrdersAreCounted }
+    ensures some { ThereIsAnOrder }
     ensures one { OneOrderWithoutPosts }
 {}
 
@@ -31,4 +33,9 @@ pub fn orders_are_worked_out()
 /// The generator gives the numbers of SplitMix64.
 pub fn generator_is_splitmix()
     ensures { FirstNumbersArePublished }
+{}
+
+/// What a seed draws are orders of the script.
+pub fn samples_are_orders()
+    ensures { SamplesAreOrders }
 {}

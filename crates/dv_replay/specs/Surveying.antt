@@ -1,15 +1,18 @@
--- A script in every order of its posts: what is gathered of its runs, and what is written of that.
-use Rattle.std.specs.Prelude.{◌≡◌, ◌≤◌, ◌<◌, ◌⊎◌, ◌++◌, ◌^◌, ◌-◌, ℕ, zero, suc, ⊤, List, length, map, All, Result, Ok, Err}
+-- A script in every order of its posts, or in each of a sample: what is gathered of its runs, and what is written of that.
+use Rattle.std.specs.Prelude.{◌≡◌, ◌<◌, ◌⊎◌, ◌++◌, ◌^◌, ◌-◌, ℕ, nat_le, Bool, true, false, ⊤, None, Some, List, [], ◌∷◌, length, map, All, Result, Ok, Err}
 use Rattle.std.specs.Io.KnownBytes.{Appends, Keeps}
 use Rattle.dv_engine.specs.declared.report.Report.{Report}
 use Rattle.dv_journal.specs.Sink.{AppendsPrefix}
 use Rattle.dv_orders.specs.Orders.{orders}
+use Rattle.dv_orders.specs.Sampled.{sampled}
 use Rattle.dv_orders.specs.declared.number.Number.{Number}
 use Rattle.dv_orders.specs.declared.number.Number.TheVariants.{Exactly, More}
 use Rattle.dv_output.specs.declared.error.RunFault.TheVariants.{ScriptRefused, OutOfMemory, ReadFault, WriteFault}
 use Rattle.dv_posts.specs.Batches.{Batch}
 use Rattle.dv_replay.specs.declared.error.SurveyFault.{SurveyFault}
 use Rattle.dv_replay.specs.declared.error.SurveyFault.TheVariants.{Run, TooMany}
+use Rattle.dv_run.specs.declared.orders.Chosen.{Chosen}
+use Rattle.dv_run.specs.declared.orders.Chosen.TheVariants.{Every, Sample}
 use Rattle.dv_run.specs.Headline.{IsRun, Told}
 use Rattle.dv_run.specs.Run as run
 use Rattle.dv_run.specs.Run.{HasRead, RefusesInput, SaysScript}
@@ -32,36 +35,53 @@ pub record HasSurveyed (format : Format) (script : Script) (seen : List (List Ba
   pub gathers : survey ≡ gathering.survey_of format script.classes (map run_of reports)
 
 -- the format that a mark stands for
-abbrev pub format_of : ℕ → Format
-format_of zero = Lines
-format_of (suc mark) = Json
+abbrev pub format_of : List ℕ → Format
+format_of [] = Lines None
+format_of (size ∷ []) = Lines (Some size)
+format_of (size ∷ second ∷ []) = Json None
+format_of (size ∷ second ∷ third ∷ mark) = Json (Some size)
 
--- how many orders there are, and then what became of the Deferreds
-abbrev pub orders_text : Format → ℕ → Survey → List ℕ
-orders_text format orders survey = number_text format orders ++ survey_text survey orders
+-- the orders that are chosen
+abbrev pub chosen_orders : Chosen → Script → List (List Batch)
+chosen_orders (Every most) script = orders script
+chosen_orders (Sample size seed) script = sampled script size seed
 
--- what became of the Deferreds in every order was written, of which there are no more than these, in so many ways
-pub record PrintsOrders (format : Format) (most : ℕ) (old new : Told) (outcomes : ℕ) (script : Script) : Type 0 where
-  pub few : length (orders script) ≤ most
+-- whether so many orders are no more than may run
+abbrev pub is_few : Chosen → ℕ → Bool
+is_few (Every most) count = nat_le count most
+is_few (Sample size seed) count = true
+
+-- how many run, of so many orders
+abbrev pub ran : Chosen → ℕ → ℕ
+ran (Every most) count = count
+ran (Sample size seed) count = size
+
+-- how many orders there are, and then what became of the Deferreds in those that ran
+abbrev pub orders_text : Format → Chosen → ℕ → Survey → List ℕ
+orders_text format chosen count survey = number_text format count ++ survey_text survey (ran chosen count)
+
+-- what became of the Deferreds in the chosen orders was written, of which there are no more than may run, in so many ways
+pub record PrintsOrders (format : Format) (chosen : Chosen) (old new : Told) (outcomes : ℕ) (script : Script) : Type 0 where
+  pub few : is_few chosen (length (orders script)) ≡ true
   pub survey : Survey
-  pub surveyed : HasSurveyed format script (orders script) survey
-  pub written : Appends old new (orders_text format (length (orders script)) survey)
+  pub surveyed : HasSurveyed format script (chosen_orders chosen script) survey
+  pub written : Appends old new (orders_text format chosen (length (orders script)) survey)
   pub ways : outcomes ≡ length survey.outcomes
 
 -- a prefix of that was written
-pub record PrintsSome (format : Format) (old new : Told) (script : Script) : Type 0 where
+pub record PrintsSome (format : Format) (chosen : Chosen) (old new : Told) (script : Script) : Type 0 where
   pub survey : Survey
-  pub surveyed : HasSurveyed format script (orders script) survey
-  pub written : AppendsPrefix old new (orders_text format (length (orders script)) survey)
+  pub surveyed : HasSurveyed format script (chosen_orders chosen script) survey
+  pub written : AppendsPrefix old new (orders_text format chosen (length (orders script)) survey)
 
 -- a prefix of the line of their number was written
 abbrev pub PrintsNumber : Format → Told → Told → Script → Type 0
 PrintsNumber format old new script = AppendsPrefix old new (number_text format (length (orders script)))
 
--- the script has so many orders, which are more than these, or more than 64 bits count
-abbrev pub Exceeds : Number → ℕ → Script → Type 0
-Exceeds (Exactly number) most script = (number ≡ length (orders script)) × (most < number)
-Exceeds More most script = 2 ^ 64 - 2 < length (orders script)
+-- the script has so many orders, which are more than may run, or more than 64 bits count
+abbrev pub Exceeds : Number → Chosen → Script → Type 0
+Exceeds (Exactly number) chosen script = (number ≡ length (orders script)) × (is_few chosen number ≡ false)
+Exceeds More chosen script = 2 ^ 64 - 2 < length (orders script)
 
 -- the input says a script, of which this holds
 pub record InputSays (input : Told) (Holds : Script → Type 0) : Type 0 where
@@ -70,32 +90,32 @@ pub record InputSays (input : Told) (Holds : Script → Type 0) : Type 0 where
   pub holds : Holds script
 
 -- the input says a script, and what became of its Deferreds in every order was written
-abbrev pub Surveys : Format → ℕ → Told → Told → Told → ℕ → Type 0
-Surveys format most input old new outcomes = InputSays input (PrintsOrders format most old new outcomes)
+abbrev pub Surveys : Format → Chosen → Told → Told → Told → ℕ → Type 0
+Surveys format chosen input old new outcomes = InputSays input (PrintsOrders format chosen old new outcomes)
 
 -- why the orders of a script aren't performed: an allocation failed, or there are too many
-abbrev pub CountFails : SurveyFault → ℕ → Script → Type 0
-CountFails (Run (ScriptRefused fault)) most script = ⊥
-CountFails (Run OutOfMemory) most script = ⊤
-CountFails (Run ReadFault) most script = ⊥
-CountFails (Run WriteFault) most script = ⊥
-CountFails (TooMany number) most script = Exceeds number most script
+abbrev pub CountFails : SurveyFault → Chosen → Script → Type 0
+CountFails (Run (ScriptRefused fault)) chosen script = ⊥
+CountFails (Run OutOfMemory) chosen script = ⊤
+CountFails (Run ReadFault) chosen script = ⊥
+CountFails (Run WriteFault) chosen script = ⊥
+CountFails (TooMany number) chosen script = Exceeds number chosen script
 
 -- what was written before each fault, once there is a script: where there are too many orders, nothing
-abbrev pub OrdersGiveUp : Format → SurveyFault → ℕ → Told → Told → Script → Type 0
-OrdersGiveUp format (Run (ScriptRefused fault)) most old new script = ⊥
-OrdersGiveUp format (Run OutOfMemory) most old new script = PrintsNumber format old new script ⊎ PrintsSome format old new script
-OrdersGiveUp format (Run ReadFault) most old new script = ⊥
-OrdersGiveUp format (Run WriteFault) most old new script = PrintsNumber format old new script ⊎ PrintsSome format old new script
-OrdersGiveUp format (TooMany number) most old new script = Exceeds number most script × Keeps old new
+abbrev pub OrdersGiveUp : Format → SurveyFault → Chosen → Told → Told → Script → Type 0
+OrdersGiveUp format (Run (ScriptRefused fault)) chosen old new script = ⊥
+OrdersGiveUp format (Run OutOfMemory) chosen old new script = PrintsNumber format old new script ⊎ PrintsSome format chosen old new script
+OrdersGiveUp format (Run ReadFault) chosen old new script = ⊥
+OrdersGiveUp format (Run WriteFault) chosen old new script = PrintsNumber format old new script ⊎ PrintsSome format chosen old new script
+OrdersGiveUp format (TooMany number) chosen old new script = Exceeds number chosen script × Keeps old new
 
 -- what was written before each fault: nothing where there is no script
-abbrev pub GivesUp : Format → SurveyFault → ℕ → Told → Told → Told → Type 0
-GivesUp format (Run (ScriptRefused fault)) most input old new = RefusesInput input old new fault
-GivesUp format (Run OutOfMemory) most input old new = Keeps old new ⊎ InputSays input (OrdersGiveUp format (Run OutOfMemory) most old new)
-GivesUp format (Run ReadFault) most input old new = Keeps old new
-GivesUp format (Run WriteFault) most input old new = InputSays input (OrdersGiveUp format (Run WriteFault) most old new)
-GivesUp format (TooMany number) most input old new = InputSays input (OrdersGiveUp format (TooMany number) most old new)
+abbrev pub GivesUp : Format → SurveyFault → Chosen → Told → Told → Told → Type 0
+GivesUp format (Run (ScriptRefused fault)) chosen input old new = RefusesInput input old new fault
+GivesUp format (Run OutOfMemory) chosen input old new = Keeps old new ⊎ InputSays input (OrdersGiveUp format (Run OutOfMemory) chosen old new)
+GivesUp format (Run ReadFault) chosen input old new = Keeps old new
+GivesUp format (Run WriteFault) chosen input old new = InputSays input (OrdersGiveUp format (Run WriteFault) chosen old new)
+GivesUp format (TooMany number) chosen input old new = InputSays input (OrdersGiveUp format (TooMany number) chosen old new)
 
 -- after a read fault the reader has failed meanwhile, and after any other it hasn't
 abbrev pub ReaderFailedBy : SurveyFault → ℕ → ℕ → Type 0

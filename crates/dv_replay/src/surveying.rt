@@ -1,9 +1,10 @@
-//! Runs a script in every order of its posts, and prints what became of each Deferred in how many of them.
+//! Runs a script in every order of its posts, or in each of a sample, and prints what became of each Deferred in how many of them.
 
-ghost use Rattle.std.specs.Prelude.{◌≡◌, ◌≤◌, ◌<◌, ◌++◌, ◌^◌, ◌-◌, length, IfOk, IfErr, IsErrOf, OnOk, OnErr, string_bytes};
+ghost use Rattle.std.specs.Prelude.{◌≡◌, ◌+◌, ◌<◌, ◌++◌, ◌^◌, ◌-◌, ◌≤◌, length, true, IfOk, IfErr, IsErrOf, OnOk, OnErr, string_bytes};
 ghost use Rattle.dv_journal.specs.Sink.{AppendsPrefix, HasFailed};
 ghost use Rattle.dv_orders.specs.Orders.{orders};
-ghost use Rattle.dv_replay.specs.Surveying.{CountFails, GivesUp, format_of, HasSurveyed, Leaves, OrdersGiveUp, PrintsOrders, ReaderFailed, Surveys, WriterFailed};
+ghost use Rattle.dv_orders.specs.Visiting.{SeesMore};
+ghost use Rattle.dv_replay.specs.Surveying.{CountFails, GivesUp, chosen_orders, format_of, is_few, ran, HasSurveyed, Leaves, OrdersGiveUp, PrintsOrders, ReaderFailed, Surveys, WriterFailed};
 ghost use Rattle.dv_script.specs.declared.limits.TheConstants.{MOST_POOLS};
 ghost use Rattle.dv_survey.specs.Text.{number_text, survey_text};
 ghost use Rattle.std.specs.Io.KnownBytes.{Appends};
@@ -15,10 +16,11 @@ use dv_journal::error::PrintFault;
 use dv_journal::sink::{Sink, SinkFault, write_all};
 use dv_orders::number::Number;
 use dv_orders::numbering::number_of_orders;
-use dv_orders::visiting::{VisitFault, Visitor, each_order};
+use dv_orders::visiting::{VisitFault, Visitor, each_order, each_sampled};
 use dv_output::error::RunFault;
 use dv_posts::posted::Posted;
 use dv_run::driving::Reporting;
+use dv_run::orders::Chosen;
 use dv_run::running::script_of;
 use dv_script::script::Script;
 use dv_source::source::Source;
@@ -72,14 +74,45 @@ where
     }
 }
 
-/// Runs a script in every order of its posts on this thread, and returns what became of its Deferreds.
-fn survey_of<S, G>(rt: &S, script: &Script, gate: &G, format: Format) -> Result<Survey, AllocError>
+/// Has the visitor visit the chosen orders of its script, which has `count`.
+fn each_chosen<V: Visitor>(
+    alloc: Global,
+    script: &Script,
+    chosen: Chosen,
+    count: u64,
+    visitor: &mut V,
+) -> Result<(), VisitFault<V::Error>>
+    requires known { script.now ≡ V.script_of visitor.old }
+    requires number { count ≡ length (orders script.now) }
+    requires fits { count + 1 < 2 ^ 64 }
+    ensures same { V.script_of visitor.new ≡ V.script_of visitor.old }
+    ensures ok { OnOk result (SeesMore V.has_seen visitor.old visitor.new (chosen_orders chosen script.now)) }
+{
+    match chosen {
+        Chosen::Every(_) => each_order(alloc, script, visitor),
+        Chosen::Sample(size, seed) => {
+            each_sampled(alloc, script, count, size, u64::from(seed), visitor)
+        }
+    }
+}
+
+/// Runs a script, which has `count` orders, in the chosen ones on this thread, and returns what became of its Deferreds.
+fn survey_of<S, G>(
+    rt: &S,
+    script: &Script,
+    gate: &G,
+    format: Format,
+    chosen: Chosen,
+    count: u64,
+) -> Result<Survey, AllocError>
 where
     S: Threads + Wait + RandomSource + AllocGlobal,
     G: Gate,
     requires limited { script.now.limit < 2 ^ 32 - 1 }
     requires pools { length script.now.pools ≤ MOST_POOLS }
-    ensures { IfOk result (HasSurveyed format script.now (orders script.now)) }
+    requires number { count ≡ length (orders script.now) }
+    requires fits { count + 1 < 2 ^ 64 }
+    ensures { IfOk result (HasSurveyed format script.now (chosen_orders chosen script.now)) }
 {
     let Ok(keys) = RandomState::new(rt) else {
         return Err(AllocError);
@@ -92,25 +125,46 @@ where
         keys,
         survey: Survey::new(alloc, keys, format),
     };
-    match each_order(alloc, script, &mut surveyor) {
+    match each_chosen(alloc, script, chosen, count, &mut surveyor) {
         Ok(()) => Ok(surveyor.survey),
         Err(VisitFault::OutOfMemory | VisitFault::Failed(AllocError)) => Err(AllocError),
     }
 }
 
-/// Returns how many orders a script has. TooMany where there are more than these.
-fn few_orders(alloc: Global, script: &Script, most: u32) -> Result<u64, SurveyFault>
-    ensures number { IfOk result (λ number. number ≡ length (orders script.now)) }
-    ensures few { IfOk result (λ number. number ≤ most) }
-    ensures err { IfErr result (λ fault. CountFails fault most script.now) }
+/// Whether so many orders are no more than may run.
+fn is_few(chosen: Chosen, count: u64) -> bool
+    ensures { result ≡ is_few chosen count }
+{
+    match chosen {
+        Chosen::Every(most) => count <= u64::from(most),
+        Chosen::Sample(_, _) => true,
+    }
+}
+
+/// How many orders run, of so many.
+fn ran(chosen: Chosen, count: u64) -> u64
+    ensures { result ≡ ran chosen count }
+{
+    match chosen {
+        Chosen::Every(_) => count,
+        Chosen::Sample(size, _) => u64::from(size),
+    }
+}
+
+/// Returns how many orders a script has. TooMany where there are more than may run, or more than 64 bits count.
+fn count_orders(alloc: Global, script: &Script, chosen: Chosen) -> Result<u64, SurveyFault>
+    ensures number { IfOk result (λ count. count ≡ length (orders script.now)) }
+    ensures few { IfOk result (λ count. is_few chosen count ≡ true) }
+    ensures fits { IfOk result (λ count. count + 1 < 2 ^ 64) }
+    ensures err { IfErr result (λ fault. CountFails fault chosen script.now) }
 {
     match number_of_orders(alloc, script, u64::MAX - 1) {
         Err(AllocError) => Err(SurveyFault::Run(RunFault::OutOfMemory)),
         Ok(Number::More) => Err(SurveyFault::TooMany(Number::More)),
-        Ok(Number::Exactly(number)) => if number <= u64::from(most) {
-            Ok(number)
+        Ok(Number::Exactly(count)) => if is_few(chosen, count) {
+            Ok(count)
         } else {
-            Err(SurveyFault::TooMany(Number::Exactly(number)))
+            Err(SurveyFault::TooMany(Number::Exactly(count)))
         },
     }
 }
@@ -175,15 +229,15 @@ fn text_of(alloc: Global, orders: u64, survey: &Survey) -> Result<String, AllocE
     Ok(text)
 }
 
-/// Runs a script in every order of its posts, where there are no more than these, and writes what became of its Deferreds. Returns in how
-/// many ways they ended.
+/// Runs a script in the chosen orders of its posts, where there are no more than may run, and writes what became of its Deferreds. Returns
+/// in how many ways they ended.
 fn print_orders<S, W, G>(
     rt: &S,
     script: &Script,
     writer: &mut W,
     gate: &G,
     format: Format,
-    most: u32,
+    chosen: Chosen,
 ) -> Result<usize, SurveyFault>
 where
     S: Threads + Wait + RandomSource + AllocGlobal,
@@ -191,49 +245,50 @@ where
     G: Gate,
     requires limited { script.now.limit < 2 ^ 32 - 1 }
     requires pools { length script.now.pools ≤ MOST_POOLS }
-    ensures ok { IfOk result (λ outcomes. PrintsOrders format most (W.taken writer.old) (W.taken writer.new) outcomes script.now) }
-    ensures err { IfErr result (λ fault. OrdersGiveUp format fault most (W.taken writer.old) (W.taken writer.new) script.now) }
+    ensures ok { IfOk result (λ outcomes. PrintsOrders format chosen (W.taken writer.old) (W.taken writer.new) outcomes script.now) }
+    ensures err { IfErr result (λ fault. OrdersGiveUp format fault chosen (W.taken writer.old) (W.taken writer.new) script.now) }
     ensures writer { WriterFailed result (W.failures writer.old) (W.failures writer.new) }
 {
     let alloc = rt.alloc();
-    let orders = match few_orders(alloc, script, most) {
+    let orders = match count_orders(alloc, script, chosen) {
         Ok(orders) => orders,
         Err(fault) => return Err(fault),
     };
     if let Err(fault) = print_number(alloc, format, orders, writer) {
         return Err(SurveyFault::Run(fault.into()));
     }
-    let Ok(survey) = survey_of(rt, script, gate, format) else {
+    let Ok(survey) = survey_of(rt, script, gate, format, chosen, orders) else {
         return Err(SurveyFault::Run(RunFault::OutOfMemory));
     };
-    match print_survey(alloc, orders, &survey, writer) {
+    match print_survey(alloc, ran(chosen, orders), &survey, writer) {
         Ok(()) => Ok(survey.outcomes_len()),
         Err(fault) => Err(SurveyFault::Run(fault.into())),
     }
 }
 
-/// Reads a script to the end of the input, and runs it in every order in which its callers' posts may be taken, where there are no more
-/// orders than these: each run is that of `replay` in its batches, on this thread alone. The number of orders is written before the first
-/// run, and after the last one what became of each Deferred: a line for each of its ends, with the number of orders in which it came and
-/// the batches of the first. All is written in this format. Returns in how many ways the runs ended: 1 where no order makes a difference to any Deferred.
+/// Reads a script to the end of the input, and runs it in the chosen orders in which its callers' posts may be taken: in every one, where
+/// there are no more than may run, or in each of a sample. Each run is that of `replay` in its batches, on this thread alone. The number of
+/// orders is written before the first run. After the last one comes what became of each Deferred, a line for each of its ends, and a line
+/// for each outcome of a run: in how many orders it came, and the batches of the first. All is written in this format, which should name
+/// the size of the sample. Returns in how many ways the runs ended: 1 where no order that ran makes a difference to any Deferred.
 ///
-/// TooMany where there are more orders: nothing was performed, and nothing written. The other errors come as in `dv_run::run`, and memory
-/// grows with the different ends, not with the orders.
+/// TooMany where there are more orders than may run, and for a sample where there are more than 64 bits count: nothing was performed, and
+/// nothing written. The other errors come as in `dv_run::run`, and memory grows with the different ends, not with the orders.
 pub fn survey<S, R, W, G>(
     rt: &S,
     reader: &mut R,
     writer: &mut W,
     gate: &G,
     format: Format,
-    most: u32,
+    chosen: Chosen,
 ) -> Result<usize, SurveyFault>
 where
     S: Threads + Wait + RandomSource + AllocGlobal,
     R: Source,
     W: Sink,
     G: Gate,
-    ensures ok { IfOk result (λ outcomes. Surveys format most (R.left reader.old) (W.taken writer.old) (W.taken writer.new) outcomes) }
-    ensures err { IfErr result (λ fault. GivesUp format fault most (R.left reader.old) (W.taken writer.old) (W.taken writer.new)) }
+    ensures ok { IfOk result (λ outcomes. Surveys format chosen (R.left reader.old) (W.taken writer.old) (W.taken writer.new) outcomes) }
+    ensures err { IfErr result (λ fault. GivesUp format fault chosen (R.left reader.old) (W.taken writer.old) (W.taken writer.new)) }
     ensures reader { ReaderFailed result (R.failures reader.old) (R.failures reader.new) }
     ensures writer { WriterFailed result (W.failures writer.old) (W.failures writer.new) }
     ensures left { Leaves result (R.left reader.old) (R.left reader.new) }
@@ -242,7 +297,7 @@ where
         Ok(script) => script,
         Err(fault) => return Err(SurveyFault::Run(fault)),
     };
-    match print_orders(rt, &script, writer, gate, format, most) {
+    match print_orders(rt, &script, writer, gate, format, chosen) {
         Ok(outcomes) => {
             script.discard();
             Ok(outcomes)

@@ -1,8 +1,10 @@
 -- What the words after the program's name ask for.
 use Rattle.std.specs.Prelude.{Bool, false, not, ℕ, nat_eq, ◌&&◌, ◌||◌, if◌then◌else◌, List, [], ◌∷◌, Option, None, Some, bytes_eq, codes, option_and_then, ◌≤◌, ⊤}
 use Rattle.std.specs.List.{list_any}
-use Rattle.dv_run.specs.Orders.{most_in}
+use Rattle.dv_run.specs.Orders.{every_in, sample_in}
 use Rattle.dv_run.specs.Workers.{few_workers, number_in}
+use Rattle.dv_run.specs.declared.orders.Chosen.{Chosen}
+use Rattle.dv_run.specs.declared.orders.Chosen.TheVariants.{Every}
 use Rattle.dv_run.specs.declared.orders.TheConstants.{ORDERS}
 use Rattle.dv_script.specs.declared.limits.TheConstants.{MOST_WORKERS}
 use Rattle.dv_run.specs.declared.words.Form.{Form}
@@ -51,7 +53,7 @@ run_in form (word ∷ second ∷ third ∷ words) = None
 abbrev pub replayed_task : Task → Input → Option Asked
 replayed_task (task.Run form workers) input = Some (asked.Script (task.Replay form workers) input)
 replayed_task (task.Replay form workers) input = None
-replayed_task (task.Survey form most) input = None
+replayed_task (task.Survey form chosen) input = None
 replayed_task task.Why input = None
 
 -- the same of what is asked for
@@ -66,23 +68,32 @@ abbrev pub replay_in : Form → List (List ℕ) → Option Asked
 replay_in form [] = None
 replay_in form (batches ∷ words) = option_and_then replayed (run_in form words)
 
--- a run in every order, where the most orders and what is read are known
-abbrev pub survey_of : Form → Option ℕ → Option Input → Option Asked
-survey_of form (Some most) (Some input) = Some (asked.Script (task.Survey form most) input)
-survey_of form (Some most) None = None
+-- a run in each of these orders, where they and what is read are known
+abbrev pub survey_of : Form → Option Chosen → Option Input → Option Asked
+survey_of form (Some chosen) (Some input) = Some (asked.Script (task.Survey form chosen) input)
+survey_of form (Some chosen) None = None
 survey_of form None input = None
 
--- a run in every order, up to so many: no words, or what is read
-abbrev pub survey_up_to : Form → Option ℕ → List (List ℕ) → Option Asked
-survey_up_to form most [] = survey_of form most (Some Standard)
-survey_up_to form most (word ∷ []) = survey_of form most (input_in word)
-survey_up_to form most (word ∷ second ∷ words) = None
+-- a run in each of these orders: no words, or what is read
+abbrev pub survey_in : Form → Option Chosen → List (List ℕ) → Option Asked
+survey_in form chosen [] = survey_of form chosen (Some Standard)
+survey_in form chosen (word ∷ []) = survey_of form chosen (input_in word)
+survey_in form chosen (word ∷ second ∷ words) = None
 
--- a run in every order: `--most` and a number, or neither, and then what is read
+-- a run in each order of a sample of as many as the first word says: `--seed` and a number, and then what is read
+abbrev pub sampled_in : Form → List ℕ → List (List ℕ) → Option Asked
+sampled_in form size [] = None
+sampled_in form size (flag ∷ []) = None
+sampled_in form size (flag ∷ seed ∷ words) = if bytes_eq flag (codes "--seed") then survey_in form (sample_in size seed) words else None
+
+-- a run in every order, or in each of a sample: `--most` and a number, `--sample` with what follows it, or neither, and then what is read
 abbrev pub orders_in : Form → List (List ℕ) → Option Asked
-orders_in form [] = survey_of form (Some ORDERS) (Some Standard)
-orders_in form (word ∷ []) = survey_of form (Some ORDERS) (input_in word)
-orders_in form (flag ∷ most ∷ words) = if bytes_eq flag (codes "--most") then survey_up_to form (most_in most) words else None
+orders_in form [] = survey_of form (Some (Every ORDERS)) (Some Standard)
+orders_in form (word ∷ []) = survey_of form (Some (Every ORDERS)) (input_in word)
+orders_in form (flag ∷ number ∷ words) =
+    if bytes_eq flag (codes "--most") then survey_in form (every_in number) words
+    else if bytes_eq flag (codes "--sample") then sampled_in form number words
+    else None
 
 -- what is printed as JSON Lines: a run, in given batches where `--batches` comes first, or in every order where `--orders` does
 abbrev pub json_in : List (List ℕ) → Option Asked
@@ -135,7 +146,7 @@ asked_in (word ∷ words) = asked_after (flag_in word) word words
 abbrev pub HasFewWorkers : Task → Type 0
 HasFewWorkers (task.Run form workers) = workers ≤ MOST_WORKERS
 HasFewWorkers (task.Replay form workers) = workers ≤ MOST_WORKERS
-HasFewWorkers (task.Survey form most) = ⊤
+HasFewWorkers (task.Survey form chosen) = ⊤
 HasFewWorkers task.Why = ⊤
 
 -- no more workers than a run may have, where a run is asked for

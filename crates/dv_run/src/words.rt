@@ -2,10 +2,10 @@
 
 ghost use Rattle.std.specs.Prelude.{◌≡◌, ◌≤◌, map, string_bytes, IfSome};
 ghost use Rattle.std.specs.List.{list_any};
-ghost use Rattle.dv_run.specs.Words.{marks_file, names_file, input_in, run_with, run_by_one, run_in, why_of, why_in, alone, batches_word, orders_in, survey_of, survey_up_to, flag_in, json_in, replay_in, replayed, replayed_task, asked_by, asked_in, AsksFew, HasFewWorkers};
+ghost use Rattle.dv_run.specs.Words.{marks_file, names_file, input_in, run_with, run_by_one, run_in, why_of, why_in, alone, batches_word, orders_in, sampled_in, survey_in, survey_of, flag_in, json_in, replay_in, replayed, replayed_task, asked_by, asked_in, AsksFew, HasFewWorkers};
 ghost use Rattle.dv_script.specs.declared.limits.TheConstants.{MOST_WORKERS};
 
-use crate::orders::{ORDERS, most_in};
+use crate::orders::{Chosen, ORDERS, every_in, sample_in};
 use crate::workers::{few_workers, number_in};
 
 /// In which form a run is printed.
@@ -32,8 +32,8 @@ pub enum Task {
     Run(Form, u32),
     /// It runs in batches that are given, with so many workers.
     Replay(Form, u32),
-    /// It runs in every order of its posts, where there are no more than so many.
-    Survey(Form, u32),
+    /// It runs in each of these orders of its posts.
+    Survey(Form, Chosen),
     /// It is explained where it is refused, and why.
     Why,
 }
@@ -65,7 +65,8 @@ pub enum Flag {
 
 /// What the words after the program's name ask for. An option comes first. Behind `--json`, or without an option, come a number
 /// of workers and a FILE, each of which may be left out; behind `--why` comes a FILE alone. Behind `--orders`, which may follow `--json`, comes a
-/// FILE, after `--most` and a decimal number up to `MOST_ORDERS`, or with neither. Behind `--batches`, which may follow
+/// FILE, after `--most` and a decimal number up to `MOST_ORDERS`, after `--sample`, a number from 1 on up to `MOST_ORDERS`, `--seed` and one
+/// up to `MOST_SEED`, or with none of these. Behind `--batches`, which may follow
 /// `--json`, comes a word with the batches, and then the same as without it. A number of workers is one of one or two
 /// decimal digits, 16 at most. A FILE has a `/` or a `.` in it and doesn't begin with `-`, or is `-`, standard input, which is read too
 /// where there is no FILE. None for any other words.
@@ -223,33 +224,49 @@ fn orders_in(form: Form, words: &[String]) -> Option<Asked>
     ensures few { IfSome result AsksFew }
 {
     match words {
-        [] => survey_of(form, Some(ORDERS), Some(Input::Standard)),
-        [word] => survey_of(form, Some(ORDERS), input_in(word.as_str())),
-        [flag, most, rest @ ..] => if flag.as_str() == "--most" {
-            survey_up_to(form, most_in(most.as_bytes()), rest)
+        [] => survey_of(form, Some(Chosen::Every(ORDERS)), Some(Input::Standard)),
+        [word] => survey_of(form, Some(Chosen::Every(ORDERS)), input_in(word.as_str())),
+        [flag, number, rest @ ..] => if flag.as_str() == "--most" {
+            survey_in(form, every_in(number.as_bytes()), rest)
+        } else if flag.as_str() == "--sample" {
+            sampled_in(form, number.as_bytes(), rest)
         } else {
             None
         },
     }
 }
 
-fn survey_up_to(form: Form, most: Option<u32>, words: &[String]) -> Option<Asked>
-    ensures asked { result ≡ survey_up_to form most (map string_bytes words.now) }
+fn sampled_in(form: Form, size: &[u8], words: &[String]) -> Option<Asked>
+    ensures asked { result ≡ sampled_in form size.now (map string_bytes words.now) }
     ensures few { IfSome result AsksFew }
 {
     match words {
-        [] => survey_of(form, most, Some(Input::Standard)),
-        [word] => survey_of(form, most, input_in(word.as_str())),
+        [] | [_] => None,
+        [flag, seed, rest @ ..] => if flag.as_str() == "--seed" {
+            survey_in(form, sample_in(size, seed.as_bytes()), rest)
+        } else {
+            None
+        },
+    }
+}
+
+fn survey_in(form: Form, chosen: Option<Chosen>, words: &[String]) -> Option<Asked>
+    ensures asked { result ≡ survey_in form chosen (map string_bytes words.now) }
+    ensures few { IfSome result AsksFew }
+{
+    match words {
+        [] => survey_of(form, chosen, Some(Input::Standard)),
+        [word] => survey_of(form, chosen, input_in(word.as_str())),
         [_, _, ..] => None,
     }
 }
 
-fn survey_of(form: Form, most: Option<u32>, input: Option<Input>) -> Option<Asked>
-    ensures asked { result ≡ survey_of form most input }
+fn survey_of(form: Form, chosen: Option<Chosen>, input: Option<Input>) -> Option<Asked>
+    ensures asked { result ≡ survey_of form chosen input }
     ensures few { IfSome result AsksFew }
 {
-    match (most, input) {
-        (Some(most), Some(input)) => Some(Asked::Script(Task::Survey(form, most), input)),
+    match (chosen, input) {
+        (Some(chosen), Some(input)) => Some(Asked::Script(Task::Survey(form, chosen), input)),
         (Some(_), None) | (None, _) => None,
     }
 }

@@ -1,4 +1,3 @@
-pub mod DeferredLemmas
 pub mod MetLemmas
 pub mod OutcomesLemmas
 pub mod Pieces

@@ -1,5 +1,6 @@
 -- What a survey shows of a run: a line for each Deferred, which is known by the same name and place in every run.
-use Rattle.std.specs.Prelude.{ℕ, suc, ◌+◌, if◌then◌else◌, nat_eq, List, [], ◌∷◌, ◌++◌, codes, count_by, slice_index_or, bytes_eq}
+use Rattle.std.specs.Option.{option_map_or}
+use Rattle.std.specs.Prelude.{ℕ, suc, ◌+◌, if◌then◌else◌, nat_eq, Option, None, List, [], ◌∷◌, ◌++◌, codes, count_by, slice_index_or, bytes_eq}
 use Rattle.std.specs.Fmt.{decimal}
 use Rattle.json.specs.Print.{quoted}
 use Rattle.dv_value.specs.Failure.{is_fault}
@@ -19,8 +20,8 @@ name_json name = if bytes_eq name (codes "-") then codes "null" else quoted name
 
 -- NAME PLACE, or as JSON an object of both
 abbrev pub label : Format → List ℕ → ℕ → List ℕ
-label Lines name place = name ++ codes " " ++ decimal place
-label Json name place = codes "{\"name\":" ++ name_json name ++ codes ",\"place\":" ++ decimal place ++ codes "}"
+label (Lines sample) name place = name ++ codes " " ++ decimal place
+label (Json sample) name place = codes "{\"name\":" ++ name_json name ++ codes ",\"place\":" ++ decimal place ++ codes "}"
 
 -- the label of each Deferred, where Deferreds of these names were made before: the first of a name has the place 1
 abbrev pub labels_after : Format → List (List ℕ) → List Outcome → List (List ℕ)
@@ -35,8 +36,8 @@ labels_of format outcomes = labels_after format [] outcomes
 
 -- for a Deferred that there isn't
 abbrev pub no_label : Format → List ℕ
-no_label Lines = codes "-"
-no_label Json = codes "null"
+no_label (Lines sample) = codes "-"
+no_label (Json sample) = codes "null"
 
 -- the label of the Deferred of this number
 abbrev pub label_at : Format → List (List ℕ) → ℕ → List ℕ
@@ -45,7 +46,7 @@ label_at format labels number = slice_index_or labels number (no_label format)
 -- unfired, waiting for another, or what it was fired with: `ok` and a value, or `fail` and a failure
 abbrev pub state_text : List Class → List (List ℕ) → State → List ℕ
 state_text table labels Unfired = codes "unfired"
-state_text table labels (Waiting id) = codes "waiting " ++ label_at Lines labels id
+state_text table labels (Waiting id) = codes "waiting " ++ label_at (Lines None) labels id
 state_text table labels (Fired value) = outcome table value
 
 -- a paused one is said to be
@@ -67,17 +68,29 @@ value_json table (Fired value) = json table value
 -- the one that it waits for, as JSON
 abbrev pub waits_json : List (List ℕ) → State → List ℕ
 waits_json labels Unfired = codes "null"
-waits_json labels (Waiting id) = label_at Json labels id
+waits_json labels (Waiting id) = label_at (Json None) labels id
 waits_json labels (Fired value) = codes "null"
 
--- whether it is paused, as JSON
+-- the member that says whether it is paused, after others
 abbrev pub paused_json : ℕ → List ℕ
-paused_json pauses = if nat_eq pauses 0 then codes "false" else codes "true"
+paused_json pauses = if nat_eq pauses 0 then codes ",\"paused\":false" else codes ",\"paused\":true"
+
+-- the size of a sample, or none
+abbrev pub size_json : Option ℕ → List ℕ
+size_json sample = option_map_or decimal sample (codes "null")
+
+-- the member with the size of a sample, after others
+abbrev pub sample_json : Option ℕ → List ℕ
+sample_json sample = codes ",\"sample\":" ++ size_json sample
+
+-- the members up to the sample
+abbrev pub label_json : List ℕ → ℕ → List ℕ
+label_json label pauses = codes "\"deferred\":" ++ label ++ paused_json pauses
 
 -- the members up to the state
-abbrev pub head_json : List ℕ → Outcome → List ℕ
-head_json label o =
-    codes "\"deferred\":" ++ label ++ codes ",\"paused\":" ++ paused_json o.pauses ++ codes ",\"state\":\"" ++ state_word o.state ++ codes "\""
+abbrev pub head_json : Option ℕ → List ℕ → Outcome → List ℕ
+head_json sample label o =
+    label_json label o.pauses ++ sample_json sample ++ codes ",\"state\":\"" ++ state_word o.state ++ codes "\""
 
 -- the members after the state
 abbrev pub rest_json : List Class → List (List ℕ) → State → List ℕ
@@ -86,8 +99,8 @@ rest_json table labels state =
 
 -- what became of the Deferred of this label: LABEL STATE, or the last members of a JSON object
 abbrev pub end_text : Format → List Class → List (List ℕ) → List ℕ → Outcome → List ℕ
-end_text Lines table labels label o = label ++ codes " " ++ pauses_text o.pauses ++ state_text table labels o.state
-end_text Json table labels label o = head_json label o ++ rest_json table labels o.state
+end_text (Lines sample) table labels label o = label ++ codes " " ++ pauses_text o.pauses ++ state_text table labels o.state
+end_text (Json sample) table labels label o = head_json sample label o ++ rest_json table labels o.state
 
 -- the Deferred of this number, with what became of it
 abbrev pub line_of : Format → List Class → List (List ℕ) → ℕ → Outcome → Line

@@ -1,5 +1,6 @@
 -- What is gathered over the runs of a script.
-use Rattle.std.specs.Prelude.{ℕ, ◌+◌, Bool, if◌then◌else◌, List, [], fold, length}
+use Rattle.std.specs.Prelude.{ℕ, Bool, if◌then◌else◌, List, [], ◌∷◌, ◌++◌, fold, length, slice_get}
+use Rattle.std.specs.Option.{option_map_or}
 use Rattle.dv_posts.specs.Batches.{Batch}
 use Rattle.dv_store.specs.declared.outcome.Outcome.{Outcome}
 use Rattle.dv_value.specs.declared.classes.Class.{Class}
@@ -23,7 +24,11 @@ run_of batches outcomes stopped = record { batches = batches; outcomes = outcome
 
 -- nothing is gathered yet
 abbrev pub no_runs : Format → Survey
-no_runs format = record { format = format; deferreds = []; lines = []; tallies = []; outcomes = []; stopped = 0 }
+no_runs format = record { format = format; deferreds = []; lines = []; owners = []; tallies = []; outcomes = []; ends = []; stops = [] }
+
+-- the line of this place is one of this Deferred, unless it was met before
+abbrev pub with_owner : ℕ → ℕ → List ℕ → List ℕ
+with_owner place deferred owners = option_map_or (λ owner. owners) (slice_get owners place) (owners ++ deferred ∷ [])
 
 -- a line came in a run of these batches
 abbrev pub with_line : List Batch → Survey → Line → Survey
@@ -31,31 +36,39 @@ with_line batches survey line = record {
   format = survey.format;
   deferreds = with_text line.deferred survey.deferreds;
   lines = with_text line.text survey.lines;
-  tallies = with_tally (place_of line.text survey.lines) (place_of line.deferred survey.deferreds) batches survey.tallies;
+  owners = with_owner (place_of line.text survey.lines) (place_of line.deferred survey.deferreds) survey.owners;
+  tallies = with_tally (place_of line.text survey.lines) batches survey.tallies;
   outcomes = survey.outcomes;
-  stopped = survey.stopped;
+  ends = survey.ends;
+  stops = survey.stops;
 }
 
 -- these lines came in a run of these batches
 abbrev pub with_lines : List Batch → List Line → Survey → Survey
 with_lines batches lines survey = fold (with_line batches) survey lines
 
--- a run ended with the lines of these places, and stopped at the limit or didn't
-abbrev pub with_end : List ℕ → Bool → Survey → Survey
-with_end places stopped survey = record {
+-- a run of these batches ended with this outcome, and stopped at the limit or didn't
+abbrev pub with_outcome : List Batch → List ℕ → Bool → Survey → Survey
+with_outcome batches outcome stopped survey = record {
   format = survey.format;
   deferreds = survey.deferreds;
   lines = survey.lines;
+  owners = survey.owners;
   tallies = survey.tallies;
-  outcomes = with_text (outcome_text places (length survey.lines)) survey.outcomes;
-  stopped = if stopped then survey.stopped + 1 else survey.stopped;
+  outcomes = with_text outcome survey.outcomes;
+  ends = with_tally (place_of outcome survey.outcomes) batches survey.ends;
+  stops = if stopped then with_tally 0 batches survey.stops else survey.stops;
 }
+
+-- a run of these batches ended with the lines of these places, and stopped at the limit or didn't
+abbrev pub with_end : List Batch → List ℕ → Bool → Survey → Survey
+with_end batches places stopped survey = with_outcome batches (outcome_text places (length survey.lines)) stopped survey
 
 -- a run is gathered
 abbrev pub with_run : List Class → Survey → Run → Survey
 with_run table survey run =
     let lines = lines_of survey.format table run.outcomes in
-    with_end (places_after survey.lines lines) run.stopped (with_lines run.batches lines survey)
+    with_end run.batches (places_after survey.lines lines) run.stopped (with_lines run.batches lines survey)
 
 -- all these runs are gathered, in this order
 abbrev pub survey_of : Format → List Class → List Run → Survey

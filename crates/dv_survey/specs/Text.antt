@@ -1,9 +1,11 @@
 -- The text that tells a survey.
-use Rattle.std.specs.Prelude.{ℕ, nat_eq, if◌then◌else◌, List, [], ◌∷◌, ◌++◌, codes, flat_map, length, map}
+use Rattle.std.specs.Prelude.{ℕ, ◌+◌, nat_eq, Bool, false, if◌then◌else◌, Option, None, Some, List, [], ◌∷◌, ◌++◌, codes, flat_map, length, map, slice_get, unwrap_or}
+use Rattle.std.specs.Option.{option_map_or}
 use Rattle.std.specs.Fmt.{decimal}
 use Rattle.dv_posts.specs.Batches.{Batch, below}
 use Rattle.dv_posts.specs.declared.posted.Posted.{Posted}
 use Rattle.dv_value.specs.ValueText.{list_text}
+use Rattle.dv_survey.specs.Lines.{sample_json, size_json}
 use Rattle.dv_survey.specs.declared.format.Format.{Format}
 use Rattle.dv_survey.specs.declared.format.Format.TheVariants.{Lines, Json}
 use Rattle.dv_survey.specs.declared.survey.Survey.{Survey}
@@ -25,53 +27,96 @@ batches_text batches = list_text (map batch_text batches)
 abbrev pub counted : ℕ → List ℕ → List ℕ
 counted count noun = decimal count ++ codes " " ++ noun ++ (if nat_eq count 1 then [] else codes "s")
 
+-- what is counted: every order, or those of a sample
+abbrev pub noun : Option ℕ → List ℕ
+noun None = codes "order"
+noun (Some size) = codes "sampled order"
+
+-- the size of a sample, after the number of orders
+abbrev pub sample_text : Option ℕ → List ℕ
+sample_text None = []
+sample_text (Some size) = codes ", a sample of " ++ decimal size
+
+-- the member with a number of orders, which is the first of its object
+abbrev pub orders_json : ℕ → List ℕ
+orders_json orders = codes "{\"orders\":" ++ decimal orders
+
 -- the line of the number of orders, which comes before all others
 abbrev pub number_text : Format → ℕ → List ℕ
-number_text Lines orders = counted orders (codes "order") ++ codes "\n"
-number_text Json orders = codes "{\"orders\":" ++ decimal orders ++ codes ",\"type\":\"orders\"}\n"
+number_text (Lines sample) orders = counted orders (codes "order") ++ sample_text sample ++ codes "\n"
+number_text (Json sample) orders = orders_json orders ++ sample_json sample ++ codes ",\"type\":\"orders\"}\n"
 
--- the first members of a JSON object
-abbrev pub tally_json : Tally → List ℕ
-tally_json tally = codes "{\"batches\":" ++ batches_text tally.first ++ codes ",\"count\":" ++ decimal tally.count ++ codes ","
+-- what stands before that which is counted: as JSON the batches of the first order, and the count
+abbrev pub tally_head : Format → Tally → List ℕ
+tally_head (Lines sample) tally = []
+tally_head (Json sample) tally = codes "{\"batches\":" ++ batches_text tally.first ++ codes ",\"count\":" ++ decimal tally.count ++ codes ","
 
--- NAME PLACE STATE in K orders, first BATCHES
+-- and what stands after it: in lines the count, and the batches of the first order
+abbrev pub tally_tail : Format → Tally → List ℕ
+tally_tail (Lines sample) tally = codes " in " ++ counted tally.count (noun sample) ++ codes ", first " ++ batches_text tally.first ++ codes "\n"
+tally_tail (Json sample) tally = codes "}\n"
+
+-- a line of what is counted
 abbrev pub tally_text : Format → Tally → List ℕ → List ℕ
-tally_text Lines tally line =
-    line ++ codes " in " ++ counted tally.count (codes "order") ++ codes ", first " ++ batches_text tally.first ++ codes "\n"
-tally_text Json tally line = tally_json tally ++ line ++ codes "}\n"
+tally_text format tally what = tally_head format tally ++ what ++ tally_tail format tally
 
--- this, where it is a line of the Deferred of this place
-abbrev pub text_if_of : Format → ℕ → Tally → List ℕ → List ℕ
-text_if_of format deferred tally line = if nat_eq tally.deferred deferred then tally_text format tally line else []
+-- the same, where the place has a tally
+abbrev pub text_at : Format → List Tally → ℕ → List ℕ → List ℕ
+text_at format tallies place what = option_map_or (λ tally. tally_text format tally what) (slice_get tallies place) []
 
--- the lines of the Deferred of this place, in the order in which they were first met
-abbrev pub deferred_text : Format → ℕ → List Tally → List (List ℕ) → List ℕ
-deferred_text format deferred [] lines = []
-deferred_text format deferred (tally ∷ tallies) [] = []
-deferred_text format deferred (tally ∷ tallies) (line ∷ lines) =
-    text_if_of format deferred tally line ++ deferred_text format deferred tallies lines
+-- whether that is the Deferred
+abbrev pub is_of : ℕ → Option ℕ → Bool
+is_of deferred owner = option_map_or (nat_eq deferred) owner false
+
+-- the line of this place, where it is one of the Deferred
+abbrev pub line_text : Survey → ℕ → ℕ → List ℕ
+line_text survey deferred place =
+    if is_of deferred (slice_get survey.owners place) then text_at survey.format survey.tallies place (unwrap_or (slice_get survey.lines place) []) else []
+
+-- the lines of a Deferred, in the order in which they were first met
+abbrev pub deferred_text : Survey → ℕ → List ℕ
+deferred_text survey deferred = flat_map (line_text survey deferred) (below (length survey.owners))
 
 -- the lines of each Deferred, in the order in which the Deferreds were first met
 abbrev pub deferreds_text : Survey → List ℕ
-deferreds_text survey =
-    flat_map (λ deferred. deferred_text survey.format deferred survey.tallies survey.lines) (below (length survey.deferreds))
+deferreds_text survey = flat_map (deferred_text survey) (below (length survey.deferreds))
 
--- S orders stopped at the limit of the journal, or nothing where none did
-abbrev pub stopped_text : ℕ → List ℕ
-stopped_text stopped =
-    if nat_eq stopped 0 then [] else counted stopped (codes "order") ++ codes " stopped at the limit of the journal\n"
+-- outcome NUMBER, from 1 in the order in which the outcomes were first met
+abbrev pub outcome_name : Format → ℕ → List ℕ
+outcome_name (Lines sample) place = codes "outcome " ++ decimal (place + 1)
+outcome_name (Json sample) place = codes "\"outcome\":" ++ decimal (place + 1) ++ sample_json sample ++ codes ",\"type\":\"outcome\""
 
--- N orders, M outcomes
-abbrev pub sum_text : ℕ → ℕ → List ℕ
-sum_text orders outcomes =
-    counted orders (codes "order") ++ codes ", " ++ counted outcomes (codes "outcome") ++ codes "\n"
+-- a line for each outcome
+abbrev pub outcomes_text : Survey → List ℕ
+outcomes_text survey = flat_map (λ place. text_at survey.format survey.ends place (outcome_name survey.format place)) (below (length survey.ends))
 
--- how many orders stopped, and how many orders and different outcomes there are
+-- the journal reached its limit
+abbrev pub stop_name : Format → List ℕ
+stop_name (Lines sample) = codes "stopped at the limit of the journal"
+stop_name (Json sample) = codes "\"sample\":" ++ size_json sample ++ codes ",\"type\":\"stopped\""
+
+-- a line of the orders that stopped, where any did
+abbrev pub stops_text : Survey → List ℕ
+stops_text survey = text_at survey.format survey.stops 0 (stop_name survey.format)
+
+-- how many orders stopped
+abbrev pub stopped_of : List Tally → ℕ
+stopped_of stops = option_map_or (λ tally. tally.count) (slice_get stops 0) 0
+
+-- as JSON, how many outcomes there are
+abbrev pub outcomes_json : ℕ → List ℕ
+outcomes_json outcomes = codes ",\"outcomes\":" ++ decimal outcomes
+
+-- as JSON, how many orders stopped, and the end of the line
+abbrev pub end_json : ℕ → List ℕ
+end_json stopped = codes ",\"stopped\":" ++ decimal stopped ++ codes ",\"type\":\"end\"}\n"
+
+-- how many orders ran, and how many different outcomes there are
 abbrev pub sums_text : Format → ℕ → ℕ → ℕ → List ℕ
-sums_text Lines stopped orders outcomes = stopped_text stopped ++ sum_text orders outcomes
-sums_text Json stopped orders outcomes =
-    codes "{\"orders\":" ++ decimal orders ++ codes ",\"outcomes\":" ++ decimal outcomes ++ codes ",\"stopped\":" ++ decimal stopped ++ codes ",\"type\":\"end\"}\n"
+sums_text (Lines sample) stopped orders outcomes = counted orders (noun sample) ++ codes ", " ++ counted outcomes (codes "outcome") ++ codes "\n"
+sums_text (Json sample) stopped orders outcomes = orders_json orders ++ outcomes_json outcomes ++ sample_json sample ++ end_json stopped
 
--- what became of each Deferred, and the sums
+-- what became of each Deferred, each outcome, where orders stopped, and the sums
 abbrev pub survey_text : Survey → ℕ → List ℕ
-survey_text survey orders = deferreds_text survey ++ sums_text survey.format survey.stopped orders (length survey.outcomes)
+survey_text survey orders =
+    deferreds_text survey ++ outcomes_text survey ++ stops_text survey ++ sums_text survey.format (stopped_of survey.stops) orders (length survey.outcomes)

@@ -1,11 +1,11 @@
 //! The lines that a survey shows of a run.
 
 ghost use Rattle.std.specs.Fmt.{decimal};
-ghost use Rattle.std.specs.Prelude.{◌≡◌, ◌+◌, ◌++◌, OnOk, IfOk, codes, string_bytes};
+ghost use Rattle.std.specs.Prelude.{◌≡◌, ◌+◌, ◌++◌, None, OnOk, IfOk, codes, string_bytes};
 ghost use Rattle.dv_journal.specs.Line.{name_text};
 ghost use Rattle.dv_objects.specs.Names.{with_name};
 ghost use Rattle.dv_survey.specs.Lines.{label, label_at, labels_of, line_of, lines_from, lines_of};
-ghost use Rattle.dv_survey.specs.Lines.{end_text, head_json, rest_json, name_json, no_label, paused_json, pauses_text, state_text, state_word, value_json, waits_json};
+ghost use Rattle.dv_survey.specs.Lines.{end_text, head_json, label_json, rest_json, name_json, no_label, paused_json, sample_json, size_json, pauses_text, state_text, state_word, value_json, waits_json};
 ghost use Rattle.dv_survey.specs.declared.format.Format.TheVariants as Format;
 ghost use Rattle.dv_survey.specs.Met.{met_of};
 
@@ -17,7 +17,7 @@ use dv_value::classes::Classes;
 use dv_value::items::Items;
 use dv_value::text::Text;
 use dv_value::value_text::{write_json, write_outcome, write_string};
-use dv_value::writing::{write_space, write_text, write_u64};
+use dv_value::writing::{write_space, write_text, write_u32, write_u64};
 use std::alloc::{AllocError, Global};
 use std::hash::RandomState;
 
@@ -97,14 +97,14 @@ fn label(alloc: Global, format: Format, name: &str, place: u64) -> Result<Text, 
 {
     let mut out = String::new(alloc);
     match format {
-        Format::Lines => write_label(&mut out, name, place)?,
-        Format::Json => write_label_json(alloc, &mut out, name, place)?,
+        Format::Lines(_) => write_label(&mut out, name, place)?,
+        Format::Json(_) => write_label_json(alloc, &mut out, name, place)?,
     }
     Ok(Text::from_string(out))
 }
 
 fn write_label(out: &mut String, name: &str, place: u64) -> Result<(), AllocError>
-    ensures { OnOk result (string_bytes out.new ≡ string_bytes out.old ++ label Format.Lines name.now place) }
+    ensures { OnOk result (string_bytes out.new ≡ string_bytes out.old ++ label (Format.Lines None) name.now place) }
 {
     write_text(out, name)?;
     write_space(out)?;
@@ -117,7 +117,7 @@ fn write_label_json(
     name: &str,
     place: u64,
 ) -> Result<(), AllocError>
-    ensures { OnOk result (string_bytes out.new ≡ string_bytes out.old ++ label Format.Json name.now place) }
+    ensures { OnOk result (string_bytes out.new ≡ string_bytes out.old ++ label (Format.Json None) name.now place) }
 {
     write_text(out, "{\"name\":")?;
     write_name_json(alloc, out, name)?;
@@ -149,8 +149,8 @@ fn no_label(format: Format) -> &'static str
     ensures { result.now ≡ no_label format }
 {
     match format {
-        Format::Lines => "-",
-        Format::Json => "null",
+        Format::Lines(_) => "-",
+        Format::Json(_) => "null",
     }
 }
 
@@ -167,8 +167,10 @@ fn line_of(
     let label = label_at(format, labels, number);
     let mut out = String::new(alloc);
     match format {
-        Format::Lines => write_end(alloc, classes, labels, &mut out, label, outcome)?,
-        Format::Json => write_end_json(alloc, classes, labels, &mut out, label, outcome)?,
+        Format::Lines(_) => write_end(alloc, classes, labels, &mut out, label, outcome)?,
+        Format::Json(sample) => write_end_json(
+            alloc, classes, labels, &mut out, sample, label, outcome,
+        )?,
     }
     Ok(Line {
         deferred: Text::of(alloc, label)?,
@@ -184,7 +186,7 @@ fn write_end(
     label: &str,
     outcome: &Outcome,
 ) -> Result<(), AllocError>
-    ensures { OnOk result (string_bytes out.new ≡ string_bytes out.old ++ end_text Format.Lines classes.now labels.now label.now outcome.now) }
+    ensures { OnOk result (string_bytes out.new ≡ string_bytes out.old ++ end_text (Format.Lines None) classes.now labels.now label.now outcome.now) }
 {
     write_text(out, label)?;
     write_space(out)?;
@@ -197,25 +199,65 @@ fn write_end_json(
     classes: &Classes,
     labels: &[Text],
     out: &mut String,
+    sample: Option<u32>,
     label: &str,
     outcome: &Outcome,
 ) -> Result<(), AllocError>
-    ensures { OnOk result (string_bytes out.new ≡ string_bytes out.old ++ end_text Format.Json classes.now labels.now label.now outcome.now) }
+    ensures { OnOk result (string_bytes out.new ≡ string_bytes out.old ++ end_text (Format.Json sample) classes.now labels.now label.now outcome.now) }
 {
-    write_head_json(out, label, outcome)?;
+    write_head_json(out, sample, label, outcome)?;
     write_rest_json(alloc, classes, labels, out, &outcome.state)
 }
 
-fn write_head_json(out: &mut String, label: &str, outcome: &Outcome) -> Result<(), AllocError>
-    ensures { OnOk result (string_bytes out.new ≡ string_bytes out.old ++ head_json label.now outcome.now) }
+fn write_head_json(
+    out: &mut String,
+    sample: Option<u32>,
+    label: &str,
+    outcome: &Outcome,
+) -> Result<(), AllocError>
+    ensures { OnOk result (string_bytes out.new ≡ string_bytes out.old ++ head_json sample label.now outcome.now) }
 {
-    write_text(out, "\"deferred\":")?;
-    write_text(out, label)?;
-    write_text(out, ",\"paused\":")?;
-    write_text(out, paused_json(outcome.pauses))?;
+    write_label_and_pauses(out, label, outcome.pauses)?;
+    write_sample_json(out, sample)?;
     write_text(out, ",\"state\":\"")?;
     write_text(out, state_word(&outcome.state))?;
     write_text(out, "\"")
+}
+
+fn write_label_and_pauses(out: &mut String, label: &str, pauses: u32) -> Result<(), AllocError>
+    ensures { OnOk result (string_bytes out.new ≡ string_bytes out.old ++ label_json label.now pauses) }
+{
+    write_text(out, "\"deferred\":")?;
+    write_text(out, label)?;
+    write_paused_json(out, pauses)
+}
+
+fn write_paused_json(out: &mut String, pauses: u32) -> Result<(), AllocError>
+    ensures { OnOk result (string_bytes out.new ≡ string_bytes out.old ++ paused_json pauses) }
+{
+    if pauses == 0 {
+        write_text(out, ",\"paused\":false")
+    } else {
+        write_text(out, ",\"paused\":true")
+    }
+}
+
+/// Adds the member with the size of a sample, after other members.
+pub(crate) fn write_sample_json(out: &mut String, sample: Option<u32>) -> Result<(), AllocError>
+    ensures { OnOk result (string_bytes out.new ≡ string_bytes out.old ++ sample_json sample) }
+{
+    write_text(out, ",\"sample\":")?;
+    write_size_json(out, sample)
+}
+
+/// Adds the size of a sample, or null.
+pub(crate) fn write_size_json(out: &mut String, sample: Option<u32>) -> Result<(), AllocError>
+    ensures { OnOk result (string_bytes out.new ≡ string_bytes out.old ++ size_json sample) }
+{
+    match sample {
+        None => write_text(out, "null"),
+        Some(size) => write_u32(out, size),
+    }
 }
 
 fn write_rest_json(
@@ -231,12 +273,6 @@ fn write_rest_json(
     write_value(alloc, classes, out, state)?;
     write_text(out, ",\"waits_for\":")?;
     write_text(out, waits_for(labels, state))
-}
-
-fn paused_json(pauses: u32) -> &'static str
-    ensures { result.now ≡ paused_json pauses }
-{
-    if pauses == 0 { "false" } else { "true" }
 }
 
 fn state_word(state: &State) -> &'static str
@@ -268,7 +304,7 @@ fn waits_for<'l>(labels: &'l [Text], state: &State) -> &'l str
 {
     match state {
         State::Unfired | State::Fired(_) => "null",
-        State::Waiting(id) => label_at(Format::Json, labels, id.number() as usize),
+        State::Waiting(id) => label_at(Format::Json(None), labels, id.number() as usize),
     }
 }
 
@@ -291,7 +327,10 @@ fn write_state(
         State::Unfired => write_text(out, "unfired"),
         State::Waiting(id) => {
             write_text(out, "waiting ")?;
-            write_text(out, label_at(Format::Lines, labels, id.number() as usize))
+            write_text(
+                out,
+                label_at(Format::Lines(None), labels, id.number() as usize),
+            )
         }
         State::Fired(value) => write_outcome(alloc, classes, out, value),
     }

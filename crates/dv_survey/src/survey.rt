@@ -1,7 +1,8 @@
-ghost use Rattle.std.specs.Prelude.{◌≡◌, ◌+◌, if◌then◌else◌, length, OnOk, IfOk};
+ghost use Rattle.std.specs.Prelude.{◌≡◌, if◌then◌else◌, length, OnOk, IfOk};
 ghost use Rattle.dv_survey.specs.Outcomes.{places_after};
 ghost use Rattle.dv_survey.specs.Texts.{place_of};
-ghost use Rattle.dv_survey.specs.Survey.{no_runs, run_of, with_end, with_line, with_lines, with_run};
+ghost use Rattle.dv_survey.specs.Survey.{no_runs, run_of, with_end, with_line, with_lines, with_outcome, with_owner, with_run};
+ghost use Rattle.dv_survey.specs.Tallies.{with_tally};
 
 use crate::format::Format;
 use crate::lines::{Line, lines_of};
@@ -25,13 +26,17 @@ pub struct Survey {
     pub deferreds: Texts,
     /// The different lines: a Deferred, and what became of it.
     pub lines: Texts,
+    /// The Deferred of each line, by its place among those that were met.
+    pub owners: Items<usize>,
     /// In how many runs each line came.
     pub tallies: Tallies,
     /// The different outcomes, each as the places of its lines: the same whichever Deferred was
     /// made first.
     pub outcomes: Texts,
-    /// How many runs stopped at the limit of the journal.
-    pub stopped: u64,
+    /// In how many runs each outcome came.
+    pub ends: Tallies,
+    /// In how many runs the journal reached its limit: one tally, or none.
+    pub stops: Tallies,
 }
 
 impl Survey {
@@ -43,9 +48,11 @@ impl Survey {
             format,
             deferreds: Texts::new(alloc, keys),
             lines: Texts::new(alloc, keys),
+            owners: Items::new(alloc),
             tallies: Tallies::new(alloc),
             outcomes: Texts::new(alloc, keys),
-            stopped: 0,
+            ends: Tallies::new(alloc),
+            stops: Tallies::new(alloc),
         }
     }
 
@@ -67,7 +74,7 @@ impl Survey {
     {
         let lines = lines_of(alloc, keys, self.format, classes, outcomes)?;
         let places = self.add_lines(alloc, batches, lines.as_slice())?;
-        self.add_end(alloc, places.as_slice(), stopped)
+        self.add_end(alloc, batches, places.as_slice(), stopped)
     }
 
     /// Adds lines, and returns their places.
@@ -94,17 +101,39 @@ impl Survey {
     {
         let deferred = self.deferreds.add(line.deferred.as_str())?;
         let place = self.lines.add(line.text.as_str())?;
-        self.tallies.count(place, deferred, batches)?;
+        own(&mut self.owners, place, deferred)?;
+        self.tallies.count(place, batches)?;
         Ok(place)
     }
 
-    fn add_end(&mut self, alloc: Global, places: &[usize], stopped: bool) -> Result<(), AllocError>
-        ensures { OnOk result (self.new ≡ with_end places.now stopped self.old) }
+    fn add_end(
+        &mut self,
+        alloc: Global,
+        batches: &[Items<Posted>],
+        places: &[usize],
+        stopped: bool,
+    ) -> Result<(), AllocError>
+        ensures { OnOk result (self.new ≡ with_end batches.now places.now stopped self.old) }
     {
         let text = outcome_text(alloc, places, self.lines.len())?;
-        self.outcomes.add(text.as_str())?;
-        self.stopped = stopped_with(self.stopped, stopped)?;
-        Ok(())
+        self.add_outcome(batches, text.as_str(), stopped)
+    }
+
+    fn add_outcome(
+        &mut self,
+        batches: &[Items<Posted>],
+        outcome: &str,
+        stopped: bool,
+    ) -> Result<(), AllocError>
+        ensures { OnOk result (self.new ≡ with_outcome batches.now outcome.now stopped self.old) }
+    {
+        let place = self.outcomes.add(outcome)?;
+        self.ends.count(place, batches)?;
+        if stopped {
+            self.stops.count(0, batches)
+        } else {
+            Ok(())
+        }
     }
 
     /// Counts the different outcomes of the runs, whichever Deferreds were made first.
@@ -115,14 +144,13 @@ impl Survey {
     }
 }
 
-fn stopped_with(count: u64, stopped: bool) -> Result<u64, AllocError>
-    ensures { IfOk result (λ sum. sum ≡ (if stopped then count + 1 else count)) }
+/// Notes that the line of a place is one of this Deferred, unless it was met before.
+fn own(owners: &mut Items<usize>, place: usize, deferred: usize) -> Result<(), AllocError>
+    ensures { OnOk result (owners.new ≡ with_owner place deferred owners.old) }
 {
-    if !stopped {
-        return Ok(count);
-    }
-    match count.checked_add(1) {
-        None => Err(AllocError),
-        Some(sum) => Ok(sum),
+    if place < owners.as_slice().len() {
+        Ok(())
+    } else {
+        owners.push(deferred)
     }
 }

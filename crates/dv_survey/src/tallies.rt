@@ -6,18 +6,16 @@ use dv_value::items::Items;
 use std::alloc::{AllocError, Global};
 use std::marker::Model;
 
-/// In how many runs a line came.
+/// In how many runs something came: a line, an outcome, or a stop.
 #[derive(Debug, Drop)]
 pub struct Tally {
-    /// Whose line it is, by the place of that Deferred among those that were met.
-    pub deferred: usize,
     /// In how many runs it came.
     pub count: u64,
     /// The batches of the first of them.
     pub first: Items<Items<Posted>>,
 }
 
-/// A tally of each line, by the place at which the line was first met.
+/// A tally of each thing of a kind, by the place at which it was first met.
 #[derive(Drop)]
 pub struct Tallies {
     alloc: Global,
@@ -36,7 +34,7 @@ impl Model for Tallies {
 impl Tallies {
     ghost use Rattle.dv_survey.specs.Tallies.{with_tally};
 
-    /// Makes an empty list of tallies. It takes no memory before the first line is counted.
+    /// Makes an empty list of tallies. It takes no memory before the first thing is counted.
     pub fn new(alloc: Global) -> Tallies
         ensures { result ≡ [] }
     {
@@ -46,30 +44,21 @@ impl Tallies {
         }
     }
 
-    /// Counts the line of a place once more, or for the first time where the place is the end.
+    /// Counts the thing of a place once more, or for the first time where the place is the end.
     /// Then the batches of the run are copied. AllocError also where the count passes 2^64.
-    pub fn count(
-        &mut self,
-        place: usize,
-        deferred: usize,
-        batches: &[Items<Posted>],
-    ) -> Result<(), AllocError>
-        ensures { OnOk result (self.new ≡ with_tally place deferred batches.now self.old) }
+    pub fn count(&mut self, place: usize, batches: &[Items<Posted>]) -> Result<(), AllocError>
+        ensures { OnOk result (self.new ≡ with_tally place batches.now self.old) }
     {
         if place < self.tallies.len() {
             raise(&mut self.tallies[place])
         } else {
             let first = copy_of(self.alloc, batches)?;
-            self.tallies.push(Tally {
-                deferred,
-                count: 1,
-                first,
-            })?;
+            self.tallies.push(Tally { count: 1, first })?;
             Ok(())
         }
     }
 
-    /// Lends the tallies, in the order in which their lines were first met.
+    /// Lends the tallies, in the order in which what they count was first met.
     pub fn as_slice(&self) -> &[Tally]
         ensures { result.now ≡ self.now }
     {

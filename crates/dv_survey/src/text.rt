@@ -1,12 +1,14 @@
 //! Writes a survey as text. Where memory is refused, it is left open what `out` holds.
 
-ghost use Rattle.std.specs.Prelude.{◌≡◌, ◌++◌, codes, OnOk, string_bytes};
+ghost use Rattle.std.specs.Prelude.{◌≡◌, ◌+◌, ◌^◌, ◌<◌, ◌++◌, [], None, codes, OnOk, slice_get, string_bytes, unwrap_or};
 ghost use Rattle.dv_survey.specs.Text.{batch_text, batches_text, counted, posted_text};
-ghost use Rattle.dv_survey.specs.Text.{deferred_text, deferreds_text, tally_json, tally_text, text_if_of};
-ghost use Rattle.dv_survey.specs.Text.{number_text, stopped_text, sum_text, sums_text, survey_text};
+ghost use Rattle.dv_survey.specs.Text.{deferred_text, deferreds_text, is_of, line_text, tally_head, tally_tail, tally_text, text_at};
+ghost use Rattle.dv_survey.specs.Text.{end_json, noun, number_text, orders_json, outcome_name, outcomes_json, outcomes_text, sample_text};
+ghost use Rattle.dv_survey.specs.Text.{stop_name, stopped_of, stops_text, sums_text, survey_text};
 ghost use Rattle.dv_survey.specs.declared.format.Format.TheVariants as Format;
 
 use crate::format::Format;
+use crate::lines::{write_sample_json, write_size_json};
 use crate::survey::Survey;
 use crate::tallies::Tally;
 use crate::texts::Texts;
@@ -15,17 +17,19 @@ use dv_value::items::Items;
 use dv_value::writing::{write_space, write_text, write_u32, write_u64};
 use std::alloc::AllocError;
 
-/// Adds what became of each Deferred, a line for each of its states: in how many orders it came,
-/// and the batches of the first. Then come how many orders stopped at the limit of the journal, if
-/// any did, and how many orders and different outcomes there are.
+/// Adds what became of each Deferred, a line for each of its states, a line for each outcome, and one for the orders that stopped
+/// at the limit of the journal, if any did: in how many orders that came, and the batches of the first. Then come how many
+/// orders ran, and how many different outcomes there are.
 pub fn write_survey(out: &mut String, survey: &Survey, orders: u64) -> Result<(), AllocError>
     ensures { OnOk result (string_bytes out.new ≡ string_bytes out.old ++ survey_text survey.now orders) }
 {
     write_deferreds(out, survey)?;
+    write_outcomes(out, survey)?;
+    write_stops(out, survey)?;
     write_sums(
         out,
         survey.format,
-        survey.stopped,
+        stopped_of(survey.stops.as_slice()),
         orders,
         survey.outcomes_len() as u64,
     )
@@ -36,98 +40,266 @@ pub fn write_number(out: &mut String, format: Format, orders: u64) -> Result<(),
     ensures { OnOk result (string_bytes out.new ≡ string_bytes out.old ++ number_text format orders) }
 {
     match format {
-        Format::Lines => {
+        Format::Lines(sample) => {
             write_counted(out, orders, "order")?;
-            out.push('\n')
+            write_sample(out, sample)?;
+            write_text(out, "\n")
         }
-        Format::Json => {
-            write_text(out, "{\"orders\":")?;
-            write_u64(out, orders)?;
+        Format::Json(sample) => {
+            write_orders_json(out, orders)?;
+            write_sample_json(out, sample)?;
             write_text(out, ",\"type\":\"orders\"}\n")
         }
     }
+}
+
+fn write_sample(out: &mut String, sample: Option<u32>) -> Result<(), AllocError>
+    ensures { OnOk result (string_bytes out.new ≡ string_bytes out.old ++ sample_text sample) }
+{
+    match sample {
+        None => Ok(()),
+        Some(size) => {
+            write_text(out, ", a sample of ")?;
+            write_u32(out, size)
+        }
+    }
+}
+
+fn write_orders_json(out: &mut String, orders: u64) -> Result<(), AllocError>
+    ensures { OnOk result (string_bytes out.new ≡ string_bytes out.old ++ orders_json orders) }
+{
+    write_text(out, "{\"orders\":")?;
+    write_u64(out, orders)
 }
 
 fn write_deferreds(out: &mut String, survey: &Survey) -> Result<(), AllocError>
     ensures { OnOk result (string_bytes out.new ≡ string_bytes out.old ++ deferreds_text survey.now) }
 {
     for deferred in 0..survey.deferreds.len() {
-        write_deferred(
+        write_deferred(out, survey, deferred)?;
+    }
+    Ok(())
+}
+
+fn write_deferred(out: &mut String, survey: &Survey, deferred: usize) -> Result<(), AllocError>
+    ensures { OnOk result (string_bytes out.new ≡ string_bytes out.old ++ deferred_text survey.now deferred) }
+{
+    for place in 0..survey.owners.as_slice().len() {
+        write_line(out, survey, deferred, place)?;
+    }
+    Ok(())
+}
+
+/// Adds the line of a place, where it is one of this Deferred.
+fn write_line(
+    out: &mut String,
+    survey: &Survey,
+    deferred: usize,
+    place: usize,
+) -> Result<(), AllocError>
+    ensures { OnOk result (string_bytes out.new ≡ string_bytes out.old ++ line_text survey.now deferred place) }
+{
+    if is_of(deferred, survey.owners.as_slice(), place) {
+        write_at(
             out,
             survey.format,
-            deferred,
-            &survey.lines,
             survey.tallies.as_slice(),
-        )?;
-    }
-    Ok(())
-}
-
-fn write_deferred(
-    out: &mut String,
-    format: Format,
-    deferred: usize,
-    lines: &Texts,
-    tallies: &[Tally],
-) -> Result<(), AllocError>
-    ensures { OnOk result (string_bytes out.new ≡ string_bytes out.old ++ deferred_text format deferred tallies.now lines.now) }
-{
-    for (place, tally) in tallies.iter().enumerate() {
-        let Some(line) = lines.at(place) else {
-            return Ok(());
-        };
-        write_if_of(out, format, deferred, line, tally)?;
-    }
-    Ok(())
-}
-
-/// Adds a line, where it is one of this Deferred.
-fn write_if_of(
-    out: &mut String,
-    format: Format,
-    deferred: usize,
-    line: &str,
-    tally: &Tally,
-) -> Result<(), AllocError>
-    ensures { OnOk result (string_bytes out.new ≡ string_bytes out.old ++ text_if_of format deferred tally.now line.now) }
-{
-    if tally.deferred == deferred {
-        match format {
-            Format::Lines => write_tally(out, line, tally),
-            Format::Json => write_tally_json(out, line, tally),
-        }
+            place,
+            line_at(&survey.lines, place),
+        )
     } else {
         Ok(())
     }
 }
 
-fn write_tally(out: &mut String, line: &str, tally: &Tally) -> Result<(), AllocError>
-    ensures { OnOk result (string_bytes out.new ≡ string_bytes out.old ++ tally_text Format.Lines tally.now line.now) }
+/// Whether the line of a place is one of this Deferred.
+fn is_of(deferred: usize, owners: &[usize], place: usize) -> bool
+    ensures { result ≡ is_of deferred (slice_get owners.now place) }
 {
-    write_text(out, line)?;
-    write_text(out, " in ")?;
-    write_counted(out, tally.count, "order")?;
-    write_text(out, ", first ")?;
-    write_batches(out, tally.first.as_slice())?;
-    out.push('\n')
+    match owners.get(place) {
+        None => false,
+        Some(owner) => deferred == *owner,
+    }
 }
 
-fn write_tally_json(out: &mut String, line: &str, tally: &Tally) -> Result<(), AllocError>
-    ensures { OnOk result (string_bytes out.new ≡ string_bytes out.old ++ tally_text Format.Json tally.now line.now) }
+fn line_at(lines: &Texts, place: usize) -> &str
+    ensures { result.now ≡ unwrap_or (slice_get lines.now place) [] }
 {
-    write_tally_members(out, tally)?;
-    write_text(out, line)?;
-    write_text(out, "}\n")
+    match lines.at(place) {
+        None => "",
+        Some(line) => line,
+    }
 }
 
-fn write_tally_members(out: &mut String, tally: &Tally) -> Result<(), AllocError>
-    ensures { OnOk result (string_bytes out.new ≡ string_bytes out.old ++ tally_json tally.now) }
+/// Adds a line of what is counted at this place, where there is a tally.
+fn write_at(
+    out: &mut String,
+    format: Format,
+    tallies: &[Tally],
+    place: usize,
+    what: &str,
+) -> Result<(), AllocError>
+    ensures { OnOk result (string_bytes out.new ≡ string_bytes out.old ++ text_at format tallies.now place what.now) }
+{
+    match tallies.get(place) {
+        None => Ok(()),
+        Some(tally) => write_tally(out, format, tally, what),
+    }
+}
+
+fn write_tally(
+    out: &mut String,
+    format: Format,
+    tally: &Tally,
+    what: &str,
+) -> Result<(), AllocError>
+    ensures { OnOk result (string_bytes out.new ≡ string_bytes out.old ++ tally_text format tally.now what.now) }
+{
+    write_head(out, format, tally)?;
+    write_text(out, what)?;
+    write_tail(out, format, tally)
+}
+
+fn write_head(out: &mut String, format: Format, tally: &Tally) -> Result<(), AllocError>
+    ensures { OnOk result (string_bytes out.new ≡ string_bytes out.old ++ tally_head format tally.now) }
+{
+    match format {
+        Format::Lines(_) => Ok(()),
+        Format::Json(_) => write_members(out, tally),
+    }
+}
+
+fn write_members(out: &mut String, tally: &Tally) -> Result<(), AllocError>
+    ensures { OnOk result (string_bytes out.new ≡ string_bytes out.old ++ tally_head (Format.Json None) tally.now) }
 {
     write_text(out, "{\"batches\":")?;
     write_batches(out, tally.first.as_slice())?;
     write_text(out, ",\"count\":")?;
     write_u64(out, tally.count)?;
     write_text(out, ",")
+}
+
+fn write_tail(out: &mut String, format: Format, tally: &Tally) -> Result<(), AllocError>
+    ensures { OnOk result (string_bytes out.new ≡ string_bytes out.old ++ tally_tail format tally.now) }
+{
+    match format {
+        Format::Lines(sample) => write_count(out, sample, tally),
+        Format::Json(_) => write_text(out, "}\n"),
+    }
+}
+
+fn write_count(out: &mut String, sample: Option<u32>, tally: &Tally) -> Result<(), AllocError>
+    ensures { OnOk result (string_bytes out.new ≡ string_bytes out.old ++ tally_tail (Format.Lines sample) tally.now) }
+{
+    write_text(out, " in ")?;
+    write_counted(out, tally.count, noun(sample))?;
+    write_text(out, ", first ")?;
+    write_batches(out, tally.first.as_slice())?;
+    write_text(out, "\n")
+}
+
+fn noun(sample: Option<u32>) -> &'static str
+    ensures { result.now ≡ noun sample }
+{
+    match sample {
+        None => "order",
+        Some(_) => "sampled order",
+    }
+}
+
+fn write_outcomes(out: &mut String, survey: &Survey) -> Result<(), AllocError>
+    ensures { OnOk result (string_bytes out.new ≡ string_bytes out.old ++ outcomes_text survey.now) }
+{
+    for place in 0..survey.ends.as_slice().len() {
+        write_outcome(out, survey.format, survey.ends.as_slice(), place)?;
+    }
+    Ok(())
+}
+
+fn write_outcome(
+    out: &mut String,
+    format: Format,
+    ends: &[Tally],
+    place: usize,
+) -> Result<(), AllocError>
+    requires { place + 1 < 2 ^ 64 }
+    ensures { OnOk result (string_bytes out.new ≡ string_bytes out.old ++ text_at format ends.now place (outcome_name format place)) }
+{
+    match ends.get(place) {
+        None => Ok(()),
+        Some(tally) => write_outcome_tally(out, format, place, tally),
+    }
+}
+
+fn write_outcome_tally(
+    out: &mut String,
+    format: Format,
+    place: usize,
+    tally: &Tally,
+) -> Result<(), AllocError>
+    requires { place + 1 < 2 ^ 64 }
+    ensures { OnOk result (string_bytes out.new ≡ string_bytes out.old ++ tally_text format tally.now (outcome_name format place)) }
+{
+    write_head(out, format, tally)?;
+    write_outcome_name(out, format, place)?;
+    write_tail(out, format, tally)
+}
+
+fn write_outcome_name(out: &mut String, format: Format, place: usize) -> Result<(), AllocError>
+    requires { place + 1 < 2 ^ 64 }
+    ensures { OnOk result (string_bytes out.new ≡ string_bytes out.old ++ outcome_name format place) }
+{
+    match format {
+        Format::Lines(_) => {
+            write_text(out, "outcome ")?;
+            write_u64(out, place as u64 + 1)
+        }
+        Format::Json(sample) => {
+            write_text(out, "\"outcome\":")?;
+            write_u64(out, place as u64 + 1)?;
+            write_sample_json(out, sample)?;
+            write_text(out, ",\"type\":\"outcome\"")
+        }
+    }
+}
+
+fn write_stops(out: &mut String, survey: &Survey) -> Result<(), AllocError>
+    ensures { OnOk result (string_bytes out.new ≡ string_bytes out.old ++ stops_text survey.now) }
+{
+    match survey.stops.as_slice().first() {
+        None => Ok(()),
+        Some(tally) => write_stop_tally(out, survey.format, tally),
+    }
+}
+
+fn write_stop_tally(out: &mut String, format: Format, tally: &Tally) -> Result<(), AllocError>
+    ensures { OnOk result (string_bytes out.new ≡ string_bytes out.old ++ tally_text format tally.now (stop_name format)) }
+{
+    write_head(out, format, tally)?;
+    write_stop_name(out, format)?;
+    write_tail(out, format, tally)
+}
+
+fn write_stop_name(out: &mut String, format: Format) -> Result<(), AllocError>
+    ensures { OnOk result (string_bytes out.new ≡ string_bytes out.old ++ stop_name format) }
+{
+    match format {
+        Format::Lines(_) => write_text(out, "stopped at the limit of the journal"),
+        Format::Json(sample) => {
+            write_text(out, "\"sample\":")?;
+            write_size_json(out, sample)?;
+            write_text(out, ",\"type\":\"stopped\"")
+        }
+    }
+}
+
+fn stopped_of(stops: &[Tally]) -> u64
+    ensures { result ≡ stopped_of stops.now }
+{
+    match stops.first() {
+        None => 0,
+        Some(tally) => tally.count,
+    }
 }
 
 fn write_sums(
@@ -140,48 +312,43 @@ fn write_sums(
     ensures { OnOk result (string_bytes out.new ≡ string_bytes out.old ++ sums_text format stopped orders outcomes) }
 {
     match format {
-        Format::Lines => {
-            write_stopped(out, stopped)?;
-            write_sum(out, orders, outcomes)
+        Format::Lines(sample) => write_sum(out, sample, orders, outcomes),
+        Format::Json(sample) => {
+            write_orders_json(out, orders)?;
+            write_outcomes_json(out, outcomes)?;
+            write_sample_json(out, sample)?;
+            write_end_json(out, stopped)
         }
-        Format::Json => write_sums_json(out, stopped, orders, outcomes),
     }
 }
 
-fn write_sums_json(
+fn write_sum(
     out: &mut String,
-    stopped: u64,
+    sample: Option<u32>,
     orders: u64,
     outcomes: u64,
 ) -> Result<(), AllocError>
-    ensures { OnOk result (string_bytes out.new ≡ string_bytes out.old ++ sums_text Format.Json stopped orders outcomes) }
+    ensures { OnOk result (string_bytes out.new ≡ string_bytes out.old ++ sums_text (Format.Lines sample) 0 orders outcomes) }
 {
-    write_text(out, "{\"orders\":")?;
-    write_u64(out, orders)?;
+    write_counted(out, orders, noun(sample))?;
+    write_text(out, ", ")?;
+    write_counted(out, outcomes, "outcome")?;
+    write_text(out, "\n")
+}
+
+fn write_outcomes_json(out: &mut String, outcomes: u64) -> Result<(), AllocError>
+    ensures { OnOk result (string_bytes out.new ≡ string_bytes out.old ++ outcomes_json outcomes) }
+{
     write_text(out, ",\"outcomes\":")?;
-    write_u64(out, outcomes)?;
+    write_u64(out, outcomes)
+}
+
+fn write_end_json(out: &mut String, stopped: u64) -> Result<(), AllocError>
+    ensures { OnOk result (string_bytes out.new ≡ string_bytes out.old ++ end_json stopped) }
+{
     write_text(out, ",\"stopped\":")?;
     write_u64(out, stopped)?;
     write_text(out, ",\"type\":\"end\"}\n")
-}
-
-fn write_stopped(out: &mut String, stopped: u64) -> Result<(), AllocError>
-    ensures { OnOk result (string_bytes out.new ≡ string_bytes out.old ++ stopped_text stopped) }
-{
-    if stopped == 0 {
-        return Ok(());
-    }
-    write_counted(out, stopped, "order")?;
-    write_text(out, " stopped at the limit of the journal\n")
-}
-
-fn write_sum(out: &mut String, orders: u64, outcomes: u64) -> Result<(), AllocError>
-    ensures { OnOk result (string_bytes out.new ≡ string_bytes out.old ++ sum_text orders outcomes) }
-{
-    write_counted(out, orders, "order")?;
-    write_text(out, ", ")?;
-    write_counted(out, outcomes, "outcome")?;
-    out.push('\n')
 }
 
 /// Adds a number, and the noun in the number that it asks for.

@@ -11,7 +11,7 @@ from typing import Callable, Counter, Iterator, List, Optional, TextIO
 from ..checkout import command_name
 from ..survey import batches_text
 from .comparing import Comparison, Difference, is_of_level
-from .in_orders import InOrders, Orders
+from .in_orders import Chosen, InOrders, Orders
 from .programs import MOST_LATE, MOST_UNANSWERED, Answer, Many, Once, Program, ours
 from .randoms import Scripts
 from .rows import Expected, read_rows, row_files
@@ -101,8 +101,9 @@ class Conforming:
         self._comparison = Comparison(mine, theirs, arguments.trials)
         self._orders: Optional[Orders] = None
         if arguments.orders:
-            self._comparison = InOrders(mine, theirs, arguments.trials, arguments.most)
-            self._orders = Orders(arguments.most)
+            chosen = Chosen(arguments.sample, arguments.seed) if arguments.sample else Chosen(arguments.most)
+            self._comparison = InOrders(mine, theirs, arguments.trials, chosen)
+            self._orders = Orders(chosen)
         self._rows = list(self._chosen()) if arguments.rows else []
         self._total: int = len(self._rows) + arguments.random
         self._tally = Tally()

@@ -7,7 +7,8 @@ standard output. `--text` prints the view instead, and `--trace` writes a trace 
 input. `--journal FILE` shows a journal with its outcomes, as `./deferreds`, `./on_twisted` or `./record` has given
 it, and runs nothing; `--json FILE` shows what `./deferreds --json` has told. `--compare A B` shows two runs beside
 each other. `--batches BATCHES` runs a script with its posts in that order. `--orders` performs it in every order, and writes
-a page, `NAME.orders.html`, of what becomes of each Deferred in how many of them. FILE may be `-`, for standard input.
+a page, `NAME.orders.html`, of what becomes of each Deferred in how many of them; `--orders --sample K --seed S` performs it in K
+orders, which S draws. FILE may be `-`, for standard input.
 
 Status 0: shown; 2: the script is refused, with what `./deferreds --why` says of it on standard error; 3, 4, 5, 7, 70: as for `./deferreds`, 4 also
 where standard output can't be written; 64: the words are wrong; 66: what is to be shown can't be read, or isn't what
@@ -28,12 +29,13 @@ from typing import IO, Callable, Iterator, List, NoReturn, Optional, Set
 
 from ..checkout import as_called, command_name
 from ..ending import ended, open_streams, say, writing
+from ..sampling import MOST_SEED
 from ..survey import MOST_ORDERS, ORDERS
 from .batches import NotBatches, parse_batches
 from .branches import found
 from .compared import Compared
 from .compared_forms import ComparedPage, text_lines
-from .inputs import NO_INPUT, NO_OUTPUT, STANDARD, USAGE, Failed, InEveryOrder, Inputs, read_any
+from .inputs import NO_INPUT, NO_OUTPUT, STANDARD, USAGE, Failed, InOrders, Inputs, read_any
 from .orders_page import OrdersPage
 from .page import MOST_ROWS, Page
 from .run import Run
@@ -127,10 +129,12 @@ def _arguments(words: List[str]) -> argparse.Namespace:
         action="store_true",
         help=as_called(
             "perform SCRIPT in every order of its posts, as ./deferreds --orders does, and write one page: what becomes of each "
-            "Deferred in how many orders, the chart of the first order of each outcome, and two of these orders beside each other"
+            "Deferred in how many orders, the outcomes, the chart of the first order of each, and two of these orders beside each other"
         ),
     )
     add("--most", type=int, metavar="N", help=f"with --orders: perform N orders at most ({ORDERS}; {MOST_ORDERS} may be asked for)")
+    add("--sample", type=int, metavar="K", help=f"with --orders: perform K orders, each drawn from all (1 to {MOST_ORDERS})")
+    add("--seed", type=int, metavar="S", help=f"with --sample: what the draws follow from (0 to {MOST_SEED})")
     add("--from", dest="first", type=int, metavar="N", help="the first line that the chart shows (1)")
     add("--to", dest="last", type=int, metavar="N", help="the last line (5000 lines at most)")
     add("scripts", nargs="*", metavar="SCRIPT", help="a script")
@@ -167,9 +171,11 @@ def _mistake(parsed: argparse.Namespace) -> str:
     if not all(map(_are_batches, parsed.batches)):
         return "BATCHES is an array of arrays of posts, [CALLER,POST], as the last line of ./deferreds --json has it"
     if parsed.orders and (parsed.text or parsed.trace or parsed.journal or parsed.json or parsed.compare or parsed.batches or numbers):
-        return as_called("--orders writes a page of a SCRIPT; of other options it takes -o, --open, --places and --most; ./deferreds --orders prints a text")
+        return as_called("--orders writes a page of a SCRIPT; of other options it takes -o, --open, --places, --most, --sample and --seed; ./deferreds --orders prints a text")
     if parsed.most is not None and not (parsed.orders and 0 <= parsed.most <= MOST_ORDERS):
         return f"--most is a number from 0 to {MOST_ORDERS}, and goes with --orders"
+    if (parsed.sample, parsed.seed) != (None, None) and not _is_sample(parsed):
+        return f"--sample K --seed S go with --orders, and without --most: K is from 1 to {MOST_ORDERS}, S from 0 to {MOST_SEED}"
     if parsed.trace and parsed.open:
         return "--open is for a page, which --trace doesn't write"
     if parsed.output == STANDARD and (several or parsed.open):
@@ -177,6 +183,19 @@ def _mistake(parsed: argparse.Namespace) -> str:
     if [parsed.journal, parsed.json, parsed.places, *parsed.scripts, *(parsed.compare or [])].count(STANDARD) > 1:
         return "standard input is read once, for one FILE"
     return ""
+
+
+def _is_sample(parsed: argparse.Namespace) -> bool:
+    """Whether a sample is asked for that can be drawn."""
+    if parsed.sample is None or parsed.seed is None or parsed.most is not None:
+        return False
+    return bool(parsed.orders) and 1 <= parsed.sample <= MOST_ORDERS and 0 <= parsed.seed <= MOST_SEED
+
+
+def _orders_words(parsed: argparse.Namespace) -> List[str]:
+    """The words by which `./deferreds --orders` is asked for these orders."""
+    numbers = (("--most", parsed.most), ("--sample", parsed.sample), ("--seed", parsed.seed))
+    return [word for name, number in numbers if number is not None for word in (name, str(number))]
 
 
 def _are_batches(text: str) -> bool:
@@ -276,7 +295,7 @@ def _show_page(run: Run, arguments: argparse.Namespace, target: str) -> None:
     _open(arguments, target)
 
 
-def _show_orders(script: InEveryOrder, arguments: argparse.Namespace, target: str) -> None:
+def _show_orders(script: InOrders, arguments: argparse.Namespace, target: str) -> None:
     page = OrdersPage(script.title, script.orders, script.run)
     _write(page.html(), target)
     _say(f"{_shown_target(target)}: {page.counts}")
@@ -334,7 +353,7 @@ def _show(one: Inputs, arguments: argparse.Namespace, inputs: List[Inputs], targ
         return _print_text(one.run(), arguments.deferred)
     _check_target(target, inputs)
     if arguments.orders:
-        return _show_orders(InEveryOrder(one, arguments.most), arguments, target)
+        return _show_orders(InOrders(one, _orders_words(arguments)), arguments, target)
     if arguments.trace:
         return _write_trace(one.run(), target)
     return _show_page(one.run(), arguments, target)

@@ -1,5 +1,5 @@
 """What a run is made of: a script that is run, a journal, what `./deferreds --json` has printed, the places of a program; and a script
-that is run in every order of its posts."""
+that is run in every order of its posts, or in a sample of them."""
 
 from __future__ import annotations
 
@@ -8,7 +8,7 @@ import os
 import subprocess
 import sys
 from pathlib import Path
-from typing import NamedTuple, Optional, Tuple
+from typing import NamedTuple, Optional, Sequence, Tuple
 
 from ..checkout import as_called, command_name
 from ..ending import say
@@ -105,14 +105,14 @@ class Inputs(NamedTuple):
             return NOWHERE
 
 
-class InEveryOrder:
-    """A script that is performed in every order of its posts, and then in some of them to be shown. It is read once."""
+class InOrders:
+    """A script that is performed in the orders of its posts that some words ask for, and then in some of them to be shown. It is read once."""
 
-    def __init__(self, inputs: Inputs, most: Optional[int]) -> None:
+    def __init__(self, inputs: Inputs, words: Sequence[str]) -> None:
         self._name = inputs.main
         self._data = _read(self._name)
         self.title = _title(self._name)
-        self.orders = _survey(self._data, self._name, most)
+        self.orders = _survey(self._data, self._name, words)
         self._places, self._tick = inputs.read_places(), inputs.tick
 
     def run(self, batches: Batches, label: str) -> Run:
@@ -123,19 +123,19 @@ class InEveryOrder:
         return run
 
 
-def _survey(data: bytes, name: str, most: Optional[int]) -> Orders:
-    """Has `./deferreds` perform a script in every order, of which there may be so many, and reads what it prints."""
-    status, told = _deferreds(data, "--orders", *(() if most is None else ("--most", str(most))))
+def _survey(data: bytes, name: str, words: Sequence[str]) -> Orders:
+    """Has `./deferreds` perform a script in the orders that these words ask for, and reads what it prints."""
+    status, told = _deferreds(data, "--json", "--orders", *words)
     if status == TOO_MANY:  # it has said so, with their number
         raise Failed(status)
     if status == USAGE:
-        raise Failed(NOT_RUN, "the program that is found doesn't know --orders")
+        raise Failed(NOT_RUN, f"the program that is found doesn't know {' '.join(['--orders', *words])}")
     if status not in (ONE_OUTCOME, SEVERAL_OUTCOMES):
         raise Failed(status, _why_not(status, data, name))
     try:
         return read_orders(_text(told, name))
     except NotOrders:
-        raise Failed(NOT_RUN, f"what the program prints of every order of {shown_name(name)} can't be read") from None
+        raise Failed(NOT_RUN, f"what the program prints of the orders of {shown_name(name)} can't be read") from None
 
 
 def read_any(name: str, batches: Optional[str] = None) -> Run:

@@ -1,5 +1,5 @@
-"""Every order of a script's posts as a page: what becomes of each Deferred, the charts of first orders, and two of these beside each
-other.
+"""Every order of a script's posts as a page, or a sample of them: what becomes of each Deferred, the outcomes, the charts of first
+orders, and two of these beside each other.
 
 Each chart is the page of its run, in a frame. So its links, its keys and its script are its own, and it shows without scripts, too.
 """
@@ -16,7 +16,7 @@ from .batches import Batches, text_of
 from .compared import Compared
 from .compared_forms import ComparedPage
 from .markup import isolated
-from .orders import Endings, Orders, Way
+from .orders import Came, Endings, Orders, Way
 from .page import FRAME_BASE, MOST_ROWS, Page, asset, policy_hash, script_of_page
 from .phrases import several
 from .records import ended
@@ -26,8 +26,8 @@ from .texts import Html, escaped, framed, joined, shortened
 
 #: how many charts the page has at most, and how many lines these have together
 MOST_CHARTS, MOST_CHART_LINES = 16, 10_000
-#: how many Deferreds each table has at most, and how many lines stand beside each other
-MOST_DEFERREDS, MOST_COMPARED = 500, 500
+#: how many Deferreds or outcomes each table has at most, and how many lines stand beside each other
+MOST_DEFERREDS, MOST_OUTCOMES, MOST_COMPARED = 500, 500, 500
 
 _LETTERS = "ABCDEFGHIJKLMNOPQRSTUVWXYZ"
 _MOST_VALUE, _MOST_BATCHES, _MOST_FIRSTS = 200, 400, 6
@@ -54,7 +54,8 @@ class OrdersPage:
     def __init__(self, title: str, orders: Orders, run: Callable[[Batches, str], Run]) -> None:
         self._title = title
         self._orders = orders
-        self.shown = list(_shown(orders.firsts, run))
+        self._in_sample = f", in a sample of {several(orders.ran, 'order', 'orders')}" if orders.is_sample else ""
+        self.shown = list(_shown(orders.charted(MOST_CHARTS), run))
         self._letters: Dict[Batches, str] = {one.batches: one.letter for one in self.shown}
 
     @property
@@ -64,14 +65,15 @@ class OrdersPage:
 
     def html(self) -> Html:
         """The whole page."""
-        style, script, title = asset("style.css") + asset("orders.css"), script_of_page(_SCRIPTS), escaped(self._title)
+        style, script = asset("style.css") + asset("orders.css"), script_of_page(_SCRIPTS)
         return joined(
             [
                 Html('<!doctype html><html lang=en><head><meta charset=utf-8><meta name=viewport content="width=device-width">'),
                 Html(f'<meta http-equiv=Content-Security-Policy content="{self._policy(style, script)}">'),
-                Html(f"<title>{title}: every order</title><style>{style}</style></head><body class=compared><main>"),
-                *self._verdict(title),
+                Html(f"<title>{escaped(self._title)}: {self._which}</title><style>{style}</style></head><body class=compared><main>"),
+                *self._verdict(),
                 *self._endings(),
+                *self._outcomes(),
                 *self._charts(),
                 *self._both(),
                 Html(f"</main><script>{script}</script></body></html>\n"),
@@ -88,30 +90,38 @@ class OrdersPage:
 
     # above the tables
 
-    def _verdict(self, title: Html) -> Iterator[Html]:
+    @property
+    def _which(self) -> str:
+        """Which orders the page is of."""
+        if not self._orders.is_sample:
+            return "every order"
+        return f"a sample of {self._orders.ran} of {several(self._orders.total, 'order', 'orders')}"
+
+    def _verdict(self) -> Iterator[Html]:
         orders = self._orders
-        yield Html("<nav><a href=#endings>what becomes of each</a>")
+        yield Html("<nav><a href=#endings>what becomes of each</a> · <a href=#outcomes>outcomes</a>")
         yield Html(" · <a href=#charts>charts</a>" if self.shown else "")
         yield Html(" · <a href=#both>two orders</a></nav>" if len(self.shown) > 1 else "</nav>")
-        yield Html(f"<h1><bdi>{title}</bdi>: every order</h1><p>")
-        if orders.outcomes == 1:
+        yield Html(f"<h1><bdi>{escaped(self._title)}</bdi>: {self._which}</h1><p>")
+        if len(orders.outcomes) == 1:
             yield Html('<span class="verdict clean">one outcome</span>')
         else:
-            yield Html(f'<span class="verdict left">{orders.outcomes} outcomes</span>')
-        if orders.stopped:
-            stopped = several(orders.stopped, "order", "orders")
+            yield Html(f'<span class="verdict left">{len(orders.outcomes)} outcomes</span>')
+        if orders.stops is not None:
+            stopped = several(orders.stops.orders, orders.noun, f"{orders.noun}s")
             yield Html(f'<span class="verdict bad">{stopped} stopped at the limit of the journal</span>')
         yield Html(f"<span class=facts>{escaped(orders.counts)}</span></p>")
         if orders.total == 1:
             yield Html(f"<p>{self._why_one()} So every run prints the same.</p>")
-        elif orders.outcomes == 1:
+        elif orders.is_sample:
+            yield Html("<p class=facts>Each order was drawn from all of them, so one may have come again. Orders that weren't drawn may end otherwise.</p>")
+        elif len(orders.outcomes) == 1:
             yield Html("<p class=facts>No Deferred ends otherwise in another order.</p>")
 
     def _why_one(self) -> str:
-        posts = any(batch for first in self._orders.firsts for batch in first)
-        if self._orders.firsts and not posts:
-            return "There is one order, since no caller posts anything."
-        return "There is one order in which the posts can be taken."
+        if any(batch for first in self._orders.firsts for batch in first):
+            return "There is one order in which the posts can be taken."
+        return "There is one order, since no caller posts anything."
 
     # what becomes of each Deferred
 
@@ -119,17 +129,17 @@ class OrdersPage:
         endings = self._orders.endings
         yield Html("<h2 id=endings>What becomes of each Deferred</h2>")
         if not endings:
-            yield Html("<p class=facts>No Deferred is made in any order.</p>")
+            yield Html(f"<p class=facts>No Deferred is made in any {self._orders.noun}.</p>")
         differing = [one for one in endings if self._orders.differs(one)]
         alike = [one for one in endings if not self._orders.differs(one)]
-        for title, group in (("Ends in more than one way", differing), ("Ends the same in every order", alike)):
+        for title, group in (("Ends in more than one way", differing), (f"Ends the same in every {self._orders.noun}", alike)):
             if group:
                 yield from self._table(title, group)
 
     def _table(self, title: str, group: Sequence[Endings]) -> Iterator[Html]:
         heads = "<th>Deferred</th><th>How it ends</th><th>Orders</th><th>Share</th><th>First order</th>"
         rows = joined(row for one in group[:MOST_DEFERREDS] for row in self._rows(one))
-        yield Html(f"<h3>{title}: {several(len(group), 'Deferred', 'Deferreds')}</h3>")
+        yield Html(f"<h3>{title}: {several(len(group), 'Deferred', 'Deferreds')}{self._in_sample}</h3>")
         yield Html(f"<div class=wide><table class=ways><tr>{heads}</tr>{rows}</table></div>")
         if len(group) > MOST_DEFERREDS:
             yield Html(f"<p class=facts>and {len(group) - MOST_DEFERREDS} more</p>")
@@ -147,16 +157,34 @@ class OrdersPage:
             yield Html(f"<tr{look}>{name}<td class=facts>isn't made</td>{self._numbers(unmade)}<td></td></tr>")
 
     def _row(self, look: str, name: Html, way: Way) -> Html:
-        letter, shown = self._letters.get(way.first), _state(way.state)
+        """A row that opens the chart of a first order, or has its batches where the page has no chart of it."""
+        return self._opening(look, name, _state(way.state), Came(way.orders, way.first))
+
+    def _opening(self, look: str, name: Html, what: Html, came: Came) -> Html:
+        letter = self._letters.get(came.first)
         if letter is None:
-            batches = isolated(shortened(text_of(way.first), _MOST_BATCHES))
-            return Html(f"<tr{look}>{name}<td>{shown}</td>{self._numbers(way.orders)}<td><code>{batches}</code></td></tr>")
+            batches = isolated(shortened(text_of(came.first), _MOST_BATCHES))
+            return Html(f"<tr{look}>{name}<td>{what}</td>{self._numbers(came.orders)}<td><code>{batches}</code></td></tr>")
         return Html(
-            f"<tr{look} data-o={letter}>{name}<td><a href=#order-{letter}>{shown}</a></td>{self._numbers(way.orders)}<td>order {letter}</td></tr>"
+            f"<tr{look} data-o={letter}>{name}<td><a href=#order-{letter}>{what}</a></td>{self._numbers(came.orders)}<td>order {letter}</td></tr>"
         )
 
     def _numbers(self, orders: int) -> Html:
-        return Html(f"<td class=count>{orders}</td><td class=count>{escaped(share(orders, self._orders.total))}</td>")
+        return Html(f"<td class=count>{orders}</td><td class=count>{escaped(share(orders, self._orders.ran))}</td>")
+
+    # the outcomes
+
+    def _outcomes(self) -> Iterator[Html]:
+        outcomes = self._orders.outcomes
+        named = [(f"outcome {number}", came) for number, came in enumerate(outcomes[:MOST_OUTCOMES], 1)]
+        if self._orders.stops is not None:
+            named.append(("stopped at the limit of the journal", self._orders.stops))
+        rows = joined(self._opening("", Html(""), escaped(what), came) for what, came in named)
+        yield Html(f"<h2 id=outcomes>{several(len(outcomes), 'outcome', 'outcomes')}{self._in_sample}</h2>")
+        heads = "<th>How all end</th><th>Orders</th><th>Share</th><th>First order</th>"
+        yield Html(f'<div class=wide><table class="ways outcomes"><tr>{heads}</tr>{rows}</table></div>')
+        if len(outcomes) > MOST_OUTCOMES:
+            yield Html(f"<p class=facts>and {len(outcomes) - MOST_OUTCOMES} more</p>")
 
     # the charts
 
@@ -181,12 +209,21 @@ class OrdersPage:
         )
 
     def _firsts(self, shown: Shown) -> Html:
+        """Of what this is the first order: the outcome, the ways of Deferreds, and the stop."""
+        first = f"The first {self._orders.noun}"
+        told = [f"{first} of outcome {number}." for number, came in enumerate(self._orders.outcomes, 1) if came.first == shown.batches]
+        if self._orders.stops is not None and self._orders.stops.first == shown.batches:
+            told.append(f"{first} that stopped at the limit of the journal.")
+        return Html(" ".join([*told, *self._first_ways(first, shown)]))
+
+    def _first_ways(self, first: str, shown: Shown) -> Iterator[Html]:
         """Of which ways this is the first order: those that differ stand first."""
         firsts = [(one, way) for one in self._orders.endings for way in one.ways if way.first == shown.batches]
         firsts.sort(key=lambda pair: not self._orders.differs(pair[0]))
         told = [Html(f"<b class=mono>{escaped(one.label)}</b> {_state(way.state)}") for one, way in firsts[:_MOST_FIRSTS]]
         more = f", and {len(firsts) - _MOST_FIRSTS} more" if len(firsts) > _MOST_FIRSTS else ""
-        return Html(f"The first order in which these end so: {', '.join(told)}{more}.")
+        if told:
+            yield Html(f"{first} in which these end so: {', '.join(told)}{more}.")
 
     # two orders beside each other
 
@@ -208,9 +245,9 @@ def _command(words: str) -> Html:
 
 
 def _shown(firsts: Sequence[Batches], run: Callable[[Batches, str], Run]) -> Iterator[Shown]:
-    """The orders that are shown, each with its run: as many of the first ones as the page has room for."""
+    """The orders that are shown, each with its run: as many of these as the page has room for."""
     lines = 0
-    for letter, batches in zip(_LETTERS, firsts[:MOST_CHARTS]):
+    for letter, batches in zip(_LETTERS, firsts):
         one = run(batches, f"order {letter}")
         page = Page(one, 1, MOST_ROWS)
         lines += len(page.window)

@@ -5,7 +5,8 @@ told by its first line; where Twisted does as COMMAND does, and `docs/TWISTED.md
 named, and the run counts as passed. The last line is `N passed, M failed`, and the status is 0 exactly where M is 0.
 
 With --orders a script with posts is compared in every order in which they may be taken, and not in the one that happened.
-Where it has more than --most N, it is compared in N of them, spread evenly. A difference is reported with its order.
+Where it has more than --most N, it is compared in N of them, spread evenly; where it has more than --sample K, in K that
+--seed S draws, as `./deferreds --orders --sample K --seed S` does. A difference is reported with its order.
 
 A COMMAND that ends early, or gives no answer within the time, fails that run, and is told with the script. After
 {late} scripts in a row without an answer in time no more are asked, nor after the first {unanswered} where none was
@@ -24,6 +25,7 @@ from typing import List, Optional
 
 from ...checkout import as_called, command_name
 from ...ending import writing
+from ...sampling import MOST_SEED
 from ...survey import MOST_ORDERS
 from .. import grammar
 from ..programs import MOST_LATE, MOST_UNANSWERED, SECONDS, Broken
@@ -75,7 +77,7 @@ def _arguments(words: List[str]) -> argparse.Namespace:
     add = parser.add_argument
     add("--rows", action="store_true", help="compare on the rows of the repository")
     add("--random", type=int, metavar="N", default=0, help="compare on N random scripts")
-    add("--seed", type=int, default=1, metavar="S", help="which random scripts (1)")
+    add("--seed", type=int, default=1, metavar="S", help="which random scripts, and which orders of a sample (1)")
     add(
         "--level",
         choices=list(grammar.LEVELS),
@@ -85,6 +87,7 @@ def _arguments(words: List[str]) -> argparse.Namespace:
     add("--no-refusals", action="store_true", help="leave out the rows whose scripts are refused")
     add("--orders", action="store_true", help="compare a script with posts in every order of them")
     add("--most", type=_most, metavar="N", help=f"with --orders: in N orders of a script at most ({_ORDERS})")
+    add("--sample", type=_most, metavar="K", help="with --orders: in K orders at most, which are drawn where a script has more")
     add("--all", action="store_true", help="tell of the differences that have an entry, too")
     add("--show", type=_shown, metavar="N", default=_SHOWN, help=f"show N differences at most, or `all` ({_SHOWN})")
     add("--many", action="store_true", help="COMMAND takes --many, as docs/PORTING.md says")
@@ -118,6 +121,9 @@ def _arguments(words: List[str]) -> argparse.Namespace:
         raise SystemExit(64)
     if parsed.most is not None and not parsed.orders:
         print(f"{command_name('conform')}: --most is for --orders", file=sys.stderr)
+        raise SystemExit(64)
+    if parsed.sample is not None and not (parsed.orders and parsed.most is None and 0 <= parsed.seed <= MOST_SEED):
+        print(f"{command_name('conform')}: --sample is for --orders without --most, with a seed from 0 to {MOST_SEED}", file=sys.stderr)
         raise SystemExit(64)
     parsed.most = parsed.most or _ORDERS
     return parsed

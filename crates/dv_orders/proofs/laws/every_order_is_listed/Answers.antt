@@ -1,4 +1,5 @@
 use Rattle.dv_orders.proofs.Listing.{all_counted, every_order, never_twice, one_order}
+use Rattle.dv_orders.proofs.NumberLemmas.{there_is_one}
 use Rattle.dv_orders.proofs.laws.every_order_is_listed.Goals as goal
 
 pub returns-clause-all : goal.returns-clause-all
@@ -12,3 +13,6 @@ returns-clause-counted c = all_counted
 
 pub returns-clause-one : goal.returns-clause-one
 returns-clause-one c = one_order
+
+pub returns-clause-some : goal.returns-clause-some
+returns-clause-some c = there_is_one

@@ -1,9 +1,9 @@
-use Rattle.std.proofs.Common.{◌≡◌, ◌++◌, drop, string_bytes}
-use Rattle.dv_survey.specs.Text.{deferred_text}
+use Rattle.std.proofs.Common.{◌≡◌, ◌++◌, flat_map, string_bytes}
+use Rattle.dv_posts.specs.Batches.{below}
+use Rattle.dv_survey.specs.Text.{line_text}
 use Rattle.dv_survey.proofs.text.write_deferred.Given as goal
 
--- the lines that are left follow what is written
+-- the lines of the places below this one are written
 abbrev pub invariant-loop-place : goal.invariant-loop-place
 invariant-loop-place l =
-    string_bytes l.out ++ deferred_text l.format l.fn.deferred (drop l.place l.tallies) (drop l.place l.lines)
-    ≡ string_bytes l.initial.out ++ deferred_text l.format l.fn.deferred l.tallies l.lines
+    string_bytes l.out ≡ string_bytes l.initial.out ++ flat_map (line_text l.survey l.deferred) (below l.place)

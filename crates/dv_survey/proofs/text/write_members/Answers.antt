@@ -2,7 +2,7 @@ use Rattle.std.proofs.Common.{◌++◌, ◌∙◌, ap, codes, string_bytes}
 use Rattle.std.specs.Fmt.{decimal}
 use Rattle.dv_survey.proofs.Pieces.{on_ok, with_piece}
 use Rattle.dv_survey.specs.Text.{batches_text}
-use Rattle.dv_survey.proofs.text.write_tally_members.Goals as goal
+use Rattle.dv_survey.proofs.text.write_members.Goals as goal
 
 pub returns : goal.returns
 returns c =
