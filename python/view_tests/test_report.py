@@ -8,6 +8,7 @@ from typing import List, Optional, Sequence
 
 from deferreds.checkout import TOP
 from deferreds.view.facts import read_facts
+from deferreds.view.places import Place, Places
 from deferreds.view.report import Kind, Severity
 from deferreds.view.run import Run, run_of_facts, run_of_journal
 from deferreds.view.scripts import Script
@@ -224,9 +225,23 @@ class OfJournals(unittest.TestCase):
             report_of(run),
             [
                 "swallowed a late firing of #0·d was swallowed: nobody got its answer (line 9)"
-                " | it was cancelled in line 2 | by after call answer, line 8"
+                " | it was cancelled in line 2, 1 tick before | by after call answer, line 8"
             ],
         )
+        self.assertEqual(next(iter(Terminal(run, False).lines())), "test: clean: nothing is left; 1 to note")
+
+    def test_what_nobody_got_is_told_where_an_event_fires(self) -> None:
+        lines = ["new #0 get_7", "cancel #0", 'fire #0 fail CancelledError ""', "advance 4", "swallow #0", "refuse #0"]
+        script = Script({"events": [["deferred", "get_7"], ["cancel", "get_7"], ["advance", 4], ["callback", "get_7", "late"], ["errback", "get_7", "E", "no"]]})
+        run = run_of_journal(journal(*lines), "test", script, begins=[0, 1, 3, 4, 5])
+        run.places, run.tick = Places({"get_7": Place("/srv/get.py", 7)}, {"/events/3": Place("/srv/read.py", 9)}), "1 ms"
+        self.assertEqual(
+            report_of(run)[-1],
+            'swallowed a late firing of #0·get_7 was swallowed: nobody got "late" (line 5)'
+            " | it was cancelled in line 2, 4 ticks (0.004 s) before"
+            ' | by event 3 callback get_7 "late" at read.py:9 | made at get.py:7',
+        )
+        self.assertEqual([script.fired_with(event) for event in (-1, 0, 3, 4, 5)], ["", "", '"late"', 'E "no"', ""])
 
     def test_the_second_that_waits_for_one_got_null(self) -> None:
         lines = ["new #0 d", "new #1 a", "new #2 b"]

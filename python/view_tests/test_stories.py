@@ -66,6 +66,11 @@ class Trees(unittest.TestCase):
         self.assertEqual(signs(run, 0), ["1m0", "1w2#1*", "2m1", "2f5", "2r6", "3g7#0", "1f7#1"])
         self.assertEqual(run.stories.of[0][1].end, 6)
 
+    def test_firings_without_effect_are_steps_and_are_counted(self) -> None:
+        run = of(["new #0 a", "cancel #0", 'fire #0 fail CancelledError ""', "swallow #0", "refuse #0", "refuse #0"])
+        self.assertEqual(signs(run, 0), ["1m0", "1a1", "1f2", "1s3", "1x4", "1x5"])
+        self.assertTrue(Tree(run, 0).spent(run.fold.records[0]).endswith("0 sides ran, 2 firings refused, 1 firing swallowed"))
+
     def test_a_call_that_a_side_schedules_has_below_it_what_it_did(self) -> None:
         run = next(one.run for one in samples.told_by_the_program() if one.name == "retried")
         calls = [step for steps in run.stories.of.values() for one in steps for step in run.stories.inside(one) if step.does is Does.CALLS]

@@ -34,11 +34,11 @@ class Tree:
         return (OfDeferred(self._number), " ", OfScript(record.end), ": ", self.spent(record))
 
     def spent(self, record: Record) -> str:
-        """How long the Deferred was unfired, waited and was paused, and how many of its sides ran."""
+        """How long the Deferred was unfired, waited and was paused, how many of its sides ran, and how many firings had no effect."""
         spent = self._run.durations.of(record)
         paused = [f"paused {self._run.ticks(spent.paused)}"] if spent.paused else []
         parts = [f"unfired {self._run.ticks(spent.unfired)}", f"waited {self._run.ticks(spent.waited)}", *paused]
-        return ", ".join([*parts, f"{several(spent.sides, 'side', 'sides')} ran"])
+        return ", ".join([*parts, f"{several(spent.sides, 'side', 'sides')} ran", *record.in_vain])
 
     def lines(self) -> Iterator[Tuple[int, Phrase]]:
         """The branches: how deep each lies, and what it says."""
@@ -61,6 +61,8 @@ class Tree:
             Does.MAKES: ("makes ", *other),
             Does.FIRES: ("fires ", *other, ": ", own),
             Does.CALLS: (own, *self._came(step)),
+            Does.REFUSED: (own, *self._because(step)),
+            Does.SWALLOWED: (own, *self._because(step)),
         }
         return (*said.get(step.does, (own,)), "  (", OfLine(step.row), ")")
 
@@ -80,9 +82,10 @@ class Tree:
         return words(said, *self._other(step, False))
 
     def _by(self, step: Step, other: Phrase) -> Phrase:
+        return words(" by a side of ", *other) if other else self._because(step)
+
+    def _because(self, step: Step) -> Phrase:
         row = self._run.fold.rows[step.row or 0]
-        if other:
-            return words(" by a side of ", *other)
         because: Phrase = (" ← ", *row.cause)
         return because if row.cause else ()
 

@@ -138,6 +138,8 @@ class Page:
         if report.is_clean:
             look = "note" if self._run.problems else "clean"
             yield Html(f'<span class="verdict {look}">{self._run.nothing}</span>')
+        if report.count(Severity.NOTE):
+            yield Html(f'<span class="verdict note">{report.count(Severity.NOTE)} to note</span>')
         yield Html(f"<span class=facts>{escaped(self._run.counts)}</span></p>")
         if self._run.order:
             order = escaped(f"--batches '{self._run.order}'")
@@ -238,10 +240,11 @@ class Page:
         )
 
     def _spent(self, record: Record) -> str:
-        """How long the Deferred was unfired, waited and was paused, where that took time, and how many of its sides ran."""
+        """How long the Deferred was unfired, waited and was paused, where that took time, how many of its sides ran, and how many
+        firings had no effect."""
         spent, ticks = self._run.durations.of(record), self._run.ticks
         parts = [f"{word} {ticks(count)}" for word, count in (("unfired", spent.unfired), ("waited", spent.waited), ("paused", spent.paused)) if count]
-        return ", ".join([*parts, *([several(spent.sides, "side", "sides")] if spent.sides else [])])
+        return ", ".join([*parts, *([several(spent.sides, "side", "sides")] if spent.sides else []), *record.in_vain])
 
     def _made_at(self, record: Record) -> Html:
         if not self._run.places:

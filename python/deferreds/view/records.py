@@ -6,7 +6,7 @@ import enum
 from typing import List, NamedTuple, Optional, Tuple
 
 from .lines import Entry, Outcome
-from .phrases import Phrase
+from .phrases import Phrase, several
 
 
 class State(enum.Enum):
@@ -89,6 +89,12 @@ class Record:
     def name(self) -> str:
         """The name that it was made with, or an empty text."""
         return self.names[0] if self.names else ""
+
+    @property
+    def in_vain(self) -> List[str]:
+        """How many firings had no effect, in words."""
+        kinds = (("refused", self.refused), ("swallowed", self.swallowed))
+        return [f"{several(len(rows), 'firing', 'firings')} {word}" for word, rows in kinds if rows]
 
     @property
     def state(self) -> State:

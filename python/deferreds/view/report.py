@@ -3,7 +3,7 @@
 from __future__ import annotations
 
 import enum
-from typing import Iterator, List, NamedTuple, Optional, Sequence, Set, Tuple, Type, TypeVar
+from typing import Callable, Iterator, List, NamedTuple, Optional, Sequence, Set, Tuple, Type, TypeVar
 
 from .causes import in_whom
 from .fold import Fold
@@ -26,7 +26,7 @@ from .left import (
 )
 from .phrases import OfDeferred, OfLine, OfPlace, OfScript, Part, Phrase, listed, several, words
 from .places import NOWHERE, Places
-from .records import Finish, GotNull, Made, Record
+from .records import By, Finish, GotNull, Made, Record, Row
 from .scripts import Script
 from .world import Shelf, T
 
@@ -98,9 +98,16 @@ class Report:
     """What is left of a run."""
 
     def __init__(
-        self, fold: Fold, left: Sequence[Left], finish: Finish, script: Script, places: Places = NOWHERE
+        self,
+        fold: Fold,
+        left: Sequence[Left],
+        finish: Finish,
+        script: Script,
+        places: Places = NOWHERE,
+        ticks: Callable[[int], str] = str,
     ) -> None:
         self._places_of = places
+        self._ticks = ticks
         self._fold = fold
         self._left = left
         self._script = script
@@ -259,13 +266,16 @@ class Report:
         if record.awaits is not None:
             stopped = [("its body has awaited ", OfDeferred(record.awaits), ", and didn't end")]
         places = self._places(record) if record.made is Made.ACTION else ()
-        made_at = self._places_of.of_deferred(record.names)
-        made: List[Phrase] = [("made at ", OfPlace(made_at))] if made_at is not None else []
         details = _details(
-            made, [places], stopped, [(pairs,)] if record.pairs else [], self._held(end, [record.number])
+            self._made_at(record), [places], stopped, [(pairs,)] if record.pairs else [], self._held(end, [record.number])
         )
         said: Phrase = ("nobody fired ", OfDeferred(record.number), paused)
         return Finding(Severity.LEFT, Kind.UNFIRED, said, details, record.row)
+
+    def _made_at(self, record: Record) -> List[Phrase]:
+        """Where in the program the Deferred was made, if that is known."""
+        place = self._places_of.of_deferred(record.names)
+        return [("made at ", OfPlace(place))] if place is not None else []
 
     def _places(self, record: Record) -> Phrase:
         """Where the script fires a Deferred of this name, or makes one that something else is to fire."""
@@ -433,19 +443,30 @@ class Report:
 
     def _swallowed(self, record: Record, place: int) -> Finding:
         """A firing that came after a cancel: nobody got what it had."""
-        details: List[Phrase] = []
-        if record.cancelled is not None:
-            details.append(("it was cancelled in ", OfLine(record.cancelled)))
-        if self._fold.rows[place].cause:
-            details.append(("by ", *self._fold.rows[place].cause))
-        said: Phrase = ("a late firing of ", OfDeferred(record.number), " was swallowed: nobody got its answer")
-        return Finding(Severity.NOTE, Kind.SWALLOWED, said, tuple(details), place)
+        row = self._fold.rows[place]
+        fired_with = self._script.fired_with(row.actor.number) if row.actor.by is By.EVENT else ""
+        answer = OfScript(fired_with) if fired_with else "its answer"
+        said: Phrase = ("a late firing of ", OfDeferred(record.number), " was swallowed: nobody got ", answer)
+        details = _details(self._cancelled(record, row), [self._by(row)], self._made_at(record))
+        return Finding(Severity.NOTE, Kind.SWALLOWED, said, details, place)
+
+    def _cancelled(self, record: Record, late: Row) -> List[Phrase]:
+        """The cancel that came before the firing of this row, and how long before."""
+        if record.cancelled is None:
+            return []
+        ticks = late.time - self._fold.rows[record.cancelled].time
+        return [("it was cancelled in ", OfLine(record.cancelled), f", {self._ticks(ticks)} before" if ticks else "")]
+
+    def _by(self, row: Row) -> Phrase:
+        """Who fires in this row, and where in the program, as far as these are known."""
+        place = self._places_of.of_event(row.actor.number) if row.actor.by is By.EVENT else None
+        at: Phrase = (" at ", OfPlace(place)) if place is not None else ()
+        return ("by ", *row.cause, *at) if row.cause else ()
 
     def _refused(self, record: Record, place: int) -> Iterator[Finding]:
         """A second firing, unless the next line tells it as unhandled."""
         rows = self._fold.rows
         if place + 1 < len(rows) and rows[place + 1].entry.word == "unhandled":
             return
-        cause = rows[place].cause
         said: Phrase = ("a second firing of ", OfDeferred(record.number))
-        yield Finding(Severity.NOTE, Kind.REFUSED, said, (("by ", *cause),) if cause else (), place)
+        yield Finding(Severity.NOTE, Kind.REFUSED, said, _details([self._by(rows[place])]), place)

@@ -70,7 +70,7 @@ class Run:
     def report(self) -> Report:
         """What is left, and why."""
         if self._report is None:
-            self._report = Report(self.fold, self.left, self.finish, self.script, self.places)
+            self._report = Report(self.fold, self.left, self.finish, self.script, self.places, self.ticks)
         return self._report
 
     @property

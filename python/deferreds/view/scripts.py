@@ -63,6 +63,16 @@ class Script:
         except RecursionError:
             return ""
 
+    def fired_with(self, event: int) -> str:
+        """What an event fires a Deferred with: a value, or the class of a failure and its message; an empty text where it fires none."""
+        action = self.events[event] if 0 <= event < len(self.events) else None
+        if not isinstance(action, list) or len(action) < 3 or action[0] not in ("callback", "errback"):
+            return ""
+        try:
+            return compact(action[2]) if action[0] == "callback" else " ".join([_text(action[2]), *map(compact, action[3:])])
+        except RecursionError:
+            return ""
+
     def firing(self, names: Sequence[str]) -> List[str]:
         """The places of the actions that fire a Deferred of one of the names, as JSON Pointers."""
         return [place for name in dict.fromkeys(names) for place in self._found()[0].get(name, ())]

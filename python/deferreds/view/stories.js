@@ -43,7 +43,12 @@ function inTicks(count) {
 }
 function spent(one) {
   var paused = one.paused ? ", paused " + inTicks(one.paused) : "";
-  return "unfired " + inTicks(one.unfired) + ", waited " + inTicks(one.waited) + paused + ", " + several(one.sides, "side", "sides") + " ran";
+  return "unfired " + inTicks(one.unfired) + ", waited " + inTicks(one.waited) + paused + ", " + several(one.sides, "side", "sides") + " ran" + inVain(one, "x", "refused") + inVain(one, "s", "swallowed");
+}
+// how many firings had no effect
+function inVain(one, does, word) {
+  var count = one.steps.filter(function (step) { return step.does === does; }).length;
+  return count ? ", " + several(count, "firing", "firings") + " " + word : "";
 }
 // the branches, each with how deep it lies, and whether whom it names is told below it
 function branchesOf(number) {
@@ -104,6 +109,7 @@ function branch(one) {
   else if (step.does === "l") said.append(rowText(step.row), step.end === null ? "" : ", which came in ", step.end === null ? "" : lineLink(step.end));
   else if (step.does === "c") said.append("waits for its child ", other);
   else if (step.does === "k") said.append("is fired by a pair of ", other);
+  else if (step.does === "x" || step.does === "s") said.append(rowText(step.row), cause(step.row));
   else if (step.does === "h") said.append(HANGS[step.hang[0]] + step.hang[1]);
   else said.append(rowText(step.row));
   if (step.row !== null) said.append(" ", made("span", "why", "("), lineLink(step.row), made("span", "why", ")"));

@@ -17,7 +17,7 @@ from .records import BracketKind, By, Record, Row, ended
 MOST_BRANCHES = 2_000
 
 _CLOSERS = frozenset({"set", "take", "wait"})
-_ASKED = frozenset({"refuse", "swallow", "cancel", "pause", "unpause"})
+_ASKED = frozenset({"cancel", "pause", "unpause"})
 _SILENT = frozenset({"run", "add", "name"})
 _BETWEEN = {At.CHILD, At.CHAIN}
 #: the look of a Deferred that waits or awaits tells these already
@@ -31,8 +31,11 @@ class Does(enum.Enum):
     FIRED = "f"
     WAITS = "w"
     RAN = "r"
-    #: it is cancelled, paused or unpaused, or a firing is refused or swallowed
+    #: it is cancelled, paused or unpaused
     ASKED = "a"
+    #: a firing is refused, or swallowed
+    REFUSED = "x"
+    SWALLOWED = "s"
     #: a child of a list hasn't come; who is to fire it by a chain
     CHILD = "c"
     CHAIN = "k"
@@ -113,6 +116,8 @@ class Stories:
             self._own(number, Step(Does.FIRED, place, source))
         elif word in _ASKED:
             self._own(number, Step(Does.ASKED, place, source))
+        elif word in _IN_VAIN:
+            self._own(number, Step(_IN_VAIN[word], place, source))
         elif word == "run":
             self._runs.setdefault(number, []).append(self._own(number, Step(Does.RAN, place)))
         elif word == "hand":
@@ -235,4 +240,6 @@ class Stories:
                 todo.extend(reversed(inner))
 
 
+#: firings that have no effect
+_IN_VAIN = {"refuse": Does.REFUSED, "swallow": Does.SWALLOWED}
 _UP = frozenset({Does.WAITS, Does.CHILD, Does.CHAIN})

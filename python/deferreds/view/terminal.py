@@ -94,7 +94,8 @@ class Terminal:
         ]
         verdict = ", ".join(parts) if parts else self._run.nothing
         tone = "bad" if report.count(Severity.BAD) else "wait" if parts else "good"
-        yield f"{visible(self._run.title)}: {self._toned(tone, verdict)}"
+        notes = report.count(Severity.NOTE)
+        yield f"{visible(self._run.title)}: {self._toned(tone, verdict)}{f'; {notes} to note' if notes else ''}"
         yield self._run.counts
         if self._run.order:
             yield f"posts were taken in this order: --batches '{self._run.order}'"
