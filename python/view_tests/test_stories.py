@@ -69,7 +69,8 @@ class Trees(unittest.TestCase):
     def test_firings_without_effect_are_steps_and_are_counted(self) -> None:
         run = of(["new #0 a", "cancel #0", 'fire #0 fail CancelledError ""', "swallow #0", "refuse #0", "refuse #0"])
         self.assertEqual(signs(run, 0), ["1m0", "1a1", "1f2", "1s3", "1x4", "1x5"])
-        self.assertTrue(Tree(run, 0).spent(run.fold.records[0]).endswith("0 sides ran, 2 firings refused, 1 firing swallowed"))
+        head = next(iter(Terminal(run, False).tree(0)))
+        self.assertTrue(head.endswith("0 sides ran, 2 firings refused, 1 firing swallowed in line 4, line 5, line 6"), head)
 
     def test_a_call_that_a_side_schedules_has_below_it_what_it_did(self) -> None:
         run = next(one.run for one in samples.told_by_the_program() if one.name == "retried")

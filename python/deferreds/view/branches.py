@@ -6,10 +6,13 @@ from typing import Dict, Iterator, List, Optional, Tuple
 
 from .left import At
 from .hanging import object_name
-from .phrases import OfDeferred, OfLine, OfScript, Phrase, several, words
+from .phrases import OfDeferred, OfLine, OfScript, Part, Phrase, listed, several, words
 from .records import Record
 from .run import Run
 from .stories import MOST_BRANCHES, Does, Step
+
+#: how many firings without effect the head of a tree names
+_MOST_NAMED = 3
 
 _HANGS: Dict[At, str] = {
     At.LOCK: "waits for a token of",
@@ -31,7 +34,9 @@ class Tree:
     def head(self) -> Phrase:
         """The Deferred, how it ended, and how long it was what."""
         record = self._run.fold.records[self._number]
-        return (OfDeferred(self._number), " ", OfScript(record.end), ": ", self.spent(record))
+        vain: List[Part] = [OfLine(row) for row in sorted([*record.refused, *record.swallowed])]
+        where: Phrase = (" in ", *listed(vain, _MOST_NAMED)) if vain else ()
+        return (OfDeferred(self._number), " ", OfScript(record.end), ": ", self.spent(record), *where)
 
     def spent(self, record: Record) -> str:
         """How long the Deferred was unfired, waited and was paused, how many of its sides ran, and how many firings had no effect."""

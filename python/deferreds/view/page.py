@@ -10,7 +10,7 @@ from typing import Dict, Iterator, List, Optional, Sequence
 from .axis import Axis
 from .events import Events
 from .markup import isolated, placed
-from .phrases import several
+from .phrases import OfDeferred, several
 from .records import ArrowKind, Ended, Look, Record, State, ended
 from .report import Finding, Kind, Severity
 from .run import Run
@@ -185,8 +185,13 @@ class Page:
             )
         return Html(
             f"<tr class={finding.severity.value}><td>{finding.kind.value}</td><td>{where}</td>"
-            f"<td>{self._markup.said(finding.said, _MOST_TEXT)}{joined(details)}</td></tr>"
+            f"<td>{self._markup.said(finding.said, _MOST_TEXT)}{self._tree_of(finding)}{joined(details)}</td></tr>"
         )
+
+    def _tree_of(self, finding: Finding) -> Html:
+        """A link to the tree of the first Deferred that the row names, which leads to its outcome where no script runs."""
+        number = next((part.number for part in finding.said if isinstance(part, OfDeferred)), None)
+        return Html(f' <span class=why>· <a href="#d={number}">its tree</a></span>' if number in self._markup.outcomes else "")
 
     def _shown_outcomes(self) -> None:
         """Chooses which outcomes are shown: all where they are few, and else those that aren't a value first."""

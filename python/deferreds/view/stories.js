@@ -1,5 +1,5 @@
 // The tree of a Deferred: its steps, and below each those of whom it names, as far as they hang on this one. `stories.py` makes the same.
-var MOST_BRANCHES = 2000, DEEPEST = 24, UP = "wck";
+var MOST_BRANCHES = 2000, DEEPEST = 24, MOST_NAMED = 3, UP = "wck";
 var HANGS = {
   lock: "waits for a token of ", queue: "waits for a value of ", job: "gets the result of job ", timeout: "is cancelled at time ",
   loop: "is fired when this loop ends: ", task: "is fired when this task ends: "
@@ -162,7 +162,11 @@ function plant(number, stay) {
   sieves.tree = function (slot) { return kept.has(slot); };
   lay();
   var head = made("h2", "", root.label + ", with all that hangs on it"), about = made("p", "facts"), value = document.querySelector('.ends tr[data-d="' + number + '"] .value');
-  about.append(root.end + " ", made("span", "mono", value ? value.textContent : ""), ": " + spent(root) + ". ");
+  about.append(root.end + " ", made("span", "mono", value ? value.textContent : ""), ": " + spent(root));
+  root.steps.filter(function (step) { return "xs".indexOf(step.does) >= 0; }).slice(0, MOST_NAMED).forEach(function (step, place) {
+    about.append(place ? ", " : " in ", lineLink(step.row));
+  });
+  about.append(". ");
   var back = made("a", "", "all lines");
   back.href = "#what";
   back.addEventListener("click", function (event) { event.preventDefault(); fell(); document.getElementById("what").scrollIntoView(); });
