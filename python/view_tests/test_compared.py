@@ -10,6 +10,7 @@ from deferreds.view import texts
 from deferreds.view.compared import Compared
 from deferreds.view.compared_forms import MOST_LINES, MOST_OUTCOMES, ComparedPage, text_lines
 from deferreds.view.run import Run, run_of_journal
+from deferreds.view.scripts import Script
 
 from . import samples
 from .test_browser import InBrowser
@@ -39,6 +40,15 @@ def mended() -> Run:
     )  # fmt: skip
 
 
+def recorded(*lines: str, script: Optional[object] = None) -> Run:
+    """The same run as a recording: with a tick, and with what begins each event, which is a line here."""
+    text = "".join(f"{line}\n" for line in lines)
+    begins = range(sum(not line.startswith("#") for line in lines))
+    run = run_of_journal(text, "t", Script(script), begins=begins)
+    run.tick = "1 ms"
+    return run
+
+
 def differing(compared: Compared) -> List[Tuple[str, Optional[str], Optional[str]]]:
     """The outcomes that differ."""
     return [
@@ -51,7 +61,7 @@ class Model(unittest.TestCase):
 
     def test_up_to_the_first_line_that_differs(self) -> None:
         compared = Compared(lost(), mended())
-        self.assertEqual(compared.common, 3)
+        self.assertEqual(compared.common, (3, 3))
         self.assertEqual(
             differing(compared), [("b", "unfired", "ok 5"), ("", 'fail CancelledError ""', None)]
         )
@@ -69,7 +79,68 @@ class Model(unittest.TestCase):
 
     def test_a_run_that_goes_on_where_the_other_ends(self) -> None:
         compared = Compared(run_of(*_LINES, "#0 a unfired", "#1 b unfired"), run_of(*_LINES, 'note "x"', "#0 a unfired", "#1 b unfired"))
-        self.assertEqual((compared.common, compared.verdict), (3, "line 4 is the first that differs; no outcome differs"))
+        self.assertEqual((compared.common, compared.verdict), ((3, 3), "line 4 is the first that differs; no outcome differs"))
+
+
+class OfRecordings(unittest.TestCase):
+    """Two recordings: times, and lines of the program in names, are different each time."""
+
+    def test_neither_times_nor_lines_of_the_program_differ(self) -> None:
+        first = recorded(
+            "lock lock_get_7", "new #0 get_7", "acquire lock_get_7 #0", 'fire #0 ok "lock_get_7"', "later call call_get_9 5", "advance 5",
+            "new #1 get_7_2", '#0 get_7 ok "lock_get_7"', "#1 get_7_2 unfired",
+        )  # fmt: skip
+        second = recorded(
+            "lock lock_get_12", "new #0 get_12", "acquire lock_get_12 #0", 'fire #0 ok "lock_get_12"', "later call call_get_14 6", "advance 4",
+            "advance 6", "new #1 get_12_2", '#0 get_12 ok "lock_get_12"', "#1 get_12_2 unfired",
+        )  # fmt: skip
+        compared = Compared(first, second)
+        self.assertTrue(compared.is_same)
+        self.assertEqual(compared.common, (7, 8))
+        second.tick = ""
+        compared = Compared(first, second)
+        self.assertEqual((compared.common, compared.apart), ((0, 0), ""), "what isn't recorded is compared as it stands")
+        self.assertEqual(len(compared.outcomes), 4)
+
+    def test_all_else_differs(self) -> None:
+        lines = ["new #0 get_7", "fire #0 ok 1", "later call call_get_9 5", "#0 get_7 ok 1"]
+        for place, other in (
+            (0, "new #0 put_7"),
+            (1, "fire #0 ok 2"),
+            (1, 'fire #0 ok "get_7"'),
+            (2, "later call call_put_9 5"),
+            (2, "semaphore lock_get_9 5"),
+        ):
+            compared = Compared(recorded(*lines), recorded(*lines[:place], other, *lines[place + 1 :]))
+            self.assertEqual(compared.common, (place, place), other)
+
+    def test_the_first_lines_that_differ_stand_beside_each_other(self) -> None:
+        first = recorded("new #0 get_7", "advance 3", "fire #0 ok 1", "#0 get_7 ok 1")
+        second = recorded("new #0 get_8", "advance 2", "advance 3", "fire #0 ok 2", "#0 get_8 ok 2")
+        compared = Compared(first, second)
+        self.assertEqual(compared.common, (2, 3))
+        self.assertEqual(differing(compared), [("get_7 / get_8", "ok 1", "ok 2")])
+        self.assertEqual(
+            list(text_lines(compared))[2:],
+            [
+                "line 3 of the first and line 4 of the second are the first that differ; 1 outcome differs",
+                "Both were recorded, so times, and the program's line numbers in names, aren't compared.",
+                "- get_7 / get_8: #0 ok 1",
+                "+ get_7 / get_8: #0 ok 2",
+                "",
+                "      1 new #0 get_7",
+                "      2 advance 3",
+                "-     3 fire #0 ok 1",
+                "+     4 fire #0 ok 2",
+            ],
+        )
+
+    def test_a_firing_without_effect_says_what_nobody_got(self) -> None:
+        lines = ["new #0 d_1", "cancel #0", 'fire #0 fail CancelledError ""', "swallow #0", '#0 d_1 fail CancelledError ""']
+        script = {"events": [["deferred", "d_1"], ["cancel", "d_1"], [], ["callback", "d_1", "<b>late</b>"]]}
+        compared = Compared(recorded(*lines[:3], *lines[4:]), recorded(*lines, script=script))
+        self.assertEqual(list(text_lines(compared))[-1], '+     4 swallow #0  "<b>late</b>"')
+        self.assertIn("<span class=why><bdi>&quot;&lt;b&gt;late&lt;/b&gt;&quot;</bdi></span>", ComparedPage(compared).html())
 
 
 class Forms(unittest.TestCase):

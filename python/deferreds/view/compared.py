@@ -2,14 +2,21 @@
 
 from __future__ import annotations
 
+import re
 from typing import Dict, Iterator, List, NamedTuple, Optional, Tuple
 
 from .phrases import several
-from .records import Record
+from .records import By, Record, Row
 from .run import Run
 
 #: a Deferred of either run: its name, and which one of that name it is. Its number is another where one more was made before it
 Key = Tuple[str, int]
+
+#: what two lines have in common that are the same
+Form = Tuple[object, ...]
+
+#: what `./record` adds to the name of a function: the line of the program, and which one of that line it is
+_OF_LINE = re.compile(r"_\d+(?:_\d+)?$")
 
 
 class Differing(NamedTuple):
@@ -21,24 +28,54 @@ class Differing(NamedTuple):
 
 
 class Side:
-    """One of the two runs, by the keys of its Deferreds."""
+    """One of the two runs, by the keys of its Deferreds; loosely, apart from times and the lines of a program that was recorded."""
 
-    def __init__(self, run: Run) -> None:
+    def __init__(self, run: Run, is_loose: bool) -> None:
         self.run = run
-        self.lines = [row.entry.line for row in run.fold.rows]
+        self._is_loose = is_loose
+        self._locks = {f'ok "{lock.name}"' for lock in run.fold.world.locks.all}
+        #: the rows that are compared: loosely, without those in which time goes on, which may be one more where a clock is read later
+        self._rows = [row for row in run.fold.rows if not (is_loose and row.entry.word == "advance")]
+        self.forms: List[Form] = [self._form(row) for row in self._rows]
         self.records: Dict[Key, Record] = {}
         self._keys: Dict[int, Key] = {}
         counted: Dict[str, int] = {}
         for record in run.fold.records.values():
-            counted[record.name] = counted.get(record.name, 0) + 1
-            key = record.name, counted[record.name]
+            name = self._name(record.name)
+            counted[name] = counted.get(name, 0) + 1
+            key = name, counted[name]
             self.records[key] = record
             self._keys[record.number] = key
+
+    def place_of(self, number: int) -> int:
+        """The place of the row that is compared as this one; of the end, where there are no more."""
+        return self._rows[number].place if number < len(self._rows) else len(self.run.fold.rows)
+
+    def _name(self, name: str) -> str:
+        return _OF_LINE.sub("", name) if self._is_loose else name
+
+    def _form(self, row: Row) -> Form:
+        """What another line has to have that is the same as this one."""
+        entry = row.entry
+        if not self._is_loose or not entry.word:
+            return (entry.line,)
+        number = None if entry.word == "later" else entry.number  # (it is a time there)
+        tail = self._value(entry.line[entry.head :])
+        return entry.word, entry.what, entry.deferred, entry.other, self._name(entry.name), number, tail
+
+    def _value(self, text: str) -> str:
+        """An outcome, which may be the name of a lock, as whoever gets a token of it has."""
+        return f'{self._name(text[:-1])}"' if text in self._locks else text
+
+    def lacks(self, row: Row) -> str:
+        """What the line of a firing without effect doesn't say: with what it fires, where its event tells that."""
+        is_told = row.entry.word in ("refuse", "swallow") and row.actor.by is By.EVENT
+        return self.run.script.fired_with(row.actor.number) if is_told else ""
 
     def outcome(self, record: Record) -> Tuple[str, Optional[Key]]:
         """The outcome, and the Deferred that it waits for: by its number it can't be compared."""
         if record.waits is None:
-            return record.end, None
+            return self._value(record.end), None
         return record.end.split("#")[0], self._keys.get(record.waits)
 
 
@@ -46,39 +83,59 @@ class Compared:
     """What two runs have in common, and what differs."""
 
     def __init__(self, first: Run, second: Run) -> None:
-        self.first = Side(first)
-        self.second = Side(second)
-        #: how many lines from the first on are the same
-        self.common = _common(self.first.lines, self.second.lines)
+        #: whether both were recorded: times of a reactor are never the same twice, and a program that is mended has other lines
+        self.is_loose = first.is_recorded and second.is_recorded
+        self.first = Side(first, self.is_loose)
+        self.second = Side(second, self.is_loose)
+        common = _common(self.first.forms, self.second.forms)
+        #: of each run, how many lines come before the first that differs
+        self.common = self.first.place_of(common), self.second.place_of(common)
         self.outcomes: List[Differing] = list(self._outcomes())
 
     @property
     def is_same(self) -> bool:
         """Whether lines and outcomes are the same."""
-        return self.first.lines == self.second.lines and not self.outcomes
+        return self._has_same_lines and not self.outcomes
+
+    @property
+    def _has_same_lines(self) -> bool:
+        return self.first.forms == self.second.forms
 
     def _outcomes(self) -> Iterator[Differing]:
         for key, record in self.first.records.items():
             other = self.second.records.get(key)
             if other is None or self.first.outcome(record) != self.second.outcome(other):
-                yield Differing(key[0], record, other)
+                names = dict.fromkeys((record.name, other.name if other is not None else record.name))
+                yield Differing(" / ".join(names), record, other)
         for key, record in self.second.records.items():
             if key not in self.first.records:
-                yield Differing(key[0], None, record)
+                yield Differing(record.name, None, record)
 
     @property
     def verdict(self) -> str:
         """What differs, in a few words."""
+        lines = several(len(self.first.run.fold.rows), "line", "lines")
         if self.is_same:
-            return f"the same: {several(len(self.first.lines), 'line', 'lines')}, and all outcomes"
-        if self.first.lines == self.second.lines:
-            where = f"all {several(len(self.first.lines), 'line', 'lines')} are the same"
-        else:
-            where = f"line {self.common + 1} is the first that differs"
+            return f"the same: {lines}, and all outcomes"
+        where = f"all {lines} are the same" if self._has_same_lines else self._where
         differ = several(len(self.outcomes), "outcome differs", "outcomes differ")
         return f"{where}; {differ if self.outcomes else 'no outcome differs'}"
 
+    @property
+    def _where(self) -> str:
+        one, other = (common + 1 for common in self.common)
+        if one == other:
+            return f"line {one} is the first that differs"
+        return f"line {one} of the first and line {other} of the second are the first that differ"
 
-def _common(first: List[str], second: List[str]) -> int:
+    @property
+    def apart(self) -> str:
+        """What isn't compared, or an empty text."""
+        if not self.is_loose:
+            return ""
+        return "Both were recorded, so times, and the program's line numbers in names, aren't compared."
+
+
+def _common(first: List[Form], second: List[Form]) -> int:
     pairs = enumerate(zip(first, second))
     return next((place for place, (one, other) in pairs if one != other), min(len(first), len(second)))

@@ -46,6 +46,8 @@ class ComparedPage:
         """What differs: the verdict, the outcomes, the lines."""
         yield Html(f'<p><span class="verdict {self._look()}">{escaped(self._compared.verdict)}</span></p>')
         yield from map(self._about, self._sides)
+        if self._compared.apart:
+            yield Html(f"<p class=facts>{escaped(self._compared.apart)}</p>")
         yield from self._outcomes()
         yield from self._lines()
 
@@ -80,40 +82,41 @@ class ComparedPage:
         return Html(f'<td class="mono value">#{record.number} <span class="state t-{CLASSES[end]}">{SIGNS[end]}</span> {shown}</td>')
 
     def _lines(self) -> Iterator[Html]:
-        common, sides = self._compared.common, self._sides
-        first = max(0, common - _BEFORE)
-        rows = [side.run.fold.rows for side in sides]
-        last = min(max(map(len, rows)), common + self._most)
-        yield Html("<h2>From the first line that differs on</h2>" if last > common else "<h2>The last lines</h2>")
-        if first:
-            yield Html(f"<p class=facts>{first} lines before these are the same</p>")
+        sides = self._sides
+        same = sides[0].run.fold.rows[: self._compared.common[0]]
+        rest = [side.run.fold.rows[common:] for side, common in zip(sides, self._compared.common)]
+        yield Html("<h2>From the first line that differs on</h2>" if any(rest) else "<h2>The last lines</h2>")
+        if len(same) > _BEFORE:
+            yield Html(f"<p class=facts>{len(same) - _BEFORE} lines before these are the same</p>")
         heads = "".join(f"<th>{isolated(side.run.title)}</th>" for side in sides)
         yield Html(f"<table class=both><tr>{heads}</tr>")
-        for place in range(first, common):
-            yield Html(f"<tr class=facts><td colspan=2>{_cell(rows[0][place])}</td></tr>")
-        for place in range(common, last):
-            yield Html(f"<tr>{''.join(self._line(one, place) for one in rows)}</tr>")
+        for row in same[-_BEFORE:]:
+            yield Html(f"<tr class=facts><td colspan=2>{_cell(sides[0], row)}</td></tr>")
+        for place in range(min(max(map(len, rest)), self._most)):
+            yield Html(f"<tr>{''.join(self._line(side, one, place) for side, one in zip(sides, rest))}</tr>")
         yield Html("</table>")
-        for side, one in zip(sides, rows):
-            if len(one) > last:
-                yield Html(f"<p class=facts>{isolated(side.run.title)} has {len(one) - last} more lines</p>")
+        for side, one in zip(sides, rest):
+            if len(one) > self._most:
+                yield Html(f"<p class=facts>{isolated(side.run.title)} has {len(one) - self._most} more lines</p>")
 
     @staticmethod
-    def _line(rows: List[Row], place: int) -> Html:
+    def _line(side: Side, rows: List[Row], place: int) -> Html:
         if place >= len(rows):
             return Html("<td></td>")
         fails = " f" if rows[place].entry.fails else ""
-        return Html(f'<td class="line{fails}">{_cell(rows[place])}</td>')
+        return Html(f'<td class="line{fails}">{_cell(side, rows[place])}</td>')
 
 
-def _cell(row: Row) -> Html:
-    """A line with its number, indented as deep as it lies."""
+def _cell(side: Side, row: Row) -> Html:
+    """A line with its number, indented as deep as it lies, and what it lacks."""
     line, entry = clipped(row.entry.line, _MOST_LINE), row.entry
     shown = isolated(line)
     if entry.word in WORDS:
         shown = Html(f"<b class=k-{entry.word}>{entry.word}</b>{isolated(line[len(entry.word) :])}")
     deep = f"<i class=d{min(row.depth, _DEEPEST)}></i>" if row.depth else ""
-    return Html(f"<span class=n>{row.place + 1}</span>{deep}<span class=mono>{shown}</span>")
+    lacks = side.lacks(row)
+    behind = f" <span class=why>{isolated(clipped(lacks, _MOST_VALUE))}</span>" if lacks else ""
+    return Html(f"<span class=n>{row.place + 1}</span>{deep}<span class=mono>{shown}</span>{behind}")
 
 
 def _report(side: Side) -> List[str]:
@@ -129,18 +132,22 @@ def text_lines(compared: Compared) -> Iterator[str]:
     for sign, side in sides:
         yield visible("; ".join([f"{sign} {side.run.title}: {side.run.counts}", *_report(side)]))
     yield compared.verdict
+    if compared.apart:
+        yield compared.apart
     for one in compared.outcomes:
         for sign, record in (("-", one.first), ("+", one.second)):
             end = f"#{record.number} {clipped(record.end, _MOST_VALUE)}" if record is not None else "isn't made"
             yield visible(f"{sign} {one.name or '-'}: {end}")
     yield ""
-    common = compared.common
-    for row in compared.first.run.fold.rows[max(0, common - _BEFORE) : common]:
-        yield _text(" ", row)
-    for sign, side in sides:
+    same = compared.first.run.fold.rows[: compared.common[0]]
+    for row in same[-_BEFORE:]:
+        yield _text(" ", compared.first, row)
+    for (sign, side), common in zip(sides, compared.common):
         for row in side.run.fold.rows[common:]:
-            yield _text(sign, row)
+            yield _text(sign, side, row)
 
 
-def _text(sign: str, row: Row) -> str:
-    return f"{sign} {row.place + 1:>5} {'│ ' * min(row.depth, _DEEPEST)}{visible(clipped(row.entry.line, _MOST_LINE))}"
+def _text(sign: str, side: Side, row: Row) -> str:
+    lacks = side.lacks(row)
+    behind = f"  {visible(clipped(lacks, _MOST_VALUE))}" if lacks else ""
+    return f"{sign} {row.place + 1:>5} {'│ ' * min(row.depth, _DEEPEST)}{visible(clipped(row.entry.line, _MOST_LINE))}{behind}"

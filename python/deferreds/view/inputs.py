@@ -151,7 +151,8 @@ def read_any(name: str, batches: Optional[str] = None) -> Run:
         run = _facts(data, name, Script())
     else:
         run = _journal(_text(data, name), name, Script())
-    run.tick = tick_beside(name)
+    beside = Inputs(name)
+    run.places, run.tick = beside.read_places(), beside.tick
     return run
 
 
