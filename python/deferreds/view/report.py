@@ -445,7 +445,7 @@ class Report:
         """A firing that came after a cancel: nobody got what it had."""
         row = self._fold.rows[place]
         fired_with = self._script.fired_with(row.actor.number) if row.actor.by is By.EVENT else ""
-        answer = OfScript(fired_with) if fired_with else "its answer"
+        answer: Part = OfScript(fired_with) if fired_with else "its answer"
         said: Phrase = ("a late firing of ", OfDeferred(record.number), " was swallowed: nobody got ", answer)
         details = _details(self._cancelled(record, row), [self._by(row)], self._made_at(record))
         return Finding(Severity.NOTE, Kind.SWALLOWED, said, details, place)
@@ -460,8 +460,8 @@ class Report:
     def _by(self, row: Row) -> Phrase:
         """Who fires in this row, and where in the program, as far as these are known."""
         place = self._places_of.of_event(row.actor.number) if row.actor.by is By.EVENT else None
-        at: Phrase = (" at ", OfPlace(place)) if place is not None else ()
-        return ("by ", *row.cause, *at) if row.cause else ()
+        at = words(" at ", OfPlace(place)) if place is not None else words()
+        return words("by ", *row.cause, *at) if row.cause else words()
 
     def _refused(self, record: Record, place: int) -> Iterator[Finding]:
         """A second firing, unless the next line tells it as unhandled."""
