@@ -22,36 +22,34 @@ class Events:
     def __init__(self, fold: Fold, script: Script, places: Places = NOWHERE) -> None:
         self._script = script
         self._places = places
-        #: the first row of each event, and how many rows it has
-        self._first: Dict[int, int] = {}
-        self._size: Dict[int, int] = {}
+        first: Dict[int, Row] = {}
+        size: Dict[int, int] = {}
         for row in fold.rows:
             if row.event is not None:
-                self._first.setdefault(row.event, row.place)
-                self._size[row.event] = self._size.get(row.event, 0) + 1
-        self._rows = fold.rows
+                first.setdefault(row.event, row)
+                size[row.event] = size.get(row.event, 0) + 1
+        #: the heads of events, and the words behind lines, by the rows in which events begin
+        self._heads: Dict[int, str] = {}
+        self._tails: Dict[int, str] = {}
+        for event, row in first.items():
+            if size[event] == 1 or row.entry.word in ("advance", "drain"):
+                self._tails[row.place] = self._tail(event, row)
+            else:
+                self._heads[row.place] = self.said(event)
 
     def _begins(self, row: Row) -> bool:
-        return row.event is not None and self._first[row.event] == row.place
-
-    def _is_behind(self, event: int) -> bool:
-        """Whether the event has no head, since one line tells it."""
-        word = self._rows[self._first[event]].entry.word
-        return self._size[event] == 1 or word in ("advance", "drain")
+        return row.place in self._heads or row.place in self._tails
 
     def head(self, row: Row) -> Optional[str]:
         """The head above the row, if it has one."""
-        if row.event is None or not self._begins(row) or self._is_behind(row.event):
-            return None
-        return "the last posts" if row.event == LAST_POSTS else self.said(row.event)
+        return self._heads.get(row.place)
 
     def tail(self, row: Row) -> str:
         """The words behind the row, if it has some."""
-        if row.event is None or not self._begins(row) or not self._is_behind(row.event):
-            return ""
-        if row.event == LAST_POSTS:
-            return "the last posts"
-        return f"event {row.event}" if row.entry.word in _TELLING else self.said(row.event)
+        return self._tails.get(row.place, "")
+
+    def _tail(self, event: int, row: Row) -> str:
+        return f"event {event}" if row.entry.word in _TELLING and event != LAST_POSTS else self.said(event)
 
     def place(self, row: Row) -> Optional[Place]:
         """Where in the program the event was performed that begins in this row, if one does."""
@@ -66,4 +64,6 @@ class Events:
 
     def said(self, event: int) -> str:
         """An event with what the script says."""
+        if event == LAST_POSTS:
+            return "the last posts"
         return f"event {event}  {self._script.shown(event)}".rstrip()

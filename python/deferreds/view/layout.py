@@ -222,14 +222,9 @@ def _characters(fold: Fold, slot: Slot, events: Events) -> float:
     row = fold.rows[slot.row]
     names = sum(len(fold.records[number].name) + 1 for number in row.names)
     cause = 30 if row.cause and not row.is_plain else 0
-    return (
-        len(row.entry.line)
-        + names
-        + 2.3 * min(row.depth, 12)
-        + cause
-        + 0.95 * min(len(events.tail(row)), 40)
-        + 0.95 * (_at(row, events) if events.tail(row) else 0)
-    )
+    tail = events.tail(row)
+    behind = min(len(tail), 40) + _at(row, events) if tail else 0
+    return len(row.entry.line) + names + 2.3 * min(row.depth, 12) + cause + 0.95 * behind
 
 
 def _at(row: Row, events: Events) -> int:

@@ -3,7 +3,7 @@
 from __future__ import annotations
 
 import re
-from typing import Dict, Optional, Set
+from typing import Dict, Optional, Set, Tuple
 
 from .fold import Fold
 from .lines import WORDS
@@ -28,8 +28,10 @@ class Markup:
         self._folded = folded
         #: the rows that the script of the page can show
         self._there = there
-        #: the Deferreds whose outcome the page has
+        #: the Deferreds whose outcome the page has: set before anything is written
         self.outcomes: Set[int] = set()
+        #: the references that were written, by number and by whether they are named
+        self._written: Dict[Tuple[int, bool], Html] = {}
 
     def line(self, row: int) -> Html:
         """A line of the journal."""
@@ -39,6 +41,12 @@ class Markup:
 
     def deferred(self, number: int, named: bool = True) -> Html:
         """A Deferred, with its name or without: a link to the row in which it was made, or to its outcome."""
+        written = self._written.get((number, named))
+        if written is None:
+            written = self._written[number, named] = self._deferred(number, named)
+        return written
+
+    def _deferred(self, number: int, named: bool) -> Html:
         record = self._fold.records.get(number)
         name = f" {record.name}" if named and record is not None and record.name else ""
         text = escaped(f"#{number}{name}")

@@ -205,6 +205,7 @@ class Row:
 
     __slots__ = (
         "entry",
+        "place",
         "time",
         "event",
         "depth",
@@ -222,6 +223,8 @@ class Row:
 
     def __init__(self, entry: Entry, time: int, event: Optional[int]) -> None:
         self.entry = entry
+        #: the place of its line in the journal, from 0
+        self.place = entry.row
         #: the time of the clock after the line
         self.time = time
         #: the event of the script that it belongs to, where that is known
@@ -241,11 +244,6 @@ class Row:
         self.opens = self.closes = False
         #: whom it serves: the Deferred that gets a token, a value, or the end of a task or a loop by it
         self.serves: Optional[int] = None
-
-    @property
-    def place(self) -> int:
-        """The place of its line in the journal, from 0."""
-        return self.entry.row
 
 
 class BracketKind(enum.Enum):

@@ -121,9 +121,12 @@ def _made(action: List[Any]) -> str:
     return _text(action[place + 1]) if place is not None and len(action) > place + 1 else ""
 
 
+_COMPACT = json.JSONEncoder(ensure_ascii=False, separators=(",", ":"))
+
+
 def compact(value: object) -> str:
     """A value as compact JSON."""
-    return json.dumps(value, ensure_ascii=False, separators=(",", ":"))
+    return _COMPACT.encode(value)
 
 
 def shown(action: object, deep: int = 0) -> str:

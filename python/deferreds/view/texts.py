@@ -21,6 +21,8 @@ _UNSEEN = re.compile(
 
 def visible(text: str) -> str:
     """The text, in which each character that isn't seen is shown as an escape, as `\\u202e`."""
+    if text.isascii() and text.isprintable():
+        return text
     return _UNSEEN.sub(_escape, text)
 
 
