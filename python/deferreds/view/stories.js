@@ -163,10 +163,9 @@ function plant(number, stay) {
   lay();
   var head = made("h2", "", root.label + ", with all that hangs on it"), about = made("p", "facts"), value = document.querySelector('.ends tr[data-d="' + number + '"] .value');
   about.append(root.end + " ", made("span", "mono", value ? value.textContent : ""), ": " + spent(root));
-  root.steps.filter(function (step) { return "xs".indexOf(step.does) >= 0; }).slice(0, MOST_NAMED).forEach(function (step, place) {
-    about.append(place ? ", " : " in ", lineLink(step.row));
-  });
-  about.append(". ");
+  var vain = root.steps.filter(function (step) { return "xs".indexOf(step.does) >= 0; });
+  vain.slice(0, MOST_NAMED).forEach(function (step, place) { about.append(place ? ", " : " in ", lineLink(step.row)); });
+  about.append(vain.length > MOST_NAMED ? " …. " : ". ");
   var back = made("a", "", "all lines");
   back.href = "#what";
   back.addEventListener("click", function (event) { event.preventDefault(); fell(); document.getElementById("what").scrollIntoView(); });
