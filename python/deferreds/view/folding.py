@@ -1,4 +1,4 @@
-"""Which rows of the chart are one row that opens: built-in pairs, sides without effect, equal turns (docs/VIEW.md, "Folding").
+"""Which rows of the chart are one row that opens: built-in pairs, sides without effect, equal turns (python/NOTES.md, "Folding").
 
 All is read off the lines, so it is the same for a journal and for exact facts. Nothing is left out of the page: a fold
 says at its row how many of the slots before or after it are hidden as long as it is shut.

@@ -1,5 +1,5 @@
 """The run as a trace of Chrome's, which Perfetto opens: a track for each Deferred, slices for what it does, and flows
-for who fires whom (docs/VIEW.md, "A trace").
+for who fires whom (python/NOTES.md, "A trace").
 
 Many lines stand at one time of the virtual clock, and a slice of no length isn't seen. So each line takes a microsecond,
 and a tick is longer than all lines of one time: a millisecond, or the next power of ten that is.
