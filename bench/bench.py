@@ -1,5 +1,5 @@
 #!/usr/bin/env python3
-"""Measures the built program on the workloads of `workloads.py`, and compares what was measured (docs/PERFORMANCE.md).
+"""Measures the built program on the workloads of `workloads.py`, and compares what was measured (FIGURES.md).
 
     bench/bench.py [--program PATH] [--only NAME] [--instructions] [--memory] [--growth]
                    [--save FILE] [--measured FILE] [--against FILE] [--markdown]
