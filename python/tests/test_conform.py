@@ -128,6 +128,24 @@ class OursTest(ConformTest):
         ran = conforming("--random", "2", "--ours", "true", "--", "true")
         self.assertEqual((ran.status, ran.output), (0, "2 passed, 0 failed\n"))
 
+    def test_the_script_of_a_file_is_compared(self) -> None:
+        script = self.folder / "own.json"
+        script.write_text('{"version":1,"events":[["note","a"]]}\n', encoding="utf-8")
+        command = self.shell("cat >/dev/null; echo 'note \"b\"'")
+        ran = conforming("--script", str(script), "--script", str(script), "--ours", "true", "--", command)
+        self.assertEqual((ran.status, ran.output.splitlines()[-1]), (1, "0 passed, 2 failed"))
+        self.assertIn(f"{script}: line 1 differs\n", ran.output)
+        ran = conforming("--script", str(script), "--ours", command, "--", command)
+        self.assertEqual((ran.status, ran.output), (0, "1 passed, 0 failed\n"))
+
+    def test_a_script_that_can_not_be_read_is_told_in_a_line(self) -> None:
+        latin = self.folder / "latin.json"
+        latin.write_bytes(b"\xe4")
+        for name in (str(self.folder / "none.json"), str(self.folder), str(latin)):
+            ran = conforming("--script", name, "--ours", "true", "--", "true")
+            self.assertEqual((ran.status, ran.output, ran.errors.count("\n")), (66, "", 1))
+            self.assertIn("the file of a script can't be read: ", ran.errors)
+
     def test_a_command_that_is_missing_ends_with_status_70(self) -> None:
         for words in (["/nowhere/command"], ["--many", "--", "/nowhere/command"]):
             ran = conforming("--rows", *words)

@@ -1,4 +1,4 @@
-"""Compares an implementation with `deferreds` on rows and on random scripts, and tells each difference."""
+"""Compares an implementation with `deferreds` on rows, on random scripts and on those of files, and tells each difference."""
 
 from __future__ import annotations
 
@@ -6,7 +6,7 @@ import argparse
 import collections
 import sys
 import time
-from typing import Callable, Counter, Iterator, List, Optional, TextIO
+from typing import Callable, Counter, Iterator, List, Optional, Sequence, TextIO, Tuple
 
 from ..checkout import command_name
 from ..survey import batches_text
@@ -89,14 +89,16 @@ class Tally:
 class Conforming:
     """One run of the command."""
 
-    def __init__(self, arguments: argparse.Namespace) -> None:
+    def __init__(self, arguments: argparse.Namespace, scripts: Sequence[Tuple[str, str]] = ()) -> None:
         self._arguments = arguments
+        #: the scripts of files, each with its name
+        self._scripts = scripts
         self._level: str = arguments.level
         theirs: Program = Once(arguments.command, seconds=arguments.timeout)
         if arguments.many:
             theirs = Many(arguments.command, arguments.timeout)
         named = arguments.ours.split() if arguments.ours else None
-        mine = ours(named, arguments.timeout, arguments.orders) if named or arguments.random or arguments.orders else theirs
+        mine = ours(named, arguments.timeout, arguments.orders) if named or arguments.random or scripts or arguments.orders else theirs
         self._programs = (mine, theirs)
         self._comparison = Comparison(mine, theirs, arguments.trials)
         self._orders: Optional[Orders] = None
@@ -105,7 +107,7 @@ class Conforming:
             self._comparison = InOrders(mine, theirs, arguments.trials, chosen)
             self._orders = Orders(chosen)
         self._rows = list(self._chosen()) if arguments.rows else []
-        self._total: int = len(self._rows) + arguments.random
+        self._total: int = len(self._rows) + len(scripts) + arguments.random
         self._tally = Tally()
         self._progress = Progress(sys.stderr, self._total, arguments.progress)
         #: how many differences may still be shown, if not all, and how many weren't
@@ -122,7 +124,7 @@ class Conforming:
     def run(self) -> int:
         """Compares all that is asked for, and gives the status of the command. Raises Broken where a program can't be run."""
         try:
-            why = self._compare_rows() or self._compare_random()
+            why = self._compare_rows() or self._compare_scripts() or self._compare_random()
         finally:
             self._progress.clear()
             for program in self._programs:
@@ -142,6 +144,17 @@ class Conforming:
             self._count(row.script, found)
             if found is not None and self._may_show(found):
                 self._show(f"{row.file}: {row.name}", row.script, found)
+            if self._tally.given_up():
+                break
+        return self._tally.given_up()
+
+    def _compare_scripts(self) -> Optional[str]:
+        """Compares the scripts of files; why it has given up, where it has."""
+        for name, script in self._scripts:
+            found = self._comparison.of_script(script)
+            self._count(script, found)
+            if found is not None and self._may_show(found):
+                self._show(name, script, found)
             if self._tally.given_up():
                 break
         return self._tally.given_up()

@@ -1,4 +1,4 @@
-"""`./conform [--rows] [--random N --seed S] [--level LEVEL] [--orders] -- COMMAND..`: compares an implementation with `deferreds`.
+"""`./conform [--rows] [--random N --seed S] [--script FILE] [--level LEVEL] [--orders] -- COMMAND..`: compares an implementation with `deferreds`.
 
 COMMAND reads a script on standard input, and prints journal and outcomes, as `./on_twisted` does. Each difference is
 told by its first line; where Twisted does as COMMAND does, and `docs/TWISTED.md` has an entry for that, the entry is
@@ -12,8 +12,8 @@ A COMMAND that ends early, or gives no answer within the time, fails that run, a
 {late} scripts in a row without an answer in time no more are asked, nor after the first {unanswered} where none was
 answered.
 
-Status 1: a run failed; 4: standard output can't be written; 64: the words are wrong; 70: a program can't be run, or
-Twisted isn't known.
+Status 1: a run failed; 4: standard output can't be written; 64: the words are wrong; 66: the file of a script can't be
+read; 70: a program can't be run, or Twisted isn't known.
 """
 
 from __future__ import annotations
@@ -21,6 +21,7 @@ from __future__ import annotations
 import argparse
 import math
 import sys
+from pathlib import Path
 from typing import List, Optional
 
 from ...checkout import as_called, command_name
@@ -77,6 +78,7 @@ def _arguments(words: List[str]) -> argparse.Namespace:
     add = parser.add_argument
     add("--rows", action="store_true", help="compare on the rows of the repository")
     add("--random", type=int, metavar="N", default=0, help="compare on N random scripts")
+    add("--script", action="append", metavar="FILE", default=[], help="compare on the script of a file; may be given several times")
     add("--seed", type=int, default=1, metavar="S", help="which random scripts, and which orders of a sample (1)")
     add(
         "--level",
@@ -116,8 +118,8 @@ def _arguments(words: List[str]) -> argparse.Namespace:
     if parsed.random < 0 or parsed.trials < 0:
         print(f"{command_name('conform')}: a number is below 0", file=sys.stderr)
         raise SystemExit(64)
-    if not parsed.rows and not parsed.random:
-        print(f"{command_name('conform')}: one of --rows and --random N is needed", file=sys.stderr)
+    if not parsed.rows and not parsed.random and not parsed.script:
+        print(f"{command_name('conform')}: one of --rows, --random N and --script FILE is needed", file=sys.stderr)
         raise SystemExit(64)
     if parsed.most is not None and not parsed.orders:
         print(f"{command_name('conform')}: --most is for --orders", file=sys.stderr)
@@ -129,6 +131,11 @@ def _arguments(words: List[str]) -> argparse.Namespace:
     return parsed
 
 
+def read_script(name: str) -> str:
+    """The text of a script's file. Raises OSError or UnicodeDecodeError where it can't be read."""
+    return Path(name).read_text(encoding="utf-8")
+
+
 def main(words: List[str]) -> int:
     """The command."""
     arguments = _arguments(words)
@@ -137,13 +144,18 @@ def main(words: List[str]) -> int:
     from ..instruments import install
     from ..running import be_quiet, with_room
 
+    try:
+        scripts = [(name, read_script(name)) for name in arguments.script]
+    except (OSError, UnicodeDecodeError) as error:
+        print(f"{command_name('conform')}: the file of a script can't be read: {error}", file=sys.stderr)
+        return 66
     be_quiet()
     install()
     running: List[Conforming] = []
 
     def compare() -> int:
         try:
-            running.append(Conforming(arguments))
+            running.append(Conforming(arguments, scripts))
             with writing():
                 return running[0].run()
         except Broken as broken:
