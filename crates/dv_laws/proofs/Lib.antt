@@ -5,6 +5,7 @@ pub mod Clocks
 pub mod Calm
 pub mod Steps
 pub mod Settles
+pub mod HandOversLemmas
 pub mod OneAtATimeLemmas
 pub mod AgainLemmas
 pub mod TimesLemmas

@@ -2,6 +2,7 @@
 
 ghost use Rattle.dv_laws.specs.Again.{OnlyTheNextFiringIsSwallowed};
 ghost use Rattle.dv_laws.specs.Calls.{CallsRunInOrder, CallsRunOnceInTime};
+ghost use Rattle.dv_laws.specs.HandOvers.{ValuesAreHandedOverInTurn};
 ghost use Rattle.dv_laws.specs.OneAtATime.{EachPairIsUsedOnce, SidesRunOneAtATime};
 ghost use Rattle.dv_laws.specs.Once.{EachDeferredIsFiredOnce};
 ghost use Rattle.dv_laws.specs.ReadBack.{OutcomesAreToldByTheJournal};
@@ -31,9 +32,11 @@ pub fn callbacks_run_in_turn()
 {}
 
 /// In a run a Deferred that waits for another is left alone until that hands its value over to it: none of its sides is run before,
-/// and its value stays. It is handed a value no more often than it waited.
+/// and its value stays. It is handed a value no more often than it waited. Those that wait for one Deferred are handed its value in
+/// the order in which they began to wait.
 pub fn waits_end()
     ensures handed { WaitsEndByAHandOver }
+    ensures turns { ValuesAreHandedOverInTurn }
 {}
 
 /// In a run the times of `advance` never fall, and nothing is scheduled for a time before the last of them. Each call that is
