@@ -124,7 +124,7 @@ still n = record {
         swallowed = λ q. rw (← (swallow_of n d q), h) (marked_over r p);
       });
   cancels = λ d w x. plain n (entry.Cancel d) _ (state_of w) refl (λ q. absurd cc) (λ q. q);
-  guards = λ d r w x h f.
+  guards = λ d r w x h f c.
       plain n (entry.Fire d cancelled) _ (state_of w) refl (λ q. absurd cc)
       (λ q. changing_by over_of n d (firing.with_guard true) (slice_set w.records d (firing.with_firing cancelled r)) ∙ guarded_by (nat_eq d n) n d r w.records refl h f q);
   fires = λ d value r w x h f. plain n (entry.Fire d value) _ (state_of w) refl (λ q. absurd cc) (over_at n d r _ w.records h (unfired r _ f));

@@ -6,6 +6,7 @@ pub mod Calm
 pub mod Steps
 pub mod Settles
 pub mod HandOversLemmas
+pub mod SwallowedLemmas
 pub mod OneAtATimeLemmas
 pub mod AgainLemmas
 pub mod TimesLemmas

@@ -26,17 +26,17 @@ use Rattle.dv_world.specs.World.{World, Records, state_of}
 use Rattle.dv_objects.specs.Refusals.{cancelled}
 
 -- what counts of a Deferred: that it is fired, and that its next firing is swallowed
-abbrev fired_of : Kind → ℕ
+abbrev pub fired_of : Kind → ℕ
 fired_of r = cond r.fired 1 0
 
-abbrev marks_of : Kind → ℕ
+abbrev pub marks_of : Kind → ℕ
 marks_of r = cond r.swallows 1 0
 
 -- how often n should have been fired, and how many of its firings are to be swallowed
-abbrev due_at : ℕ → Records → ℕ
+abbrev pub due_at : ℕ → Records → ℕ
 due_at n rs = at fired_of n rs
 
-abbrev marked_at : ℕ → Records → ℕ
+abbrev pub marked_at : ℕ → Records → ℕ
 marked_at n rs = at marks_of n rs
 
 -- at most one counts
@@ -96,12 +96,12 @@ record Counts (n : ℕ) (s t : Both) : Type 0 where
   goes_on : Counted n s → Counted n t
 
 -- how an entry logs what the records then count
-record Tells (n : ℕ) (e : Entry) (rs : Records) (s : Both) : Type 0 where
+pub record Tells (n : ℕ) (e : Entry) (rs : Records) (s : Both) : Type 0 where
   due : due_at n rs ≡ due_at n s.0 + firing n e
   marked : swallowing n e + marked_at n rs ≤ marked_at n s.0 + firing n e
   refused : entry.Refuse n ≡ e → due_at n s.0 ≡ 1
-  swallowed : entry.Swallow n ≡ e → marked_at n s.0 ≡ 1
-  source : marked_at n rs ≡ 1 → (marked_at n s.0 ≡ 1) ⊎ (entry.Fire n cancelled ≡ e)
+  pub swallowed : entry.Swallow n ≡ e → marked_at n s.0 ≡ 1
+  pub source : marked_at n rs ≡ 1 → (marked_at n s.0 ≡ 1) ⊎ (entry.Fire n cancelled ≡ e)
 
 source_on : (n : ℕ) (e : Entry) (s : Both) → Counted n s → (marked_at n s.0 ≡ 1) ⊎ (entry.Fire n cancelled ≡ e) → Stands (entry.Fire n cancelled) (s.1.entries ++ e ∷ [])
 source_on n e s k o =
@@ -146,7 +146,7 @@ guarded_source : (b : Bool) (n d : ℕ) (before after : ℕ) → nat_eq d n ≡ 
 guarded_source true n d before after e h k m = inr (ap (λ x. entry.Fire x cancelled) (sym (eqb-true d n e)))
 guarded_source false n d before after e h k m = inl (omega (arith, h, k, m))
 
-guards_tell : (n d : ℕ) (r : Kind) (s : Both) → slice_get s.0 d ≡ Some r → r.fired ≡ false → Tells n (entry.Fire d cancelled) (guard d (slice_set s.0 d (with_firing cancelled r))) s
+pub guards_tell : (n d : ℕ) (r : Kind) (s : Both) → slice_get s.0 d ≡ Some r → r.fired ≡ false → Tells n (entry.Fire d cancelled) (guard d (slice_set s.0 d (with_firing cancelled r))) s
 guards_tell n d r s h f =
     let fired = slice_set s.0 d (with_firing cancelled r) in
     let more : marked_at n (guard d fired) ≤ marked_at n s.0 + cond (nat_eq d n) 1 0 =
@@ -159,7 +159,7 @@ guards_tell n d r s h f =
       source = guarded_source _ n d (marked_at n s.0) _ refl more (marked_once_at (slice_get s.0 n));
     }
 
-swallows_tell : (n d : ℕ) (r : Kind) (s : Both) → slice_get s.0 d ≡ Some r → r.swallows ≡ true → Tells n (entry.Swallow d) (slice_set s.0 d (with_guard false r)) s
+pub swallows_tell : (n d : ℕ) (r : Kind) (s : Both) → slice_get s.0 d ≡ Some r → r.swallows ≡ true → Tells n (entry.Swallow d) (slice_set s.0 d (with_guard false r)) s
 swallows_tell n d r s h f =
     let less = last_at marks_of n d r (with_guard false r) s.0 h (rw f refl) refl in
     record {

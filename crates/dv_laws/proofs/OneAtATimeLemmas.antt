@@ -23,17 +23,17 @@ use Rattle.dv_laws.proofs.At.{counted_of, at, set_at, changing_at, first_at, pus
 use Rattle.dv_laws.proofs.Settles.{Still, Settles, running_of, not_running, means_keeps, reported}
 
 -- how many pairs a Deferred still has
-abbrev pair_of : Item Pair → ℕ
+abbrev pub pair_of : Item Pair → ℕ
 pair_of (item.Pair pair) = 1
 pair_of (item.HandOver c) = 0
 
-abbrev pairs_of : Kind → ℕ
+abbrev pub pairs_of : Kind → ℕ
 pairs_of r = sum_by pair_of r.items
 
 -- the pairs of n that were used, and those that it has, were added; of its sides that have run one runs, or all have ended
-record Used (n : ℕ) (s : Both) : Type 0 where
+pub record Used (n : ℕ) (s : Both) : Type 0 where
   added : runs n s.1.entries + at pairs_of n s.0 ≤ additions n s.1.entries
-  sides : runs n s.1.entries ≡ ends n s.1.entries + at running_of n s.0
+  pub sides : runs n s.1.entries ≡ ends n s.1.entries + at running_of n s.0
   once : UsesEachPairOnce n s.1.entries
   alone : RunsOneAtATime n s.1.entries
 
@@ -137,7 +137,7 @@ still n = record {
   refuses = λ d r w x h p q. plain n (entry.Refuse d) _ (state_of w) refl refl refl refl refl;
   swallows = λ d r w x h p. plain n (entry.Swallow d) _ (state_of w) refl refl refl (set_at pairs_of n d r _ w.records h refl) (set_at running_of n d r _ w.records h refl);
   cancels = λ d w x. plain n (entry.Cancel d) _ (state_of w) refl refl refl refl refl;
-  guards = λ d r w x h f. plain n (entry.Fire d cancelled) _ (state_of w) refl refl refl
+  guards = λ d r w x h f c. plain n (entry.Fire d cancelled) _ (state_of w) refl refl refl
       (changing_at pairs_of n d (firing.with_guard true) _ (λ y. refl) ∙ set_at pairs_of n d r _ w.records h refl)
       (changing_at running_of n d (firing.with_guard true) _ (λ y. refl) ∙ set_at running_of n d r _ w.records h refl);
   fires = λ d value r w x h f. plain n (entry.Fire d value) _ (state_of w) refl refl refl (set_at pairs_of n d r _ w.records h refl) (set_at running_of n d r _ w.records h refl);
@@ -193,7 +193,7 @@ settles n = record {
 }
 
 -- so it is in a run
-world_used : (n : ℕ) (script : Script) (batches : List Batch) (w : World) → Means script batches w → Used n (state_of w)
+pub world_used : (n : ℕ) (script : Script) (batches : List Batch) (w : World) → Means script batches w → Used n (state_of w)
 world_used n script batches w m =
     (means_keeps (λ w u. Uses n (state_of w) (state_of u)) (settles n) script batches w m).goes_on (record {
       added = omega arith;

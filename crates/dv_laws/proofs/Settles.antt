@@ -18,7 +18,7 @@ use Rattle.dv_store.specs.declared.store.Step.{Step}
 use Rattle.dv_store.specs.declared.store.Step.TheVariants.{Nothing, Passed, Run, Handed}
 use Rattle.dv_performing.proofs.Kept.{Kind}
 use Rattle.dv_laws.proofs.Clocks.{Clocks, Arranges}
-use Rattle.dv_laws.proofs.Calm.{Regular, Calm}
+use Rattle.dv_laws.proofs.Calm.{Regular, WasCancelled, Calm}
 use Rattle.dv_script.specs.declared.work.Work.{Work}
 use Rattle.dv_journal.specs.Told.{change_of, Aside}
 use Rattle.dv_objects.specs.declared.canceller.Canceller.{Canceller}
@@ -79,7 +79,7 @@ pub record Still (R : World → World → Type 0) : Type 0 where
   pub refuses : (d : ℕ) (r : Kind) (w : World) → fits w.journal (entry.Refuse d) ≡ true → slice_get w.records d ≡ Some r → r.fired ≡ true → r.swallows ≡ false → R w (telling_in (entry.Refuse d) w.records w)
   pub swallows : (d : ℕ) (r : Kind) (w : World) → fits w.journal (entry.Swallow d) ≡ true → slice_get w.records d ≡ Some r → r.swallows ≡ true → R w (telling_in (entry.Swallow d) (slice_set w.records d (firing.with_guard false r)) w)
   pub cancels : (d : ℕ) (w : World) → fits w.journal (entry.Cancel d) ≡ true → R w (telling_in (entry.Cancel d) w.records w)
-  pub guards : (d : ℕ) (r : Kind) (w : World) → fits w.journal (entry.Fire d cancelled) ≡ true → slice_get w.records d ≡ Some r → r.fired ≡ false
+  pub guards : (d : ℕ) (r : Kind) (w : World) → fits w.journal (entry.Fire d cancelled) ≡ true → slice_get w.records d ≡ Some r → r.fired ≡ false → WasCancelled d w
       → R w (telling_in (entry.Fire d cancelled) (guard d (slice_set w.records d (firing.with_firing cancelled r))) w)
   pub fires : (d : ℕ) (value : Value) (r : Kind) (w : World) → fits w.journal (entry.Fire d value) ≡ true → slice_get w.records d ≡ Some r → r.fired ≡ false → R w (telling_in (entry.Fire d value) (slice_set w.records d (firing.with_firing value r)) w)
   pub adds : (d : ℕ) (pair : Pair) (r : Kind) (w : World) → fits w.journal (entry.Add d) ≡ true → slice_get w.records d ≡ Some r → R w (telling_in (entry.Add d) (slice_set w.records d (with_item (item.Pair pair) r)) w)
@@ -108,27 +108,29 @@ module _ (R : World → World → Type 0) (k : Still R) where
       unless_and w (R w) (k.stays w) (k.stops w) w.stopped follow.Nothing _
       (fire_cases w (λ answer s. R w (fired answer s w).1) (k.stops w) d value _ refl (λ g. k.stays w) (λ r x g q. k.swallows d r w x g q) (λ r x g p q. k.refuses d r w x g p q) (λ r x g p. k.fires d value r w x g p))
 
-  after_guarded : (d : ℕ) (w : World) → R w (fire_guarded d w)
+  after_guarded : (d : ℕ) (w : World) → WasCancelled d w → R w (fire_guarded d w)
   unfolding fire_guarded
-  after_guarded d w =
+  after_guarded d w c =
       unless w (R w) (k.stays w) (k.stops w) w.stopped _
-      (fire_cases w (λ answer s. R w (guarded d answer s w)) (k.stops w) d cancelled _ refl (λ g. rw g (k.stays w)) (λ r x g q. k.swallows d r w x g q) (λ r x g p q. k.refuses d r w x g p q) (λ r x g p. k.guards d r w x g p))
+      (fire_cases w (λ answer s. R w (guarded d answer s w)) (k.stops w) d cancelled _ refl (λ g. rw g (k.stays w)) (λ r x g q. k.swallows d r w x g q) (λ r x g p q. k.refuses d r w x g p q) (λ r x g p. k.guards d r w x g p c))
 
   -- each step but those
   pub calm : Calm R
   calm = record {
-    stays = k.stays;
-    joins = k.joins;
+    quiet = record {
+      stays = k.stays;
+      joins = k.joins;
+      by_make = λ name canceller w. make_cases w (R w) (k.stays w) (k.stops w) name canceller (λ x. k.news name canceller w x);
+      by_cancel = λ d w. cancel_cases w (R w) (k.stays w) (k.stops w) d (λ x. k.cancels d w x);
+      by_pause = λ d w. pause_cases w (R w) (k.stays w) (k.stops w) d (λ r x g. k.pauses d r w x g);
+      by_aside = λ e change w a c l. aside_cases w (R w) (k.stays w) (k.stops w) e change (λ x. k.asides e change w a c l x);
+      by_arrange = λ change w s l. arrange_cases w (R w) (k.stays w) (k.stops w) change (k.arranges change w s l);
+      by_submit = λ d pool work w. submit_cases w (R w) (k.stays w) (k.stops w) d pool work (λ x. k.submits d pool work w x);
+    };
     by_append = λ d pair w. append_cases w (R w) (k.stays w) (k.stops w) d pair (λ r x g. k.adds d pair r w x g);
-    by_make = λ name canceller w. make_cases w (R w) (k.stays w) (k.stops w) name canceller (λ x. k.news name canceller w x);
     by_fire = after_fire;
     by_fire_guarded = after_guarded;
-    by_cancel = λ d w. cancel_cases w (R w) (k.stays w) (k.stops w) d (λ x. k.cancels d w x);
-    by_pause = λ d w. pause_cases w (R w) (k.stays w) (k.stops w) d (λ r x g. k.pauses d r w x g);
     by_unpause = λ d w. unpause_cases w (R w) (k.stays w) (k.stops w) d (λ r x g p. k.unpauses d r w x g p);
-    by_aside = λ e change w a c l. aside_cases w (R w) (k.stays w) (k.stops w) e change (λ x. k.asides e change w a c l x);
-    by_arrange = λ change w s l. arrange_cases w (R w) (k.stays w) (k.stops w) change (k.arranges change w s l);
-    by_submit = λ d pool work w. submit_cases w (R w) (k.stays w) (k.stops w) d pool work (λ x. k.submits d pool work w x);
   }
 
 -- whether a side of a Deferred runs, as a count
@@ -187,7 +189,7 @@ same_running = record {
   refuses = λ d r w x g p q. record { same = λ n. refl };
   swallows = λ d r w x g q. record { same = λ n. set_at running_of n d r _ w.records g refl };
   cancels = λ d w x. record { same = λ n. refl };
-  guards = λ d r w x g p. record { same = λ n. changing_at running_of n d (firing.with_guard true) _ (λ y. refl) ∙ set_at running_of n d r _ w.records g refl };
+  guards = λ d r w x g p c. record { same = λ n. changing_at running_of n d (firing.with_guard true) _ (λ y. refl) ∙ set_at running_of n d r _ w.records g refl };
   fires = λ d value r w x g p. record { same = λ n. set_at running_of n d r _ w.records g refl };
   adds = λ d pair r w x g. record { same = λ n. set_at running_of n d r _ w.records g refl };
   pauses = λ d r w x g. record { same = λ n. set_at running_of n d r _ w.records g refl };
@@ -289,7 +291,7 @@ own_place : (d : ℕ) → place_of d (frame.Place d) ≡ 1
 own_place d = ap {B = ℕ} (λ b. cond b 1 0) (is_itself d)
 
 -- the result of a side is put in place, and its Deferred is to be settled
-place_runs : (d : ℕ) (o : Performed) (w : World) → turned (frame.Place d) o w ≡ settling d (place d o w)
+pub place_runs : (d : ℕ) (o : Performed) (w : World) → turned (frame.Place d) o w ≡ settling d (place d o w)
 place_runs d Done w = refl
 place_runs d (Gave value) w = refl
 place_runs d (Raised failure) w = refl

@@ -374,7 +374,7 @@ still n = record {
   swallows = λ d r w x h p.
       plain n (entry.Swallow d) _ (state_of w) refl (zero_at odd_of n d r _ w.records h (λ z. z)) (λ m. set_at (awaits_of m) n d r _ w.records h refl) (λ m. set_at (handovers_of n) m d r _ w.records h refl);
   cancels = λ d w x. plain n (entry.Cancel d) _ (state_of w) refl (λ o. o) (λ m. refl) (λ m. refl);
-  guards = λ d r w x h f.
+  guards = λ d r w x h f c.
       let fired = firing.with_firing cancelled r in
       let all = slice_set w.records d fired in
       quiet n (entry.Fire d cancelled) _ (state_of w) (λ m. refl) (λ m. refl)

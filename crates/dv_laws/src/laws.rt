@@ -7,6 +7,7 @@ ghost use Rattle.dv_laws.specs.OneAtATime.{EachPairIsUsedOnce, SidesRunOneAtATim
 ghost use Rattle.dv_laws.specs.Once.{EachDeferredIsFiredOnce};
 ghost use Rattle.dv_laws.specs.ReadBack.{OutcomesAreToldByTheJournal};
 ghost use Rattle.dv_laws.specs.Ready.{NothingRunsEarly};
+ghost use Rattle.dv_laws.specs.Swallowed.{OnlyACancelHasOneSwallowed};
 ghost use Rattle.dv_laws.specs.Times.{TimeNeverFalls};
 ghost use Rattle.dv_laws.specs.Waits.{WaitsEndByAHandOver};
 
@@ -17,9 +18,11 @@ pub fn journals_tell()
     ensures once { EachDeferredIsFiredOnce }
 {}
 
-/// In a run a firing that is swallowed is the next one after the Deferred was fired; each later one is refused.
+/// In a run a firing that is swallowed is the next one after the Deferred was fired; each later one is refused. One is swallowed
+/// only if the Deferred was fired directly after a cancel of it, or of one that waits for it.
 pub fn firings_are_refused()
     ensures swallowed { OnlyTheNextFiringIsSwallowed }
+    ensures cancelled { OnlyACancelHasOneSwallowed }
 {}
 
 /// In a run each pair of a Deferred is used once at most, and its sides run one at a time: none is run while another of the same
