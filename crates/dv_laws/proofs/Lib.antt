@@ -14,3 +14,5 @@ pub mod WaitsLemmas
 pub mod CallsLemmas
 pub mod ReadyLemmas
 pub mod OrderLemmas
+pub mod Settlings
+pub mod SettledLemmas

@@ -7,6 +7,7 @@ ghost use Rattle.dv_laws.specs.OneAtATime.{EachPairIsUsedOnce, SidesRunOneAtATim
 ghost use Rattle.dv_laws.specs.Once.{EachDeferredIsFiredOnce};
 ghost use Rattle.dv_laws.specs.ReadBack.{OutcomesAreToldByTheJournal};
 ghost use Rattle.dv_laws.specs.Ready.{NothingRunsEarly};
+ghost use Rattle.dv_laws.specs.Settled.{AllThatMayRunHasRun, NobodyIsLeftWaiting};
 ghost use Rattle.dv_laws.specs.Swallowed.{OnlyACancelHasOneSwallowed};
 ghost use Rattle.dv_laws.specs.Times.{TimeNeverFalls};
 ghost use Rattle.dv_laws.specs.Waits.{WaitsEndByAHandOver};
@@ -50,4 +51,11 @@ pub fn time_goes_on()
     ensures falls { TimeNeverFalls }
     ensures calls { CallsRunOnceInTime }
     ensures order { CallsRunInOrder }
+{}
+
+/// At the end of a run that hasn't stopped, a Deferred that is fired, isn't paused, waits for no other, and no side of which is being
+/// run, has used all its pairs, and nobody waits for it.
+pub fn all_that_may_run_has_run()
+    ensures used { AllThatMayRunHasRun }
+    ensures waiters { NobodyIsLeftWaiting }
 {}
