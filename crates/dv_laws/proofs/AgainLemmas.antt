@@ -113,8 +113,8 @@ still n = record {
   joins = λ u v w p q. record { goes_on = λ k. q.goes_on (p.goes_on k) };
   stops = λ w. record { goes_on = λ k. k };
   news = λ name canceller w x. plain n (entry.New (length w.records) name) _ (state_of w) refl (λ q. absurd cc) (same_at n w.records _ (push_at over_of n (new_record name canceller) w.records refl));
-  asides = λ e change w a c l x. plain n e _ (state_of w) (rw a refl) (not_swallowed n e a) (λ q. q);
-  arranges = λ change w s l. record { goes_on = λ k. k };
+  asides = λ e change w a c l b x. plain n e _ (state_of w) (rw a refl) (not_swallowed n e a) (λ q. q);
+  arranges = λ change w s l b. record { goes_on = λ k. k };
   submits = λ d pool work w x. plain n (entry.Job (length w.works) d) _ (state_of w) refl (λ q. absurd cc) (λ q. q);
   refuses = λ d r w x h p q. tells n (entry.Refuse d) _ (state_of w) (record { refused = refused_by _ n d r w.records refl h (refused_over r p q); stays = λ z. z; swallowed = λ z. absurd cc });
   swallows = λ d r w x h p.

@@ -304,8 +304,8 @@ still t = record {
   joins = λ u v w p q. record { loops = λ r. q.loops (p.loops r); goes_on = λ r k. q.goes_on (p.loops r) (p.goes_on r k) };
   stops = λ w. record { loops = λ r. r; goes_on = λ r k. k };
   news = λ name canceller w x. plain t (entry.New (length w.records) name) w _ (refl, refl, refl) (named_same name _ w.objects) refl (named_loops name _ w.objects);
-  asides = λ e change w a c l x. record { loops = l; goes_on = λ r k. clocks_tell t e _ _ w.journal.entries (c r) k };
-  arranges = λ change w s l. record { loops = l; goes_on = λ r k. arranged t _ _ w.journal.entries s k };
+  asides = λ e change w a c l b x. record { loops = l; goes_on = λ r k. clocks_tell t e _ _ w.journal.entries (c r) k };
+  arranges = λ change w s l b. record { loops = l; goes_on = λ r k. arranged t _ _ w.journal.entries s k };
   submits = λ d pool work w x. plain t (entry.Job (length w.works) d) w _ (refl, refl, refl) refl refl refl;
   refuses = λ d r w x h p q. plain t (entry.Refuse d) w _ (refl, refl, refl) refl refl refl;
   swallows = λ d r w x h p. plain t (entry.Swallow d) w _ (refl, refl, refl) refl refl refl;

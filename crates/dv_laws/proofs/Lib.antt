@@ -2,6 +2,7 @@ pub mod ReadBackLemmas
 pub mod At
 pub mod OnceLemmas
 pub mod Clocks
+pub mod Beside
 pub mod Calm
 pub mod Steps
 pub mod Settles
@@ -16,3 +17,4 @@ pub mod ReadyLemmas
 pub mod OrderLemmas
 pub mod Settlings
 pub mod SettledLemmas
+pub mod TasksLemmas

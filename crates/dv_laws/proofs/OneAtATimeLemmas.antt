@@ -131,8 +131,8 @@ still n = record {
   news = λ name canceller w x.
       let s = state_of w in
       plain n (entry.New (length w.records) name) _ s refl refl refl (push_at pairs_of n (new_record name canceller) w.records refl) (push_at running_of n (new_record name canceller) w.records refl);
-  asides = λ e change w a c l x. plain n e _ (state_of w) (rw a refl) (rw a refl) (rw a refl) refl refl;
-  arranges = λ change w s l. record { goes_on = λ k. k };
+  asides = λ e change w a c l b x. plain n e _ (state_of w) (rw a refl) (rw a refl) (rw a refl) refl refl;
+  arranges = λ change w s l b. record { goes_on = λ k. k };
   submits = λ d pool work w x. plain n (entry.Job (length w.works) d) _ (state_of w) refl refl refl refl refl;
   refuses = λ d r w x h p q. plain n (entry.Refuse d) _ (state_of w) refl refl refl refl refl;
   swallows = λ d r w x h p. plain n (entry.Swallow d) _ (state_of w) refl refl refl (set_at pairs_of n d r _ w.records h refl) (set_at running_of n d r _ w.records h refl);

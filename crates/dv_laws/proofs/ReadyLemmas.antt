@@ -72,8 +72,8 @@ still n = record {
   joins = λ u v w p q. record { goes_on = λ k. q.goes_on (p.goes_on k) };
   stops = λ w. record { goes_on = λ k. k };
   news = λ name canceller w x. plain n (entry.New (length w.records) name) (state_of w) _ refl (reads.news name canceller (state_of w) x) (λ q. absurd cc) (λ m value q. absurd cc);
-  asides = λ e change w a c l x. plain n e (state_of w) _ refl (reads.asides e (state_of w) a x) (not_run n e a) (not_handed n e a);
-  arranges = λ change w s l. record { goes_on = λ k. k };
+  asides = λ e change w a c l b x. plain n e (state_of w) _ refl (reads.asides e (state_of w) a x) (not_run n e a) (not_handed n e a);
+  arranges = λ change w s l b. record { goes_on = λ k. k };
   submits = λ d pool work w x. plain n (entry.Job (length w.works) d) (state_of w) _ refl (reads.asides (entry.Job (length w.works) d) (state_of w) refl x) (λ q. absurd cc) (λ m value q. absurd cc);
   refuses = λ d r w x h p q. plain n (entry.Refuse d) (state_of w) _ refl (reads.refuses d r (state_of w) x h p) (λ z. absurd cc) (λ m value z. absurd cc);
   swallows = λ d r w x h p. plain n (entry.Swallow d) (state_of w) _ refl (reads.swallows d r (state_of w) x h p) (λ z. absurd cc) (λ m value z. absurd cc);

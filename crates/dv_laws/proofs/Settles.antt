@@ -19,6 +19,7 @@ use Rattle.dv_store.specs.declared.store.Step.TheVariants.{Nothing, Passed, Run,
 use Rattle.dv_performing.proofs.Kept.{Kind}
 use Rattle.dv_laws.proofs.Clocks.{Clocks, Arranges}
 use Rattle.dv_laws.proofs.Calm.{Regular, WasCancelled, Calm}
+use Rattle.dv_laws.proofs.Beside.{Beside, Arranged}
 use Rattle.dv_script.specs.declared.work.Work.{Work}
 use Rattle.dv_journal.specs.Told.{change_of, Aside}
 use Rattle.dv_objects.specs.declared.canceller.Canceller.{Canceller}
@@ -71,9 +72,9 @@ pub record Still (R : World → World → Type 0) : Type 0 where
   pub stops : (w : World) → R w (with_stop w)
   pub news : (name : Option (List ℕ)) (canceller : Option Canceller) (w : World) → fits w.journal (entry.New (length w.records) name) ≡ true
       → R w (record (telling_in (entry.New (length w.records) name) (w.records ++ new_record name canceller ∷ []) w) { objects = naming_where name (length w.records) w.objects })
-  pub asides : (e : Entry) (change : Objects → Objects) (w : World) → change_of e ≡ Aside → (Regular w.objects.loops → Clocks e w.objects.clock (change w.objects).clock) → (Regular w.objects.loops → Regular (change w.objects).loops) → fits w.journal e ≡ true
+  pub asides : (e : Entry) (change : Objects → Objects) (w : World) → change_of e ≡ Aside → (Regular w.objects.loops → Clocks e w.objects.clock (change w.objects).clock) → (Regular w.objects.loops → Regular (change w.objects).loops) → Beside e w.objects (change w.objects) → fits w.journal e ≡ true
       → R w (record w { objects = change w.objects; journal = with_entry w.journal e })
-  pub arranges : (change : Objects → Objects) (w : World) → Arranges w.objects.clock (change w.objects).clock → (Regular w.objects.loops → Regular (change w.objects).loops) → R w (record w { objects = change w.objects })
+  pub arranges : (change : Objects → Objects) (w : World) → Arranges w.objects.clock (change w.objects).clock → (Regular w.objects.loops → Regular (change w.objects).loops) → Arranged w.objects (change w.objects) → R w (record w { objects = change w.objects })
   pub submits : (d : ℕ) (pool : Option (List ℕ)) (work : Work) (w : World) → fits w.journal (entry.Job (length w.works) d) ≡ true
       → R w (record w { works = w.works ++ work ∷ []; pools = w.pools ++ pool ∷ []; journal = with_entry w.journal (entry.Job (length w.works) d) })
   pub refuses : (d : ℕ) (r : Kind) (w : World) → fits w.journal (entry.Refuse d) ≡ true → slice_get w.records d ≡ Some r → r.fired ≡ true → r.swallows ≡ false → R w (telling_in (entry.Refuse d) w.records w)
@@ -123,8 +124,8 @@ module _ (R : World → World → Type 0) (k : Still R) where
       by_make = λ name canceller w. make_cases w (R w) (k.stays w) (k.stops w) name canceller (λ x. k.news name canceller w x);
       by_cancel = λ d w. cancel_cases w (R w) (k.stays w) (k.stops w) d (λ x. k.cancels d w x);
       by_pause = λ d w. pause_cases w (R w) (k.stays w) (k.stops w) d (λ r x g. k.pauses d r w x g);
-      by_aside = λ e change w a c l. aside_cases w (R w) (k.stays w) (k.stops w) e change (λ x. k.asides e change w a c l x);
-      by_arrange = λ change w s l. arrange_cases w (R w) (k.stays w) (k.stops w) change (k.arranges change w s l);
+      by_aside = λ e change w a c l t. aside_cases w (R w) (k.stays w) (k.stops w) e change (λ x. k.asides e change w a c l t x);
+      by_arrange = λ change w s l t. arrange_cases w (R w) (k.stays w) (k.stops w) change (k.arranges change w s l t);
       by_submit = λ d pool work w. submit_cases w (R w) (k.stays w) (k.stops w) d pool work (λ x. k.submits d pool work w x);
     };
     by_append = λ d pair w. append_cases w (R w) (k.stays w) (k.stops w) d pair (λ r x g. k.adds d pair r w x g);
@@ -183,8 +184,8 @@ same_running = record {
   joins = λ u v w p q. record { same = λ n. q.same n ∙ p.same n };
   stops = λ w. record { same = λ n. refl };
   news = λ name canceller w x. record { same = λ n. push_at running_of n (new_record name canceller) w.records refl };
-  asides = λ e change w a c l x. record { same = λ n. refl };
-  arranges = λ change w s l. record { same = λ n. refl };
+  asides = λ e change w a c l b x. record { same = λ n. refl };
+  arranges = λ change w s l b. record { same = λ n. refl };
   submits = λ d pool work w x. record { same = λ n. refl };
   refuses = λ d r w x g p q. record { same = λ n. refl };
   swallows = λ d r w x g q. record { same = λ n. set_at running_of n d r _ w.records g refl };

@@ -132,8 +132,8 @@ quiet_less = record {
       (λ r x g.
       let more = with_pauses (r.pauses + 1) r in
       record { each = λ n. less_at n d r more w.records g (omega (arith, owes_none more (paused_unready r.fired r.running (nat_eq (r.pauses + 1) 0) (is_none r.waits_for) (not_zero r.pauses)))) });
-  by_aside = λ e change w a c l. aside_cases w (Less w) (less_same w) (less_stop w) e change (λ x. record { each = λ n. omega arith });
-  by_arrange = λ change w s l. arrange_cases w (Less w) (less_same w) (less_stop w) change (record { each = λ n. omega arith });
+  by_aside = λ e change w a c l t. aside_cases w (Less w) (less_same w) (less_stop w) e change (λ x. record { each = λ n. omega arith });
+  by_arrange = λ change w s l t. arrange_cases w (Less w) (less_same w) (less_stop w) change (record { each = λ n. omega arith });
   by_submit = λ d pool work w. submit_cases w (Less w) (less_same w) (less_stop w) d pool work (λ x. record { each = λ n. omega arith });
 }
 
@@ -283,8 +283,8 @@ still_on = record {
   joins = λ u v w p q. record { going = λ h. p.going (q.going h) };
   stops = on_stop;
   news = λ name canceller w x. record { going = λ h. h };
-  asides = λ e change w a c l x. record { going = λ h. h };
-  arranges = λ change w s l. record { going = λ h. h };
+  asides = λ e change w a c l b x. record { going = λ h. h };
+  arranges = λ change w s l b. record { going = λ h. h };
   submits = λ d pool work w x. record { going = λ h. h };
   refuses = λ d r w x g p q. record { going = λ h. h };
   swallows = λ d r w x g q. record { going = λ h. h };

@@ -138,8 +138,8 @@ still = record {
   joins = λ u v w p q. record { loops = λ r. q.loops (p.loops r); goes_on = λ r k. q.goes_on (p.loops r) (p.goes_on r k) };
   stops = λ w. record { loops = λ r. r; goes_on = λ r k. k };
   news = λ name canceller w x. tells (entry.New (length w.records) name) w _ tt (named_same name _ w.objects) refl (named_loops name _ w.objects);
-  asides = λ e change w a c l x. record { loops = l; goes_on = λ r k. rw (clocks_same e _ _ (c r)) (told_timely e w.objects.clock.time w.journal.entries (clocks_told e _ _ (c r)) k) };
-  arranges = λ change w s l. record { loops = l; goes_on = λ r k. rw (arranged_same _ _ s) k };
+  asides = λ e change w a c l b x. record { loops = l; goes_on = λ r k. rw (clocks_same e _ _ (c r)) (told_timely e w.objects.clock.time w.journal.entries (clocks_told e _ _ (c r)) k) };
+  arranges = λ change w s l b. record { loops = l; goes_on = λ r k. rw (arranged_same _ _ s) k };
   submits = λ d pool work w x. tells (entry.Job (length w.works) d) w _ tt refl refl refl;
   refuses = λ d r w x h p q. tells (entry.Refuse d) w _ tt refl refl refl;
   swallows = λ d r w x h p. tells (entry.Swallow d) w _ tt refl refl refl;

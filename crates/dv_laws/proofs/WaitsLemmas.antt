@@ -367,8 +367,8 @@ still n = record {
   news = λ name canceller w x.
       let made = new_record name canceller in
       plain n (entry.New (length w.records) name) _ (state_of w) refl (λ o. push_at odd_of n made w.records refl ∙ o) (λ m. push_at (awaits_of m) n made w.records refl) (λ m. push_at (handovers_of n) m made w.records refl);
-  asides = λ e change w a c l x. plain n e _ (state_of w) (rw a refl) (λ o. o) (λ m. refl) (λ m. refl);
-  arranges = λ change w s l. record { goes_on = λ k. k };
+  asides = λ e change w a c l b x. plain n e _ (state_of w) (rw a refl) (λ o. o) (λ m. refl) (λ m. refl);
+  arranges = λ change w s l b. record { goes_on = λ k. k };
   submits = λ d pool work w x. plain n (entry.Job (length w.works) d) _ (state_of w) refl (λ o. o) (λ m. refl) (λ m. refl);
   refuses = λ d r w x h p q. plain n (entry.Refuse d) _ (state_of w) refl (λ o. o) (λ m. refl) (λ m. refl);
   swallows = λ d r w x h p.

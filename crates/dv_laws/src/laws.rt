@@ -9,6 +9,7 @@ ghost use Rattle.dv_laws.specs.ReadBack.{OutcomesAreToldByTheJournal};
 ghost use Rattle.dv_laws.specs.Ready.{NothingRunsEarly};
 ghost use Rattle.dv_laws.specs.Settled.{AllThatMayRunHasRun, NobodyIsLeftWaiting};
 ghost use Rattle.dv_laws.specs.Swallowed.{OnlyACancelHasOneSwallowed};
+ghost use Rattle.dv_laws.specs.Tasks.{TasksEndOnce};
 ghost use Rattle.dv_laws.specs.Times.{TimeNeverFalls};
 ghost use Rattle.dv_laws.specs.Waits.{WaitsEndByAHandOver};
 
@@ -58,4 +59,9 @@ pub fn time_goes_on()
 pub fn all_that_may_run_has_run()
     ensures used { AllThatMayRunHasRun }
     ensures waiters { NobodyIsLeftWaiting }
+{}
+
+/// In a run each task of the Cooperator ends once at most, and takes no step after it has ended.
+pub fn tasks_end()
+    ensures once { TasksEndOnce }
 {}

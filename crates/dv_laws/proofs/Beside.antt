@@ -1,0 +1,67 @@
+-- What an entry aside logs about tasks, locks and queues.
+use Rattle.std.specs.Prelude.{◌≡◌, ℕ, true, false, List, [], ◌∷◌, ◌++◌, Option, None, Some, slice_get, slice_set}
+use Rattle.dv_clock.specs.Turns.{turn_of}
+use Rattle.dv_journal.specs.declared.entry.Entry.{Entry}
+use Rattle.dv_journal.specs.declared.entry.Entry.TheVariants as entry
+use Rattle.dv_objects.specs.Cooperator.{Cooperator, with_new_task, with_step, with_pause, with_resume, with_end, with_waiting, result_of}
+use Rattle.dv_objects.specs.Objects.{Objects}
+use Rattle.dv_objects.specs.declared.task.Task.{Task}
+use Rattle.dv_objects.specs.declared.task.TaskEnd.{TaskEnd}
+use Rattle.dv_prims.specs.Queue.{Queue, new_queue, may_put, put_to, got_from, withdrawn}
+use Rattle.dv_prims.specs.Tokens.{Semaphore, new_semaphore, is_unheld, asked, released, forgotten}
+use Rattle.dv_script.specs.declared.body.Body.{Body}
+use Rattle.dv_value.specs.declared.value.Value.{Value}
+use Rattle.dv_laws.specs.Stored.{queueing_of, Unqueued}
+use Rattle.dv_laws.specs.Tasks.{tasking_of, Untasked}
+use Rattle.dv_laws.specs.Tokens.{holding_of, Unheld}
+
+-- tasks stay, or one is made, takes a step, or ends, which is logged, or is paused, resumed or awaited
+pub data Tasks (e : Entry) (c : Cooperator) : Cooperator → Type 0 where
+  TasksRest : (new : Cooperator) → tasking_of e ≡ Untasked → new.tasks ≡ c.tasks → new.turns ≡ c.turns → Tasks e c new
+  TaskMade : (name : List ℕ) (bodies : List Body) → e ≡ entry.Task name → Tasks e c (with_new_task name bodies c)
+  TaskSteps : (t : ℕ) (x : Task) → turn_of c.turns ≡ Some t → slice_get c.tasks t ≡ Some x → e ≡ entry.Step x.name → Tasks e c (with_step t x c)
+  TaskEnds : (t : ℕ) (end : TaskEnd) (x : Task) → slice_get c.tasks t ≡ Some x → x.end ≡ None → e ≡ entry.End x.name (result_of x.name end) → Tasks e c (with_end t end x c)
+  TaskPaused : (t : ℕ) (x : Task) → slice_get c.tasks t ≡ Some x → tasking_of e ≡ Untasked → Tasks e c (with_pause t x c)
+  TaskResumed : (t : ℕ) (x : Task) → slice_get c.tasks t ≡ Some x → tasking_of e ≡ Untasked → Tasks e c (with_resume t x c)
+  TaskAwaited : (t d : ℕ) (x : Task) → slice_get c.tasks t ≡ Some x → tasking_of e ≡ Untasked → Tasks e c (with_waiting t d x c)
+
+-- locks stay, or one is made, or a token of one is asked for or released, which is logged
+pub data Locks (e : Entry) (old : List Semaphore) : List Semaphore → Type 0 where
+  LocksRest : (new : List Semaphore) → holding_of e ≡ Unheld → new ≡ old → Locks e old new
+  LockMade : (name : List ℕ) (tokens : ℕ) → holding_of e ≡ Unheld → Locks e old (old ++ new_semaphore name tokens ∷ [])
+  LockAsked : (l d : ℕ) (s : Semaphore) → slice_get old l ≡ Some s → e ≡ entry.Acquire s.name d → Locks e old (slice_set old l (asked d s))
+  LockReleased : (l : ℕ) (s : Semaphore) → slice_get old l ≡ Some s → is_unheld s ≡ false → e ≡ entry.Release s.name → Locks e old (slice_set old l (released s))
+
+-- queues stay, or one is made, or a value is put into one or asked for, which is logged
+pub data Queues (e : Entry) (old : List Queue) : List Queue → Type 0 where
+  QueuesRest : (new : List Queue) → queueing_of e ≡ Unqueued → new ≡ old → Queues e old new
+  QueueMade : (name : List ℕ) (size backlog : Option ℕ) → e ≡ entry.Queue name size backlog → Queues e old (old ++ new_queue name size backlog ∷ [])
+  QueuePut : (k : ℕ) (value : Value) (q : Queue) → slice_get old k ≡ Some q → may_put q ≡ true → e ≡ entry.Put q.name value → Queues e old (slice_set old k (put_to q.waiting value q))
+  QueueGot : (k d : ℕ) (q : Queue) → slice_get old k ≡ Some q → e ≡ entry.Get q.name d → Queues e old (slice_set old k (got_from q.stored d q))
+
+pub record Beside (e : Entry) (old new : Objects) : Type 0 where
+  pub tasks : Tasks e old.cooperator new.cooperator
+  pub locks : Locks e old.semaphores new.semaphores
+  pub queues : Queues e old.queues new.queues
+
+-- nothing of them changes, and nothing is logged of them
+pub resting : (e : Entry) (old new : Objects) → tasking_of e ≡ Untasked → holding_of e ≡ Unheld → queueing_of e ≡ Unqueued → new.cooperator.tasks ≡ old.cooperator.tasks → new.cooperator.turns ≡ old.cooperator.turns → new.semaphores ≡ old.semaphores → new.queues ≡ old.queues → Beside e old new
+resting e old new a b c p q r s = record { tasks = TasksRest new.cooperator a p q; locks = LocksRest new.semaphores b r; queues = QueuesRest new.queues c s }
+
+-- what isn't logged leaves tasks as they are, and one waits no longer for a token, or for a value
+pub data LocksKept (old : List Semaphore) : List Semaphore → Type 0 where
+  SameLocks : (new : List Semaphore) → new ≡ old → LocksKept old new
+  LockForgets : (l d : ℕ) (s : Semaphore) → slice_get old l ≡ Some s → LocksKept old (slice_set old l (forgotten d s))
+
+pub data QueuesKept (old : List Queue) : List Queue → Type 0 where
+  SameQueues : (new : List Queue) → new ≡ old → QueuesKept old new
+  QueueForgets : (k d : ℕ) (q : Queue) → slice_get old k ≡ Some q → QueuesKept old (slice_set old k (withdrawn d q))
+
+pub record Arranged (old new : Objects) : Type 0 where
+  pub tasks : new.cooperator.tasks ≡ old.cooperator.tasks
+  pub turns : new.cooperator.turns ≡ old.cooperator.turns
+  pub locks : LocksKept old.semaphores new.semaphores
+  pub queues : QueuesKept old.queues new.queues
+
+pub arranging : (old new : Objects) → new.cooperator.tasks ≡ old.cooperator.tasks → new.cooperator.turns ≡ old.cooperator.turns → new.semaphores ≡ old.semaphores → new.queues ≡ old.queues → Arranged old new
+arranging old new p q r s = record { tasks = p; turns = q; locks = SameLocks new.semaphores r; queues = SameQueues new.queues s }
