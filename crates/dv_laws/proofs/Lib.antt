@@ -18,3 +18,4 @@ pub mod OrderLemmas
 pub mod Settlings
 pub mod SettledLemmas
 pub mod TasksLemmas
+pub mod TokensLemmas

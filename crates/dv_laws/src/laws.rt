@@ -11,6 +11,7 @@ ghost use Rattle.dv_laws.specs.Settled.{AllThatMayRunHasRun, NobodyIsLeftWaiting
 ghost use Rattle.dv_laws.specs.Swallowed.{OnlyACancelHasOneSwallowed};
 ghost use Rattle.dv_laws.specs.Tasks.{TasksEndOnce};
 ghost use Rattle.dv_laws.specs.Times.{TimeNeverFalls};
+ghost use Rattle.dv_laws.specs.Tokens.{AllAreHeldBeforeAnyWaits, TokensAreAskedFor};
 ghost use Rattle.dv_laws.specs.Waits.{WaitsEndByAHandOver};
 
 /// The journal of a run logs what has become of each Deferred, that each was fired once at most, and that a further firing
@@ -64,4 +65,11 @@ pub fn all_that_may_run_has_run()
 /// In a run each task of the Cooperator ends once at most, and takes no step after it has ended.
 pub fn tasks_end()
     ensures once { TasksEndOnce }
+{}
+
+/// In a run no more tokens of a lock or a semaphore are released than were asked for. At its end, also where its journal is full,
+/// no more tokens are held than there are, and a Deferred waits for one only if all are held.
+pub fn tokens_are_held()
+    ensures asked { TokensAreAskedFor }
+    ensures held { AllAreHeldBeforeAnyWaits }
 {}
