@@ -19,3 +19,4 @@ pub mod Settlings
 pub mod SettledLemmas
 pub mod TasksLemmas
 pub mod TokensLemmas
+pub mod StoredLemmas

@@ -8,6 +8,7 @@ ghost use Rattle.dv_laws.specs.Once.{EachDeferredIsFiredOnce};
 ghost use Rattle.dv_laws.specs.ReadBack.{OutcomesAreToldByTheJournal};
 ghost use Rattle.dv_laws.specs.Ready.{NothingRunsEarly};
 ghost use Rattle.dv_laws.specs.Settled.{AllThatMayRunHasRun, NobodyIsLeftWaiting};
+ghost use Rattle.dv_laws.specs.Stored.{NothingIsStoredWhileAnyWaits, QueuesKeepTheirSize};
 ghost use Rattle.dv_laws.specs.Swallowed.{OnlyACancelHasOneSwallowed};
 ghost use Rattle.dv_laws.specs.Tasks.{TasksEndOnce};
 ghost use Rattle.dv_laws.specs.Times.{TimeNeverFalls};
@@ -72,4 +73,11 @@ pub fn tasks_end()
 pub fn tokens_are_held()
     ensures asked { TokensAreAskedFor }
     ensures held { AllAreHeldBeforeAnyWaits }
+{}
+
+/// In a run a queue stores no more values than it may. At its end, also where its journal is full, a queue stores none while a
+/// Deferred waits for one.
+pub fn queues_keep_their_size()
+    ensures size { QueuesKeepTheirSize }
+    ensures waiters { NothingIsStoredWhileAnyWaits }
 {}
