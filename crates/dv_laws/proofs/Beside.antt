@@ -1,4 +1,4 @@
--- What an entry aside logs about tasks, locks and queues.
+-- What an entry aside logs about tasks, locks, queues and loops.
 use Rattle.std.specs.Prelude.{◌≡◌, ℕ, true, false, List, [], ◌∷◌, ◌++◌, Option, None, Some, slice_get, slice_set}
 use Rattle.dv_clock.specs.Turns.{turn_of}
 use Rattle.dv_journal.specs.declared.entry.Entry.{Entry}
@@ -11,6 +11,10 @@ use Rattle.dv_prims.specs.Queue.{Queue, new_queue, may_put, put_to, got_from, wi
 use Rattle.dv_prims.specs.Tokens.{Semaphore, new_semaphore, is_unheld, asked, released, forgotten}
 use Rattle.dv_script.specs.declared.body.Body.{Body}
 use Rattle.dv_value.specs.declared.value.Value.{Value}
+use Rattle.dv_clock.specs.Clock.{Clock}
+use Rattle.dv_objects.specs.Looping.{new_loop, next_due}
+use Rattle.dv_objects.specs.declared.looping_call.LoopingCall.{LoopingCall}
+use Rattle.dv_laws.specs.Loops.{looping_of, Unlooped}
 use Rattle.dv_laws.specs.Stored.{queueing_of, Unqueued}
 use Rattle.dv_laws.specs.Tasks.{tasking_of, Untasked}
 use Rattle.dv_laws.specs.Tokens.{holding_of, Unheld}
@@ -39,14 +43,26 @@ pub data Queues (e : Entry) (old : List Queue) : List Queue → Type 0 where
   QueuePut : (k : ℕ) (value : Value) (q : Queue) → slice_get old k ≡ Some q → may_put q ≡ true → e ≡ entry.Put q.name value → Queues e old (slice_set old k (put_to q.waiting value q))
   QueueGot : (k d : ℕ) (q : Queue) → slice_get old k ≡ Some q → e ≡ entry.Get q.name d → Queues e old (slice_set old k (got_from q.stored d q))
 
+-- loops stay, or one keeps its name, its start and its interval
+pub data LoopsKept (old : List LoopingCall) : List LoopingCall → Type 0 where
+  SameLoops : (new : List LoopingCall) → new ≡ old → LoopsKept old new
+  LoopSet : (l : ℕ) (x y : LoopingCall) → slice_get old l ≡ Some x → y.name ≡ x.name → y.start ≡ x.start → y.interval ≡ x.interval → LoopsKept old (slice_set old l y)
+
+-- so it is where nothing is logged of loops; or one is started, or its next turn is scheduled, which is logged
+pub data Loops (e : Entry) (clock : Clock) (old : List LoopingCall) : List LoopingCall → Type 0 where
+  LoopsRest : (new : List LoopingCall) → looping_of e ≡ Unlooped → LoopsKept old new → Loops e clock old new
+  LoopStarts : (name : List ℕ) (d interval : ℕ) (body : Body) → e ≡ entry.Loop name d → Loops e clock old (old ++ new_loop name d clock.time interval body ∷ [])
+  LoopTurns : (l : ℕ) (x y : LoopingCall) → slice_get old l ≡ Some x → y.name ≡ x.name → y.start ≡ x.start → y.interval ≡ x.interval → e ≡ entry.LaterLoop x.name (next_due x clock) → Loops e clock old (slice_set old l y)
+
 pub record Beside (e : Entry) (old new : Objects) : Type 0 where
   pub tasks : Tasks e old.cooperator new.cooperator
   pub locks : Locks e old.semaphores new.semaphores
   pub queues : Queues e old.queues new.queues
+  pub loops : Loops e old.clock old.loops new.loops
 
 -- nothing of them changes, and nothing is logged of them
-pub resting : (e : Entry) (old new : Objects) → tasking_of e ≡ Untasked → holding_of e ≡ Unheld → queueing_of e ≡ Unqueued → new.cooperator.tasks ≡ old.cooperator.tasks → new.cooperator.turns ≡ old.cooperator.turns → new.semaphores ≡ old.semaphores → new.queues ≡ old.queues → Beside e old new
-resting e old new a b c p q r s = record { tasks = TasksRest new.cooperator a p q; locks = LocksRest new.semaphores b r; queues = QueuesRest new.queues c s }
+pub resting : (e : Entry) (old new : Objects) → tasking_of e ≡ Untasked → holding_of e ≡ Unheld → queueing_of e ≡ Unqueued → looping_of e ≡ Unlooped → new.cooperator.tasks ≡ old.cooperator.tasks → new.cooperator.turns ≡ old.cooperator.turns → new.semaphores ≡ old.semaphores → new.queues ≡ old.queues → new.loops ≡ old.loops → Beside e old new
+resting e old new a b c d p q r s t = record { tasks = TasksRest new.cooperator a p q; locks = LocksRest new.semaphores b r; queues = QueuesRest new.queues c s; loops = LoopsRest new.loops d (SameLoops new.loops t) }
 
 -- what isn't logged leaves tasks as they are, and one waits no longer for a token, or for a value
 pub data LocksKept (old : List Semaphore) : List Semaphore → Type 0 where
@@ -62,6 +78,7 @@ pub record Arranged (old new : Objects) : Type 0 where
   pub turns : new.cooperator.turns ≡ old.cooperator.turns
   pub locks : LocksKept old.semaphores new.semaphores
   pub queues : QueuesKept old.queues new.queues
+  pub loops : LoopsKept old.loops new.loops
 
-pub arranging : (old new : Objects) → new.cooperator.tasks ≡ old.cooperator.tasks → new.cooperator.turns ≡ old.cooperator.turns → new.semaphores ≡ old.semaphores → new.queues ≡ old.queues → Arranged old new
-arranging old new p q r s = record { tasks = p; turns = q; locks = SameLocks new.semaphores r; queues = SameQueues new.queues s }
+pub arranging : (old new : Objects) → new.cooperator.tasks ≡ old.cooperator.tasks → new.cooperator.turns ≡ old.cooperator.turns → new.semaphores ≡ old.semaphores → new.queues ≡ old.queues → new.loops ≡ old.loops → Arranged old new
+arranging old new p q r s t = record { tasks = p; turns = q; locks = SameLocks new.semaphores r; queues = SameQueues new.queues s; loops = SameLoops new.loops t }

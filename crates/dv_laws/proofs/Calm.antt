@@ -57,13 +57,14 @@ use Rattle.dv_objects.specs.declared.task.TaskEnd.{TaskEnd}
 use Rattle.dv_objects.specs.declared.task.TaskEnd.TheVariants.{Finished, Stopped, Failed}
 use Rattle.dv_objects.specs.declared.reached.Reached.{Reached}
 use Rattle.dv_objects.specs.declared.reached.Reached.TheVariants as reached
+use Rattle.dv_laws.specs.Loops.{Unlooped, looping_of}
 use Rattle.dv_laws.specs.Stored.{Unqueued, queueing_of}
 use Rattle.dv_laws.specs.Tasks.{Untasked, tasking_of}
 use Rattle.dv_laws.specs.Tokens.{Unheld, holding_of}
 use Rattle.dv_objects.specs.Objects.{with_lock}
 use Rattle.dv_prims.specs.Tokens.{released}
 use Rattle.dv_laws.proofs.Beside as beside
-use Rattle.dv_laws.proofs.Beside.{Tasks, Locks, Queues, Beside, Arranged, resting, arranging}
+use Rattle.dv_laws.proofs.Beside.{Tasks, Locks, Queues, Loops, Beside, Arranged, resting, arranging}
 use Rattle.dv_laws.proofs.Clocks.{IsPlain, Clocks, Leaves, Adds, Runs, Cancels, Drops, Arranges, Stays, Loses}
 use Rattle.std.specs.Prelude.{min}
 use Rattle.dv_clock.specs.declared.limits.TheConstants.{MOST_DELAY}
@@ -200,23 +201,41 @@ free_append : (fs gs : List Frame) → AllPutNothing fs → AllPutNothing gs →
 free_append [] gs h k = k
 free_append (f ∷ fs) gs h k = (h.0, free_append fs gs h.1 k)
 
--- what is logged of a task alone, of a lock alone, and of a queue alone
-task_beside : (e : Entry) (old : Objects) (new : Cooperator) → Tasks e old.cooperator new → holding_of e ≡ Unheld → queueing_of e ≡ Unqueued → Beside e old (record old { cooperator = new })
-task_beside e old new t a b = record { tasks = t; locks = beside.LocksRest _ a refl; queues = beside.QueuesRest _ b refl }
+-- what is logged of a task alone, of a lock alone, of a queue alone, and of a loop alone
+task_beside : (e : Entry) (old : Objects) (new : Cooperator) → Tasks e old.cooperator new → holding_of e ≡ Unheld → queueing_of e ≡ Unqueued → looping_of e ≡ Unlooped → Beside e old (record old { cooperator = new })
+task_beside e old new t a b c = record { tasks = t; locks = beside.LocksRest _ a refl; queues = beside.QueuesRest _ b refl; loops = beside.LoopsRest _ c (beside.SameLoops _ refl) }
 
-lock_beside : (e : Entry) (old : Objects) (new : Objects) → Locks e old.semaphores new.semaphores → tasking_of e ≡ Untasked → queueing_of e ≡ Unqueued → new.cooperator ≡ old.cooperator → new.queues ≡ old.queues → Beside e old new
-lock_beside e old new t a b p q = record { tasks = beside.TasksRest _ a (ap (λ (c : Cooperator). c.tasks) p) (ap (λ (c : Cooperator). c.turns) p); locks = t; queues = beside.QueuesRest _ b q }
+lock_beside : (e : Entry) (old : Objects) (new : Objects) → Locks e old.semaphores new.semaphores → tasking_of e ≡ Untasked → queueing_of e ≡ Unqueued → looping_of e ≡ Unlooped → new.cooperator ≡ old.cooperator → new.queues ≡ old.queues → new.loops ≡ old.loops → Beside e old new
+lock_beside e old new t a b c p q r = record {
+  tasks = beside.TasksRest _ a (ap (λ (c : Cooperator). c.tasks) p) (ap (λ (c : Cooperator). c.turns) p);
+  locks = t;
+  queues = beside.QueuesRest _ b q;
+  loops = beside.LoopsRest _ c (beside.SameLoops _ r);
+}
 
-queue_beside : (e : Entry) (old : Objects) (new : Objects) → Queues e old.queues new.queues → tasking_of e ≡ Untasked → holding_of e ≡ Unheld → new.cooperator ≡ old.cooperator → new.semaphores ≡ old.semaphores → Beside e old new
-queue_beside e old new t a b p q = record { tasks = beside.TasksRest _ a (ap (λ (c : Cooperator). c.tasks) p) (ap (λ (c : Cooperator). c.turns) p); locks = beside.LocksRest _ b q; queues = t }
+queue_beside : (e : Entry) (old : Objects) (new : Objects) → Queues e old.queues new.queues → tasking_of e ≡ Untasked → holding_of e ≡ Unheld → looping_of e ≡ Unlooped → new.cooperator ≡ old.cooperator → new.semaphores ≡ old.semaphores → new.loops ≡ old.loops → Beside e old new
+queue_beside e old new t a b c p q r = record {
+  tasks = beside.TasksRest _ a (ap (λ (c : Cooperator). c.tasks) p) (ap (λ (c : Cooperator). c.turns) p);
+  locks = beside.LocksRest _ b q;
+  queues = t;
+  loops = beside.LoopsRest _ c (beside.SameLoops _ r);
+}
+
+loop_beside : (e : Entry) (old : Objects) (new : Objects) → Loops e old.clock old.loops new.loops → tasking_of e ≡ Untasked → holding_of e ≡ Unheld → queueing_of e ≡ Unqueued → new.cooperator ≡ old.cooperator → new.semaphores ≡ old.semaphores → new.queues ≡ old.queues → Beside e old new
+loop_beside e old new t a b c p q r = record {
+  tasks = beside.TasksRest _ a (ap (λ (c : Cooperator). c.tasks) p) (ap (λ (c : Cooperator). c.turns) p);
+  locks = beside.LocksRest _ b q;
+  queues = beside.QueuesRest _ c r;
+  loops = t;
+}
 
 ask_comes : (l d : ℕ) (o : Option Semaphore) (w : World) → slice_get w.objects.semaphores l ≡ o → Quietly w (lock_told l (λ s. entry.Acquire s.name d) (asked d) o w)
 ask_comes l d None w h = same w
-ask_comes l d (Some s) w h = by_aside (entry.Acquire s.name d) _ w refl (λ k. Leaves (refl, refl, refl)) (λ k. k) (lock_beside _ _ _ (beside.LockAsked l d s h refl) refl refl refl refl)
+ask_comes l d (Some s) w h = by_aside (entry.Acquire s.name d) _ w refl (λ k. Leaves (refl, refl, refl)) (λ k. k) (lock_beside _ _ _ (beside.LockAsked l d s h refl) refl refl refl refl refl refl)
 
 released_comes : (b : Bool) (l : ℕ) (s : Semaphore) (w : World) → is_unheld s ≡ b → slice_get w.objects.semaphores l ≡ Some s → Quietly w (if b then w else aside (entry.Release s.name) (with_lock l (released s)) w)
 released_comes true l s w u h = same w
-released_comes false l s w u h = by_aside (entry.Release s.name) _ w refl (λ k. Leaves (refl, refl, refl)) (λ k. k) (lock_beside _ _ _ (beside.LockReleased l s h u refl) refl refl refl refl)
+released_comes false l s w u h = by_aside (entry.Release s.name) _ w refl (λ k. Leaves (refl, refl, refl)) (λ k. k) (lock_beside _ _ _ (beside.LockReleased l s h u refl) refl refl refl refl refl refl)
 
 release_comes : (l : ℕ) (o : Option Semaphore) (w : World) → slice_get w.objects.semaphores l ≡ o → Quietly w (release_found l o w)
 release_comes l None w h = same w
@@ -231,15 +250,15 @@ lock_loops l change None objects k = k
 lock_loops l change (Some s) objects k = k
 
 lock_arranged : (l d : ℕ) (o : Option Semaphore) (objects : Objects) → slice_get objects.semaphores l ≡ o → Arranged objects (lock_changed l (forgotten d) o objects)
-lock_arranged l d None objects h = arranging _ _ refl refl refl refl
-lock_arranged l d (Some s) objects h = record { tasks = refl; turns = refl; locks = beside.LockForgets l d s h; queues = beside.SameQueues _ refl }
+lock_arranged l d None objects h = arranging _ _ refl refl refl refl refl
+lock_arranged l d (Some s) objects h = record { tasks = refl; turns = refl; locks = beside.LockForgets l d s h; queues = beside.SameQueues _ refl; loops = beside.SameLoops _ refl }
 
 forget_comes : (l d : ℕ) (w : World) → Quietly w (forget l d w)
 forget_comes l d w = by_arrange _ w (lock_same l (forgotten d) (slice_get w.objects.semaphores l) w.objects) (lock_loops l (forgotten d) (slice_get w.objects.semaphores l) w.objects) (lock_arranged l d _ w.objects refl)
 
 came_comes : (l i : ℕ) (v : Value) (o : Option Gather) (w : World) → Quietly w (came_to_found l i v o w).1
 came_comes l i v None w = same w
-came_comes l i v (Some g) w = by_arrange (with_list l (came i v g).1) w Stays (λ k. k) (arranging _ _ refl refl refl refl)
+came_comes l i v (Some g) w = by_arrange (with_list l (came i v g).1) w Stays (λ k. k) (arranging _ _ refl refl refl refl refl)
 
 came_to_comes : (l i : ℕ) (v : Value) (w : World) → Quietly w (came_to l i v w).1
 unfolding came_to
@@ -247,7 +266,7 @@ came_to_comes l i v w = first_comes w.stopped _ (came_to_found l i v (slice_get 
 
 scheduled_comes : (l : ℕ) (o : Option LoopingCall) (w : World) → slice_get w.objects.loops l ≡ o → Quietly w (turn_scheduled l o w)
 scheduled_comes l None w h = same w
-scheduled_comes l (Some x) w h = by_aside (entry.LaterLoop x.name (next_due x w.objects.clock)) (with_turn l x) w refl (λ k. Adds (what.Turn x.name l) (next_due x w.objects.clock) refl (turn_later x w.objects.clock (k.each l x h))) (λ k. regular_set l x _ w.objects.loops h refl k) (resting _ _ _ refl refl refl refl refl refl refl)
+scheduled_comes l (Some x) w h = by_aside (entry.LaterLoop x.name (next_due x w.objects.clock)) (with_turn l x) w refl (λ k. Adds (what.Turn x.name l) (next_due x w.objects.clock) refl (turn_later x w.objects.clock (k.each l x h))) (λ k. regular_set l x _ w.objects.loops h refl k) (loop_beside _ _ _ (beside.LoopTurns l x _ h refl refl refl refl) refl refl refl refl refl refl)
 
 dropped_same : (e : Entry) (o : Option ℕ) (c : Clock) → IsPlain e → Clocks e c (turn_dropped o c)
 dropped_same e None c p = Leaves p
@@ -255,7 +274,7 @@ dropped_same e (Some number) c p = Drops number p
 
 loop_stopped_comes : (l : ℕ) (o : Option LoopingCall) (w : World) → slice_get w.objects.loops l ≡ o → Quietly w (loop_stopped l o w)
 loop_stopped_comes l None w h = same w
-loop_stopped_comes l (Some x) w h = by_aside (entry.Stop x.name) (with_stopped l x) w refl (λ k. dropped_same (entry.Stop x.name) x.turn w.objects.clock (refl, refl, refl)) (λ k. regular_set l x _ w.objects.loops h refl k) (resting _ _ _ refl refl refl refl refl refl refl)
+loop_stopped_comes l (Some x) w h = by_aside (entry.Stop x.name) (with_stopped l x) w refl (λ k. dropped_same (entry.Stop x.name) x.turn w.objects.clock (refl, refl, refl)) (λ k. regular_set l x _ w.objects.loops h refl k) (loop_beside _ _ _ (beside.LoopsRest _ refl (beside.LoopSet l x _ h refl refl refl)) refl refl refl refl refl refl)
 
 ended_same : (l : ℕ) (o : Option LoopingCall) (objects : Objects) → Arranges objects.clock (with_ended l o objects).clock
 ended_same l None objects = Stays
@@ -265,12 +284,12 @@ ended_loops : (l : ℕ) (o : Option LoopingCall) (objects : Objects) → slice_g
 ended_loops l None objects h k = k
 ended_loops l (Some x) objects h k = regular_set l x _ objects.loops h refl k
 
-loop_arranged : (l : ℕ) (o : Option LoopingCall) (objects : Objects) → Arranged objects (with_ended l o objects)
-loop_arranged l None objects = arranging _ _ refl refl refl refl
-loop_arranged l (Some x) objects = arranging _ _ refl refl refl refl
+loop_arranged : (l : ℕ) (o : Option LoopingCall) (objects : Objects) → slice_get objects.loops l ≡ o → Arranged objects (with_ended l o objects)
+loop_arranged l None objects h = arranging _ _ refl refl refl refl refl
+loop_arranged l (Some x) objects h = record { tasks = refl; turns = refl; locks = beside.SameLocks _ refl; queues = beside.SameQueues _ refl; loops = beside.LoopSet l x _ h refl refl refl }
 
 end_loop_comes : (l : ℕ) (w : World) → Quietly w (end_loop l w)
-end_loop_comes l w = by_arrange _ w (ended_same l (slice_get w.objects.loops l) w.objects) (ended_loops l (slice_get w.objects.loops l) w.objects refl) (loop_arranged l (slice_get w.objects.loops l) w.objects)
+end_loop_comes l w = by_arrange _ w (ended_same l (slice_get w.objects.loops l) w.objects) (ended_loops l (slice_get w.objects.loops l) w.objects refl) (loop_arranged l (slice_get w.objects.loops l) w.objects refl)
 
 told_task_comes : (e : Task → Entry) (change : Task → Cooperator → Cooperator) (o : Option Task) (w : World) → ((x : Task) → change_of (e x) ≡ Aside) → ((x : Task) → IsPlain (e x)) → ((x : Task) → o ≡ Some x → Beside (e x) w.objects (cooperating (change x) w.objects)) → Quietly w (task_told e change o w)
 told_task_comes e change None w a t k = same w
@@ -278,10 +297,10 @@ told_task_comes e change (Some x) w a t k = by_aside (e x) (cooperating (change 
 
 dropped_comes : (o : Option ℕ) (w : World) → Quietly w (tick_dropped o w)
 dropped_comes None w = same w
-dropped_comes (Some number) w = by_arrange (without_tick number) w (Loses number) (λ k. k) (arranging _ _ refl refl refl refl)
+dropped_comes (Some number) w = by_arrange (without_tick number) w (Loses number) (λ k. k) (arranging _ _ refl refl refl refl refl)
 
 later_comes : (w : World) → Quietly w (schedule_tick w)
-later_comes w = by_aside (entry.LaterTick (w.objects.clock.time + w.objects.cooperator.delay)) (with_tick (w.objects.clock.time + w.objects.cooperator.delay)) w refl (λ k. Adds what.Tick _ refl (omega arith)) (λ k. k) (resting _ _ _ refl refl refl refl refl refl refl)
+later_comes w = by_aside (entry.LaterTick (w.objects.clock.time + w.objects.cooperator.delay)) (with_tick (w.objects.clock.time + w.objects.cooperator.delay)) w refl (λ k. Adds what.Tick _ refl (omega arith)) (λ k. k) (resting _ _ _ refl refl refl refl refl refl refl refl refl)
 
 keep_comes : (w u : World) → Quietly w u → Quietly w (keep_tick u)
 keep_comes w u c = join w u _ c (one_comes (wants_tick u.objects.cooperator) u _ _ (later_comes u) (dropped_comes (idle_tick u.objects.cooperator) u))
@@ -298,15 +317,15 @@ task_ended_comes : (t : ℕ) (end : TaskEnd) (o : Option Task) (w : World) → u
 task_ended_comes t end None w h = same w
 task_ended_comes t end (Some x) w h =
     let found = unended_is (slice_get w.objects.cooperator.tasks t) x h in
-    by_aside (entry.End x.name (result_of x.name end)) _ w refl (λ k. Leaves (refl, refl, refl)) (λ k. k) (task_beside _ _ _ (beside.TaskEnds t end x found.0 found.1 refl) refl refl)
+    by_aside (entry.End x.name (result_of x.name end)) _ w refl (λ k. Leaves (refl, refl, refl)) (λ k. k) (task_beside _ _ _ (beside.TaskEnds t end x found.0 found.1 refl) refl refl refl)
 
 inlining_comes : (i : ℕ) (v : Value) (w : World) → Quietly w (come_to_inline i v w).1
 unfolding come_to_inline
-inlining_comes i v w = let t = come_to i v w.objects.inlines in first_comes w.stopped (None, w) (t.0, arrange (inlining (λ inlines. t.1)) w) w (same w) (by_arrange _ w Stays (λ k. k) (arranging _ _ refl refl refl refl))
+inlining_comes i v w = let t = come_to i v w.objects.inlines in first_comes w.stopped (None, w) (t.0, arrange (inlining (λ inlines. t.1)) w) w (same w) (by_arrange _ w Stays (λ k. k) (arranging _ _ refl refl refl refl refl))
 
 end_await_comes : (i e : ℕ) (p : Position) (w : World) → Quietly w (end_await i e p w).1
 unfolding end_await
-end_await_comes i e p w = let t = end_adding i e p w.objects.inlines in first_comes w.stopped (None, w) (t.0, arrange (inlining (λ inlines. t.1)) w) w (same w) (by_arrange _ w Stays (λ k. k) (arranging _ _ refl refl refl refl))
+end_await_comes i e p w = let t = end_adding i e p w.objects.inlines in first_comes w.stopped (None, w) (t.0, arrange (inlining (λ inlines. t.1)) w) w (same w) (by_arrange _ w Stays (λ k. k) (arranging _ _ refl refl refl refl refl))
 
 queue_same : (k : ℕ) (change : Queue → Queue) (o : Option Queue) (objects : Objects) → Arranges objects.clock (queue_changed k change o objects).clock
 queue_same k change None objects = Stays
@@ -317,15 +336,15 @@ queue_loops k change None objects r = r
 queue_loops k change (Some q) objects r = r
 
 queue_arranged : (k d : ℕ) (o : Option Queue) (objects : Objects) → slice_get objects.queues k ≡ o → Arranged objects (queue_changed k (withdrawn d) o objects)
-queue_arranged k d None objects h = arranging _ _ refl refl refl refl
-queue_arranged k d (Some q) objects h = record { tasks = refl; turns = refl; locks = beside.SameLocks _ refl; queues = beside.QueueForgets k d q h }
+queue_arranged k d None objects h = arranging _ _ refl refl refl refl refl
+queue_arranged k d (Some q) objects h = record { tasks = refl; turns = refl; locks = beside.SameLocks _ refl; queues = beside.QueueForgets k d q h; loops = beside.SameLoops _ refl }
 
 withdraw_comes : (k d : ℕ) (w : World) → Quietly w (withdraw k d w)
 withdraw_comes k d w = by_arrange _ w (queue_same k (withdrawn d) (slice_get w.objects.queues k) w.objects) (queue_loops k (withdrawn d) (slice_get w.objects.queues k) w.objects) (queue_arranged k d _ w.objects refl)
 
 putting_comes : (b : Bool) (k : ℕ) (value : Value) (q : Queue) (w : World) → may_put q ≡ b → slice_get w.objects.queues k ≡ Some q
     → Quietly w (if b then unless_stopped (receiver q.waiting value) (aside (entry.Put q.name value) (with_queue k (put_to q.waiting value q)) w) else (None, w)).1
-putting_comes true k value q w m h = by_aside (entry.Put q.name value) _ w refl (λ k. Leaves (refl, refl, refl)) (λ k. k) (queue_beside _ _ _ (beside.QueuePut k value q h m refl) refl refl refl refl)
+putting_comes true k value q w m h = by_aside (entry.Put q.name value) _ w refl (λ k. Leaves (refl, refl, refl)) (λ k. k) (queue_beside _ _ _ (beside.QueuePut k value q h m refl) refl refl refl refl refl refl)
 putting_comes false k value q w m h = same w
 
 put_comes : (k : ℕ) (value : Value) (o : Option Queue) (w : World) → slice_get w.objects.queues k ≡ o → Quietly w (put_into_found k value o w).1
@@ -334,10 +353,10 @@ put_comes k value (Some q) w h = putting_comes _ k value q w refl h
 
 get_comes : (k d : ℕ) (o : Option Queue) (w : World) → slice_get w.objects.queues k ≡ o → Quietly w (get_from_found k d o w).1
 get_comes k d None w h = same w
-get_comes k d (Some q) w h = by_aside (entry.Get q.name d) _ w refl (λ k. Leaves (refl, refl, refl)) (λ k. k) (queue_beside _ _ _ (beside.QueueGot k d q h refl) refl refl refl refl)
+get_comes k d (Some q) w h = by_aside (entry.Get q.name d) _ w refl (λ k. Leaves (refl, refl, refl)) (λ k. k) (queue_beside _ _ _ (beside.QueueGot k d q h refl) refl refl refl refl refl refl)
 
 waiting_comes : (number at : ℕ) (due : Due) (w : World) → slice_get w.objects.clock.calls number ≡ Some (record { due = at; state = call_state.Waiting due }) → Quietly w (waiting_cancelled number due w)
-waiting_comes number at (what.Call name key) w h = by_aside (entry.Uncall name) (with_ended_call number call_state.Cancelled) w refl (λ k. Cancels number at name key h refl) (λ k. k) (resting _ _ _ refl refl refl refl refl refl refl)
+waiting_comes number at (what.Call name key) w h = by_aside (entry.Uncall name) (with_ended_call number call_state.Cancelled) w refl (λ k. Cancels number at name key h refl) (λ k. k) (resting _ _ _ refl refl refl refl refl refl refl refl refl)
 waiting_comes number at (what.Turn name key) w h = same w
 waiting_comes number at what.Tick w h = same w
 waiting_comes number at (what.Delivery job key) w h = same w
@@ -358,13 +377,13 @@ unfolding cancel_call
 off_comes number w = first_comes w.stopped _ (call_cancelled number (slice_get w.objects.clock.calls number) w) w (same w) (call_comes number (slice_get w.objects.clock.calls number) w refl)
 
 call_later_comes : (name : List ℕ) (delay : ℕ) (body : body_of.Body) (w : World) → Quietly w (call_later name delay body w)
-call_later_comes name delay body w = let due = w.objects.clock.time + min delay MOST_DELAY in by_aside (entry.LaterCall name due) (with_new_call name due body) w refl (λ k. Adds (what.Call name (length w.objects.bodies)) due refl (omega arith)) (λ k. k) (resting _ _ _ refl refl refl refl refl refl refl)
+call_later_comes name delay body w = let due = w.objects.clock.time + min delay MOST_DELAY in by_aside (entry.LaterCall name due) (with_new_call name due body) w refl (λ k. Adds (what.Call name (length w.objects.bodies)) due refl (omega arith)) (λ k. k) (resting _ _ _ refl refl refl refl refl refl refl refl refl)
 
 timer_comes : (d delay : ℕ) (w : World) → Quietly w (start_timer d delay w)
-timer_comes d delay w = let due = w.objects.clock.time + min delay MOST_DELAY in by_aside (entry.LaterTimeout d due) (with_timer d due) w refl (λ k. Adds (what.Timeout d) due refl (omega arith)) (λ k. k) (resting _ _ _ refl refl refl refl refl refl refl)
+timer_comes d delay w = let due = w.objects.clock.time + min delay MOST_DELAY in by_aside (entry.LaterTimeout d due) (with_timer d due) w refl (λ k. Adds (what.Timeout d) due refl (omega arith)) (λ k. k) (resting _ _ _ refl refl refl refl refl refl refl refl refl)
 
 delivery_comes : (job d delay : ℕ) (w : World) → Quietly w (deliver_later job d delay w)
-delivery_comes job d delay w = let due = w.objects.clock.time + min delay MOST_DELAY in by_aside (entry.LaterJob job due) (with_delivery job d due) w refl (λ k. Adds (what.Delivery job d) due refl (omega arith)) (λ k. k) (resting _ _ _ refl refl refl refl refl refl refl)
+delivery_comes job d delay w = let due = w.objects.clock.time + min delay MOST_DELAY in by_aside (entry.LaterJob job due) (with_delivery job d due) w refl (λ k. Adds (what.Delivery job d) due refl (omega arith)) (λ k. k) (resting _ _ _ refl refl refl refl refl refl refl refl refl)
 
 due_aside : (due : Due) → change_of (coming_due due) ≡ Aside
 due_aside (what.Call name key) = refl
@@ -394,9 +413,16 @@ due_unqueued what.Tick = refl
 due_unqueued (what.Delivery job key) = refl
 due_unqueued (what.Timeout d) = refl
 
+due_unlooped : (due : Due) → looping_of (coming_due due) ≡ Unlooped
+due_unlooped (what.Call name key) = refl
+due_unlooped (what.Turn name key) = refl
+due_unlooped what.Tick = refl
+due_unlooped (what.Delivery job key) = refl
+due_unlooped (what.Timeout d) = refl
+
 upcoming_comes : (o : Option Upcoming) (w : World) → next_call w.objects.clock ≡ o → Quietly w (come_due_found o w).1
 upcoming_comes None w h = same w
-upcoming_comes (Some call) w h = by_aside (coming_due call.what) (with_ended_call call.number call_state.Called) w (due_aside call.what) (λ k. Runs call h refl) (λ k. k) (resting _ _ _ (due_untasked call.what) (due_unheld call.what) (due_unqueued call.what) refl refl refl refl)
+upcoming_comes (Some call) w h = by_aside (coming_due call.what) (with_ended_call call.number call_state.Called) w (due_aside call.what) (λ k. Runs call h refl) (λ k. k) (resting _ _ _ (due_untasked call.what) (due_unheld call.what) (due_unqueued call.what) (due_unlooped call.what) refl refl refl refl refl)
 
 -- 1. Steps: all but those by which a Deferred is settled and time goes on.
 
@@ -427,49 +453,49 @@ AsksCalmly question = Unit {0}
 
 pub step_quiet : (step : steps.Step) (w : World) → IsQuiet step → Quietly w (stepped step w)
 step_quiet (steps.Make name canceller) w m = by_make name canceller w
-step_quiet (steps.Name d name) w m = by_aside (entry.Name d (Some name)) _ w refl (λ k. Leaves (refl, refl, refl)) (λ k. k) (resting _ _ _ refl refl refl refl refl refl refl)
+step_quiet (steps.Name d name) w m = by_aside (entry.Name d (Some name)) _ w refl (λ k. Leaves (refl, refl, refl)) (λ k. k) (resting _ _ _ refl refl refl refl refl refl refl refl refl)
 step_quiet (steps.Append d pair) w m = absurd m
 step_quiet (steps.FireGuarded d) w m = absurd m
 step_quiet (steps.Pause d) w m = record { keeps = λ R l. l.by_pause d w }
-step_quiet (steps.Note text) w m = by_aside (entry.Note text) _ w refl (λ k. Leaves (refl, refl, refl)) (λ k. k) (resting _ _ _ refl refl refl refl refl refl refl)
-step_quiet (steps.TellTurn name) w m = by_aside (entry.Turn name) _ w refl (λ k. Leaves (refl, refl, refl)) (λ k. k) (resting _ _ _ refl refl refl refl refl refl refl)
-step_quiet (steps.TellUnhandled failure) w m = by_aside (entry.Unhandled failure) _ w refl (λ k. Leaves (refl, refl, refl)) (λ k. k) (resting _ _ _ refl refl refl refl refl refl refl)
-step_quiet (steps.NewLock name) w m = by_aside (entry.Lock name) _ w refl (λ k. Leaves (refl, refl, refl)) (λ k. k) (lock_beside _ _ _ (beside.LockMade name 1 refl) refl refl refl refl)
-step_quiet (steps.NewSemaphore name tokens) w m = by_aside (entry.Semaphore name tokens) _ w refl (λ k. Leaves (refl, refl, refl)) (λ k. k) (lock_beside _ _ _ (beside.LockMade name tokens refl) refl refl refl refl)
+step_quiet (steps.Note text) w m = by_aside (entry.Note text) _ w refl (λ k. Leaves (refl, refl, refl)) (λ k. k) (resting _ _ _ refl refl refl refl refl refl refl refl refl)
+step_quiet (steps.TellTurn name) w m = by_aside (entry.Turn name) _ w refl (λ k. Leaves (refl, refl, refl)) (λ k. k) (resting _ _ _ refl refl refl refl refl refl refl refl refl)
+step_quiet (steps.TellUnhandled failure) w m = by_aside (entry.Unhandled failure) _ w refl (λ k. Leaves (refl, refl, refl)) (λ k. k) (resting _ _ _ refl refl refl refl refl refl refl refl refl)
+step_quiet (steps.NewLock name) w m = by_aside (entry.Lock name) _ w refl (λ k. Leaves (refl, refl, refl)) (λ k. k) (lock_beside _ _ _ (beside.LockMade name 1 refl) refl refl refl refl refl refl)
+step_quiet (steps.NewSemaphore name tokens) w m = by_aside (entry.Semaphore name tokens) _ w refl (λ k. Leaves (refl, refl, refl)) (λ k. k) (lock_beside _ _ _ (beside.LockMade name tokens refl) refl refl refl refl refl refl)
 step_quiet (steps.Ask l d) w m = ask_comes l d (slice_get w.objects.semaphores l) w refl
 step_quiet (steps.Release l) w m = release_comes l (slice_get w.objects.semaphores l) w refl
 step_quiet (steps.Forget l d) w m = forget_comes l d w
-step_quiet (steps.NewQueue name size backlog) w m = by_aside (entry.Queue name size backlog) _ w refl (λ k. Leaves (refl, refl, refl)) (λ k. k) (queue_beside _ _ _ (beside.QueueMade name size backlog refl) refl refl refl refl)
+step_quiet (steps.NewQueue name size backlog) w m = by_aside (entry.Queue name size backlog) _ w refl (λ k. Leaves (refl, refl, refl)) (λ k. k) (queue_beside _ _ _ (beside.QueueMade name size backlog refl) refl refl refl refl refl refl)
 step_quiet (steps.Withdraw k d) w m = withdraw_comes k d w
-step_quiet (steps.NewList n flags) w m = by_arrange _ w Stays (λ k. k) (arranging _ _ refl refl refl refl)
+step_quiet (steps.NewList n flags) w m = by_arrange _ w Stays (λ k. k) (arranging _ _ refl refl refl refl refl)
 step_quiet (steps.StartTimer d delay) w m = timer_comes d delay w
-step_quiet (steps.EndTimer t) w m = by_arrange (with_ended_call t call_state.Dropped) w (Loses t) (λ k. k) (arranging _ _ refl refl refl refl)
+step_quiet (steps.EndTimer t) w m = by_arrange (with_ended_call t call_state.Dropped) w (Loses t) (λ k. k) (arranging _ _ refl refl refl refl refl)
 step_quiet (steps.CallLater name delay body) w m = call_later_comes name delay body w
-step_quiet (steps.NewLoop name d interval body) w m = by_aside (entry.Loop name d) _ w refl (λ k. Leaves (refl, refl, refl)) (λ k. regular_push (new_loop name d w.objects.clock.time interval body) w.objects.loops (new_regular interval) k) (resting _ _ _ refl refl refl refl refl refl refl)
+step_quiet (steps.NewLoop name d interval body) w m = by_aside (entry.Loop name d) _ w refl (λ k. Leaves (refl, refl, refl)) (λ k. regular_push (new_loop name d w.objects.clock.time interval body) w.objects.loops (new_regular interval) k) (loop_beside _ _ _ (beside.LoopStarts name d interval body refl) refl refl refl refl refl refl)
 step_quiet (steps.ScheduleTurn l) w m = scheduled_comes l (slice_get w.objects.loops l) w refl
 step_quiet (steps.StopLoop l) w m = loop_stopped_comes l (slice_get w.objects.loops l) w refl
 step_quiet (steps.EndLoop l) w m = end_loop_comes l w
-step_quiet (steps.NewTask name bodies) w m = by_aside (entry.Task name) _ w refl (λ k. Leaves (refl, refl, refl)) (λ k. k) (task_beside _ _ _ (beside.TaskMade name bodies refl) refl refl)
-step_quiet (steps.AwaitTask t d) w m = told_task_comes (λ x. entry.WhenDone x.name d) _ (slice_get w.objects.cooperator.tasks t) w (λ x. refl) (λ x. (refl, refl, refl)) (λ x g. task_beside _ _ _ (beside.TaskAwaited t d x g refl) refl refl)
-step_quiet (steps.PauseTask t) w m = told_task_comes (λ x. entry.PauseTask x.name) _ (slice_get w.objects.cooperator.tasks t) w (λ x. refl) (λ x. (refl, refl, refl)) (λ x g. task_beside _ _ _ (beside.TaskPaused t x g refl) refl refl)
-step_quiet (steps.ResumeTask t) w m = told_task_comes (λ x. entry.ResumeTask x.name) _ (slice_get w.objects.cooperator.tasks t) w (λ x. refl) (λ x. (refl, refl, refl)) (λ x g. task_beside _ _ _ (beside.TaskResumed t x g refl) refl refl)
-step_quiet (steps.HoldTask t e) w m = told_task_comes (λ x. entry.Hold x.name e) _ (slice_get w.objects.cooperator.tasks t) w (λ x. refl) (λ x. (refl, refl, refl)) (λ x g. task_beside _ _ _ (beside.TaskPaused t x g refl) refl refl)
+step_quiet (steps.NewTask name bodies) w m = by_aside (entry.Task name) _ w refl (λ k. Leaves (refl, refl, refl)) (λ k. k) (task_beside _ _ _ (beside.TaskMade name bodies refl) refl refl refl)
+step_quiet (steps.AwaitTask t d) w m = told_task_comes (λ x. entry.WhenDone x.name d) _ (slice_get w.objects.cooperator.tasks t) w (λ x. refl) (λ x. (refl, refl, refl)) (λ x g. task_beside _ _ _ (beside.TaskAwaited t d x g refl) refl refl refl)
+step_quiet (steps.PauseTask t) w m = told_task_comes (λ x. entry.PauseTask x.name) _ (slice_get w.objects.cooperator.tasks t) w (λ x. refl) (λ x. (refl, refl, refl)) (λ x g. task_beside _ _ _ (beside.TaskPaused t x g refl) refl refl refl)
+step_quiet (steps.ResumeTask t) w m = told_task_comes (λ x. entry.ResumeTask x.name) _ (slice_get w.objects.cooperator.tasks t) w (λ x. refl) (λ x. (refl, refl, refl)) (λ x g. task_beside _ _ _ (beside.TaskResumed t x g refl) refl refl refl)
+step_quiet (steps.HoldTask t e) w m = told_task_comes (λ x. entry.Hold x.name e) _ (slice_get w.objects.cooperator.tasks t) w (λ x. refl) (λ x. (refl, refl, refl)) (λ x g. task_beside _ _ _ (beside.TaskPaused t x g refl) refl refl refl)
 step_quiet steps.KeepTick w m = keep_comes w w (same w)
-step_quiet steps.BeginTick w m = by_arrange _ w Stays (λ k. k) (arranging _ _ refl refl refl refl)
-step_quiet steps.EndTick w m = by_arrange _ w Stays (λ k. k) (arranging _ _ refl refl refl refl)
-step_quiet steps.AddInline w m = by_arrange _ w Stays (λ k. k) (arranging _ _ refl refl refl refl)
-step_quiet (steps.BeginAwait i e) w m = by_aside (entry.Await i.of e) _ w refl (λ k. Leaves (refl, refl, refl)) (λ k. k) (resting _ _ _ refl refl refl refl refl refl refl)
+step_quiet steps.BeginTick w m = by_arrange _ w Stays (λ k. k) (arranging _ _ refl refl refl refl refl)
+step_quiet steps.EndTick w m = by_arrange _ w Stays (λ k. k) (arranging _ _ refl refl refl refl refl)
+step_quiet steps.AddInline w m = by_arrange _ w Stays (λ k. k) (arranging _ _ refl refl refl refl refl)
+step_quiet (steps.BeginAwait i e) w m = by_aside (entry.Await i.of e) _ w refl (λ k. Leaves (refl, refl, refl)) (λ k. k) (resting _ _ _ refl refl refl refl refl refl refl refl refl)
 step_quiet (steps.Submit d pool work) w m = record { keeps = λ R l. l.by_submit d pool work w }
 step_quiet (steps.DeliverLater job d delay) w m = delivery_comes job d delay w
 step_quiet (steps.Advance ticks) w m = absurd m
-step_quiet steps.TellDrain w m = by_aside entry.Drain _ w refl (λ k. Leaves (refl, refl, refl)) (λ k. k) (resting _ _ _ refl refl refl refl refl refl refl)
-step_quiet (steps.TellPost caller index) w m = by_aside (entry.Post caller index) _ w refl (λ k. Leaves (refl, refl, refl)) (λ k. k) (resting _ _ _ refl refl refl refl refl refl refl)
+step_quiet steps.TellDrain w m = by_aside entry.Drain _ w refl (λ k. Leaves (refl, refl, refl)) (λ k. k) (resting _ _ _ refl refl refl refl refl refl refl refl refl)
+step_quiet (steps.TellPost caller index) w m = by_aside (entry.Post caller index) _ w refl (λ k. Leaves (refl, refl, refl)) (λ k. k) (resting _ _ _ refl refl refl refl refl refl refl refl refl)
 step_quiet (steps.Put d v) w m = absurd m
 step_quiet (steps.PutDeferred d e) w m = absurd m
 
 step_taken_comes : (t : ℕ) (o : Option Task) (w : World) → turn_of w.objects.cooperator.turns ≡ Some t → slice_get w.objects.cooperator.tasks t ≡ o → Quietly w (step_taken t o w).1
 step_taken_comes t None w h g = same w
-step_taken_comes t (Some x) w h g = by_aside (entry.Step x.name) (cooperating (with_step t x)) w refl (λ k. Leaves (refl, refl, refl)) (λ k. k) (task_beside _ _ _ (beside.TaskSteps t x h g refl) refl refl)
+step_taken_comes t (Some x) w h g = by_aside (entry.Step x.name) (cooperating (with_step t x)) w refl (λ k. Leaves (refl, refl, refl)) (λ k. k) (task_beside _ _ _ (beside.TaskSteps t x h g refl) refl refl refl)
 
 turn_comes : (o : Option ℕ) (w : World) → turn_of w.objects.cooperator.turns ≡ o → Quietly w (turn_taken o w).1
 turn_comes None w h = same w
@@ -867,7 +893,7 @@ action_mild action w =
     run_mild (Over (page.carry_out None (out-Action action)) (frame.Tell ∷ [])) w (carry_mild None (out-Action action), (tt, tt))
 
 pub drain_mild : (w : World) → Mild w (done (world.tell entry.Drain w))
-drain_mild w = record { comes = quietly w _ (by_aside entry.Drain _ w refl (λ k. Leaves (refl, refl, refl)) (λ k. k) (resting _ _ _ refl refl refl refl refl refl refl)); free = tt }
+drain_mild w = record { comes = quietly w _ (by_aside entry.Drain _ w refl (λ k. Leaves (refl, refl, refl)) (λ k. k) (resting _ _ _ refl refl refl refl refl refl refl refl refl)); free = tt }
 
 pub post_comes : (caller index : ℕ) (w : World) → Calmly w (world.tell (entry.Post caller index) w)
-post_comes caller index w = quietly w _ (by_aside (entry.Post caller index) _ w refl (λ k. Leaves (refl, refl, refl)) (λ k. k) (resting _ _ _ refl refl refl refl refl refl refl))
+post_comes caller index w = quietly w _ (by_aside (entry.Post caller index) _ w refl (λ k. Leaves (refl, refl, refl)) (λ k. k) (resting _ _ _ refl refl refl refl refl refl refl refl refl))

@@ -20,3 +20,4 @@ pub mod SettledLemmas
 pub mod TasksLemmas
 pub mod TokensLemmas
 pub mod StoredLemmas
+pub mod LoopsLemmas

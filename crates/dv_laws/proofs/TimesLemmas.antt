@@ -54,14 +54,14 @@ clocks_told e c d (Runs call n q) = is_told c.time e _ q (run_told c.time call.w
 clocks_told e c d (Cancels number due name key g q) = is_told c.time e _ q tt
 clocks_told e c d (Drops number p) = plain_told c.time e p
 
-clocks_same : (e : Entry) (c d : Clock) → Clocks e c d → d.time ≡ c.time
+pub clocks_same : (e : Entry) (c d : Clock) → Clocks e c d → d.time ≡ c.time
 clocks_same e c d (Leaves p) = refl
 clocks_same e c d (Adds due_for due q h) = refl
 clocks_same e c d (Runs call n q) = refl
 clocks_same e c d (Cancels number due name key g q) = refl
 clocks_same e c d (Drops number p) = refl
 
-arranged_same : (c d : Clock) → Arranges c d → d.time ≡ c.time
+pub arranged_same : (c d : Clock) → Arranges c d → d.time ≡ c.time
 arranged_same c d Stays = refl
 arranged_same c d (Loses number) = refl
 

@@ -3,6 +3,7 @@
 ghost use Rattle.dv_laws.specs.Again.{OnlyTheNextFiringIsSwallowed};
 ghost use Rattle.dv_laws.specs.Calls.{CallsRunInOrder, CallsRunOnceInTime};
 ghost use Rattle.dv_laws.specs.HandOvers.{ValuesAreHandedOverInTurn};
+ghost use Rattle.dv_laws.specs.Loops.{LoopsTurnAtIntervals};
 ghost use Rattle.dv_laws.specs.OneAtATime.{EachPairIsUsedOnce, SidesRunOneAtATime};
 ghost use Rattle.dv_laws.specs.Once.{EachDeferredIsFiredOnce};
 ghost use Rattle.dv_laws.specs.ReadBack.{OutcomesAreToldByTheJournal};
@@ -80,4 +81,10 @@ pub fn tokens_are_held()
 pub fn queues_keep_their_size()
     ensures size { QueuesKeepTheirSize }
     ensures waiters { NothingIsStoredWhileAnyWaits }
+{}
+
+/// In a run the turns of a loop whose name is given once are at whole intervals after its start: each that is scheduled is due at the
+/// first such time after now.
+pub fn loops_turn()
+    ensures turns { LoopsTurnAtIntervals }
 {}
