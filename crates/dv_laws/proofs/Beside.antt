@@ -1,5 +1,5 @@
 -- What an entry aside logs about tasks, locks, queues and loops.
-use Rattle.std.specs.Prelude.{◌≡◌, ℕ, true, false, List, [], ◌∷◌, ◌++◌, Option, None, Some, slice_get, slice_set}
+use Rattle.std.specs.Prelude.{◌≡◌, ℕ, Bool, true, false, List, [], ◌∷◌, ◌++◌, Option, None, Some, slice_get, slice_set}
 use Rattle.dv_clock.specs.Turns.{turn_of}
 use Rattle.dv_journal.specs.declared.entry.Entry.{Entry}
 use Rattle.dv_journal.specs.declared.entry.Entry.TheVariants as entry
@@ -61,7 +61,7 @@ pub record Beside (e : Entry) (old new : Objects) : Type 0 where
   pub loops : Loops e old.clock old.loops new.loops
 
 -- nothing of them changes, and nothing is logged of them
-pub resting : (e : Entry) (old new : Objects) → tasking_of e ≡ Untasked → holding_of e ≡ Unheld → queueing_of e ≡ Unqueued → looping_of e ≡ Unlooped → new.cooperator.tasks ≡ old.cooperator.tasks → new.cooperator.turns ≡ old.cooperator.turns → new.semaphores ≡ old.semaphores → new.queues ≡ old.queues → new.loops ≡ old.loops → Beside e old new
+abbrev pub resting : (e : Entry) (old new : Objects) → tasking_of e ≡ Untasked → holding_of e ≡ Unheld → queueing_of e ≡ Unqueued → looping_of e ≡ Unlooped → new.cooperator.tasks ≡ old.cooperator.tasks → new.cooperator.turns ≡ old.cooperator.turns → new.semaphores ≡ old.semaphores → new.queues ≡ old.queues → new.loops ≡ old.loops → Beside e old new
 resting e old new a b c d p q r s t = record { tasks = TasksRest new.cooperator a p q; locks = LocksRest new.semaphores b r; queues = QueuesRest new.queues c s; loops = LoopsRest new.loops d (SameLoops new.loops t) }
 
 -- what isn't logged leaves tasks as they are, and one waits no longer for a token, or for a value
@@ -80,5 +80,16 @@ pub record Arranged (old new : Objects) : Type 0 where
   pub queues : QueuesKept old.queues new.queues
   pub loops : LoopsKept old.loops new.loops
 
-pub arranging : (old new : Objects) → new.cooperator.tasks ≡ old.cooperator.tasks → new.cooperator.turns ≡ old.cooperator.turns → new.semaphores ≡ old.semaphores → new.queues ≡ old.queues → new.loops ≡ old.loops → Arranged old new
+abbrev pub arranging : (old new : Objects) → new.cooperator.tasks ≡ old.cooperator.tasks → new.cooperator.turns ≡ old.cooperator.turns → new.semaphores ≡ old.semaphores → new.queues ≡ old.queues → new.loops ≡ old.loops → Arranged old new
 arranging old new p q r s t = record { tasks = p; turns = q; locks = SameLocks new.semaphores r; queues = SameQueues new.queues s; loops = SameLoops new.loops t }
+
+-- no value is put into a queue or asked for, and nobody waits no longer for one, or such steps count, too
+abbrev pub AreCalm : Bool → (e : Entry) (old new : List Queue) → Queues e old new → Type 0
+AreCalm whole e old new (QueuesRest other a p) = Unit {0}
+AreCalm whole e old new (QueueMade name size backlog q) = Unit {0}
+AreCalm whole e old new (QueuePut k value p g m q) = whole ≡ true
+AreCalm whole e old new (QueueGot k d p g q) = whole ≡ true
+
+abbrev pub StayCalm : Bool → (old new : List Queue) → QueuesKept old new → Type 0
+StayCalm whole old new (SameQueues other p) = Unit {0}
+StayCalm whole old new (QueueForgets k d p g) = whole ≡ true

@@ -47,6 +47,7 @@ use Rattle.dv_objects.specs.Looping.{new_loop, next_due}
 use Rattle.dv_objects.specs.declared.looping_call.LoopingCall.{LoopingCall}
 use Rattle.dv_world.specs.declared.found.Found.{Found}
 use Rattle.dv_world.specs.declared.found.Found.TheVariants.{All, Unbound}
+use Rattle.dv_objects.specs.Refusals.{cancelled}
 use Rattle.dv_objects.specs.Pair.{Pair, callback, errback, both, chain, continuing, timing}
 use Rattle.dv_objects.specs.declared.pair.Side.{Side}
 use Rattle.dv_objects.specs.declared.pair.Side.TheVariants as side
@@ -64,7 +65,7 @@ use Rattle.dv_laws.specs.Tokens.{Unheld, holding_of}
 use Rattle.dv_objects.specs.Objects.{with_lock}
 use Rattle.dv_prims.specs.Tokens.{released}
 use Rattle.dv_laws.proofs.Beside as beside
-use Rattle.dv_laws.proofs.Beside.{Tasks, Locks, Queues, Loops, Beside, Arranged, resting, arranging}
+use Rattle.dv_laws.proofs.Beside.{Tasks, Locks, Queues, Loops, Beside, Arranged, AreCalm, StayCalm, resting, arranging}
 use Rattle.dv_laws.proofs.Clocks.{IsPlain, Clocks, Leaves, Adds, Runs, Cancels, Drops, Arranges, Stays, Loses}
 use Rattle.std.specs.Prelude.{min}
 use Rattle.dv_clock.specs.declared.limits.TheConstants.{MOST_DELAY}
@@ -118,18 +119,18 @@ turn_later : (x : LoopingCall) (c : Clock) → 1 ≤ x.interval → c.time ≤ n
 turn_later x c h = let next = next_is_first (min x.start c.time) x.interval c.time (omega arith) h in omega (arith, next.later)
 
 -- what is kept by the steps that fire, unpause and settle nothing, and add no pair
-pub record Quiet (R : World → World → Type 0) : Type 0 where
+pub record Quiet (whole : Bool) (R : World → World → Type 0) : Type 0 where
   pub stays : (w : World) → R w w
   pub joins : (u v w : World) → R u v → R v w → R u w
   pub by_make : (name : Option (List ℕ)) (canceller : Option Canceller) (w : World) → R w (make name canceller w)
   pub by_cancel : (d : ℕ) (w : World) → R w (cancel d w).1
   pub by_pause : (d : ℕ) (w : World) → R w (pause d w)
-  pub by_aside : (e : Entry) (change : Objects → Objects) (w : World) → change_of e ≡ Aside → (Regular w.objects.loops → Clocks e w.objects.clock (change w.objects).clock) → (Regular w.objects.loops → Regular (change w.objects).loops) → Beside e w.objects (change w.objects) → R w (aside e change w)
-  pub by_arrange : (change : Objects → Objects) (w : World) → Arranges w.objects.clock (change w.objects).clock → (Regular w.objects.loops → Regular (change w.objects).loops) → Arranged w.objects (change w.objects) → R w (arrange change w)
+  pub by_aside : (e : Entry) (change : Objects → Objects) (w : World) → change_of e ≡ Aside → (Regular w.objects.loops → Clocks e w.objects.clock (change w.objects).clock) → (Regular w.objects.loops → Regular (change w.objects).loops) → (b : Beside e w.objects (change w.objects)) → AreCalm whole e w.objects.queues (change w.objects).queues b.queues → R w (aside e change w)
+  pub by_arrange : (change : Objects → Objects) (w : World) → Arranges w.objects.clock (change w.objects).clock → (Regular w.objects.loops → Regular (change w.objects).loops) → (b : Arranged w.objects (change w.objects)) → StayCalm whole w.objects.queues (change w.objects).queues b.queues → R w (arrange change w)
   pub by_submit : (d : ℕ) (pool : Option (List ℕ)) (work : Work) (w : World) → R w (submit d pool work w)
 
-pub record Quietly (w u : World) : Type 1 where
-  pub keeps : (R : World → World → Type 0) → Quiet R → R w u
+pub record Quietly (whole : Bool) (w u : World) : Type 1 where
+  pub keeps : (R : World → World → Type 0) → Quiet whole R → R w u
 
 -- what was logged last is a cancel that reaches d, which has no canceller
 pub record WasCancelled (d : ℕ) (w : World) : Type 0 where
@@ -140,7 +141,7 @@ pub record WasCancelled (d : ℕ) (w : World) : Type 0 where
 
 -- and by the steps that add a pair, fire and unpause
 pub record Calm (R : World → World → Type 0) : Type 0 where
-  pub quiet : Quiet R
+  pub quiet : Quiet true R
   pub by_append : (d : ℕ) (pair : Pair) (w : World) → R w (append d pair w)
   pub by_fire : (d : ℕ) (value : Value) (w : World) → R w (fire d value w).1
   pub by_fire_guarded : (d : ℕ) (w : World) → WasCancelled d w → R w (fire_guarded d w)
@@ -174,266 +175,351 @@ pub record Mild (w : World) (t : Turned) : Type 1 where
   pub comes : Calmly w t.2
   pub free : AllPutNothing t.0
 
-same : (w : World) → Quietly w w
-same w = record { keeps = λ R l. l.stays w }
+module _ (whole : Bool) where
+  same : (w : World) → Quietly whole w w
+  same w = record { keeps = λ R l. l.stays w }
 
-join : (u v w : World) → Quietly u v → Quietly v w → Quietly u w
-join u v w a b = record { keeps = λ R l. l.joins u v w (a.keeps R l) (b.keeps R l) }
+  join : (u v w : World) → Quietly whole u v → Quietly whole v w → Quietly whole u w
+  join u v w a b = record { keeps = λ R l. l.joins u v w (a.keeps R l) (b.keeps R l) }
 
-by_aside : (e : Entry) (change : Objects → Objects) (w : World) → change_of e ≡ Aside → (Regular w.objects.loops → Clocks e w.objects.clock (change w.objects).clock) → (Regular w.objects.loops → Regular (change w.objects).loops) → Beside e w.objects (change w.objects) → Quietly w (aside e change w)
-by_aside e change w a c r t = record { keeps = λ R l. l.by_aside e change w a c r t }
+  by_aside : (e : Entry) (change : Objects → Objects) (w : World) → change_of e ≡ Aside → (Regular w.objects.loops → Clocks e w.objects.clock (change w.objects).clock) → (Regular w.objects.loops → Regular (change w.objects).loops) → (b : Beside e w.objects (change w.objects)) → AreCalm whole e w.objects.queues (change w.objects).queues b.queues → Quietly whole w (aside e change w)
+  by_aside e change w a c r t q = record { keeps = λ R l. l.by_aside e change w a c r t q }
 
-by_arrange : (change : Objects → Objects) (w : World) → Arranges w.objects.clock (change w.objects).clock → (Regular w.objects.loops → Regular (change w.objects).loops) → Arranged w.objects (change w.objects) → Quietly w (arrange change w)
-by_arrange change w s r t = record { keeps = λ R l. l.by_arrange change w s r t }
+  by_arrange : (change : Objects → Objects) (w : World) → Arranges w.objects.clock (change w.objects).clock → (Regular w.objects.loops → Regular (change w.objects).loops) → (b : Arranged w.objects (change w.objects)) → StayCalm whole w.objects.queues (change w.objects).queues b.queues → Quietly whole w (arrange change w)
+  by_arrange change w s r t q = record { keeps = λ R l. l.by_arrange change w s r t q }
 
-by_make : (name : Option (List ℕ)) (canceller : Option Canceller) (w : World) → Quietly w (make name canceller w)
-by_make name canceller w = record { keeps = λ R l. l.by_make name canceller w }
+  by_make : (name : Option (List ℕ)) (canceller : Option Canceller) (w : World) → Quietly whole w (make name canceller w)
+  by_make name canceller w = record { keeps = λ R l. l.by_make name canceller w }
 
-one_comes : (b : Bool) (w u v : World) → Quietly w u → Quietly w v → Quietly w (if b then u else v)
-one_comes true w u v c d = c
-one_comes false w u v c d = d
+  one_comes : (b : Bool) (w u v : World) → Quietly whole w u → Quietly whole w v → Quietly whole w (if b then u else v)
+  one_comes true w u v c d = c
+  one_comes false w u v c d = d
 
-first_comes : {A : Type 0} (b : Bool) (t u : A × World) (w : World) → Quietly w t.1 → Quietly w u.1 → Quietly w (if b then t else u).1
-first_comes true t u w c d = c
-first_comes false t u w c d = d
+  first_comes : {A : Type 0} (b : Bool) (t u : A × World) (w : World) → Quietly whole w t.1 → Quietly whole w u.1 → Quietly whole w (if b then t else u).1
+  first_comes true t u w c d = c
+  first_comes false t u w c d = d
 
-free_append : (fs gs : List Frame) → AllPutNothing fs → AllPutNothing gs → AllPutNothing (fs ++ gs)
-free_append [] gs h k = k
-free_append (f ∷ fs) gs h k = (h.0, free_append fs gs h.1 k)
+  free_append : (fs gs : List Frame) → AllPutNothing fs → AllPutNothing gs → AllPutNothing (fs ++ gs)
+  free_append [] gs h k = k
+  free_append (f ∷ fs) gs h k = (h.0, free_append fs gs h.1 k)
 
--- what is logged of a task alone, of a lock alone, of a queue alone, and of a loop alone
-task_beside : (e : Entry) (old : Objects) (new : Cooperator) → Tasks e old.cooperator new → holding_of e ≡ Unheld → queueing_of e ≡ Unqueued → looping_of e ≡ Unlooped → Beside e old (record old { cooperator = new })
-task_beside e old new t a b c = record { tasks = t; locks = beside.LocksRest _ a refl; queues = beside.QueuesRest _ b refl; loops = beside.LoopsRest _ c (beside.SameLoops _ refl) }
+  -- what is logged of a task alone, of a lock alone, of a queue alone, and of a loop alone
+  abbrev task_beside : (e : Entry) (old : Objects) (new : Cooperator) → Tasks e old.cooperator new → holding_of e ≡ Unheld → queueing_of e ≡ Unqueued → looping_of e ≡ Unlooped → Beside e old (record old { cooperator = new })
+  task_beside e old new t a b c = record { tasks = t; locks = beside.LocksRest _ a refl; queues = beside.QueuesRest _ b refl; loops = beside.LoopsRest _ c (beside.SameLoops _ refl) }
 
-lock_beside : (e : Entry) (old : Objects) (new : Objects) → Locks e old.semaphores new.semaphores → tasking_of e ≡ Untasked → queueing_of e ≡ Unqueued → looping_of e ≡ Unlooped → new.cooperator ≡ old.cooperator → new.queues ≡ old.queues → new.loops ≡ old.loops → Beside e old new
-lock_beside e old new t a b c p q r = record {
-  tasks = beside.TasksRest _ a (ap (λ (c : Cooperator). c.tasks) p) (ap (λ (c : Cooperator). c.turns) p);
-  locks = t;
-  queues = beside.QueuesRest _ b q;
-  loops = beside.LoopsRest _ c (beside.SameLoops _ r);
-}
+  abbrev lock_beside : (e : Entry) (old : Objects) (new : Objects) → Locks e old.semaphores new.semaphores → tasking_of e ≡ Untasked → queueing_of e ≡ Unqueued → looping_of e ≡ Unlooped → new.cooperator ≡ old.cooperator → new.queues ≡ old.queues → new.loops ≡ old.loops → Beside e old new
+  lock_beside e old new t a b c p q r = record {
+    tasks = beside.TasksRest _ a (ap (λ (c : Cooperator). c.tasks) p) (ap (λ (c : Cooperator). c.turns) p);
+    locks = t;
+    queues = beside.QueuesRest _ b q;
+    loops = beside.LoopsRest _ c (beside.SameLoops _ r);
+  }
 
-queue_beside : (e : Entry) (old : Objects) (new : Objects) → Queues e old.queues new.queues → tasking_of e ≡ Untasked → holding_of e ≡ Unheld → looping_of e ≡ Unlooped → new.cooperator ≡ old.cooperator → new.semaphores ≡ old.semaphores → new.loops ≡ old.loops → Beside e old new
-queue_beside e old new t a b c p q r = record {
-  tasks = beside.TasksRest _ a (ap (λ (c : Cooperator). c.tasks) p) (ap (λ (c : Cooperator). c.turns) p);
-  locks = beside.LocksRest _ b q;
-  queues = t;
-  loops = beside.LoopsRest _ c (beside.SameLoops _ r);
-}
+  abbrev queue_beside : (e : Entry) (old : Objects) (new : Objects) → Queues e old.queues new.queues → tasking_of e ≡ Untasked → holding_of e ≡ Unheld → looping_of e ≡ Unlooped → new.cooperator ≡ old.cooperator → new.semaphores ≡ old.semaphores → new.loops ≡ old.loops → Beside e old new
+  queue_beside e old new t a b c p q r = record {
+    tasks = beside.TasksRest _ a (ap (λ (c : Cooperator). c.tasks) p) (ap (λ (c : Cooperator). c.turns) p);
+    locks = beside.LocksRest _ b q;
+    queues = t;
+    loops = beside.LoopsRest _ c (beside.SameLoops _ r);
+  }
 
-loop_beside : (e : Entry) (old : Objects) (new : Objects) → Loops e old.clock old.loops new.loops → tasking_of e ≡ Untasked → holding_of e ≡ Unheld → queueing_of e ≡ Unqueued → new.cooperator ≡ old.cooperator → new.semaphores ≡ old.semaphores → new.queues ≡ old.queues → Beside e old new
-loop_beside e old new t a b c p q r = record {
-  tasks = beside.TasksRest _ a (ap (λ (c : Cooperator). c.tasks) p) (ap (λ (c : Cooperator). c.turns) p);
-  locks = beside.LocksRest _ b q;
-  queues = beside.QueuesRest _ c r;
-  loops = t;
-}
+  abbrev loop_beside : (e : Entry) (old : Objects) (new : Objects) → Loops e old.clock old.loops new.loops → tasking_of e ≡ Untasked → holding_of e ≡ Unheld → queueing_of e ≡ Unqueued → new.cooperator ≡ old.cooperator → new.semaphores ≡ old.semaphores → new.queues ≡ old.queues → Beside e old new
+  loop_beside e old new t a b c p q r = record {
+    tasks = beside.TasksRest _ a (ap (λ (c : Cooperator). c.tasks) p) (ap (λ (c : Cooperator). c.turns) p);
+    locks = beside.LocksRest _ b q;
+    queues = beside.QueuesRest _ c r;
+    loops = t;
+  }
 
-ask_comes : (l d : ℕ) (o : Option Semaphore) (w : World) → slice_get w.objects.semaphores l ≡ o → Quietly w (lock_told l (λ s. entry.Acquire s.name d) (asked d) o w)
-ask_comes l d None w h = same w
-ask_comes l d (Some s) w h = by_aside (entry.Acquire s.name d) _ w refl (λ k. Leaves (refl, refl, refl)) (λ k. k) (lock_beside _ _ _ (beside.LockAsked l d s h refl) refl refl refl refl refl refl)
+  ask_comes : (l d : ℕ) (o : Option Semaphore) (w : World) → slice_get w.objects.semaphores l ≡ o → Quietly whole w (lock_told l (λ s. entry.Acquire s.name d) (asked d) o w)
+  ask_comes l d None w h = same w
+  ask_comes l d (Some s) w h = by_aside (entry.Acquire s.name d) _ w refl (λ k. Leaves (refl, refl, refl)) (λ k. k) (lock_beside _ _ _ (beside.LockAsked l d s h refl) refl refl refl refl refl refl) tt
 
-released_comes : (b : Bool) (l : ℕ) (s : Semaphore) (w : World) → is_unheld s ≡ b → slice_get w.objects.semaphores l ≡ Some s → Quietly w (if b then w else aside (entry.Release s.name) (with_lock l (released s)) w)
-released_comes true l s w u h = same w
-released_comes false l s w u h = by_aside (entry.Release s.name) _ w refl (λ k. Leaves (refl, refl, refl)) (λ k. k) (lock_beside _ _ _ (beside.LockReleased l s h u refl) refl refl refl refl refl refl)
+  released_comes : (b : Bool) (l : ℕ) (s : Semaphore) (w : World) → is_unheld s ≡ b → slice_get w.objects.semaphores l ≡ Some s → Quietly whole w (if b then w else aside (entry.Release s.name) (with_lock l (released s)) w)
+  released_comes true l s w u h = same w
+  released_comes false l s w u h = by_aside (entry.Release s.name) _ w refl (λ k. Leaves (refl, refl, refl)) (λ k. k) (lock_beside _ _ _ (beside.LockReleased l s h u refl) refl refl refl refl refl refl) tt
 
-release_comes : (l : ℕ) (o : Option Semaphore) (w : World) → slice_get w.objects.semaphores l ≡ o → Quietly w (release_found l o w)
-release_comes l None w h = same w
-release_comes l (Some s) w h = released_comes _ l s w refl h
+  release_comes : (l : ℕ) (o : Option Semaphore) (w : World) → slice_get w.objects.semaphores l ≡ o → Quietly whole w (release_found l o w)
+  release_comes l None w h = same w
+  release_comes l (Some s) w h = released_comes _ l s w refl h
 
-lock_same : (l : ℕ) (change : Semaphore → Semaphore) (o : Option Semaphore) (objects : Objects) → Arranges objects.clock (lock_changed l change o objects).clock
-lock_same l change None objects = Stays
-lock_same l change (Some s) objects = Stays
+  lock_same : (l : ℕ) (change : Semaphore → Semaphore) (o : Option Semaphore) (objects : Objects) → Arranges objects.clock (lock_changed l change o objects).clock
+  lock_same l change None objects = Stays
+  lock_same l change (Some s) objects = Stays
 
-lock_loops : (l : ℕ) (change : Semaphore → Semaphore) (o : Option Semaphore) (objects : Objects) → Regular objects.loops → Regular (lock_changed l change o objects).loops
-lock_loops l change None objects k = k
-lock_loops l change (Some s) objects k = k
+  lock_loops : (l : ℕ) (change : Semaphore → Semaphore) (o : Option Semaphore) (objects : Objects) → Regular objects.loops → Regular (lock_changed l change o objects).loops
+  lock_loops l change None objects k = k
+  lock_loops l change (Some s) objects k = k
 
-lock_arranged : (l d : ℕ) (o : Option Semaphore) (objects : Objects) → slice_get objects.semaphores l ≡ o → Arranged objects (lock_changed l (forgotten d) o objects)
-lock_arranged l d None objects h = arranging _ _ refl refl refl refl refl
-lock_arranged l d (Some s) objects h = record { tasks = refl; turns = refl; locks = beside.LockForgets l d s h; queues = beside.SameQueues _ refl; loops = beside.SameLoops _ refl }
+  abbrev lock_arranged : (l d : ℕ) (o : Option Semaphore) (objects : Objects) → slice_get objects.semaphores l ≡ o → Arranged objects (lock_changed l (forgotten d) o objects)
+  lock_arranged l d None objects h = arranging _ _ refl refl refl refl refl
+  lock_arranged l d (Some s) objects h = record { tasks = refl; turns = refl; locks = beside.LockForgets l d s h; queues = beside.SameQueues _ refl; loops = beside.SameLoops _ refl }
 
-forget_comes : (l d : ℕ) (w : World) → Quietly w (forget l d w)
-forget_comes l d w = by_arrange _ w (lock_same l (forgotten d) (slice_get w.objects.semaphores l) w.objects) (lock_loops l (forgotten d) (slice_get w.objects.semaphores l) w.objects) (lock_arranged l d _ w.objects refl)
+  lock_calm : (l d : ℕ) (o : Option Semaphore) (objects : Objects) (h : slice_get objects.semaphores l ≡ o) → StayCalm whole objects.queues (lock_changed l (forgotten d) o objects).queues (lock_arranged l d o objects h).queues
+  lock_calm l d None objects h = tt
+  lock_calm l d (Some s) objects h = tt
 
-came_comes : (l i : ℕ) (v : Value) (o : Option Gather) (w : World) → Quietly w (came_to_found l i v o w).1
-came_comes l i v None w = same w
-came_comes l i v (Some g) w = by_arrange (with_list l (came i v g).1) w Stays (λ k. k) (arranging _ _ refl refl refl refl refl)
+  forget_comes : (l d : ℕ) (w : World) → Quietly whole w (forget l d w)
+  forget_comes l d w = by_arrange _ w (lock_same l (forgotten d) (slice_get w.objects.semaphores l) w.objects) (lock_loops l (forgotten d) (slice_get w.objects.semaphores l) w.objects) (lock_arranged l d (slice_get w.objects.semaphores l) w.objects refl) (lock_calm l d (slice_get w.objects.semaphores l) w.objects refl)
 
-came_to_comes : (l i : ℕ) (v : Value) (w : World) → Quietly w (came_to l i v w).1
-unfolding came_to
-came_to_comes l i v w = first_comes w.stopped _ (came_to_found l i v (slice_get w.objects.lists l) w) w (same w) (came_comes l i v (slice_get w.objects.lists l) w)
+  came_comes : (l i : ℕ) (v : Value) (o : Option Gather) (w : World) → Quietly whole w (came_to_found l i v o w).1
+  came_comes l i v None w = same w
+  came_comes l i v (Some g) w = by_arrange (with_list l (came i v g).1) w Stays (λ k. k) (arranging _ _ refl refl refl refl refl) tt
 
-scheduled_comes : (l : ℕ) (o : Option LoopingCall) (w : World) → slice_get w.objects.loops l ≡ o → Quietly w (turn_scheduled l o w)
-scheduled_comes l None w h = same w
-scheduled_comes l (Some x) w h = by_aside (entry.LaterLoop x.name (next_due x w.objects.clock)) (with_turn l x) w refl (λ k. Adds (what.Turn x.name l) (next_due x w.objects.clock) refl (turn_later x w.objects.clock (k.each l x h))) (λ k. regular_set l x _ w.objects.loops h refl k) (loop_beside _ _ _ (beside.LoopTurns l x _ h refl refl refl refl) refl refl refl refl refl refl)
+  came_to_comes : (l i : ℕ) (v : Value) (w : World) → Quietly whole w (came_to l i v w).1
+  unfolding came_to
+  came_to_comes l i v w = first_comes w.stopped _ (came_to_found l i v (slice_get w.objects.lists l) w) w (same w) (came_comes l i v (slice_get w.objects.lists l) w)
 
-dropped_same : (e : Entry) (o : Option ℕ) (c : Clock) → IsPlain e → Clocks e c (turn_dropped o c)
-dropped_same e None c p = Leaves p
-dropped_same e (Some number) c p = Drops number p
+  scheduled_comes : (l : ℕ) (o : Option LoopingCall) (w : World) → slice_get w.objects.loops l ≡ o → Quietly whole w (turn_scheduled l o w)
+  scheduled_comes l None w h = same w
+  scheduled_comes l (Some x) w h = by_aside (entry.LaterLoop x.name (next_due x w.objects.clock)) (with_turn l x) w refl (λ k. Adds (what.Turn x.name l) (next_due x w.objects.clock) refl (turn_later x w.objects.clock (k.each l x h))) (λ k. regular_set l x _ w.objects.loops h refl k) (loop_beside _ _ _ (beside.LoopTurns l x _ h refl refl refl refl) refl refl refl refl refl refl) tt
 
-loop_stopped_comes : (l : ℕ) (o : Option LoopingCall) (w : World) → slice_get w.objects.loops l ≡ o → Quietly w (loop_stopped l o w)
-loop_stopped_comes l None w h = same w
-loop_stopped_comes l (Some x) w h = by_aside (entry.Stop x.name) (with_stopped l x) w refl (λ k. dropped_same (entry.Stop x.name) x.turn w.objects.clock (refl, refl, refl)) (λ k. regular_set l x _ w.objects.loops h refl k) (loop_beside _ _ _ (beside.LoopsRest _ refl (beside.LoopSet l x _ h refl refl refl)) refl refl refl refl refl refl)
+  dropped_same : (e : Entry) (o : Option ℕ) (c : Clock) → IsPlain e → Clocks e c (turn_dropped o c)
+  dropped_same e None c p = Leaves p
+  dropped_same e (Some number) c p = Drops number p
 
-ended_same : (l : ℕ) (o : Option LoopingCall) (objects : Objects) → Arranges objects.clock (with_ended l o objects).clock
-ended_same l None objects = Stays
-ended_same l (Some x) objects = Stays
+  loop_stopped_comes : (l : ℕ) (o : Option LoopingCall) (w : World) → slice_get w.objects.loops l ≡ o → Quietly whole w (loop_stopped l o w)
+  loop_stopped_comes l None w h = same w
+  loop_stopped_comes l (Some x) w h = by_aside (entry.Stop x.name) (with_stopped l x) w refl (λ k. dropped_same (entry.Stop x.name) x.turn w.objects.clock (refl, refl, refl)) (λ k. regular_set l x _ w.objects.loops h refl k) (loop_beside _ _ _ (beside.LoopsRest _ refl (beside.LoopSet l x _ h refl refl refl)) refl refl refl refl refl refl) tt
 
-ended_loops : (l : ℕ) (o : Option LoopingCall) (objects : Objects) → slice_get objects.loops l ≡ o → Regular objects.loops → Regular (with_ended l o objects).loops
-ended_loops l None objects h k = k
-ended_loops l (Some x) objects h k = regular_set l x _ objects.loops h refl k
+  ended_same : (l : ℕ) (o : Option LoopingCall) (objects : Objects) → Arranges objects.clock (with_ended l o objects).clock
+  ended_same l None objects = Stays
+  ended_same l (Some x) objects = Stays
 
-loop_arranged : (l : ℕ) (o : Option LoopingCall) (objects : Objects) → slice_get objects.loops l ≡ o → Arranged objects (with_ended l o objects)
-loop_arranged l None objects h = arranging _ _ refl refl refl refl refl
-loop_arranged l (Some x) objects h = record { tasks = refl; turns = refl; locks = beside.SameLocks _ refl; queues = beside.SameQueues _ refl; loops = beside.LoopSet l x _ h refl refl refl }
+  ended_loops : (l : ℕ) (o : Option LoopingCall) (objects : Objects) → slice_get objects.loops l ≡ o → Regular objects.loops → Regular (with_ended l o objects).loops
+  ended_loops l None objects h k = k
+  ended_loops l (Some x) objects h k = regular_set l x _ objects.loops h refl k
 
-end_loop_comes : (l : ℕ) (w : World) → Quietly w (end_loop l w)
-end_loop_comes l w = by_arrange _ w (ended_same l (slice_get w.objects.loops l) w.objects) (ended_loops l (slice_get w.objects.loops l) w.objects refl) (loop_arranged l (slice_get w.objects.loops l) w.objects refl)
+  abbrev loop_arranged : (l : ℕ) (o : Option LoopingCall) (objects : Objects) → slice_get objects.loops l ≡ o → Arranged objects (with_ended l o objects)
+  loop_arranged l None objects h = arranging _ _ refl refl refl refl refl
+  loop_arranged l (Some x) objects h = record { tasks = refl; turns = refl; locks = beside.SameLocks _ refl; queues = beside.SameQueues _ refl; loops = beside.LoopSet l x _ h refl refl refl }
 
-told_task_comes : (e : Task → Entry) (change : Task → Cooperator → Cooperator) (o : Option Task) (w : World) → ((x : Task) → change_of (e x) ≡ Aside) → ((x : Task) → IsPlain (e x)) → ((x : Task) → o ≡ Some x → Beside (e x) w.objects (cooperating (change x) w.objects)) → Quietly w (task_told e change o w)
-told_task_comes e change None w a t k = same w
-told_task_comes e change (Some x) w a t k = by_aside (e x) (cooperating (change x)) w (a x) (λ r. Leaves (t x)) (λ r. r) (k x refl)
+  loop_calm : (l : ℕ) (o : Option LoopingCall) (objects : Objects) (h : slice_get objects.loops l ≡ o) → StayCalm whole objects.queues (with_ended l o objects).queues (loop_arranged l o objects h).queues
+  loop_calm l None objects h = tt
+  loop_calm l (Some x) objects h = tt
 
-dropped_comes : (o : Option ℕ) (w : World) → Quietly w (tick_dropped o w)
-dropped_comes None w = same w
-dropped_comes (Some number) w = by_arrange (without_tick number) w (Loses number) (λ k. k) (arranging _ _ refl refl refl refl refl)
+  end_loop_comes : (l : ℕ) (w : World) → Quietly whole w (end_loop l w)
+  end_loop_comes l w = by_arrange _ w (ended_same l (slice_get w.objects.loops l) w.objects) (ended_loops l (slice_get w.objects.loops l) w.objects refl) (loop_arranged l (slice_get w.objects.loops l) w.objects refl) (loop_calm l (slice_get w.objects.loops l) w.objects refl)
 
-later_comes : (w : World) → Quietly w (schedule_tick w)
-later_comes w = by_aside (entry.LaterTick (w.objects.clock.time + w.objects.cooperator.delay)) (with_tick (w.objects.clock.time + w.objects.cooperator.delay)) w refl (λ k. Adds what.Tick _ refl (omega arith)) (λ k. k) (resting _ _ _ refl refl refl refl refl refl refl refl refl)
+  told_task_comes : (e : Task → Entry) (change : Task → Cooperator → Cooperator) (o : Option Task) (w : World) → ((x : Task) → change_of (e x) ≡ Aside) → ((x : Task) → IsPlain (e x)) → (k : (x : Task) → o ≡ Some x → Beside (e x) w.objects (cooperating (change x) w.objects))
+      → ((x : Task) (g : o ≡ Some x) → AreCalm whole (e x) w.objects.queues w.objects.queues (k x g).queues) → Quietly whole w (task_told e change o w)
+  told_task_comes e change None w a t k q = same w
+  told_task_comes e change (Some x) w a t k q = by_aside (e x) (cooperating (change x)) w (a x) (λ r. Leaves (t x)) (λ r. r) (k x refl) (q x refl)
 
-keep_comes : (w u : World) → Quietly w u → Quietly w (keep_tick u)
-keep_comes w u c = join w u _ c (one_comes (wants_tick u.objects.cooperator) u _ _ (later_comes u) (dropped_comes (idle_tick u.objects.cooperator) u))
+  dropped_comes : (o : Option ℕ) (w : World) → Quietly whole w (tick_dropped o w)
+  dropped_comes None w = same w
+  dropped_comes (Some number) w = by_arrange (without_tick number) w (Loses number) (λ k. k) (arranging _ _ refl refl refl refl refl) tt
 
-unended_by : (o : Option TaskEnd) (x y : Task) → y.end ≡ o → (if is_some o then None else Some y) ≡ Some x → (y ≡ x) × (x.end ≡ None)
-unended_by (Some end) x y e q = absurd cc
-unended_by None x y e q = let same : y ≡ x = cc in (same, ap (λ (z : Task). z.end) (sym same) ∙ e)
+  later_comes : (w : World) → Quietly whole w (schedule_tick w)
+  later_comes w = by_aside (entry.LaterTick (w.objects.clock.time + w.objects.cooperator.delay)) (with_tick (w.objects.clock.time + w.objects.cooperator.delay)) w refl (λ k. Adds what.Tick _ refl (omega arith)) (λ k. k) (resting _ _ _ refl refl refl refl refl refl refl refl refl) tt
 
-unended_is : (o : Option Task) (x : Task) → unended o ≡ Some x → (o ≡ Some x) × (x.end ≡ None)
-unended_is None x q = absurd cc
-unended_is (Some y) x q = let found = unended_by y.end x y refl q in (ap Some found.0, found.1)
+  keep_comes : (w u : World) → Quietly whole w u → Quietly whole w (keep_tick u)
+  keep_comes w u c = join w u _ c (one_comes (wants_tick u.objects.cooperator) u _ _ (later_comes u) (dropped_comes (idle_tick u.objects.cooperator) u))
 
-task_ended_comes : (t : ℕ) (end : TaskEnd) (o : Option Task) (w : World) → unended (slice_get w.objects.cooperator.tasks t) ≡ o → Quietly w (task_ended t end o w).1
-task_ended_comes t end None w h = same w
-task_ended_comes t end (Some x) w h =
-    let found = unended_is (slice_get w.objects.cooperator.tasks t) x h in
-    by_aside (entry.End x.name (result_of x.name end)) _ w refl (λ k. Leaves (refl, refl, refl)) (λ k. k) (task_beside _ _ _ (beside.TaskEnds t end x found.0 found.1 refl) refl refl refl)
+  unended_by : (o : Option TaskEnd) (x y : Task) → y.end ≡ o → (if is_some o then None else Some y) ≡ Some x → (y ≡ x) × (x.end ≡ None)
+  unended_by (Some end) x y e q = absurd cc
+  unended_by None x y e q = let same : y ≡ x = cc in (same, ap (λ (z : Task). z.end) (sym same) ∙ e)
 
-inlining_comes : (i : ℕ) (v : Value) (w : World) → Quietly w (come_to_inline i v w).1
-unfolding come_to_inline
-inlining_comes i v w = let t = come_to i v w.objects.inlines in first_comes w.stopped (None, w) (t.0, arrange (inlining (λ inlines. t.1)) w) w (same w) (by_arrange _ w Stays (λ k. k) (arranging _ _ refl refl refl refl refl))
+  unended_is : (o : Option Task) (x : Task) → unended o ≡ Some x → (o ≡ Some x) × (x.end ≡ None)
+  unended_is None x q = absurd cc
+  unended_is (Some y) x q = let found = unended_by y.end x y refl q in (ap Some found.0, found.1)
 
-end_await_comes : (i e : ℕ) (p : Position) (w : World) → Quietly w (end_await i e p w).1
-unfolding end_await
-end_await_comes i e p w = let t = end_adding i e p w.objects.inlines in first_comes w.stopped (None, w) (t.0, arrange (inlining (λ inlines. t.1)) w) w (same w) (by_arrange _ w Stays (λ k. k) (arranging _ _ refl refl refl refl refl))
+  task_ended_comes : (t : ℕ) (end : TaskEnd) (o : Option Task) (w : World) → unended (slice_get w.objects.cooperator.tasks t) ≡ o → Quietly whole w (task_ended t end o w).1
+  task_ended_comes t end None w h = same w
+  task_ended_comes t end (Some x) w h =
+      let found = unended_is (slice_get w.objects.cooperator.tasks t) x h in
+      by_aside (entry.End x.name (result_of x.name end)) _ w refl (λ k. Leaves (refl, refl, refl)) (λ k. k) (task_beside _ _ _ (beside.TaskEnds t end x found.0 found.1 refl) refl refl refl) tt
 
-queue_same : (k : ℕ) (change : Queue → Queue) (o : Option Queue) (objects : Objects) → Arranges objects.clock (queue_changed k change o objects).clock
-queue_same k change None objects = Stays
-queue_same k change (Some q) objects = Stays
+  inlining_comes : (i : ℕ) (v : Value) (w : World) → Quietly whole w (come_to_inline i v w).1
+  unfolding come_to_inline
+  inlining_comes i v w = let t = come_to i v w.objects.inlines in first_comes w.stopped (None, w) (t.0, arrange (inlining (λ inlines. t.1)) w) w (same w) (by_arrange _ w Stays (λ k. k) (arranging _ _ refl refl refl refl refl) tt)
 
-queue_loops : (k : ℕ) (change : Queue → Queue) (o : Option Queue) (objects : Objects) → Regular objects.loops → Regular (queue_changed k change o objects).loops
-queue_loops k change None objects r = r
-queue_loops k change (Some q) objects r = r
+  end_await_comes : (i e : ℕ) (p : Position) (w : World) → Quietly whole w (end_await i e p w).1
+  unfolding end_await
+  end_await_comes i e p w = let t = end_adding i e p w.objects.inlines in first_comes w.stopped (None, w) (t.0, arrange (inlining (λ inlines. t.1)) w) w (same w) (by_arrange _ w Stays (λ k. k) (arranging _ _ refl refl refl refl refl) tt)
 
-queue_arranged : (k d : ℕ) (o : Option Queue) (objects : Objects) → slice_get objects.queues k ≡ o → Arranged objects (queue_changed k (withdrawn d) o objects)
-queue_arranged k d None objects h = arranging _ _ refl refl refl refl refl
-queue_arranged k d (Some q) objects h = record { tasks = refl; turns = refl; locks = beside.SameLocks _ refl; queues = beside.QueueForgets k d q h; loops = beside.SameLoops _ refl }
+  queue_same : (k : ℕ) (change : Queue → Queue) (o : Option Queue) (objects : Objects) → Arranges objects.clock (queue_changed k change o objects).clock
+  queue_same k change None objects = Stays
+  queue_same k change (Some q) objects = Stays
 
-withdraw_comes : (k d : ℕ) (w : World) → Quietly w (withdraw k d w)
-withdraw_comes k d w = by_arrange _ w (queue_same k (withdrawn d) (slice_get w.objects.queues k) w.objects) (queue_loops k (withdrawn d) (slice_get w.objects.queues k) w.objects) (queue_arranged k d _ w.objects refl)
+  queue_loops : (k : ℕ) (change : Queue → Queue) (o : Option Queue) (objects : Objects) → Regular objects.loops → Regular (queue_changed k change o objects).loops
+  queue_loops k change None objects r = r
+  queue_loops k change (Some q) objects r = r
 
-putting_comes : (b : Bool) (k : ℕ) (value : Value) (q : Queue) (w : World) → may_put q ≡ b → slice_get w.objects.queues k ≡ Some q
-    → Quietly w (if b then unless_stopped (receiver q.waiting value) (aside (entry.Put q.name value) (with_queue k (put_to q.waiting value q)) w) else (None, w)).1
-putting_comes true k value q w m h = by_aside (entry.Put q.name value) _ w refl (λ k. Leaves (refl, refl, refl)) (λ k. k) (queue_beside _ _ _ (beside.QueuePut k value q h m refl) refl refl refl refl refl refl)
-putting_comes false k value q w m h = same w
+  abbrev queue_arranged : (k d : ℕ) (o : Option Queue) (objects : Objects) → slice_get objects.queues k ≡ o → Arranged objects (queue_changed k (withdrawn d) o objects)
+  queue_arranged k d None objects h = arranging _ _ refl refl refl refl refl
+  queue_arranged k d (Some q) objects h = record { tasks = refl; turns = refl; locks = beside.SameLocks _ refl; queues = beside.QueueForgets k d q h; loops = beside.SameLoops _ refl }
 
-put_comes : (k : ℕ) (value : Value) (o : Option Queue) (w : World) → slice_get w.objects.queues k ≡ o → Quietly w (put_into_found k value o w).1
-put_comes k value None w h = same w
-put_comes k value (Some q) w h = putting_comes _ k value q w refl h
+  queue_calm : (k d : ℕ) (o : Option Queue) (objects : Objects) (h : slice_get objects.queues k ≡ o) → whole ≡ true → StayCalm whole objects.queues (queue_changed k (withdrawn d) o objects).queues (queue_arranged k d o objects h).queues
+  queue_calm k d None objects h z = tt
+  queue_calm k d (Some q) objects h z = z
 
-get_comes : (k d : ℕ) (o : Option Queue) (w : World) → slice_get w.objects.queues k ≡ o → Quietly w (get_from_found k d o w).1
-get_comes k d None w h = same w
-get_comes k d (Some q) w h = by_aside (entry.Get q.name d) _ w refl (λ k. Leaves (refl, refl, refl)) (λ k. k) (queue_beside _ _ _ (beside.QueueGot k d q h refl) refl refl refl refl refl refl)
+  withdraw_comes : (k d : ℕ) (w : World) → whole ≡ true → Quietly whole w (withdraw k d w)
+  withdraw_comes k d w z = by_arrange _ w (queue_same k (withdrawn d) (slice_get w.objects.queues k) w.objects) (queue_loops k (withdrawn d) (slice_get w.objects.queues k) w.objects) (queue_arranged k d (slice_get w.objects.queues k) w.objects refl) (queue_calm k d (slice_get w.objects.queues k) w.objects refl z)
 
-waiting_comes : (number at : ℕ) (due : Due) (w : World) → slice_get w.objects.clock.calls number ≡ Some (record { due = at; state = call_state.Waiting due }) → Quietly w (waiting_cancelled number due w)
-waiting_comes number at (what.Call name key) w h = by_aside (entry.Uncall name) (with_ended_call number call_state.Cancelled) w refl (λ k. Cancels number at name key h refl) (λ k. k) (resting _ _ _ refl refl refl refl refl refl refl refl refl)
-waiting_comes number at (what.Turn name key) w h = same w
-waiting_comes number at what.Tick w h = same w
-waiting_comes number at (what.Delivery job key) w h = same w
-waiting_comes number at (what.Timeout d) w h = same w
+  putting_comes : (b : Bool) (k : ℕ) (value : Value) (q : Queue) (w : World) → may_put q ≡ b → slice_get w.objects.queues k ≡ Some q → whole ≡ true
+      → Quietly whole w (if b then unless_stopped (receiver q.waiting value) (aside (entry.Put q.name value) (with_queue k (put_to q.waiting value q)) w) else (None, w)).1
+  putting_comes true k value q w m h z = by_aside (entry.Put q.name value) _ w refl (λ k. Leaves (refl, refl, refl)) (λ k. k) (queue_beside _ _ _ (beside.QueuePut k value q h m refl) refl refl refl refl refl refl) z
+  putting_comes false k value q w m h z = same w
 
-state_comes : (number at : ℕ) (state : CallState) (w : World) → slice_get w.objects.clock.calls number ≡ Some (record { due = at; state = state }) → Quietly w (state_cancelled number state w).1
-state_comes number at (call_state.Waiting due) w h = waiting_comes number at due w h
-state_comes number at call_state.Called w h = same w
-state_comes number at call_state.Cancelled w h = same w
-state_comes number at call_state.Dropped w h = same w
+  put_comes : (k : ℕ) (value : Value) (o : Option Queue) (w : World) → slice_get w.objects.queues k ≡ o → whole ≡ true → Quietly whole w (put_into_found k value o w).1
+  put_comes k value None w h z = same w
+  put_comes k value (Some q) w h z = putting_comes _ k value q w refl h z
 
-call_comes : (number : ℕ) (o : Option Call) (w : World) → slice_get w.objects.clock.calls number ≡ o → Quietly w (call_cancelled number o w).1
-call_comes number None w h = same w
-call_comes number (Some call) w h = state_comes number call.due call.state w h
+  get_comes : (k d : ℕ) (o : Option Queue) (w : World) → slice_get w.objects.queues k ≡ o → whole ≡ true → Quietly whole w (get_from_found k d o w).1
+  get_comes k d None w h z = same w
+  get_comes k d (Some q) w h z = by_aside (entry.Get q.name d) _ w refl (λ k. Leaves (refl, refl, refl)) (λ k. k) (queue_beside _ _ _ (beside.QueueGot k d q h refl) refl refl refl refl refl refl) z
 
-off_comes : (number : ℕ) (w : World) → Quietly w (cancel_call number w).1
-unfolding cancel_call
-off_comes number w = first_comes w.stopped _ (call_cancelled number (slice_get w.objects.clock.calls number) w) w (same w) (call_comes number (slice_get w.objects.clock.calls number) w refl)
+  waiting_comes : (number at : ℕ) (due : Due) (w : World) → slice_get w.objects.clock.calls number ≡ Some (record { due = at; state = call_state.Waiting due }) → Quietly whole w (waiting_cancelled number due w)
+  waiting_comes number at (what.Call name key) w h = by_aside (entry.Uncall name) (with_ended_call number call_state.Cancelled) w refl (λ k. Cancels number at name key h refl) (λ k. k) (resting _ _ _ refl refl refl refl refl refl refl refl refl) tt
+  waiting_comes number at (what.Turn name key) w h = same w
+  waiting_comes number at what.Tick w h = same w
+  waiting_comes number at (what.Delivery job key) w h = same w
+  waiting_comes number at (what.Timeout d) w h = same w
 
-call_later_comes : (name : List ℕ) (delay : ℕ) (body : body_of.Body) (w : World) → Quietly w (call_later name delay body w)
-call_later_comes name delay body w = let due = w.objects.clock.time + min delay MOST_DELAY in by_aside (entry.LaterCall name due) (with_new_call name due body) w refl (λ k. Adds (what.Call name (length w.objects.bodies)) due refl (omega arith)) (λ k. k) (resting _ _ _ refl refl refl refl refl refl refl refl refl)
+  state_comes : (number at : ℕ) (state : CallState) (w : World) → slice_get w.objects.clock.calls number ≡ Some (record { due = at; state = state }) → Quietly whole w (state_cancelled number state w).1
+  state_comes number at (call_state.Waiting due) w h = waiting_comes number at due w h
+  state_comes number at call_state.Called w h = same w
+  state_comes number at call_state.Cancelled w h = same w
+  state_comes number at call_state.Dropped w h = same w
 
-timer_comes : (d delay : ℕ) (w : World) → Quietly w (start_timer d delay w)
-timer_comes d delay w = let due = w.objects.clock.time + min delay MOST_DELAY in by_aside (entry.LaterTimeout d due) (with_timer d due) w refl (λ k. Adds (what.Timeout d) due refl (omega arith)) (λ k. k) (resting _ _ _ refl refl refl refl refl refl refl refl refl)
+  call_comes : (number : ℕ) (o : Option Call) (w : World) → slice_get w.objects.clock.calls number ≡ o → Quietly whole w (call_cancelled number o w).1
+  call_comes number None w h = same w
+  call_comes number (Some call) w h = state_comes number call.due call.state w h
 
-delivery_comes : (job d delay : ℕ) (w : World) → Quietly w (deliver_later job d delay w)
-delivery_comes job d delay w = let due = w.objects.clock.time + min delay MOST_DELAY in by_aside (entry.LaterJob job due) (with_delivery job d due) w refl (λ k. Adds (what.Delivery job d) due refl (omega arith)) (λ k. k) (resting _ _ _ refl refl refl refl refl refl refl refl refl)
+  off_comes : (number : ℕ) (w : World) → Quietly whole w (cancel_call number w).1
+  unfolding cancel_call
+  off_comes number w = first_comes w.stopped _ (call_cancelled number (slice_get w.objects.clock.calls number) w) w (same w) (call_comes number (slice_get w.objects.clock.calls number) w refl)
 
-due_aside : (due : Due) → change_of (coming_due due) ≡ Aside
-due_aside (what.Call name key) = refl
-due_aside (what.Turn name key) = refl
-due_aside what.Tick = refl
-due_aside (what.Delivery job key) = refl
-due_aside (what.Timeout d) = refl
+  call_later_comes : (name : List ℕ) (delay : ℕ) (body : body_of.Body) (w : World) → Quietly whole w (call_later name delay body w)
+  call_later_comes name delay body w = let due = w.objects.clock.time + min delay MOST_DELAY in by_aside (entry.LaterCall name due) (with_new_call name due body) w refl (λ k. Adds (what.Call name (length w.objects.bodies)) due refl (omega arith)) (λ k. k) (resting _ _ _ refl refl refl refl refl refl refl refl refl) tt
 
-due_untasked : (due : Due) → tasking_of (coming_due due) ≡ Untasked
-due_untasked (what.Call name key) = refl
-due_untasked (what.Turn name key) = refl
-due_untasked what.Tick = refl
-due_untasked (what.Delivery job key) = refl
-due_untasked (what.Timeout d) = refl
+  timer_comes : (d delay : ℕ) (w : World) → Quietly whole w (start_timer d delay w)
+  timer_comes d delay w = let due = w.objects.clock.time + min delay MOST_DELAY in by_aside (entry.LaterTimeout d due) (with_timer d due) w refl (λ k. Adds (what.Timeout d) due refl (omega arith)) (λ k. k) (resting _ _ _ refl refl refl refl refl refl refl refl refl) tt
 
-due_unheld : (due : Due) → holding_of (coming_due due) ≡ Unheld
-due_unheld (what.Call name key) = refl
-due_unheld (what.Turn name key) = refl
-due_unheld what.Tick = refl
-due_unheld (what.Delivery job key) = refl
-due_unheld (what.Timeout d) = refl
+  delivery_comes : (job d delay : ℕ) (w : World) → Quietly whole w (deliver_later job d delay w)
+  delivery_comes job d delay w = let due = w.objects.clock.time + min delay MOST_DELAY in by_aside (entry.LaterJob job due) (with_delivery job d due) w refl (λ k. Adds (what.Delivery job d) due refl (omega arith)) (λ k. k) (resting _ _ _ refl refl refl refl refl refl refl refl refl) tt
 
-due_unqueued : (due : Due) → queueing_of (coming_due due) ≡ Unqueued
-due_unqueued (what.Call name key) = refl
-due_unqueued (what.Turn name key) = refl
-due_unqueued what.Tick = refl
-due_unqueued (what.Delivery job key) = refl
-due_unqueued (what.Timeout d) = refl
+  due_aside : (due : Due) → change_of (coming_due due) ≡ Aside
+  due_aside (what.Call name key) = refl
+  due_aside (what.Turn name key) = refl
+  due_aside what.Tick = refl
+  due_aside (what.Delivery job key) = refl
+  due_aside (what.Timeout d) = refl
 
-due_unlooped : (due : Due) → looping_of (coming_due due) ≡ Unlooped
-due_unlooped (what.Call name key) = refl
-due_unlooped (what.Turn name key) = refl
-due_unlooped what.Tick = refl
-due_unlooped (what.Delivery job key) = refl
-due_unlooped (what.Timeout d) = refl
+  due_untasked : (due : Due) → tasking_of (coming_due due) ≡ Untasked
+  due_untasked (what.Call name key) = refl
+  due_untasked (what.Turn name key) = refl
+  due_untasked what.Tick = refl
+  due_untasked (what.Delivery job key) = refl
+  due_untasked (what.Timeout d) = refl
 
-upcoming_comes : (o : Option Upcoming) (w : World) → next_call w.objects.clock ≡ o → Quietly w (come_due_found o w).1
-upcoming_comes None w h = same w
-upcoming_comes (Some call) w h = by_aside (coming_due call.what) (with_ended_call call.number call_state.Called) w (due_aside call.what) (λ k. Runs call h refl) (λ k. k) (resting _ _ _ (due_untasked call.what) (due_unheld call.what) (due_unqueued call.what) (due_unlooped call.what) refl refl refl refl refl)
+  due_unheld : (due : Due) → holding_of (coming_due due) ≡ Unheld
+  due_unheld (what.Call name key) = refl
+  due_unheld (what.Turn name key) = refl
+  due_unheld what.Tick = refl
+  due_unheld (what.Delivery job key) = refl
+  due_unheld (what.Timeout d) = refl
 
--- 1. Steps: all but those by which a Deferred is settled and time goes on.
+  due_unqueued : (due : Due) → queueing_of (coming_due due) ≡ Unqueued
+  due_unqueued (what.Call name key) = refl
+  due_unqueued (what.Turn name key) = refl
+  due_unqueued what.Tick = refl
+  due_unqueued (what.Delivery job key) = refl
+  due_unqueued (what.Timeout d) = refl
 
--- a Deferred to which a pair is added is settled at once, and so is one that is fired since it was cancelled, directly after the cancel
-abbrev pub IsQuiet : steps.Step → Type 0
-IsQuiet (steps.Put d v) = ⊥
-IsQuiet (steps.PutDeferred d e) = ⊥
-IsQuiet (steps.Advance ticks) = ⊥
-IsQuiet (steps.Append d pair) = ⊥
-IsQuiet (steps.FireGuarded d) = ⊥
-IsQuiet step = Unit {0}
+  due_unlooped : (due : Due) → looping_of (coming_due due) ≡ Unlooped
+  due_unlooped (what.Call name key) = refl
+  due_unlooped (what.Turn name key) = refl
+  due_unlooped what.Tick = refl
+  due_unlooped (what.Delivery job key) = refl
+  due_unlooped (what.Timeout d) = refl
+
+  upcoming_comes : (o : Option Upcoming) (w : World) → next_call w.objects.clock ≡ o → Quietly whole w (come_due_found o w).1
+  upcoming_comes None w h = same w
+  upcoming_comes (Some call) w h = by_aside (coming_due call.what) (with_ended_call call.number call_state.Called) w (due_aside call.what) (λ k. Runs call h refl) (λ k. k) (resting _ _ _ (due_untasked call.what) (due_unheld call.what) (due_unqueued call.what) (due_unlooped call.what) refl refl refl refl refl) tt
+
+  -- 1. Steps: all but those by which a Deferred is settled and time goes on.
+
+  -- a Deferred to which a pair is added is settled at once, and so is one that is fired since it was cancelled, directly after the cancel
+  abbrev pub IsQuiet : steps.Step → Type 0
+  IsQuiet (steps.Put d v) = ⊥
+  IsQuiet (steps.PutDeferred d e) = ⊥
+  IsQuiet (steps.Advance ticks) = ⊥
+  IsQuiet (steps.Append d pair) = ⊥
+  IsQuiet (steps.FireGuarded d) = ⊥
+  IsQuiet (steps.Withdraw k d) = whole ≡ true
+  IsQuiet step = Unit {0}
+
+  -- and asks no queue for anything
+  abbrev pub AsksQuietly : Question → Type 0
+  AsksQuietly (steps.Moves d) = ⊥
+  AsksQuietly (steps.PutInto k v) = whole ≡ true
+  AsksQuietly (steps.GetFrom k d) = whole ≡ true
+  AsksQuietly question = Unit {0}
+
+  pub step_quiet : (step : steps.Step) (w : World) → IsQuiet step → Quietly whole w (stepped step w)
+  step_quiet (steps.Make name canceller) w m = by_make name canceller w
+  step_quiet (steps.Name d name) w m = by_aside (entry.Name d (Some name)) _ w refl (λ k. Leaves (refl, refl, refl)) (λ k. k) (resting _ _ _ refl refl refl refl refl refl refl refl refl) tt
+  step_quiet (steps.Append d pair) w m = absurd m
+  step_quiet (steps.FireGuarded d) w m = absurd m
+  step_quiet (steps.Pause d) w m = record { keeps = λ R l. l.by_pause d w }
+  step_quiet (steps.Note text) w m = by_aside (entry.Note text) _ w refl (λ k. Leaves (refl, refl, refl)) (λ k. k) (resting _ _ _ refl refl refl refl refl refl refl refl refl) tt
+  step_quiet (steps.TellTurn name) w m = by_aside (entry.Turn name) _ w refl (λ k. Leaves (refl, refl, refl)) (λ k. k) (resting _ _ _ refl refl refl refl refl refl refl refl refl) tt
+  step_quiet (steps.TellUnhandled failure) w m = by_aside (entry.Unhandled failure) _ w refl (λ k. Leaves (refl, refl, refl)) (λ k. k) (resting _ _ _ refl refl refl refl refl refl refl refl refl) tt
+  step_quiet (steps.NewLock name) w m = by_aside (entry.Lock name) _ w refl (λ k. Leaves (refl, refl, refl)) (λ k. k) (lock_beside _ _ _ (beside.LockMade name 1 refl) refl refl refl refl refl refl) tt
+  step_quiet (steps.NewSemaphore name tokens) w m = by_aside (entry.Semaphore name tokens) _ w refl (λ k. Leaves (refl, refl, refl)) (λ k. k) (lock_beside _ _ _ (beside.LockMade name tokens refl) refl refl refl refl refl refl) tt
+  step_quiet (steps.Ask l d) w m = ask_comes l d (slice_get w.objects.semaphores l) w refl
+  step_quiet (steps.Release l) w m = release_comes l (slice_get w.objects.semaphores l) w refl
+  step_quiet (steps.Forget l d) w m = forget_comes l d w
+  step_quiet (steps.NewQueue name size backlog) w m = by_aside (entry.Queue name size backlog) _ w refl (λ k. Leaves (refl, refl, refl)) (λ k. k) (queue_beside _ _ _ (beside.QueueMade name size backlog refl) refl refl refl refl refl refl) tt
+  step_quiet (steps.Withdraw k d) w m = withdraw_comes k d w m
+  step_quiet (steps.NewList n flags) w m = by_arrange _ w Stays (λ k. k) (arranging _ _ refl refl refl refl refl) tt
+  step_quiet (steps.StartTimer d delay) w m = timer_comes d delay w
+  step_quiet (steps.EndTimer t) w m = by_arrange (with_ended_call t call_state.Dropped) w (Loses t) (λ k. k) (arranging _ _ refl refl refl refl refl) tt
+  step_quiet (steps.CallLater name delay body) w m = call_later_comes name delay body w
+  step_quiet (steps.NewLoop name d interval body) w m = by_aside (entry.Loop name d) _ w refl (λ k. Leaves (refl, refl, refl)) (λ k. regular_push (new_loop name d w.objects.clock.time interval body) w.objects.loops (new_regular interval) k) (loop_beside _ _ _ (beside.LoopStarts name d interval body refl) refl refl refl refl refl refl) tt
+  step_quiet (steps.ScheduleTurn l) w m = scheduled_comes l (slice_get w.objects.loops l) w refl
+  step_quiet (steps.StopLoop l) w m = loop_stopped_comes l (slice_get w.objects.loops l) w refl
+  step_quiet (steps.EndLoop l) w m = end_loop_comes l w
+  step_quiet (steps.NewTask name bodies) w m = by_aside (entry.Task name) _ w refl (λ k. Leaves (refl, refl, refl)) (λ k. k) (task_beside _ _ _ (beside.TaskMade name bodies refl) refl refl refl) tt
+  step_quiet (steps.AwaitTask t d) w m = told_task_comes (λ x. entry.WhenDone x.name d) _ (slice_get w.objects.cooperator.tasks t) w (λ x. refl) (λ x. (refl, refl, refl)) (λ x g. task_beside _ _ _ (beside.TaskAwaited t d x g refl) refl refl refl) (λ x g. tt)
+  step_quiet (steps.PauseTask t) w m = told_task_comes (λ x. entry.PauseTask x.name) _ (slice_get w.objects.cooperator.tasks t) w (λ x. refl) (λ x. (refl, refl, refl)) (λ x g. task_beside _ _ _ (beside.TaskPaused t x g refl) refl refl refl) (λ x g. tt)
+  step_quiet (steps.ResumeTask t) w m = told_task_comes (λ x. entry.ResumeTask x.name) _ (slice_get w.objects.cooperator.tasks t) w (λ x. refl) (λ x. (refl, refl, refl)) (λ x g. task_beside _ _ _ (beside.TaskResumed t x g refl) refl refl refl) (λ x g. tt)
+  step_quiet (steps.HoldTask t e) w m = told_task_comes (λ x. entry.Hold x.name e) _ (slice_get w.objects.cooperator.tasks t) w (λ x. refl) (λ x. (refl, refl, refl)) (λ x g. task_beside _ _ _ (beside.TaskPaused t x g refl) refl refl refl) (λ x g. tt)
+  step_quiet steps.KeepTick w m = keep_comes w w (same w)
+  step_quiet steps.BeginTick w m = by_arrange _ w Stays (λ k. k) (arranging _ _ refl refl refl refl refl) tt
+  step_quiet steps.EndTick w m = by_arrange _ w Stays (λ k. k) (arranging _ _ refl refl refl refl refl) tt
+  step_quiet steps.AddInline w m = by_arrange _ w Stays (λ k. k) (arranging _ _ refl refl refl refl refl) tt
+  step_quiet (steps.BeginAwait i e) w m = by_aside (entry.Await i.of e) _ w refl (λ k. Leaves (refl, refl, refl)) (λ k. k) (resting _ _ _ refl refl refl refl refl refl refl refl refl) tt
+  step_quiet (steps.Submit d pool work) w m = record { keeps = λ R l. l.by_submit d pool work w }
+  step_quiet (steps.DeliverLater job d delay) w m = delivery_comes job d delay w
+  step_quiet (steps.Advance ticks) w m = absurd m
+  step_quiet steps.TellDrain w m = by_aside entry.Drain _ w refl (λ k. Leaves (refl, refl, refl)) (λ k. k) (resting _ _ _ refl refl refl refl refl refl refl refl refl) tt
+  step_quiet (steps.TellPost caller index) w m = by_aside (entry.Post caller index) _ w refl (λ k. Leaves (refl, refl, refl)) (λ k. k) (resting _ _ _ refl refl refl refl refl refl refl refl refl) tt
+  step_quiet (steps.Put d v) w m = absurd m
+  step_quiet (steps.PutDeferred d e) w m = absurd m
+
+  step_taken_comes : (t : ℕ) (o : Option Task) (w : World) → turn_of w.objects.cooperator.turns ≡ Some t → slice_get w.objects.cooperator.tasks t ≡ o → Quietly whole w (step_taken t o w).1
+  step_taken_comes t None w h g = same w
+  step_taken_comes t (Some x) w h g = by_aside (entry.Step x.name) (cooperating (with_step t x)) w refl (λ k. Leaves (refl, refl, refl)) (λ k. k) (task_beside _ _ _ (beside.TaskSteps t x h g refl) refl refl refl) tt
+
+  turn_comes : (o : Option ℕ) (w : World) → turn_of w.objects.cooperator.turns ≡ o → Quietly whole w (turn_taken o w).1
+  turn_comes None w h = same w
+  turn_comes (Some t) w h = step_taken_comes t (slice_get w.objects.cooperator.tasks t) w h refl
+
+  pub question_quiet : (question : Question) (w : World) → AsksQuietly question → Quietly whole w (steps.asked question w).1
+  question_quiet (steps.Cancel d) w m = record { keeps = λ R l. l.by_cancel d w }
+  question_quiet (steps.PutInto k v) w m = put_comes k v (slice_get w.objects.queues k) w refl m
+  question_quiet (steps.GetFrom k d) w m = get_comes k d (slice_get w.objects.queues k) w refl m
+  question_quiet (steps.CameTo l i v) w m = came_to_comes l i v w
+  question_quiet (steps.CancelCall number) w m = off_comes number w
+  question_quiet steps.TakeStep w m = turn_comes (turn_of w.objects.cooperator.turns) w refl
+  question_quiet (steps.EndTask t end) w m = task_ended_comes t end (unended (slice_get w.objects.cooperator.tasks t)) w refl
+  question_quiet (steps.ComeToInline i v) w m = inlining_comes i v w
+  question_quiet (steps.EndAwait i e p) w m = end_await_comes i e p w
+  question_quiet steps.ComeDue w m = upcoming_comes (next_call w.objects.clock) w refl
+  question_quiet (steps.Moves d) w m = absurd m
 
 -- whom the cancel that was logged last has reached, if it was to be fired
 abbrev pub HasReached : Option ℕ → World → Type 0
@@ -451,71 +537,22 @@ abbrev pub AsksCalmly : Question → Type 0
 AsksCalmly (steps.Moves d) = ⊥
 AsksCalmly question = Unit {0}
 
-pub step_quiet : (step : steps.Step) (w : World) → IsQuiet step → Quietly w (stepped step w)
-step_quiet (steps.Make name canceller) w m = by_make name canceller w
-step_quiet (steps.Name d name) w m = by_aside (entry.Name d (Some name)) _ w refl (λ k. Leaves (refl, refl, refl)) (λ k. k) (resting _ _ _ refl refl refl refl refl refl refl refl refl)
-step_quiet (steps.Append d pair) w m = absurd m
-step_quiet (steps.FireGuarded d) w m = absurd m
-step_quiet (steps.Pause d) w m = record { keeps = λ R l. l.by_pause d w }
-step_quiet (steps.Note text) w m = by_aside (entry.Note text) _ w refl (λ k. Leaves (refl, refl, refl)) (λ k. k) (resting _ _ _ refl refl refl refl refl refl refl refl refl)
-step_quiet (steps.TellTurn name) w m = by_aside (entry.Turn name) _ w refl (λ k. Leaves (refl, refl, refl)) (λ k. k) (resting _ _ _ refl refl refl refl refl refl refl refl refl)
-step_quiet (steps.TellUnhandled failure) w m = by_aside (entry.Unhandled failure) _ w refl (λ k. Leaves (refl, refl, refl)) (λ k. k) (resting _ _ _ refl refl refl refl refl refl refl refl refl)
-step_quiet (steps.NewLock name) w m = by_aside (entry.Lock name) _ w refl (λ k. Leaves (refl, refl, refl)) (λ k. k) (lock_beside _ _ _ (beside.LockMade name 1 refl) refl refl refl refl refl refl)
-step_quiet (steps.NewSemaphore name tokens) w m = by_aside (entry.Semaphore name tokens) _ w refl (λ k. Leaves (refl, refl, refl)) (λ k. k) (lock_beside _ _ _ (beside.LockMade name tokens refl) refl refl refl refl refl refl)
-step_quiet (steps.Ask l d) w m = ask_comes l d (slice_get w.objects.semaphores l) w refl
-step_quiet (steps.Release l) w m = release_comes l (slice_get w.objects.semaphores l) w refl
-step_quiet (steps.Forget l d) w m = forget_comes l d w
-step_quiet (steps.NewQueue name size backlog) w m = by_aside (entry.Queue name size backlog) _ w refl (λ k. Leaves (refl, refl, refl)) (λ k. k) (queue_beside _ _ _ (beside.QueueMade name size backlog refl) refl refl refl refl refl refl)
-step_quiet (steps.Withdraw k d) w m = withdraw_comes k d w
-step_quiet (steps.NewList n flags) w m = by_arrange _ w Stays (λ k. k) (arranging _ _ refl refl refl refl refl)
-step_quiet (steps.StartTimer d delay) w m = timer_comes d delay w
-step_quiet (steps.EndTimer t) w m = by_arrange (with_ended_call t call_state.Dropped) w (Loses t) (λ k. k) (arranging _ _ refl refl refl refl refl)
-step_quiet (steps.CallLater name delay body) w m = call_later_comes name delay body w
-step_quiet (steps.NewLoop name d interval body) w m = by_aside (entry.Loop name d) _ w refl (λ k. Leaves (refl, refl, refl)) (λ k. regular_push (new_loop name d w.objects.clock.time interval body) w.objects.loops (new_regular interval) k) (loop_beside _ _ _ (beside.LoopStarts name d interval body refl) refl refl refl refl refl refl)
-step_quiet (steps.ScheduleTurn l) w m = scheduled_comes l (slice_get w.objects.loops l) w refl
-step_quiet (steps.StopLoop l) w m = loop_stopped_comes l (slice_get w.objects.loops l) w refl
-step_quiet (steps.EndLoop l) w m = end_loop_comes l w
-step_quiet (steps.NewTask name bodies) w m = by_aside (entry.Task name) _ w refl (λ k. Leaves (refl, refl, refl)) (λ k. k) (task_beside _ _ _ (beside.TaskMade name bodies refl) refl refl refl)
-step_quiet (steps.AwaitTask t d) w m = told_task_comes (λ x. entry.WhenDone x.name d) _ (slice_get w.objects.cooperator.tasks t) w (λ x. refl) (λ x. (refl, refl, refl)) (λ x g. task_beside _ _ _ (beside.TaskAwaited t d x g refl) refl refl refl)
-step_quiet (steps.PauseTask t) w m = told_task_comes (λ x. entry.PauseTask x.name) _ (slice_get w.objects.cooperator.tasks t) w (λ x. refl) (λ x. (refl, refl, refl)) (λ x g. task_beside _ _ _ (beside.TaskPaused t x g refl) refl refl refl)
-step_quiet (steps.ResumeTask t) w m = told_task_comes (λ x. entry.ResumeTask x.name) _ (slice_get w.objects.cooperator.tasks t) w (λ x. refl) (λ x. (refl, refl, refl)) (λ x g. task_beside _ _ _ (beside.TaskResumed t x g refl) refl refl refl)
-step_quiet (steps.HoldTask t e) w m = told_task_comes (λ x. entry.Hold x.name e) _ (slice_get w.objects.cooperator.tasks t) w (λ x. refl) (λ x. (refl, refl, refl)) (λ x g. task_beside _ _ _ (beside.TaskPaused t x g refl) refl refl refl)
-step_quiet steps.KeepTick w m = keep_comes w w (same w)
-step_quiet steps.BeginTick w m = by_arrange _ w Stays (λ k. k) (arranging _ _ refl refl refl refl refl)
-step_quiet steps.EndTick w m = by_arrange _ w Stays (λ k. k) (arranging _ _ refl refl refl refl refl)
-step_quiet steps.AddInline w m = by_arrange _ w Stays (λ k. k) (arranging _ _ refl refl refl refl refl)
-step_quiet (steps.BeginAwait i e) w m = by_aside (entry.Await i.of e) _ w refl (λ k. Leaves (refl, refl, refl)) (λ k. k) (resting _ _ _ refl refl refl refl refl refl refl refl refl)
-step_quiet (steps.Submit d pool work) w m = record { keeps = λ R l. l.by_submit d pool work w }
-step_quiet (steps.DeliverLater job d delay) w m = delivery_comes job d delay w
-step_quiet (steps.Advance ticks) w m = absurd m
-step_quiet steps.TellDrain w m = by_aside entry.Drain _ w refl (λ k. Leaves (refl, refl, refl)) (λ k. k) (resting _ _ _ refl refl refl refl refl refl refl refl refl)
-step_quiet (steps.TellPost caller index) w m = by_aside (entry.Post caller index) _ w refl (λ k. Leaves (refl, refl, refl)) (λ k. k) (resting _ _ _ refl refl refl refl refl refl refl refl refl)
-step_quiet (steps.Put d v) w m = absurd m
-step_quiet (steps.PutDeferred d e) w m = absurd m
-
-step_taken_comes : (t : ℕ) (o : Option Task) (w : World) → turn_of w.objects.cooperator.turns ≡ Some t → slice_get w.objects.cooperator.tasks t ≡ o → Quietly w (step_taken t o w).1
-step_taken_comes t None w h g = same w
-step_taken_comes t (Some x) w h g = by_aside (entry.Step x.name) (cooperating (with_step t x)) w refl (λ k. Leaves (refl, refl, refl)) (λ k. k) (task_beside _ _ _ (beside.TaskSteps t x h g refl) refl refl refl)
-
-turn_comes : (o : Option ℕ) (w : World) → turn_of w.objects.cooperator.turns ≡ o → Quietly w (turn_taken o w).1
-turn_comes None w h = same w
-turn_comes (Some t) w h = step_taken_comes t (slice_get w.objects.cooperator.tasks t) w h refl
-
-pub question_quiet : (question : Question) (w : World) → AsksCalmly question → Quietly w (steps.asked question w).1
-question_quiet (steps.Cancel d) w m = record { keeps = λ R l. l.by_cancel d w }
-question_quiet (steps.PutInto k v) w m = put_comes k v (slice_get w.objects.queues k) w refl
-question_quiet (steps.GetFrom k d) w m = get_comes k d (slice_get w.objects.queues k) w refl
-question_quiet (steps.CameTo l i v) w m = came_to_comes l i v w
-question_quiet (steps.CancelCall number) w m = off_comes number w
-question_quiet steps.TakeStep w m = turn_comes (turn_of w.objects.cooperator.turns) w refl
-question_quiet (steps.EndTask t end) w m = task_ended_comes t end (unended (slice_get w.objects.cooperator.tasks t)) w refl
-question_quiet (steps.ComeToInline i v) w m = inlining_comes i v w
-question_quiet (steps.EndAwait i e p) w m = end_await_comes i e p w
-question_quiet steps.ComeDue w m = upcoming_comes (next_call w.objects.clock) w refl
-question_quiet (steps.Moves d) w m = absurd m
+-- a rule that asks so asks quietly
+pub asks_whole : (question : Question) → AsksCalmly question → AsksQuietly true question
+asks_whole (steps.Cancel d) m = tt
+asks_whole (steps.PutInto k v) m = refl
+asks_whole (steps.GetFrom k d) m = refl
+asks_whole (steps.CameTo l i v) m = tt
+asks_whole (steps.CancelCall number) m = tt
+asks_whole steps.TakeStep m = tt
+asks_whole (steps.EndTask t end) m = tt
+asks_whole (steps.ComeToInline i v) m = tt
+asks_whole (steps.EndAwait i e p) m = tt
+asks_whole steps.ComeDue m = tt
+asks_whole (steps.Moves d) m = absurd m
 
 -- so they are calm, and what adds a pair or fires is, too
-quietly : (w u : World) → Quietly w u → Calmly w u
+quietly : (w u : World) → Quietly true w u → Calmly w u
 quietly w u c = record { keeps = λ R l. c.keeps R l.quiet }
 
 join_calm : (u v w : World) → Calmly u v → Calmly v w → Calmly u w
@@ -530,7 +567,8 @@ step_calm (steps.PutDeferred d e) o w h m = absurd m
 step_calm (steps.Advance ticks) o w h m = absurd m
 step_calm (steps.FireGuarded d) o w h m = by_guarded o d w h m
 step_calm (steps.Append d pair) o w h m = record { keeps = λ R l. l.by_append d pair w }
-step_calm step o w h m = quietly w (stepped step w) (step_quiet step w tt)
+step_calm (steps.Withdraw k d) o w h m = quietly w (stepped (steps.Withdraw k d) w) (step_quiet true (steps.Withdraw k d) w refl)
+step_calm step o w h m = quietly w (stepped step w) (step_quiet true step w tt)
 
 -- whom a cancel reaches that is to be fired
 abbrev pub fired_by : Reached → Option ℕ
@@ -625,10 +663,45 @@ CallsToSettle d (Fires e v) = ⊥
 CallsToSettle d (Unpauses e) = ⊥
 CallsToSettle d (Over rule frames) = SettlesFirst d frames
 
+-- a rule fires d with this value
+abbrev pub IsFiring : ℕ → Value → Rule → Type 0
+IsFiring d v (Ends p) = ⊥
+IsFiring d v (By rule) = ⊥
+IsFiring d v (If b one other) = ⊥
+IsFiring d v (Finds {A} o none some) = (a : A) × (o ≡ Some a) × IsFiring d v (some a)
+IsFiring d v (Then step rule) = ⊥
+IsFiring d v (Asks question rule) = ⊥
+IsFiring d v (Fires e u) = (e ≡ d) × (u ≡ v)
+IsFiring d v (Unpauses e) = ⊥
+IsFiring d v (Over rule frames) = ⊥
+
+-- whoever got a value is fired with it
+abbrev pub FiresGiven : Option (ℕ × Value) → Rule → Type 0
+FiresGiven None rule = Unit {0}
+FiresGiven (Some who) rule = IsFiring who.0 who.1 rule
+
+abbrev pub FiresGot : ℕ → Option Value → Rule → Type 0
+FiresGot d None rule = Unit {0}
+FiresGot d (Some v) rule = IsFiring d v rule
+
+abbrev pub Answered : (question : Question) → Reply question → Rule → Type 0
+Answered (steps.Cancel d) r rule = Unit {0}
+Answered (steps.PutInto k v) r rule = FiresGiven r rule
+Answered (steps.GetFrom k d) r rule = FiresGot d r rule
+Answered (steps.CameTo l i v) r rule = Unit {0}
+Answered (steps.CancelCall number) r rule = Unit {0}
+Answered steps.TakeStep r rule = Unit {0}
+Answered (steps.EndTask t end) r rule = Unit {0}
+Answered (steps.ComeToInline i v) r rule = Unit {0}
+Answered (steps.EndAwait i e p) r rule = Unit {0}
+Answered steps.ComeDue r rule = Unit {0}
+Answered (steps.Moves d) r rule = Unit {0}
+
 -- so it does after a pair was added to d, and after d was fired since it was cancelled
 abbrev pub Follows : steps.Step → Rule → Type 0
 Follows (steps.Append d pair) rule = CallsToSettle d rule
 Follows (steps.FireGuarded d) rule = CallsToSettle d rule
+Follows (steps.Withdraw k d) rule = IsFiring d cancelled rule
 Follows step rule = Unit {0}
 
 -- a rule takes such steps alone, each with what follows it, and leaves nothing to be put in place
@@ -638,7 +711,7 @@ Mildly o (By rule) = (w : World) → Mildly o (rule w)
 Mildly o (If b one other) = Mildly o one × Mildly o other
 Mildly o (Finds {A} x none some) = Mildly o none × ((a : A) → Mildly o (some a))
 Mildly o (Then step rule) = IsCalm o step × Follows step rule × Mildly None rule
-Mildly o (Asks question rule) = AsksCalmly question × ((a : Reply question) → Mildly (reached_by question a) (rule a))
+Mildly o (Asks question rule) = AsksCalmly question × ((a : Reply question) → Mildly (reached_by question a) (rule a)) × ((a : Reply question) → Answered question a (rule a))
 Mildly o (Fires d v) = Unit {0}
 Mildly o (Unpauses d) = Unit {0}
 Mildly o (Over rule frames) = Mildly o rule × AllPutNothing frames
@@ -657,14 +730,14 @@ found_calm None w t f c d = c
 found_calm (Some a) w t f c d = d a
 
 pub rule_calm : (rule : Rule) (o : Option ℕ) (w : World) → HasReached o w → Mildly o rule → Calmly w (run rule w).2
-rule_calm (Ends p) o w h m = quietly w w (same w)
+rule_calm (Ends p) o w h m = quietly w w (same true w)
 rule_calm (By rule) o w h m = rule_calm (rule w) o w h (m w)
 rule_calm (If b one other) o w h m = either_calm b w (run one w) (run other w) (rule_calm one o w h m.0) (rule_calm other o w h m.1)
 rule_calm (Finds x none some) o w h m = found_calm x w (run none w) (λ a. run (some a) w) (rule_calm none o w h m.0) (λ a. rule_calm (some a) o w h (m.1 a))
 rule_calm (Then step rule) o w h m = join_calm w (stepped step w) _ (step_calm step o w h m.0) (rule_calm rule None (stepped step w) tt m.2)
 rule_calm (Asks question rule) o w h m =
     let a = steps.asked question w in
-    join_calm w a.1 _ (quietly w a.1 (question_quiet question w m.0)) (rule_calm (rule a.0) (reached_by question a.0) a.1 (has_reached question w) (m.1 a.0))
+    join_calm w a.1 _ (quietly w a.1 (question_quiet true question w (asks_whole question m.0))) (rule_calm (rule a.0) (reached_by question a.0) a.1 (has_reached question w) (m.1 a.0))
 rule_calm (Fires d v) o w h m = next_calm d (world.fire d v w).0 w (world.fire d v w).1 (record { keeps = λ R l. l.by_fire d v w })
 rule_calm (Unpauses d) o w h m = next_calm d (world.unpause d w).0 w (world.unpause d w).1 (record { keeps = λ R l. l.by_unpause d w })
 rule_calm (Over rule frames) o w h m = rule_calm rule o w h m.0
@@ -691,7 +764,7 @@ rule_free (Then step rule) o w m = rule_free rule None (stepped step w) m.2
 rule_free (Asks question rule) o w m = let a = steps.asked question w in rule_free (rule a.0) (reached_by question a.0) a.1 (m.1 a.0)
 rule_free (Fires d v) o w m = next_free d (world.fire d v w).0 (world.fire d v w).1
 rule_free (Unpauses d) o w m = next_free d (world.unpause d w).0 (world.unpause d w).1
-rule_free (Over rule frames) o w m = free_append (run rule w).0 frames (rule_free rule o w m.0) m.1
+rule_free (Over rule frames) o w m = free_append true (run rule w).0 frames (rule_free rule o w m.0) m.1
 
 -- 3. The page: a tactic finds it of each rule; by hand what lists, tests of what is named, or another rule make.
 add_free : (l d i : ℕ) (cs : List ℕ) → AllPutNothing (page.add_children l d i cs)
@@ -723,9 +796,17 @@ reached_mild reached.Nothing = tt
 reached_mild (reached.Fire d) = (refl, refl, (tt, (tt, tt)))
 reached_mild (reached.Run d body) = search [] depth 20
 reached_mild (reached.ForToken d l) = search [] depth 20
-reached_mild (reached.ForItem d k) = search [] depth 20
+reached_mild (reached.ForItem d k) = (tt, (refl, refl), tt)
 reached_mild (reached.Children children) = (tt, children_free children)
 reached_mild (reached.Inline i) = search [] depth 20
+
+given_fires : (who : Option (ℕ × Value)) → FiresGiven who (page.hand_out who)
+given_fires None = tt
+given_fires (Some who) = (who, refl, (refl, refl))
+
+got_fires : (d : ℕ) (got : Option Value) → FiresGot d got (words.fire_with d got)
+got_fires d None = tt
+got_fires d (Some v) = (v, refl, (refl, refl))
 
 add_mild : (d : ℕ) (pair : Pair) → Mildly None (page.add d pair)
 add_mild d pair = (tt, refl, (tt, (tt, tt)))
@@ -734,7 +815,7 @@ ended_mild : Mildly None page.tick_ended
 ended_mild = (tt, tt, (tt, tt, tt))
 
 end_mild : (t : ℕ) (end : TaskEnd) → Mildly None (page.end_task t end)
-end_mild t end = (tt, λ ds. (tt, tt, (tt, notify_free t ds)))
+end_mild t end = (tt, λ ds. (tt, tt, (tt, notify_free t ds)), λ ds. tt)
 
 await_mild : (i : Inline) (name : List ℕ) (p : Position) → Mildly None (page.await i name p)
 await_mild i name p = λ w. (λ v. (tt, (tt, tt)), λ e. (tt, tt, (add_mild e (continuing i), (tt, tt))))
@@ -757,7 +838,7 @@ carry_mild itself (Action-F.AddCallbacks name on_value on_failure) = λ w. (tt, 
 carry_mild itself (Action-F.Chain name after) = λ w. (tt, λ d. λ v. (tt, λ e. add_mild d (chain e)))
 carry_mild itself (Action-F.Pause name) = search [] depth 20
 carry_mild itself (Action-F.Unpause name) = search [] depth 20
-carry_mild itself (Action-F.Cancel name) = λ w. (tt, λ d. (tt, reached_mild))
+carry_mild itself (Action-F.Cancel name) = λ w. (tt, λ d. (tt, reached_mild, λ r. tt))
 carry_mild itself (Action-F.AddTimeout name delay) = λ w. (tt, λ d. λ v. (tt, tt, (add_mild d (timing (length v.objects.clock.calls)), (tt, tt))))
 carry_mild itself (Action-F.Lock name) = search [] depth 20
 carry_mild itself (Action-F.Semaphore name tokens) = search [] depth 20
@@ -766,8 +847,8 @@ carry_mild itself (Action-F.RunWith name lock body) = search [] depth 20
 carry_mild itself (Action-F.Release lock) = search [] depth 20
 carry_mild itself (Action-F.Maybe name body) = search [] depth 20
 carry_mild itself (Action-F.Queue name size backlog) = search [] depth 20
-carry_mild itself (Action-F.Put queue value) = search [] depth 20
-carry_mild itself (Action-F.Get name queue) = search [] depth 20
+carry_mild itself (Action-F.Put queue value) = λ w. (tt, λ k. λ u. (tt, λ q. (tt, (tt, λ who. (tt, λ p. tt), given_fires))))
+carry_mild itself (Action-F.Get name queue) = λ w. (tt, λ k. λ u. λ v. (tt, λ q. (tt, (tt, tt, (tt, λ got. (tt, λ p. tt), got_fires (length u.records))))))
 carry_mild itself (Action-F.List name children flags) = λ w. all_mild (deferreds_at itself children w) _ (λ ds. list_mild name ds (page_flags.list_flags flags))
 carry_mild itself (Action-F.Gather name children flags) = λ w. all_mild (deferreds_at itself children w) _ (λ ds. λ v. (list_mild name ds (page_flags.gather_flags flags), (tt, tt)))
 carry_mild itself (Action-F.Later name delay body) = search [] depth 20
@@ -852,13 +933,13 @@ rule_mild (frame.Rest rest) p m = unless_mild p _ (rest_mild rest.itself rest.ac
 rule_mild (frame.Canceller d) p m = search [] depth 20
 rule_mild (frame.Maybe purpose) p m = maybe_mild purpose p
 rule_mild (frame.Add d pair) p m = add_mild d pair
-rule_mild (frame.Cancel d) p m = (tt, reached_mild)
+rule_mild (frame.Cancel d) p m = (tt, reached_mild, λ r. tt)
 rule_mild (frame.Give given) p m = unless_mild p _ tt
 rule_mild (frame.Notify d t) p m = search [] depth 20
 rule_mild (frame.Stepped t) p m = λ w. (tt, step_mild t p)
-rule_mild (frame.Tick units) p m = (ended_mild, (tt, λ taken. (ended_mild, λ now. ((end_mild now.0 Finished, λ body. (tt, (tt, (tt, tt)))), (tt, tt)))))
+rule_mild (frame.Tick units) p m = (ended_mild, (tt, λ taken. (ended_mild, λ now. ((end_mild now.0 Finished, λ body. (tt, (tt, (tt, tt)))), (tt, tt))), λ taken. tt))
 rule_mild frame.Tell p m = search [] depth 20
-rule_mild frame.Due p m = (tt, due_mild)
+rule_mild frame.Due p m = (tt, due_mild, λ o. tt)
 rule_mild (frame.Inline x) p m = inline_mild x p
 
 pub side_rule_mild : (d : ℕ) (s : Option Side) (input : Value) → Mildly None (page.run_side d s input)
@@ -893,7 +974,7 @@ action_mild action w =
     run_mild (Over (page.carry_out None (out-Action action)) (frame.Tell ∷ [])) w (carry_mild None (out-Action action), (tt, tt))
 
 pub drain_mild : (w : World) → Mild w (done (world.tell entry.Drain w))
-drain_mild w = record { comes = quietly w _ (by_aside entry.Drain _ w refl (λ k. Leaves (refl, refl, refl)) (λ k. k) (resting _ _ _ refl refl refl refl refl refl refl refl refl)); free = tt }
+drain_mild w = record { comes = quietly w _ (by_aside true entry.Drain _ w refl (λ k. Leaves (refl, refl, refl)) (λ k. k) (resting _ _ _ refl refl refl refl refl refl refl refl refl) tt); free = tt }
 
 pub post_comes : (caller index : ℕ) (w : World) → Calmly w (world.tell (entry.Post caller index) w)
-post_comes caller index w = quietly w _ (by_aside (entry.Post caller index) _ w refl (λ k. Leaves (refl, refl, refl)) (λ k. k) (resting _ _ _ refl refl refl refl refl refl refl refl refl))
+post_comes caller index w = quietly w _ (by_aside true (entry.Post caller index) _ w refl (λ k. Leaves (refl, refl, refl)) (λ k. k) (resting _ _ _ refl refl refl refl refl refl refl refl refl) tt)

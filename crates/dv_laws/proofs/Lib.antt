@@ -21,3 +21,4 @@ pub mod TasksLemmas
 pub mod TokensLemmas
 pub mod StoredLemmas
 pub mod LoopsLemmas
+pub mod Served

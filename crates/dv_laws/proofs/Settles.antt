@@ -124,8 +124,8 @@ module _ (R : World → World → Type 0) (k : Still R) where
       by_make = λ name canceller w. make_cases w (R w) (k.stays w) (k.stops w) name canceller (λ x. k.news name canceller w x);
       by_cancel = λ d w. cancel_cases w (R w) (k.stays w) (k.stops w) d (λ x. k.cancels d w x);
       by_pause = λ d w. pause_cases w (R w) (k.stays w) (k.stops w) d (λ r x g. k.pauses d r w x g);
-      by_aside = λ e change w a c l t. aside_cases w (R w) (k.stays w) (k.stops w) e change (λ x. k.asides e change w a c l t x);
-      by_arrange = λ change w s l t. arrange_cases w (R w) (k.stays w) (k.stops w) change (k.arranges change w s l t);
+      by_aside = λ e change w a c l t q. aside_cases w (R w) (k.stays w) (k.stops w) e change (λ x. k.asides e change w a c l t x);
+      by_arrange = λ change w s l t q. arrange_cases w (R w) (k.stays w) (k.stops w) change (k.arranges change w s l t);
       by_submit = λ d pool work w. submit_cases w (R w) (k.stays w) (k.stops w) d pool work (λ x. k.submits d pool work w x);
     };
     by_append = λ d pair w. append_cases w (R w) (k.stays w) (k.stops w) d pair (λ r x g. k.adds d pair r w x g);

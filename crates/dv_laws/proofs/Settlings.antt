@@ -52,7 +52,7 @@ use Rattle.dv_performing.proofs.Runs.{run, runs_lead}
 use Rattle.dv_world.specs.World as world
 use Rattle.dv_world.specs.World.{World, Records, state_of, with_state, with_stop, append, fire, fired, fire_guarded, guarded, unpause, unpaused, step, put, put_deferred, first_world, value_of}
 use Rattle.dv_laws.proofs.At.{counted_of, at, set_at, changing_at, push_at, set_by, changing_by}
-use Rattle.dv_laws.proofs.Calm.{Quiet, Calmly, IsCalm, settled_by, SettlesFirst, CallsToSettle, Follows, Mildly, IsMild, reached_by, step_quiet, question_quiet, rule_mild, side_rule_mild, carry_mild, side_mild, turned_mild, action_mild, drain_mild, post_comes}
+use Rattle.dv_laws.proofs.Calm.{Quiet, Calmly, IsCalm, settled_by, SettlesFirst, CallsToSettle, Follows, Mildly, IsMild, reached_by, step_quiet, question_quiet, asks_whole, rule_mild, side_rule_mild, carry_mild, side_mild, turned_mild, action_mild, drain_mild, post_comes}
 use Rattle.dv_laws.proofs.Settles.{Still, calm, place_runs}
 use Rattle.dv_objects.specs.Objects.{with_time}
 use Rattle.dv_laws.proofs.Steps.{put_cases, put_deferred_cases, append_cases, pause_cases, make_cases, aside_cases, arrange_cases, submit_cases, cancel_cases, fire_cases, step_cases, unless}
@@ -121,7 +121,7 @@ less_same w = record { each = λ n. omega arith }
 less_stop : (w : World) → Less w (with_stop w)
 less_stop w = record { each = λ n. omega arith }
 
-quiet_less : Quiet Less
+quiet_less : Quiet true Less
 quiet_less = record {
   stays = less_same;
   joins = λ u v w p q. record { each = λ n. omega (arith, p.each n, q.each n) };
@@ -132,8 +132,8 @@ quiet_less = record {
       (λ r x g.
       let more = with_pauses (r.pauses + 1) r in
       record { each = λ n. less_at n d r more w.records g (omega (arith, owes_none more (paused_unready r.fired r.running (nat_eq (r.pauses + 1) 0) (is_none r.waits_for) (not_zero r.pauses)))) });
-  by_aside = λ e change w a c l t. aside_cases w (Less w) (less_same w) (less_stop w) e change (λ x. record { each = λ n. omega arith });
-  by_arrange = λ change w s l t. arrange_cases w (Less w) (less_same w) (less_stop w) change (record { each = λ n. omega arith });
+  by_aside = λ e change w a c l t q. aside_cases w (Less w) (less_same w) (less_stop w) e change (λ x. record { each = λ n. omega arith });
+  by_arrange = λ change w s l t q. arrange_cases w (Less w) (less_same w) (less_stop w) change (record { each = λ n. omega arith });
   by_submit = λ d pool work w. submit_cases w (Less w) (less_same w) (less_stop w) d pool work (λ x. record { each = λ n. omega arith });
 }
 
@@ -242,7 +242,8 @@ step_pays (steps.PutDeferred d e) o rule w c f p = absurd c
 step_pays (steps.Advance ticks) o rule w c f p = absurd c
 step_pays (steps.Append d pair) o rule w c f p = settled_pays d rule w (append d pair w) (λ n. append_more n d pair w) f p
 step_pays (steps.FireGuarded d) o rule w c f p = settled_pays d rule w (fire_guarded d w) (λ n. guarded_more n d w) f p
-step_pays step o rule w c f p = quiet_pays w (stepped step w) (run_rule rule (stepped step w)) ((step_quiet step w tt).keeps Less quiet_less) p
+step_pays (steps.Withdraw k d) o rule w c f p = quiet_pays w (stepped (steps.Withdraw k d) w) (run_rule rule (stepped (steps.Withdraw k d) w)) ((step_quiet true (steps.Withdraw k d) w refl).keeps Less quiet_less) p
+step_pays step o rule w c f p = quiet_pays w (stepped step w) (run_rule rule (stepped step w)) ((step_quiet true step w tt).keeps Less quiet_less) p
 
 either_pays : (b : Bool) (w : World) (t u : Turned) → Paid w t → Paid w u → Paid w (if b then t else u)
 either_pays true w t u c d = c
@@ -260,7 +261,7 @@ rule_pays (Finds x none some) o w m = found_pays x w (run_rule none w) (λ a. ru
 rule_pays (Then step rule) o w m = step_pays step o rule w m.0 m.1 (rule_pays rule None (stepped step w) m.2)
 rule_pays (Asks question rule) o w m =
     let a = steps.asked question w in
-    quiet_pays w a.1 (run_rule (rule a.0) a.1) ((question_quiet question w m.0).keeps Less quiet_less) (rule_pays (rule a.0) (reached_by question a.0) a.1 (m.1 a.0))
+    quiet_pays w a.1 (run_rule (rule a.0) a.1) ((question_quiet true question w (asks_whole question m.0)).keeps Less quiet_less) (rule_pays (rule a.0) (reached_by question a.0) a.1 (m.1 a.0))
 rule_pays (Fires d v) o w m = fire_pays d w v
 rule_pays (Unpauses d) o w m = unpause_pays d w
 rule_pays (Over rule frames) o w m = record { each = λ n. omega (arith, sum_by-append (settles_of n) (run_rule rule w).0 frames, (rule_pays rule o w m.0).each n) }
