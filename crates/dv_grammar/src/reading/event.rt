@@ -16,18 +16,6 @@ use dv_value::items::Items;
 use serde_json::Value as Json;
 use std::alloc::Global;
 
-/// An event: an action, or what happens to the clock or to the posts.
-#[tactic(auto, unfolding(crate::specs::Shape::event_at))]
-fn event(alloc: Global, classes: &Classes, json: &Json) -> Result<Event, Stop>
-    ensures { Reads result (event_at classes.now (view json.now)) }
-{
-    match action(alloc, classes, MOST_LEVELS, json) {
-        Ok(action) => Ok(Event::Action(action)),
-        Err(Stop::BadShape) => other_event(json),
-        Err(Stop::OutOfMemory) => Err(Stop::OutOfMemory),
-    }
-}
-
 #[tactic(auto, unfolding(crate::specs::Shape::other_event))]
 fn other_event(json: &Json) -> Result<Event, Stop>
     ensures { Reads result (other_event (view json.now)) }
@@ -49,13 +37,18 @@ fn event_of(word: EventWord, arguments: &[Json]) -> Result<Event, Stop>
     }
 }
 
-/// The items of an array of events.
+/// The items of an array of events, each an action, or what happens to the clock or to the posts.
+#[tactic(auto, unfolding(crate::specs::Shape::event_at))]
 pub fn events(alloc: Global, classes: &Classes, items: &[Json]) -> Result<Items<Event>, Stop>
     ensures { Reads result (each (event_at classes.now) (items_view items.now)) }
 {
     let mut events = Items::with_capacity(alloc, items.len())?;
     for item in items {
-        events.push(event(alloc, classes, item)?)?;
+        match action(alloc, classes, MOST_LEVELS, item) {
+            Ok(action) => events.push(Event::Action(action))?,
+            Err(Stop::BadShape) => events.push(other_event(item)?)?,
+            Err(Stop::OutOfMemory) => return Err(Stop::OutOfMemory),
+        }
     }
     Ok(events)
 }
