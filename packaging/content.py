@@ -17,7 +17,7 @@ TAG = "py3-none-manylinux_2_34_x86_64"
 PYTHON = TOP / "python"
 
 _PACKAGE = PYTHON / "deferreds"
-_ROWS = TOP / "crates" / "dv_rows" / "data"
+_ROWS = TOP / "crates" / "test_rows" / "data"
 _SUFFIXES = (".py", ".typed", ".js", ".css", ".rows", ".json")
 _LICENSE = "LICENSE"
 

@@ -40,7 +40,7 @@ _COPIED = (
     "CHANGELOG.md",
     "LICENSE",
     "README.md",
-    "crates/dv_rows/data",
+    "crates/test_rows/data",
     "docs",
     "examples",
     "packaging",

@@ -73,7 +73,7 @@ class Bytes(PackagingTest):
     def test_each_file_of_the_package_is_in_it_and_the_rows(self) -> None:
         names = set(self.archive.namelist())
         wanted = {f"deferreds/{name}" for name in contents(TOP / "python" / "deferreds")}
-        wanted |= {f"deferreds/rows/{path.name}" for path in (TOP / "crates/dv_rows/data").glob("*.rows")}
+        wanted |= {f"deferreds/rows/{path.name}" for path in (TOP / "crates/test_rows/data").glob("*.rows")}
         self.assertEqual(wanted - names, set())
         self.assertIn("deferreds/py.typed", names)
 

@@ -88,7 +88,7 @@ def hostile() -> Run:
 
 def of_row(file: str, name: str) -> Run:
     """The run of a row of the repository."""
-    row = next(row for row in read_rows(TOP / "crates" / "dv_rows" / "data" / file) if row.name == name)
+    row = next(row for row in read_rows(TOP / "crates" / "test_rows" / "data" / file) if row.name == name)
     return run_of_journal(row.output, name, Script(json.loads(row.script)), row.status == 1)
 
 

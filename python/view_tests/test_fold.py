@@ -224,7 +224,7 @@ class Fold(unittest.TestCase):
         self.assertEqual(plain(run.fold.rows[3].cause), f"scheduled at {OfLine(1)[0]}, due 2")
 
     def test_cut_and_broken_journals_are_shown_all_the_same(self) -> None:
-        row = next(row for row in read_rows(TOP / "crates/dv_rows/data/loops.rows") if row.status == 0)
+        row = next(row for row in read_rows(TOP / "crates/test_rows/data/loops.rows") if row.status == 0)
         lines = row.output.split("\n")
         for cut in range(len(lines)):
             self.assertIsNotNone(run_of(*lines[:cut]).report.findings)

@@ -144,7 +144,7 @@ def _first_row(file: str) -> str:
 
     from deferreds.checkout import TOP
 
-    rows = read_rows(TOP / "crates" / "dv_rows" / "data" / file)
+    rows = read_rows(TOP / "crates" / "test_rows" / "data" / file)
     return next(row.name for row in rows if row.status == 0 and f"{ANY_LINES}\n" not in row.output)
 
 

@@ -7,8 +7,8 @@ use Rattle.dv_json.specs.Lines.{GivesUp as GivesUpAsJson, HasRun}
 use Rattle.dv_json.specs.Replayed.{GivesUpIn, HasRunIn}
 use Rattle.dv_orders.specs.Reading.{batches_in}
 use Rattle.dv_orders.specs.declared.fault.OrderFault.{OrderFault}
-use Rattle.dv_output.specs.Exit.{error_text, status}
-use Rattle.dv_output.specs.declared.error.RunFault.{RunFault}
+use Rattle.dv_run.specs.Exit.{error_text, status}
+use Rattle.dv_run.specs.declared.error.RunFault.{RunFault}
 use Rattle.dv_posts.specs.Batches.{Batch}
 use Rattle.dv_reader.specs.declared.error.ScriptFault.{ScriptFault}
 use Rattle.dv_orders.specs.declared.number.Number.{Number}

@@ -1,7 +1,7 @@
 //! What is done with a script.
 
 ghost use Rattle.std.specs.Prelude.{◌≡◌, ◌≤◌, Ok};
-ghost use Rattle.dv_output.specs.Exit.{error_text, status};
+ghost use Rattle.dv_run.specs.Exit.{error_text, status};
 ghost use Rattle.deferreds.specs.Ending.{Does, Replays, Runs, format_for, size_of};
 ghost use Rattle.dv_run.specs.Words.{HasFewWorkers};
 ghost use Rattle.dv_script.specs.declared.limits.TheConstants.{MOST_WORKERS};

@@ -159,7 +159,7 @@ release l =
 abbrev pub hand_out : Option (ℕ × Value) → Rule
 hand_out who = Finds who finished λ (d, v). Fires d v
 
--- raises QueueOverflow if a queue is full. Else puts a value into it, and the first that waits is fired with it
+-- raises QueueOverflow if a queue is full and nobody waits. Else puts a value into it, and the first that waits is fired with it
 abbrev pub put_in : ℕ → Value → Rule
 put_in k v =
     the_queue k λ q.

@@ -2,20 +2,20 @@ ghost use Rattle.std.specs.Prelude.{◌≡◌, ◌++◌, None, Some, MatchOption
 ghost use Rattle.dv_posts.specs.Batches.{AreNext, body_of, joined};
 ghost use Rattle.dv_frames.specs.Bounds.{Bounded};
 ghost use Rattle.dv_engine.specs.Engine.{begun_for, taken_for};
-ghost use Rattle.dv_performing.specs.Meaning.{Runs};
+ghost use Rattle.dv_loop.specs.Meaning.{Runs};
 ghost use Rattle.dv_definition.specs.Scripts.{coming, comings};
 ghost use Rattle.dv_posts.specs.Taking.{with_batch};
 
 use crate::engine::Phase;
-use dv_bodies::submissions::Submissions;
 use dv_frames::turn::Turn;
 use dv_inline::poller::Poller;
 use dv_jobs::source::JobSource;
 use dv_journal::entry::Entry;
-use dv_performing::runner::come;
+use dv_loop::runner::come;
 use dv_posts::batches::Batches;
 use dv_posts::posted::Posted;
 use dv_script::body::Body;
+use dv_threads::submissions::Submissions;
 use dv_value::items::Items;
 use dv_world::world::World;
 use std::alloc::{AllocError, AllocGlobal};

@@ -7,9 +7,9 @@ use Rattle.dv_json.specs.Ended.{Ends}
 use Rattle.dv_json.specs.Lines.{GivesUp, HasRun}
 use Rattle.dv_json.specs.Text.{IsText, Writes, WritesPrefix}
 use Rattle.dv_json.specs.declared.marked.Marked.{Marked}
-use Rattle.dv_output.specs.Faults.{of_print}
-use Rattle.dv_output.specs.declared.error.RunFault.{RunFault}
-use Rattle.dv_output.specs.declared.error.RunFault.TheVariants.{ScriptRefused, OutOfMemory, ReadFault, WriteFault}
+use Rattle.dv_run.specs.Faults.{of_print}
+use Rattle.dv_run.specs.declared.error.RunFault.{RunFault}
+use Rattle.dv_run.specs.declared.error.RunFault.TheVariants.{ScriptRefused, OutOfMemory, ReadFault, WriteFault}
 use Rattle.dv_run.proofs.RunLemmas.{left_after_perform, left_after_print, reader_after_perform, reader_after_print, writer_after_perform, writer_after_print}
 use Rattle.dv_run.specs.Headline.{Told}
 use Rattle.dv_run.specs.Run.{GivesNoScript, SaysScript, WriterFailedBy}

@@ -8,7 +8,7 @@ use Rattle.dv_journal.specs.Journal.{Written, total_weight}
 use Rattle.dv_journal.specs.Line.{hash, name_text}
 use Rattle.dv_json.specs.Gathered.{AddsEnd, AddsOutcome, AddsShown}
 use Rattle.dv_json.specs.Text.{IsEndLine, IsOutcomeLine, ended, totals}
-use Rattle.dv_output.specs.Output.{outcome_line, pauses_text, state_text}
+use Rattle.dv_run.specs.Output.{outcome_line, pauses_text, state_text}
 use Rattle.dv_store.specs.declared.outcome.Outcome.{Outcome}
 use Rattle.dv_value.specs.declared.classes.Class.{Class}
 use Rattle.json.specs.Print.{quoted}

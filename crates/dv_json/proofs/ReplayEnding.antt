@@ -7,9 +7,9 @@ use Rattle.dv_json.specs.Ended.{Ends}
 use Rattle.dv_json.specs.Replayed.{GivesUpIn, HasRunIn, RunGivesUpIn}
 use Rattle.dv_json.specs.Text.{IsText, Writes, WritesPrefix}
 use Rattle.dv_json.specs.declared.marked.Marked.{Marked}
-use Rattle.dv_output.specs.Faults.{of_print}
-use Rattle.dv_output.specs.declared.error.RunFault.{RunFault}
-use Rattle.dv_output.specs.declared.error.RunFault.TheVariants.{ScriptRefused, OutOfMemory, ReadFault, WriteFault}
+use Rattle.dv_run.specs.Faults.{of_print}
+use Rattle.dv_run.specs.declared.error.RunFault.{RunFault}
+use Rattle.dv_run.specs.declared.error.RunFault.TheVariants.{ScriptRefused, OutOfMemory, ReadFault, WriteFault}
 use Rattle.dv_posts.specs.Batches.{Batch}
 use Rattle.dv_replay.proofs.ReplayLemmas.{no_run_left, no_run_reader, no_run_writer}
 use Rattle.dv_replay.specs.Replay.{GivesNoRun}

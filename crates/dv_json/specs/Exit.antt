@@ -1,7 +1,7 @@
--- How a program reports how its run ended, by whether it stopped: as `dv_output` has it of a report.
+-- How a program reports how its run ended, by whether it stopped: as `dv_run` has it of a report.
 use Rattle.std.specs.Prelude.{ℕ, Bool, if◌then◌else◌, List, [], Result, Ok, Err}
-use Rattle.dv_output.specs.Exit.{fault_status, fault_text}
-use Rattle.dv_output.specs.declared.error.RunFault.{RunFault}
+use Rattle.dv_run.specs.Exit.{fault_status, fault_text}
+use Rattle.dv_run.specs.declared.error.RunFault.{RunFault}
 
 -- 1 where the run stopped at the limit of its journal, 0 where all events were performed, and otherwise that of the fault
 abbrev pub status : Result Bool RunFault → ℕ

@@ -4,7 +4,7 @@ use Rattle.json.specs.Print.{quoted}
 use Rattle.dv_journal.specs.Sink.{AppendsBut, AppendsPrefix}
 use Rattle.dv_json.specs.Text.{IsEndLine, IsOutcomeLine, ended}
 use Rattle.dv_journal.specs.Journal.{Written}
-use Rattle.dv_output.specs.Output.{outcome_line}
+use Rattle.dv_run.specs.Output.{outcome_line}
 use Rattle.dv_run.specs.Headline.{Told}
 use Rattle.dv_store.specs.declared.outcome.Outcome.{Outcome}
 use Rattle.dv_value.specs.declared.classes.Class.{Class}

@@ -4,8 +4,8 @@ use Rattle.std.specs.Io.KnownBytes.{Keeps}
 use Rattle.dv_json.specs.Ended.{Ends}
 use Rattle.dv_json.specs.Text.{IsText, Writes, WritesPrefix}
 use Rattle.dv_json.specs.declared.marked.Marked.{Marked}
-use Rattle.dv_output.specs.declared.error.RunFault.{RunFault}
-use Rattle.dv_output.specs.declared.error.RunFault.TheVariants.{ScriptRefused, OutOfMemory, ReadFault, WriteFault}
+use Rattle.dv_run.specs.declared.error.RunFault.{RunFault}
+use Rattle.dv_run.specs.declared.error.RunFault.TheVariants.{ScriptRefused, OutOfMemory, ReadFault, WriteFault}
 use Rattle.dv_run.specs.Headline.{Told}
 use Rattle.dv_run.specs.Run.{RefusesInput, SaysScript}
 use Rattle.dv_script.specs.declared.script.Script.{Script}

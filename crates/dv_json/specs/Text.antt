@@ -9,7 +9,7 @@ use Rattle.dv_facts.specs.Parts.{IsVisible, bool_text}
 use Rattle.dv_journal.specs.Journal.{Written, total_weight}
 use Rattle.dv_journal.specs.Sink.{AppendsPrefix}
 use Rattle.dv_json.specs.declared.marked.Marked.{Marked}
-use Rattle.dv_output.specs.Output.{outcome_line}
+use Rattle.dv_run.specs.Output.{outcome_line}
 use Rattle.dv_run.specs.Headline.{Told}
 use Rattle.dv_store.specs.declared.outcome.Outcome.{Outcome}
 use Rattle.dv_value.specs.declared.classes.Class.{Class}

@@ -9,8 +9,8 @@ use crate::marked::Marked;
 use crate::printing::print_run;
 use dv_jobs::gate::Gate;
 use dv_journal::sink::Sink;
-use dv_output::error::RunFault;
-use dv_output::exit::{fault_status, fault_text, status_of};
+use dv_run::error::RunFault;
+use dv_run::exit::{fault_status, fault_text, status_of};
 use dv_run::performing::perform;
 use dv_run::running::script_of;
 use dv_source::source::Source;
@@ -60,7 +60,7 @@ where
 }
 
 /// The exit status of a run, and what goes to standard error: a line of this text, or nothing where it is empty. They are those of
-/// `dv_output::exit::exit_of`.
+/// `dv_run::exit::exit_of`.
 pub fn exit_of(ended: Result<bool, RunFault>) -> (u8, &'static str)
     ensures status { result.0 ≡ status ended }
     ensures text { result.1.now ≡ error_text ended }

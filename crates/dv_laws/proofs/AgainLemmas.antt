@@ -13,8 +13,8 @@ use Rattle.dv_store.specs.Record.{with_item, new_record}
 use Rattle.dv_store.specs.declared.record.Item.TheVariants as item
 use Rattle.dv_objects.specs.Refusals.{cancelled}
 use Rattle.dv_posts.specs.Batches.{Batch}
-use Rattle.dv_performing.specs.Meaning.{Means}
-use Rattle.dv_performing.proofs.Kept.{Both, Kind, telling_of}
+use Rattle.dv_loop.specs.Meaning.{Means}
+use Rattle.dv_loop.proofs.Kept.{Both, Kind, telling_of}
 use Rattle.dv_world.specs.World.{World, Records, state_of}
 use Rattle.dv_laws.specs.Again.{refusing, refusals, OnlyTheNextFiringIsSwallowed}
 use Rattle.dv_laws.specs.Once.{firing as firing_by, swallowing}

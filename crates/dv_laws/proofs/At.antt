@@ -3,7 +3,7 @@ use Rattle.std.proofs.Common.{◌≡◌, ℕ, zero, suc, ◌+◌, ◌≤◌, ◌
 use Rattle.std.proofs.lemmas.Bool.{eqb-true}
 use Rattle.dv_journal.specs.declared.entry.Entry.{Entry}
 use Rattle.dv_store.specs.Record.{changed, changing}
-use Rattle.dv_performing.proofs.Kept.{Kind}
+use Rattle.dv_loop.proofs.Kept.{Kind}
 use Rattle.dv_world.specs.World.{Records}
 use Rattle.dv_laws.specs.Places.{AtEachPlace, OfEachEntry}
 use Rattle.dv_laws.proofs.ReadBackLemmas.{get_set}

@@ -81,9 +81,9 @@ use Rattle.dv_journal.specs.Journal.{fits, with_entry}
 use Rattle.dv_definition.specs.Flags as page_flags
 use Rattle.dv_definition.specs.Rule.{found}
 use Rattle.dv_frames.specs.Turn.{Turned, settle_next, done, ◌over◌}
-use Rattle.dv_performing.specs.Acting.{begun}
-use Rattle.dv_performing.specs.Settling.{side_begun}
-use Rattle.dv_performing.specs.Turning.{turned}
+use Rattle.dv_loop.specs.Acting.{begun}
+use Rattle.dv_loop.specs.Settling.{side_begun}
+use Rattle.dv_loop.specs.Turning.{turned}
 use Rattle.dv_definition.specs.Definition as page
 use Rattle.dv_definition.specs.Scripts as scripts
 use Rattle.dv_definition.specs.Words as words

@@ -17,9 +17,9 @@ use Rattle.dv_store.specs.declared.record.Item.TheVariants as item
 use Rattle.dv_objects.specs.Refusals.{cancelled}
 use Rattle.dv_objects.specs.Pair.{Pair}
 use Rattle.dv_posts.specs.Batches.{Batch}
-use Rattle.dv_performing.specs.Meaning.{Means}
-use Rattle.dv_performing.proofs.Kept.{Both, Kind, Kept, telling_of, every_step}
-use Rattle.dv_performing.proofs.Total.{means_keeps}
+use Rattle.dv_loop.specs.Meaning.{Means}
+use Rattle.dv_loop.proofs.Kept.{Both, Kind, Kept, telling_of, every_step}
+use Rattle.dv_loop.proofs.Total.{means_keeps}
 use Rattle.dv_world.specs.World.{World, Records, state_of}
 use Rattle.dv_laws.specs.HandOvers.{waits_in, waiters, receives_in, receivers, HandsOverInTurn, ValuesAreHandedOverInTurn}
 use Rattle.dv_laws.specs.Places.{AtEachPlace}

@@ -17,11 +17,11 @@ use Rattle.dv_store.specs.Record.{with_item, new_record, changing}
 use Rattle.dv_store.specs.declared.record.Item.TheVariants as item
 use Rattle.dv_laws.specs.Once.{firing, firings, swallowing, swallowings, ComesFired, Stands, SwallowsTheCancelled, FiredOnce, EachDeferredIsFiredOnce}
 use Rattle.dv_posts.specs.Batches.{Batch}
-use Rattle.dv_performing.specs.Meaning.{Means}
-use Rattle.dv_performing.proofs.Kept.{Both, Kind, Kept, telling_of, every_step}
+use Rattle.dv_loop.specs.Meaning.{Means}
+use Rattle.dv_loop.proofs.Kept.{Both, Kind, Kept, telling_of, every_step}
 use Rattle.dv_laws.proofs.At.{counted_of, at, set_at, changing_at, first_at, last_at, more_at, push_at, split_last}
-use Rattle.dv_performing.proofs.Leading.{scripts_mean_what_is_defined}
-use Rattle.dv_performing.proofs.Total.{means_keeps}
+use Rattle.dv_loop.proofs.Leading.{scripts_mean_what_is_defined}
+use Rattle.dv_loop.proofs.Total.{means_keeps}
 use Rattle.dv_world.specs.World.{World, Records, state_of}
 use Rattle.dv_objects.specs.Refusals.{cancelled}
 

@@ -15,8 +15,8 @@ use Rattle.dv_store.specs.declared.record.Item.TheVariants as item
 use Rattle.dv_objects.specs.Refusals.{cancelled}
 use Rattle.dv_objects.specs.Pair.{Pair}
 use Rattle.dv_posts.specs.Batches.{Batch}
-use Rattle.dv_performing.specs.Meaning.{Means}
-use Rattle.dv_performing.proofs.Kept.{Both, Kind, telling_of}
+use Rattle.dv_loop.specs.Meaning.{Means}
+use Rattle.dv_loop.proofs.Kept.{Both, Kind, telling_of}
 use Rattle.dv_world.specs.World.{World, Records, state_of}
 use Rattle.dv_laws.specs.OneAtATime.{adding, running, ending, additions, runs, ends, UsesEachPairOnce, RunsOneAtATime, EachPairIsUsedOnce, SidesRunOneAtATime}
 use Rattle.dv_laws.proofs.At.{counted_of, at, set_at, changing_at, first_at, push_at, set_by, changing_by, places_on, no_places}

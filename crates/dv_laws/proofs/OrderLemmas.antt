@@ -14,7 +14,7 @@ use Rattle.dv_journal.specs.declared.entry.Entry.TheVariants as entry
 use Rattle.dv_journal.specs.Told.{Timed, Called, Ticking, Delivered, TimedOut}
 use Rattle.dv_objects.specs.Refusals.{cancelled}
 use Rattle.dv_posts.specs.Batches.{Batch}
-use Rattle.dv_performing.specs.Meaning.{Means}
+use Rattle.dv_loop.specs.Meaning.{Means}
 use Rattle.dv_script.specs.declared.script.Script.{Script}
 use Rattle.dv_world.specs.World.{World}
 use Rattle.dv_laws.specs.Calls.{is_same, count_of, scheduled_by, ended_by, schedulings, later_of, run_of, ScheduledOnce, HasRun, Precedes, IsFirst, RunsInOrder, CallsRunInOrder}

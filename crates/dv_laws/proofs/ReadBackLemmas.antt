@@ -15,12 +15,12 @@ use Rattle.dv_store.specs.Record.{with_item, new_record, changed, changing}
 use Rattle.dv_store.specs.declared.record.Item.TheVariants as item
 use Rattle.dv_laws.specs.ReadBack.{Shown, with_firing, with_value, with_wait, with_handed, with_pause, without_pause, told_at, told, told_by, outcome_shown, read_back, OutcomesAreToldByTheJournal}
 use Rattle.dv_posts.specs.Batches.{Batch}
-use Rattle.dv_performing.specs.Meaning.{Means}
+use Rattle.dv_loop.specs.Meaning.{Means}
 use Rattle.dv_store.specs.Outcome.{outcome_of}
 use Rattle.dv_store.specs.declared.outcome.Outcome.{Outcome}
-use Rattle.dv_performing.proofs.Kept.{Both, Kind, Kept, telling_of, every_step}
-use Rattle.dv_performing.proofs.Leading.{scripts_mean_what_is_defined}
-use Rattle.dv_performing.proofs.Total.{means_keeps}
+use Rattle.dv_loop.proofs.Kept.{Both, Kind, Kept, telling_of, every_step}
+use Rattle.dv_loop.proofs.Leading.{scripts_mean_what_is_defined}
+use Rattle.dv_loop.proofs.Total.{means_keeps}
 use Rattle.dv_world.specs.World.{World, Records, state_of}
 use Rattle.dv_objects.specs.Refusals.{cancelled}
 

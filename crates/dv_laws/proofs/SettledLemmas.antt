@@ -9,10 +9,10 @@ use Rattle.dv_store.specs.Callbacks as callbacks
 use Rattle.dv_store.specs.declared.record.Item.{Item}
 use Rattle.dv_objects.specs.Pair.{Pair}
 use Rattle.dv_posts.specs.Batches.{Batch}
-use Rattle.dv_performing.specs.Meaning.{Means}
-use Rattle.dv_performing.proofs.Kept.{Kind, every_step}
-use Rattle.dv_performing.proofs.Leading.{scripts_mean_what_is_defined}
-use Rattle.dv_performing.proofs.Total.{means_keeps}
+use Rattle.dv_loop.specs.Meaning.{Means}
+use Rattle.dv_loop.proofs.Kept.{Kind, every_step}
+use Rattle.dv_loop.proofs.Leading.{scripts_mean_what_is_defined}
+use Rattle.dv_loop.proofs.Total.{means_keeps}
 use Rattle.dv_world.specs.World.{World, state_of}
 use Rattle.dv_laws.specs.HandOvers.{waiters, receivers}
 use Rattle.dv_laws.specs.ReadBack.{Shown}

@@ -16,7 +16,7 @@ use Rattle.dv_store.specs.declared.record.Item.{Item}
 use Rattle.dv_store.specs.declared.record.Item.TheVariants as item
 use Rattle.dv_store.specs.declared.store.Step.{Step}
 use Rattle.dv_store.specs.declared.store.Step.TheVariants.{Nothing, Passed, Run, Handed}
-use Rattle.dv_performing.proofs.Kept.{Kind}
+use Rattle.dv_loop.proofs.Kept.{Kind}
 use Rattle.dv_laws.proofs.Clocks.{Clocks, Arranges}
 use Rattle.dv_laws.proofs.Calm.{Regular, WasCancelled, Calm}
 use Rattle.dv_laws.proofs.Beside.{Beside, Arranged}
@@ -37,7 +37,7 @@ use Rattle.std.proofs.Common.{zero, suc, ◌≤◌, sum_by, sym, subst, ap, ◌�
 use Rattle.std.specs.Prelude.{◌&&◌, not, is_none}
 use Rattle.dv_value.specs.declared.value.Value.{Fault}
 use Rattle.std.proofs.lemmas.List.Sums.{sum_by-append, sum_by-cons}
-use Rattle.dv_performing.specs.Beginning.{happening}
+use Rattle.dv_loop.specs.Beginning.{happening}
 use Rattle.dv_definition.specs.Scripts.{Occurrence, Occurs, Comes}
 use Rattle.dv_script.specs.declared.event.Event.TheVariants as event
 use Rattle.dv_script.specs.declared.script.Script.{Script}
@@ -48,14 +48,14 @@ use Rattle.dv_posts.specs.Batches.{Batch}
 use Rattle.dv_frames.specs.Turn.{Turned, ◌over◌, settling}
 use Rattle.dv_frames.specs.declared.frame.Frame.{Frame}
 use Rattle.dv_frames.specs.declared.frame.Frame.TheVariants as frame
-use Rattle.dv_performing.specs.Turning.{turned}
-use Rattle.dv_performing.specs.Settling.{place, side_begun, settled}
-use Rattle.dv_performing.specs.Meaning.{Gives, Happens, Runs, Means}
+use Rattle.dv_loop.specs.Turning.{turned}
+use Rattle.dv_loop.specs.Settling.{place, side_begun, settled}
+use Rattle.dv_loop.specs.Meaning.{Gives, Happens, Runs, Means}
 use Rattle.dv_definition.specs.Scripts.{occurrences}
-use Rattle.dv_performing.proofs.Extends.{Ended, gives_one}
-use Rattle.dv_performing.proofs.Halts.{finishes}
-use Rattle.dv_performing.proofs.Runs.{run, runs_lead}
-use Rattle.dv_performing.proofs.Leading.{scripts_mean_what_is_defined}
+use Rattle.dv_loop.proofs.Extends.{Ended, gives_one}
+use Rattle.dv_loop.proofs.Halts.{finishes}
+use Rattle.dv_loop.proofs.Runs.{run, runs_lead}
+use Rattle.dv_loop.proofs.Leading.{scripts_mean_what_is_defined}
 use Rattle.dv_engine.specs.Report.{Reports}
 use Rattle.dv_engine.specs.declared.report.Report.{Report}
 use Rattle.dv_journal.specs.Journal.{Written}

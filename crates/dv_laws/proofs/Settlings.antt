@@ -41,14 +41,14 @@ use Rattle.dv_definition.specs.Scripts as scripts
 use Rattle.dv_definition.specs.Scripts.{Occurrence, Occurs, Comes, occurrences}
 use Rattle.dv_definition.specs.Steps as steps
 use Rattle.dv_definition.specs.Steps.{stepped, Question}
-use Rattle.dv_performing.specs.Beginning.{happening}
-use Rattle.dv_performing.specs.Meaning.{Gives, Runs, Means}
-use Rattle.dv_performing.specs.Settling.{place, side_begun, settled}
-use Rattle.dv_performing.specs.Turning.{turned}
-use Rattle.dv_performing.proofs.Extends.{Ended, gives_one}
-use Rattle.dv_performing.proofs.Halts.{finishes}
-use Rattle.dv_performing.proofs.Kept.{Both, Kind}
-use Rattle.dv_performing.proofs.Runs.{run, runs_lead}
+use Rattle.dv_loop.specs.Beginning.{happening}
+use Rattle.dv_loop.specs.Meaning.{Gives, Runs, Means}
+use Rattle.dv_loop.specs.Settling.{place, side_begun, settled}
+use Rattle.dv_loop.specs.Turning.{turned}
+use Rattle.dv_loop.proofs.Extends.{Ended, gives_one}
+use Rattle.dv_loop.proofs.Halts.{finishes}
+use Rattle.dv_loop.proofs.Kept.{Both, Kind}
+use Rattle.dv_loop.proofs.Runs.{run, runs_lead}
 use Rattle.dv_world.specs.World as world
 use Rattle.dv_world.specs.World.{World, Records, state_of, with_state, with_stop, append, fire, fired, fire_guarded, guarded, unpause, unpaused, step, put, put_deferred, first_world, value_of}
 use Rattle.dv_laws.proofs.At.{counted_of, at, set_at, changing_at, push_at, set_by, changing_by}

@@ -28,7 +28,7 @@ use Rattle.dv_store.specs.declared.store.Placed.{Placed}
 use Rattle.dv_store.specs.declared.store.Placed.TheVariants.{Taken, Waits}
 use Rattle.dv_store.specs.declared.store.Step.{Step}
 use Rattle.dv_store.specs.declared.store.Step.TheVariants.{Nothing, Passed, Run, Handed}
-use Rattle.dv_performing.proofs.Kept.{Both, Kind, telling_of}
+use Rattle.dv_loop.proofs.Kept.{Both, Kind, telling_of}
 use Rattle.dv_script.specs.declared.work.Work.{Work}
 use Rattle.dv_objects.specs.Works.{is_full}
 use Rattle.dv_objects.specs.Pair.{passes}

@@ -12,8 +12,8 @@ use Rattle.dv_journal.specs.declared.entry.Entry.TheVariants as entry
 use Rattle.dv_objects.specs.Objects.{Objects, naming_where}
 use Rattle.dv_objects.specs.Refusals.{cancelled}
 use Rattle.dv_posts.specs.Batches.{Batch}
-use Rattle.dv_performing.specs.Meaning.{Means}
-use Rattle.dv_performing.proofs.Leading.{scripts_mean_what_is_defined}
+use Rattle.dv_loop.specs.Meaning.{Means}
+use Rattle.dv_loop.proofs.Leading.{scripts_mean_what_is_defined}
 use Rattle.dv_prims.specs.Laws.{StoresOrIsWaitedFor}
 use Rattle.dv_prims.specs.Queue.{Queue, new_queue, has_room, may_put_by, put_to, got_from, withdrawn}
 use Rattle.dv_prims.specs.Tokens.{without}

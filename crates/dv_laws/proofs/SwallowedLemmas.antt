@@ -21,8 +21,8 @@ use Rattle.dv_objects.specs.declared.canceller.Canceller.{Canceller}
 use Rattle.dv_objects.specs.declared.canceller.Canceller.TheVariants as canceller
 use Rattle.dv_objects.specs.declared.reached.Reached.TheVariants as reached
 use Rattle.dv_posts.specs.Batches.{Batch}
-use Rattle.dv_performing.specs.Meaning.{Means}
-use Rattle.dv_performing.proofs.Kept.{Both, Kind}
+use Rattle.dv_loop.specs.Meaning.{Means}
+use Rattle.dv_loop.proofs.Kept.{Both, Kind}
 use Rattle.dv_world.specs.World.{World, Records, state_of, end_reached, record_reached}
 use Rattle.dv_laws.specs.ReadBack.{Shown, told, told_by}
 use Rattle.dv_laws.specs.Swallowed.{waited_for, led_to, IsFiredByACancel, SwallowsAfterACancel, OnlyACancelHasOneSwallowed}

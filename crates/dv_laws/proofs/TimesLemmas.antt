@@ -7,7 +7,7 @@ use Rattle.dv_script.specs.declared.script.Script.{Script}
 use Rattle.dv_objects.specs.Objects.{Objects, naming_where}
 use Rattle.dv_objects.specs.Refusals.{cancelled}
 use Rattle.dv_posts.specs.Batches.{Batch}
-use Rattle.dv_performing.specs.Meaning.{Means}
+use Rattle.dv_loop.specs.Meaning.{Means}
 use Rattle.dv_world.specs.World.{World}
 use Rattle.dv_laws.specs.Once.{Stands}
 use Rattle.dv_laws.specs.Times.{Timing, timing_of, Untimed, Advances, Schedules, IsNoEarlier, TimeGoesOn, TimeNeverFalls}

@@ -1,4 +1,4 @@
-//! What is left at the end of a run: who still waits and at what it hangs, what hasn't come, what goes on, what was given and not released, and what nobody trapped.
+//! What is left at the end of a run: what waits and what it depends on, tokens that are held, and failures that nothing trapped.
 #![tactic(auto)]
 
 mod end;

@@ -1,4 +1,4 @@
-//! What stands beside the Deferreds of a run: the pairs and cancellers that they hold, results of bodies and cancels, names, and the tasks, loops, inline bodies and works that a script has made.
+//! The objects beside the Deferreds of a run: pairs, cancellers, names, tasks, loops, inline bodies and works.
 #![tactic(auto)]
 
 pub mod canceller;

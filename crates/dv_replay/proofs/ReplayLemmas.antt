@@ -8,10 +8,10 @@ use Rattle.dv_journal.specs.declared.error.PrintFault.{PrintFault}
 use Rattle.dv_journal.specs.declared.error.PrintFault.TheVariants as printing
 use Rattle.dv_orders.specs.Faults.{Refuses}
 use Rattle.dv_orders.specs.declared.fault.OrderFault.{OrderFault}
-use Rattle.dv_output.specs.Faults.{of_print}
-use Rattle.dv_output.specs.Output.{report_text}
-use Rattle.dv_output.specs.declared.error.RunFault.{RunFault}
-use Rattle.dv_output.specs.declared.error.RunFault.TheVariants.{ScriptRefused, OutOfMemory, ReadFault, WriteFault}
+use Rattle.dv_run.specs.Faults.{of_print}
+use Rattle.dv_run.specs.Output.{report_text}
+use Rattle.dv_run.specs.declared.error.RunFault.{RunFault}
+use Rattle.dv_run.specs.declared.error.RunFault.TheVariants.{ScriptRefused, OutOfMemory, ReadFault, WriteFault}
 use Rattle.dv_posts.specs.Batches.{Batch}
 use Rattle.dv_replay.specs.Replay as replay
 use Rattle.dv_replay.specs.Replay.{GivesNoOrder, GivesNoRun, GivesUp, PrintsIn, RunGivesUp, SaysReportIn}

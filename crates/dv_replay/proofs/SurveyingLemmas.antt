@@ -11,10 +11,10 @@ use Rattle.dv_journal.specs.Sink.{AppendsPrefix}
 use Rattle.dv_journal.specs.declared.error.PrintFault.{PrintFault}
 use Rattle.dv_journal.specs.declared.error.PrintFault.TheVariants as printing
 use Rattle.dv_orders.specs.Orders.{orders}
-use Rattle.dv_output.proofs.OutputLemmas.{first_then_prefix}
-use Rattle.dv_output.specs.Faults.{of_print}
-use Rattle.dv_output.specs.declared.error.RunFault.{RunFault}
-use Rattle.dv_output.specs.declared.error.RunFault.TheVariants.{ScriptRefused, OutOfMemory, ReadFault, WriteFault}
+use Rattle.dv_run.proofs.OutputLemmas.{first_then_prefix}
+use Rattle.dv_run.specs.Faults.{of_print}
+use Rattle.dv_run.specs.declared.error.RunFault.{RunFault}
+use Rattle.dv_run.specs.declared.error.RunFault.TheVariants.{ScriptRefused, OutOfMemory, ReadFault, WriteFault}
 use Rattle.dv_posts.specs.Batches.{Batch}
 use Rattle.dv_replay.specs.Surveying as surveying
 use Rattle.dv_replay.specs.Surveying.{CountFails, GivesUp, HasSurveyed, OrdersGiveUp, format_of, PrintsOrders, Surveys, chosen_orders, is_few, orders_text, ran, run_of}

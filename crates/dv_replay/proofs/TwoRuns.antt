@@ -9,8 +9,8 @@ use Rattle.dv_journal.specs.declared.journal.Journal.{Journal}
 use Rattle.dv_orders.proofs.Listing.{every_order, one_order}
 use Rattle.dv_orders.proofs.Members.{In, contains_from, in_from, of_map}
 use Rattle.dv_orders.specs.Orders.{empty_batches, orders}
-use Rattle.dv_output.specs.Output.{output}
-use Rattle.dv_performing.proofs.Leading.{each_script_leads_to_one_world}
+use Rattle.dv_run.specs.Output.{output}
+use Rattle.dv_loop.proofs.Leading.{each_script_leads_to_one_world}
 use Rattle.dv_reader.proofs.Documents.{one_at_most}
 use Rattle.dv_reader.specs.Refusal.{Says}
 use Rattle.dv_replay.specs.Laws.{AloneAllIsDecided, AreAlike, BatchesDecide, EveryRunIsListed, EveryRunIsSurveyed}

@@ -1,7 +1,7 @@
--- How a program tells how its run in given batches ended, by whether it stopped: as `dv_output` has it of a report.
+-- How a program tells how its run in given batches ended, by whether it stopped: as `dv_run` has it of a report.
 use Rattle.std.specs.Prelude.{ℕ, nat_le, Bool, if◌then◌else◌, List, [], Option, None, Some, Result, Ok, Err}
 use Rattle.dv_orders.specs.declared.fault.OrderFault.{OrderFault}
-use Rattle.dv_output.specs.Exit as output
+use Rattle.dv_run.specs.Exit as output
 use Rattle.dv_orders.specs.declared.number.Number.{Number}
 use Rattle.dv_replay.specs.declared.error.ReplayFault.{ReplayFault}
 use Rattle.dv_replay.specs.declared.error.ReplayFault.TheVariants.{Run, BatchesRefused}

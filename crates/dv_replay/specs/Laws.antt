@@ -2,7 +2,7 @@
 use Rattle.std.specs.Prelude.{◌≡◌, ℕ, List, Some, Contains}
 use Rattle.dv_engine.specs.declared.report.Report.{Report}
 use Rattle.dv_orders.specs.Orders.{counts_of, orders, total}
-use Rattle.dv_output.specs.Output.{report_text}
+use Rattle.dv_run.specs.Output.{report_text}
 use Rattle.dv_run.specs.Headline.{IsRun, SaysReport}
 use Rattle.dv_replay.specs.Surveying.{HasSurveyed}
 use Rattle.dv_script.specs.declared.script.Script.{Script}

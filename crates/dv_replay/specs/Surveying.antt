@@ -7,7 +7,7 @@ use Rattle.dv_orders.specs.Orders.{orders}
 use Rattle.dv_orders.specs.Sampled.{sampled}
 use Rattle.dv_orders.specs.declared.number.Number.{Number}
 use Rattle.dv_orders.specs.declared.number.Number.TheVariants.{Exactly, More}
-use Rattle.dv_output.specs.declared.error.RunFault.TheVariants.{ScriptRefused, OutOfMemory, ReadFault, WriteFault}
+use Rattle.dv_run.specs.declared.error.RunFault.TheVariants.{ScriptRefused, OutOfMemory, ReadFault, WriteFault}
 use Rattle.dv_posts.specs.Batches.{Batch}
 use Rattle.dv_replay.specs.declared.error.SurveyFault.{SurveyFault}
 use Rattle.dv_replay.specs.declared.error.SurveyFault.TheVariants.{Run, TooMany}

@@ -1,6 +1,6 @@
 use dv_orders::fault::OrderFault;
 use dv_orders::number::Number;
-use dv_output::error::RunFault;
+use dv_run::error::RunFault;
 use std::alloc::AllocError;
 
 /// Why a run in given batches gave up.
@@ -14,7 +14,7 @@ pub enum ReplayFault {
 
 impl From<AllocError> for ReplayFault {
     ghost use Rattle.std.specs.Prelude.{◌≡◌};
-    ghost use Rattle.dv_output.specs.declared.error.RunFault.TheVariants.{OutOfMemory};
+    ghost use Rattle.dv_run.specs.declared.error.RunFault.TheVariants.{OutOfMemory};
     ghost use Rattle.dv_replay.specs.declared.error.ReplayFault.TheVariants.{Run};
 
     ghost from_gives = { λ _ fault. fault ≡ Run OutOfMemory };

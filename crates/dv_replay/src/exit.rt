@@ -10,7 +10,7 @@ pub fn fault_status(fault: ReplayFault) -> u8
     ensures { result ≡ fault_status fault }
 {
     match fault {
-        ReplayFault::Run(fault) => dv_output::exit::fault_status(fault),
+        ReplayFault::Run(fault) => dv_run::exit::fault_status(fault),
         ReplayFault::BatchesRefused(_) => 5,
     }
 }
@@ -20,7 +20,7 @@ pub fn fault_text(fault: ReplayFault) -> &'static str
     ensures { result.now ≡ fault_text fault }
 {
     match fault {
-        ReplayFault::Run(fault) => dv_output::exit::fault_text(fault),
+        ReplayFault::Run(fault) => dv_run::exit::fault_text(fault),
         ReplayFault::BatchesRefused(_) => "",
     }
 }
@@ -47,7 +47,7 @@ pub fn survey_fault_status(fault: SurveyFault) -> u8
     ensures { result ≡ survey_fault_status fault }
 {
     match fault {
-        SurveyFault::Run(fault) => dv_output::exit::fault_status(fault),
+        SurveyFault::Run(fault) => dv_run::exit::fault_status(fault),
         SurveyFault::TooMany(_) => 7,
     }
 }
@@ -57,7 +57,7 @@ pub fn survey_fault_text(fault: SurveyFault) -> &'static str
     ensures { result.now ≡ survey_fault_text fault }
 {
     match fault {
-        SurveyFault::Run(fault) => dv_output::exit::fault_text(fault),
+        SurveyFault::Run(fault) => dv_run::exit::fault_text(fault),
         SurveyFault::TooMany(_) => "",
     }
 }

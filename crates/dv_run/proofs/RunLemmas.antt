@@ -15,12 +15,12 @@ use Rattle.dv_reader.specs.declared.error.ScriptFault.{ScriptFault}
 use Rattle.dv_reader.specs.declared.error.ScriptFault.TheVariants as script
 use Rattle.dv_script.specs.declared.script.Script.{Script}
 use Rattle.dv_posts.specs.Callers.{AreFew}
-use Rattle.dv_output.specs.Faults.{of_read, of_script, of_print}
+use Rattle.dv_run.specs.Faults.{of_read, of_script, of_print}
 use Rattle.dv_run.specs.Headline.{IsRun, Prints, SaysReport, Told, most_read}
-use Rattle.dv_output.specs.Output.{report_text}
+use Rattle.dv_run.specs.Output.{report_text}
 use Rattle.dv_run.specs.Run.{SaysScript, RefusesInput, GivesUp, HasRead, LeavesAfter, ReaderFailedBy, WriterFailedBy, GivesNoScript}
 use Rattle.dv_source.specs.Source.{ConsumesSome, IsFrontOf}
-use Rattle.dv_output.specs.declared.error.RunFault.TheVariants.{OutOfMemory}
+use Rattle.dv_run.specs.declared.error.RunFault.TheVariants.{OutOfMemory}
 use Rattle.dv_source.specs.declared.source.ReadError.{ReadError}
 use Rattle.dv_source.specs.declared.source.ReadError.TheVariants as reading
 

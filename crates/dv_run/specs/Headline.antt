@@ -7,7 +7,7 @@ use Rattle.dv_engine.specs.declared.report.Report.{Report}
 use Rattle.dv_reader.specs.Refusal.{Says}
 use Rattle.dv_script.specs.declared.limits.TheConstants.{MOST_BYTES}
 use Rattle.dv_script.specs.declared.script.Script.{Script}
-use Rattle.dv_output.specs.Output.{report_text}
+use Rattle.dv_run.specs.Output.{report_text}
 use Rattle.dv_source.specs.Source.{IsFrontOf}
 
 -- the journal and the outcomes are those of the one-thread definition for the script and the batches in which posts were taken, which are lawful; each job that was submitted ran once, with its work; and each caller's posts were taken once each, in order

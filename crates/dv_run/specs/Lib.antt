@@ -1,3 +1,6 @@
+pub mod Output
+pub mod Faults
+pub mod Exit
 pub mod Headline
 pub mod Run
 pub mod Driving

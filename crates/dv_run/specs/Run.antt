@@ -8,10 +8,10 @@ use Rattle.dv_reader.specs.declared.error.ScriptFault.{ScriptFault}
 use Rattle.dv_reader.specs.declared.error.ScriptFault.TheVariants as script
 use Rattle.dv_script.specs.declared.script.Script.{Script}
 use Rattle.dv_run.specs.Headline.{SaysReport, Told, most_read}
-use Rattle.dv_output.specs.Output.{report_text}
+use Rattle.dv_run.specs.Output.{report_text}
 use Rattle.dv_source.specs.Source.{ConsumesSome, IsFrontOf}
-use Rattle.dv_output.specs.declared.error.RunFault.{RunFault}
-use Rattle.dv_output.specs.declared.error.RunFault.TheVariants.{ScriptRefused, OutOfMemory, ReadFault, WriteFault}
+use Rattle.dv_run.specs.declared.error.RunFault.{RunFault}
+use Rattle.dv_run.specs.declared.error.RunFault.TheVariants.{ScriptRefused, OutOfMemory, ReadFault, WriteFault}
 
 -- the input says a script
 pub record SaysScript (input : Told) (script : Script) : Type 0 where

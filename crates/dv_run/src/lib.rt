@@ -1,15 +1,18 @@
-//! Runs a script: reads it, performs it, and prints its journal and its outcomes.
+//! Runs a script: reads it, runs it, and prints its journal and its outcomes; why a run failed, and its exit status.
 #![tactic(auto)]
 
 pub mod driving;
+pub mod error;
+pub mod exit;
 pub mod orders;
+pub mod output;
 pub mod performing;
 pub mod running;
 mod words;
 mod workers;
 
-pub use dv_output::error::RunFault;
-pub use dv_output::exit::exit_of;
+pub use crate::error::RunFault;
+pub use crate::exit::exit_of;
 pub use dv_source::io_source::IoSource;
 pub use dv_source::memory_source::MemorySource;
 pub use dv_source::source::{ReadError, Source, SourceFault};

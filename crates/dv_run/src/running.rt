@@ -5,12 +5,12 @@ ghost use Rattle.dv_run.specs.Headline.{Prints};
 ghost use Rattle.dv_run.specs.Run.{SaysScript, GivesNoScript, GivesUp, HasRead, Leaves, ReaderFailed, WriterFailed};
 
 use crate::driving::Reporting;
+use crate::error::RunFault;
+use crate::output::print_report;
 use crate::performing::perform;
 use dv_engine::report::Report;
 use dv_jobs::gate::Gate;
 use dv_journal::sink::Sink;
-use dv_output::error::RunFault;
-use dv_output::output::print_report;
 use dv_reader::read_script::ReadScript;
 use dv_script::limits::MOST_BYTES;
 use dv_script::script::Script;

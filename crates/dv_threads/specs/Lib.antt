@@ -1,4 +1,1 @@
-pub mod Parts
-pub mod Reply
-pub mod Pool
-pub mod Routes
+pub mod Threading

@@ -1,4 +1,4 @@
-"""Reads files of rows: scripts, how their runs end, and what they print (the format is in crates/dv_rows/README.md)."""
+"""Reads files of rows: scripts, how their runs end, and what they print (the format is in crates/test_rows/README.md)."""
 
 from __future__ import annotations
 
@@ -18,7 +18,7 @@ ANY_LINES = "..."
 NOT_RUN = {"wrong.rows", "why.rows"}
 
 #: where the repository has its files of rows, and where an installed package has them
-ROWS = TOP / "crates" / "dv_rows" / "data"
+ROWS = TOP / "crates" / "test_rows" / "data"
 PACKAGED = Path(__file__).resolve().parents[1] / "rows"
 
 

@@ -1,4 +1,4 @@
-"""`python/recorded_rows [--check]`: makes crates/dv_rows/data/twisted.rows anew, from what real Twisted gives.
+"""`python/recorded_rows [--check]`: makes crates/test_rows/data/twisted.rows anew, from what real Twisted gives.
 
 With `--check` nothing is written, and the status is 0 exactly where the file is what Twisted gives.
 """

@@ -1,4 +1,4 @@
-use Rattle.dv_bodies.proofs.JobLemmas.{told_works}
+use Rattle.dv_threads.proofs.JobLemmas.{told_works}
 use Rattle.dv_journal.specs.declared.entry.Entry.TheVariants as entry
 use Rattle.dv_engine.proofs.draining.begin.Goals as goal
 

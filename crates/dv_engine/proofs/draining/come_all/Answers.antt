@@ -2,7 +2,7 @@ use Rattle.std.proofs.Common.{◌+◌, drop, slice_index_or, sym, subst}
 use Rattle.std.proofs.lemmas.List.{get_or_default}
 use Rattle.dv_posts.proofs.CountLemmas.{drop_at}
 use Rattle.dv_engine.proofs.EngineLemmas.{run_bounded, runs_joined}
-use Rattle.dv_performing.specs.Meaning.{Runs}
+use Rattle.dv_loop.specs.Meaning.{Runs}
 use Rattle.dv_definition.specs.Scripts.{coming, comings}
 use Rattle.dv_posts.specs.declared.posted.Posted.{Posted}
 use Rattle.dv_engine.proofs.draining.come_all.Goals as goal

@@ -1,6 +1,6 @@
 use Rattle.std.proofs.Common.{◌≡◌, drop}
 use Rattle.dv_frames.specs.Bounds.{Bounded}
-use Rattle.dv_performing.specs.Meaning.{Runs}
+use Rattle.dv_loop.specs.Meaning.{Runs}
 use Rattle.dv_definition.specs.Scripts.{comings}
 use Rattle.dv_engine.proofs.draining.come_all.Given as goal
 use Rattle.dv_world.specs.World.{World}

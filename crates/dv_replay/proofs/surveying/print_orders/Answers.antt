@@ -1,7 +1,7 @@
 use Rattle.std.proofs.Common.{Err, ap, subst, sym}
 use Rattle.std.specs.Io.KnownBytes.{Appends}
 use Rattle.dv_journal.specs.Sink.{AppendsPrefix}
-use Rattle.dv_output.specs.Faults.{of_print}
+use Rattle.dv_run.specs.Faults.{of_print}
 use Rattle.dv_replay.proofs.SurveyingLemmas.{all_written, count_fails, count_writer, memory_writer, number_fails, runs_fail, survey_fails}
 use Rattle.dv_replay.specs.Surveying.{OrdersGiveUp}
 use Rattle.dv_replay.specs.declared.error.SurveyFault.TheVariants.{Run}

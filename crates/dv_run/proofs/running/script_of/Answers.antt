@@ -1,5 +1,5 @@
 use Rattle.std.proofs.Common.{rules, ap, Err}
-use Rattle.dv_output.specs.Faults.{of_read}
+use Rattle.dv_run.specs.Faults.{of_read}
 use Rattle.dv_run.specs.Run.{GivesNoScript}
 use Rattle.dv_run.proofs.RunLemmas.{read_gives_none}
 use Rattle.dv_run.proofs.running.script_of.Goals as goal

@@ -2,7 +2,7 @@ use Rattle.std.proofs.Common.{◌≡◌, ◌++◌, ◌∷◌, ◌∙◌, [], Lis
 use Rattle.dv_engine.proofs.EngineLemmas.{submitted_after, taken_stands}
 use Rattle.dv_posts.specs.Batches.{AreNext, Batch, Callers, joined}
 use Rattle.dv_engine.specs.Engine.{Engine, HasSubmitted, MayTake, Stands, Takes, taken_for}
-use Rattle.dv_performing.specs.Meaning.{Runs}
+use Rattle.dv_loop.specs.Meaning.{Runs}
 use Rattle.dv_engine.specs.declared.engine.Phase.{Phase}
 use Rattle.dv_engine.proofs.engine.Engine.perform.Goals as goal
 

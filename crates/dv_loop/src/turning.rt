@@ -1,0 +1,178 @@
+//! One turn: the frame on top of the stack, by its rule.
+
+ghost use Rattle.std.specs.Prelude.{◌≡◌, IfOk, OnOk};
+ghost use Rattle.dv_objects.specs.declared.performed.Performed.TheVariants.{Done};
+ghost use Rattle.dv_frames.specs.Bounds.{Bounded};
+ghost use Rattle.dv_definition.specs.Definition as page;
+ghost use Rattle.dv_definition.specs.Rule.{after};
+ghost use Rattle.dv_definition.specs.Scripts.{rule_of, tell_failure, unless_raised};
+ghost use Rattle.dv_loop.specs.TurnEnds.{ending};
+
+use crate::acting::begin;
+use crate::coming_due::run_due;
+use crate::settling::{end_side, settle};
+use crate::taking::{clear, taken};
+use crate::turn_end::{TurnEnd, came};
+use crate::wanting;
+use dv_clock::task_id::TaskId;
+use dv_defer::cancelling::{cancel, end_canceller};
+use dv_frames::following::add_and_settle;
+use dv_frames::frame::{Frame, Purpose, Rest};
+use dv_frames::raising::tell_failure;
+use dv_frames::turn::Turn;
+use dv_inline::poller::Poller;
+use dv_journal::deferred_id::DeferredId;
+use dv_objects::performed::Performed;
+use dv_task::cooperating::{end_step, go_on_ticking, notify};
+use dv_threads::maybe::{end_maybe, give_after};
+use dv_world::ending::ended;
+use std::alloc::AllocError;
+
+/// Goes on with the frame that was on top, which gets what the one above it gave.
+#[inline(always)]
+pub fn perform_frame<'s>(
+    poller: &Poller,
+    turn: &mut Turn<'s>,
+    frame: Frame<'s>,
+) -> Result<TurnEnd, AllocError>
+    requires bounded { Bounded turn.old.world }
+    ensures { IfOk result (λ end. ending end turn.new ≡ after (rule_of frame.entry turn.old.performed) turn.old) }
+{
+    match frame {
+        Frame::Settle(id) => {
+            clear(&mut turn.performed);
+            came(settle(turn, id))
+        }
+        Frame::Place(id) => came(put_in_place(turn, id)),
+        Frame::Rest(rest) => came(go_on_unless_raised(turn, rest)),
+        Frame::Canceller(id) => came(go_on_cancelling(turn, id)),
+        Frame::Maybe(purpose) => came(make_deferred(turn, purpose)),
+        Frame::Add(id, pair) => {
+            clear(&mut turn.performed);
+            came(add_and_settle(turn, id, pair))
+        }
+        Frame::Cancel(id) => {
+            clear(&mut turn.performed);
+            came(cancel(turn, id))
+        }
+        Frame::Give(given) => {
+            give_after(turn, given);
+            Ok(TurnEnd::Came)
+        }
+        Frame::Notify(id, task) => {
+            clear(&mut turn.performed);
+            came(notify(turn, id, task))
+        }
+        Frame::Stepped(task) => came(go_on_stepping(turn, task)),
+        Frame::Tick(units) => {
+            clear(&mut turn.performed);
+            came(go_on_ticking(turn, units))
+        }
+        Frame::Tell => came(tell(turn)),
+        Frame::Due => {
+            clear(&mut turn.performed);
+            run_due(turn)
+        }
+        Frame::Inline(inlining) => { came(wanting::go_on(poller, turn, inlining)) }
+    }
+}
+
+/// Puts what a side of a Deferred gave in place.
+#[inline(never)]
+fn put_in_place<'s>(turn: &mut Turn<'s>, id: DeferredId) -> Result<(), AllocError>
+    ensures { OnOk result (turn.new ≡ after (page.put_in_place id turn.old.performed) turn.old) }
+{
+    let came_to = taken(&mut turn.performed);
+    end_side(turn, id, came_to)
+}
+
+/// Goes on after a canceller.
+#[inline(never)]
+fn go_on_cancelling<'s>(turn: &mut Turn<'s>, id: DeferredId) -> Result<(), AllocError>
+    ensures { OnOk result (turn.new ≡ after (page.after_canceller id turn.old.performed) turn.old) }
+{
+    let came_to = taken(&mut turn.performed);
+    end_canceller(turn, id, came_to)
+}
+
+/// What a body gave becomes a Deferred.
+#[inline(never)]
+fn make_deferred<'s>(turn: &mut Turn<'s>, purpose: Purpose<'s>) -> Result<(), AllocError>
+    requires bounded { Bounded turn.old.world }
+    ensures { OnOk result (turn.new ≡ after (page.deferred_of purpose.entry turn.old.performed) turn.old) }
+{
+    let came_to = taken(&mut turn.performed);
+    end_maybe(turn, purpose, came_to)
+}
+
+/// Goes on after a body of a task.
+#[inline(never)]
+fn go_on_stepping<'s>(turn: &mut Turn<'s>, task: TaskId) -> Result<(), AllocError>
+    ensures { OnOk result (turn.new ≡ after (page.step_ended task turn.old.performed) turn.old) }
+{
+    let came_to = taken(&mut turn.performed);
+    end_step(turn, task, came_to)
+}
+
+/// Tells of a failure that nothing has caught.
+#[inline(never)]
+fn tell<'s>(turn: &mut Turn<'s>) -> Result<(), AllocError>
+    ensures { OnOk result (turn.new ≡ after (tell_failure turn.old.performed) turn.old) }
+{
+    let came_to = taken(&mut turn.performed);
+    tell_failure(turn, came_to)
+}
+
+/// Goes on with a body, unless what it performed last raised.
+#[inline(never)]
+fn go_on_unless_raised<'s>(turn: &mut Turn<'s>, rest: Rest<'s>) -> Result<(), AllocError>
+    requires bounded { Bounded turn.old.world }
+    ensures { OnOk result (turn.new ≡ after (unless_raised turn.old.performed (page.perform_rest rest.entry.itself rest.entry.actions rest.entry.end rest.entry.input)) turn.old) }
+{
+    match &turn.performed {
+        Performed::Raised(_) => {
+            drop(rest);
+            Ok(())
+        }
+        Performed::Done | Performed::Gave(_) | Performed::Awaits(_) => {
+            clear(&mut turn.performed);
+            go_on(turn, rest)
+        }
+    }
+}
+
+/// Begins the next action of a body, or ends it.
+fn go_on<'s>(turn: &mut Turn<'s>, rest: Rest<'s>) -> Result<(), AllocError>
+    requires bounded { Bounded turn.old.world }
+    requires done { turn.old.performed ≡ Done }
+    ensures { OnOk result (turn.new ≡ after (page.perform_rest rest.entry.itself rest.entry.actions rest.entry.end rest.entry.input) turn.old) }
+{
+    let Rest {
+        itself,
+        actions,
+        end,
+        input,
+    } = rest;
+    let bound = &itself;
+    match actions.split() {
+        None => {
+            turn.performed = ended(
+                turn.alloc,
+                &turn.world,
+                *bound,
+                end.get(),
+                input.into_value(),
+            )?;
+            Ok(())
+        }
+        Some((action, actions)) => {
+            turn.stack.push(Frame::Rest(Rest {
+                itself: *bound,
+                actions,
+                end,
+                input,
+            }))?;
+            begin(turn, *bound, action)
+        }
+    }
+}

@@ -1,3 +1,0 @@
-pub mod Output
-pub mod Faults
-pub mod Exit

@@ -1,6 +1,0 @@
-use Rattle.std.proofs.Common.{◌≡◌, take, false}
-use Rattle.dv_threads.specs.Routes.{has_failed}
-use Rattle.dv_threads.proofs.pools.have_failed.Given as goal
-
-abbrev pub invariant-loop-pool : goal.invariant-loop-pool
-invariant-loop-pool g l = has_failed (take l.pool-index l.pools) ≡ false

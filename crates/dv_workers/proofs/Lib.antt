@@ -1,2 +1,0 @@
-pub mod RuleLemmas
-pub mod Crossing

@@ -1,5 +1,0 @@
-use Rattle.dv_workers.proofs.RuleLemmas.{forks}
-use Rattle.dv_workers.proofs.answer_queue.split.Goals as goal
-
-pub another-requires-clause-rule : goal.another-requires-clause-rule
-another-requires-clause-rule c = forks _ _ c.requires.part

@@ -1,5 +1,0 @@
-use Rattle.dv_workers.proofs.RuleLemmas.{queue_takes}
-use Rattle.dv_workers.proofs.answer_queue.take.Goals as goal
-
-pub try_pop_as-requires-clause-rule : goal.try_pop_as-requires-clause-rule
-try_pop_as-requires-clause-rule c = queue_takes _ _ c.requires.part

@@ -1,5 +1,0 @@
-use Rattle.dv_workers.proofs.RuleLemmas.{merges}
-use Rattle.dv_workers.proofs.job_deque.absorb.Goals as goal
-
-pub absorb-requires-clause-rule : goal.absorb-requires-clause-rule
-absorb-requires-clause-rule c = merges _ _ _ _ c.requires.part

@@ -1,5 +1,0 @@
-use Rattle.dv_workers.proofs.RuleLemmas.{forks}
-use Rattle.dv_workers.proofs.job_deque.split.Goals as goal
-
-pub another-requires : goal.another-requires
-another-requires c = forks _ _ c.requires

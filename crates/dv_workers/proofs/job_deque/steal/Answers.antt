@@ -1,5 +1,0 @@
-use Rattle.dv_workers.proofs.RuleLemmas.{deque_takes}
-use Rattle.dv_workers.proofs.job_deque.steal.Goals as goal
-
-pub steal_as-requires-clause-takes : goal.steal_as-requires-clause-takes
-steal_as-requires-clause-takes c = deque_takes _ _ 1 c.requires.part

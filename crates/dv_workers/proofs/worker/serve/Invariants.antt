@@ -1,5 +1,0 @@
-use Rattle.dv_workers.specs.Worker.{IsEndOf, HasServed}
-use Rattle.dv_workers.proofs.worker.serve.Given as goal
-
-abbrev pub invariant-loop : goal.invariant-loop
-invariant-loop g l = IsEndOf l.shared l.end × HasServed l.end
