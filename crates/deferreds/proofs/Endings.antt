@@ -1,5 +1,6 @@
 -- How the program ends, by how its task does.
-use Rattle.std.proofs.Common.{◌≡◌, ℕ, List, Bool, [], Option, None, Some, Result, Ok, Err, IfErr, IfOk, inl, inr, codes, if◌then◌else◌}
+use Rattle.std.proofs.Common.{◌≡◌, ℕ, List, Bool, [], Option, None, Some, Result, Ok, Err, IfErr, IfOk, inl, inr, codes}
+use Rattle.std.proofs.Common.{if◌then◌else◌}
 use Rattle.std.proofs.KnownBytes.{Keeps-refl}
 use Rattle.dv_engine.specs.declared.report.Report.{Report}
 use Rattle.dv_json.specs.Exit.{error_text as json_text, status as json_status}
@@ -12,7 +13,8 @@ use Rattle.dv_run.specs.declared.error.RunFault.{RunFault}
 use Rattle.dv_posts.specs.Batches.{Batch}
 use Rattle.dv_reader.specs.declared.error.ScriptFault.{ScriptFault}
 use Rattle.dv_orders.specs.declared.number.Number.{Number}
-use Rattle.dv_replay.specs.Exit.{fault_refusal, fault_status, fault_text, survey_fault_status, survey_fault_text, survey_status, too_many}
+use Rattle.dv_replay.specs.Exit.{fault_refusal, fault_status, fault_text, survey_fault_status, survey_fault_text}
+use Rattle.dv_replay.specs.Exit.{survey_status, too_many}
 use Rattle.dv_replay.specs.Replay as replay
 use Rattle.dv_replay.specs.Replay.{PrintsIn}
 use Rattle.dv_replay.specs.Surveying as surveying
@@ -30,59 +32,97 @@ use Rattle.dv_why.specs.declared.explaining.WhyFault.{WhyFault}
 use Rattle.dv_run.specs.declared.words.Task.TheVariants as task
 use Rattle.deferreds.specs.Ending.{Does, ExplainsScript, Replays, Runs, RunsAsJson, SurveysScript}
 
-pub runs : (ended : Result Report RunFault) (code : ℕ) (said : List ℕ) (input old new : Told) → IfOk ended (Prints input old new) → IfErr ended (λ fault. GivesUp fault input old new)
+pub runs : (ended : Result Report RunFault) (code : ℕ) (said : List ℕ) (input old new : Told)
+    → IfOk ended (Prints input old new) → IfErr ended (λ fault. GivesUp fault input old new)
     → code ≡ status ended → said ≡ error_text ended → Runs code said input old new
-runs ended code said input old new ok err is says = record { ended = ended; ok = ok; err = err; status = is; text = says }
+runs ended code said input old new ok err is says =
+    record { ended = ended; ok = ok; err = err; status = is; text = says }
 
-pub runs_as_json : (ended : Result Bool RunFault) (code : ℕ) (said : List ℕ) (input old new : Told) → IfOk ended (HasRun input old new) → IfErr ended (λ fault. GivesUpAsJson fault input old new)
+pub runs_as_json : (ended : Result Bool RunFault) (code : ℕ) (said : List ℕ) (input old new : Told)
+    → IfOk ended (HasRun input old new) → IfErr ended (λ fault. GivesUpAsJson fault input old new)
     → code ≡ json_status ended → said ≡ json_text ended → RunsAsJson code said input old new
-runs_as_json ended code said input old new ok err is says = record { ended = ended; ok = ok; err = err; status = is; text = says }
+runs_as_json ended code said input old new ok err is says =
+    record { ended = ended; ok = ok; err = err; status = is; text = says }
 
-pub explains : (ended : Result (Option ScriptFault) WhyFault) (code : ℕ) (said : List ℕ) (input old new : Told) → IfOk ended (Explains input old new)
+pub explains : (ended : Result (Option ScriptFault) WhyFault) (code : ℕ) (said : List ℕ) (input old new : Told)
+    → IfOk ended (Explains input old new)
     → code ≡ ended_status ended → said ≡ ended_text ended → ExplainsScript code said input old new
 explains ended code said input old new ok is says = record { ended = ended; ok = ok; status = is; text = says }
 
 -- a run in given batches went to its end, or failed
-pub replays_lines : (batches : List Batch) (report : Report) (code : ℕ) (said : List ℕ) (refusal : Option OrderFault) (input old new : Told) → PrintsIn batches input old new report
-    → code ≡ (if report.stopped then 1 else 0) → said ≡ [] → refusal ≡ None → Replays form.Lines batches code said refusal input old new
+pub replays_lines : (batches : List Batch) (report : Report) (code : ℕ) (said : List ℕ) (refusal : Option OrderFault)
+    (input old new : Told) → PrintsIn batches input old new report
+    → code ≡ (if report.stopped then 1 else 0) → said ≡ [] → refusal ≡ None
+    → Replays form.Lines batches code said refusal input old new
 replays_lines batches report code said refusal input old new prints is says accepted =
     inl (record { report = report; prints = prints; ends = record { status = is; text = says; accepted = accepted } })
 
-pub fails_lines : (batches : List Batch) (fault : ReplayFault) (code : ℕ) (said : List ℕ) (refusal : Option OrderFault) (input old new : Told) → replay.GivesUp fault batches input old new
-    → code ≡ fault_status fault → said ≡ fault_text fault → refusal ≡ fault_refusal fault → Replays form.Lines batches code said refusal input old new
+pub fails_lines : (batches : List Batch) (fault : ReplayFault) (code : ℕ) (said : List ℕ) (refusal : Option OrderFault)
+    (input old new : Told) → replay.GivesUp fault batches input old new
+    → code ≡ fault_status fault → said ≡ fault_text fault → refusal ≡ fault_refusal fault
+    → Replays form.Lines batches code said refusal input old new
 fails_lines batches fault code said refusal input old new gives_up is says refused =
     inr (record { fault = fault; gives_up = gives_up; ends = record { status = is; text = says; refused = refused } })
 
-pub replays_json : (batches : List Batch) (stopped : Bool) (code : ℕ) (said : List ℕ) (refusal : Option OrderFault) (input old new : Told) → HasRunIn batches input old new stopped
-    → code ≡ (if stopped then 1 else 0) → said ≡ [] → refusal ≡ None → Replays form.Json batches code said refusal input old new
+pub replays_json : (batches : List Batch) (stopped : Bool) (code : ℕ) (said : List ℕ) (refusal : Option OrderFault)
+    (input old new : Told) → HasRunIn batches input old new stopped
+    → code ≡ (if stopped then 1 else 0) → said ≡ [] → refusal ≡ None
+    → Replays form.Json batches code said refusal input old new
 replays_json batches stopped code said refusal input old new runs is says accepted =
     inl (record { stopped = stopped; runs = runs; ends = record { status = is; text = says; accepted = accepted } })
 
-pub fails_json : (batches : List Batch) (fault : ReplayFault) (code : ℕ) (said : List ℕ) (refusal : Option OrderFault) (input old new : Told) → GivesUpIn fault batches input old new
-    → code ≡ fault_status fault → said ≡ fault_text fault → refusal ≡ fault_refusal fault → Replays form.Json batches code said refusal input old new
+pub fails_json : (batches : List Batch) (fault : ReplayFault) (code : ℕ) (said : List ℕ) (refusal : Option OrderFault)
+    (input old new : Told) → GivesUpIn fault batches input old new
+    → code ≡ fault_status fault → said ≡ fault_text fault → refusal ≡ fault_refusal fault
+    → Replays form.Json batches code said refusal input old new
 fails_json batches fault code said refusal input old new gives_up is says refused =
     inr (record { fault = fault; gives_up = gives_up; ends = record { status = is; text = says; refused = refused } })
 
 -- the word was read, or it says no batches, or its reading was out of memory
-pub replays_word : (form : Form) (workers : ℕ) (word : List ℕ) (batches : List Batch) (code : ℕ) (said : List ℕ) (refusal : Option OrderFault) (many : Option Number) (input old new : Told) → batches_in word ≡ Some batches
-    → Replays form batches code said refusal input old new → Does (task.Replay form workers) word code said refusal many input old new
-replays_word form workers word batches code said refusal many input old new says replays = inl (record { batches = batches; says = says; replays = replays })
+pub replays_word : (form : Form) (workers : ℕ) (word : List ℕ) (batches : List Batch) (code : ℕ) (said : List ℕ)
+    (refusal : Option OrderFault) (many : Option Number) (input old new : Told) → batches_in word ≡ Some batches
+    → Replays form batches code said refusal input old new
+    → Does (task.Replay form workers) word code said refusal many input old new
+replays_word form workers word batches code said refusal many input old new says replays =
+    inl (record { batches = batches; says = says; replays = replays })
 
-pub says_none : (form : Form) (workers : ℕ) (word : List ℕ) (code : ℕ) (said : List ℕ) (refusal : Option OrderFault) (many : Option Number) (input told : Told) → batches_in word ≡ None → code ≡ 64
+pub says_none : (form : Form) (workers : ℕ) (word : List ℕ) (code : ℕ) (said : List ℕ) (refusal : Option OrderFault)
+    (many : Option Number) (input told : Told) → batches_in word ≡ None → code ≡ 64
     → Does (task.Replay form workers) word code said refusal many input told told
-says_none form workers word code said refusal many input told none is = inr (inl (record { none = none; status = is; written = Keeps-refl told }))
+says_none form workers word code said refusal many input told none is =
+    inr (inl (record { none = none; status = is; written = Keeps-refl told }))
 
-pub word_fails : (form : Form) (workers : ℕ) (word : List ℕ) (code : ℕ) (said : List ℕ) (refusal : Option OrderFault) (many : Option Number) (input told : Told) → code ≡ 3 → said ≡ codes "out of memory"
+pub word_fails : (form : Form) (workers : ℕ) (word : List ℕ) (code : ℕ) (said : List ℕ) (refusal : Option OrderFault)
+    (many : Option Number) (input told : Told) → code ≡ 3 → said ≡ codes "out of memory"
     → Does (task.Replay form workers) word code said refusal many input told told
-word_fails form workers word code said refusal many input told is says = inr (inr (record { status = is; text = says; written = Keeps-refl told }))
+word_fails form workers word code said refusal many input told is says =
+    inr (inr (record { status = is; text = says; written = Keeps-refl told }))
 
 -- a run in the chosen orders ended, or failed
-pub surveys_all : (format : Format) (chosen : Chosen) (outcomes code : ℕ) (said : List ℕ) (many : Option Number) (input old new : Told) → Surveys format chosen input old new outcomes
+pub surveys_all : (format : Format) (chosen : Chosen) (outcomes code : ℕ) (said : List ℕ) (many : Option Number)
+    (input old new : Told) → Surveys format chosen input old new outcomes
     → code ≡ survey_status outcomes → said ≡ [] → many ≡ None → SurveysScript format chosen code said many input old new
-surveys_all format chosen outcomes code said many input old new surveys is says few = record { ended = Ok outcomes; ok = surveys; err = tt; status = is; text = says; number = few }
+surveys_all format chosen outcomes code said many input old new surveys is says few =
+    record { ended = Ok outcomes; ok = surveys; err = tt; status = is; text = says; number = few }
 
-pub surveys_fault : (format : Format) (chosen : Chosen) (fault : SurveyFault) (code : ℕ) (said : List ℕ) (many : Option Number) (input old new : Told) → surveying.GivesUp format fault chosen input old new
-    → code ≡ survey_fault_status fault → said ≡ survey_fault_text fault → many ≡ too_many fault → SurveysScript format chosen code said many input old new
-surveys_fault format chosen fault code said many input old new gives_up is says number = record { ended = Err fault; ok = tt; err = gives_up; status = is; text = says; number = number }
+pub surveys_fault : (format : Format) (chosen : Chosen) (fault : SurveyFault) (code : ℕ) (said : List ℕ)
+    (many : Option Number) (input old new : Told) → surveying.GivesUp format fault chosen input old new
+    → code ≡ survey_fault_status fault → said ≡ survey_fault_text fault → many ≡ too_many fault
+    → SurveysScript format chosen code said many input old new
+surveys_fault format chosen fault code said many input old new gives_up is says number =
+    record { ended = Err fault; ok = tt; err = gives_up; status = is; text = says; number = number }
 
-pub ruleset endings = (surveys_all, surveys_fault, runs, runs_as_json, explains, replays_lines, fails_lines, replays_json, fails_json, replays_word, says_none, word_fails)
+pub ruleset endings = (
+  surveys_all,
+  surveys_fault,
+  runs,
+  runs_as_json,
+  explains,
+  replays_lines,
+  fails_lines,
+  replays_json,
+  fails_json,
+  replays_word,
+  says_none,
+  word_fails,
+)

@@ -1,5 +1,6 @@
 -- How the program ends, by how what it did with its script has ended.
-use Rattle.std.specs.Prelude.{◌≡◌, ◌⊎◌, ℕ, nat_eq, if◌then◌else◌, List, [], Bool, Option, None, Some, Result, IfErr, IfOk, codes}
+use Rattle.std.specs.Prelude.{◌≡◌, ◌⊎◌, ℕ, nat_eq, if◌then◌else◌, List, [], Bool, Option, None, Some, Result, IfErr}
+use Rattle.std.specs.Prelude.{IfOk, codes}
 use Rattle.std.specs.Io.KnownBytes.{Keeps}
 use Rattle.dv_engine.specs.declared.report.Report.{Report}
 use Rattle.dv_json.specs.Exit.{error_text as json_text, status as json_status}
@@ -68,35 +69,42 @@ pub record HasGivenUp (fault : ReplayFault) (code : ℕ) (said : List ℕ) (refu
   pub refused : refusal ≡ fault_refusal fault
 
 -- a run in these batches whose text is theirs ended
-pub record ReplaysLines (batches : List Batch) (code : ℕ) (said : List ℕ) (refusal : Option OrderFault) (input old new : Told) : Type 0 where
+pub record ReplaysLines (batches : List Batch) (code : ℕ) (said : List ℕ) (refusal : Option OrderFault)
+    (input old new : Told) : Type 0 where
   pub report : Report
   pub prints : PrintsIn batches input old new report
   pub ends : HasEnded report.stopped code said refusal
 
 -- or it failed
-pub record FailsLines (batches : List Batch) (code : ℕ) (said : List ℕ) (refusal : Option OrderFault) (input old new : Told) : Type 0 where
+pub record FailsLines (batches : List Batch) (code : ℕ) (said : List ℕ) (refusal : Option OrderFault)
+    (input old new : Told) : Type 0 where
   pub fault : ReplayFault
   pub gives_up : replay.GivesUp fault batches input old new
   pub ends : HasGivenUp fault code said refusal
 
 -- the same of a run that is written as JSON Lines
-pub record ReplaysJson (batches : List Batch) (code : ℕ) (said : List ℕ) (refusal : Option OrderFault) (input old new : Told) : Type 0 where
+pub record ReplaysJson (batches : List Batch) (code : ℕ) (said : List ℕ) (refusal : Option OrderFault)
+    (input old new : Told) : Type 0 where
   pub stopped : Bool
   pub runs : HasRunIn batches input old new stopped
   pub ends : HasEnded stopped code said refusal
 
-pub record FailsJson (batches : List Batch) (code : ℕ) (said : List ℕ) (refusal : Option OrderFault) (input old new : Told) : Type 0 where
+pub record FailsJson (batches : List Batch) (code : ℕ) (said : List ℕ) (refusal : Option OrderFault)
+    (input old new : Told) : Type 0 where
   pub fault : ReplayFault
   pub gives_up : GivesUpIn fault batches input old new
   pub ends : HasGivenUp fault code said refusal
 
 -- a run in these batches, in each form
 abbrev pub Replays : Form → List Batch → ℕ → List ℕ → Option OrderFault → Told → Told → Told → Type 0
-Replays form.Lines batches code said refusal input old new = ReplaysLines batches code said refusal input old new ⊎ FailsLines batches code said refusal input old new
-Replays form.Json batches code said refusal input old new = ReplaysJson batches code said refusal input old new ⊎ FailsJson batches code said refusal input old new
+Replays form.Lines batches code said refusal input old new =
+    ReplaysLines batches code said refusal input old new ⊎ FailsLines batches code said refusal input old new
+Replays form.Json batches code said refusal input old new =
+    ReplaysJson batches code said refusal input old new ⊎ FailsJson batches code said refusal input old new
 
 -- the word says batches, and the script was run in these
-pub record ReplaysWord (form : Form) (word : List ℕ) (code : ℕ) (said : List ℕ) (refusal : Option OrderFault) (input old new : Told) : Type 0 where
+pub record ReplaysWord (form : Form) (word : List ℕ) (code : ℕ) (said : List ℕ) (refusal : Option OrderFault)
+    (input old new : Told) : Type 0 where
   pub batches : List Batch
   pub says : batches_in word ≡ Some batches
   pub replays : Replays form batches code said refusal input old new
@@ -124,7 +132,8 @@ format_for form.Lines chosen = format.Lines (size_of chosen)
 format_for form.Json chosen = format.Json (size_of chosen)
 
 -- a run in the chosen orders ended, or failed
-pub record SurveysScript (format : Format) (chosen : Chosen) (code : ℕ) (said : List ℕ) (many : Option Number) (input old new : Told) : Type 0 where
+pub record SurveysScript (format : Format) (chosen : Chosen) (code : ℕ) (said : List ℕ) (many : Option Number)
+    (input old new : Told) : Type 0 where
   pub ended : Result ℕ SurveyFault
   pub ok : IfOk ended (Surveys format chosen input old new)
   pub err : IfErr ended (λ fault. surveying.GivesUp format fault chosen input old new)
@@ -136,8 +145,11 @@ pub record SurveysScript (format : Format) (chosen : Chosen) (code : ℕ) (said 
 abbrev pub Does : Task → List ℕ → ℕ → List ℕ → Option OrderFault → Option Number → Told → Told → Told → Type 0
 Does (task.Run form.Lines workers) word code said refusal many input old new = Runs code said input old new
 Does (task.Run form.Json workers) word code said refusal many input old new = RunsAsJson code said input old new
-Does (task.Replay form workers) word code said refusal many input old new = ReplaysWord form word code said refusal input old new ⊎ SaysNoBatches word code old new ⊎ WordFails code said old new
-Does (task.Survey form chosen) word code said refusal many input old new = SurveysScript (format_for form chosen) chosen code said many input old new
+Does (task.Replay form workers) word code said refusal many input old new =
+    ReplaysWord form word code said refusal input old new ⊎ SaysNoBatches word code old new
+    ⊎ WordFails code said old new
+Does (task.Survey form chosen) word code said refusal many input old new =
+    SurveysScript (format_for form chosen) chosen code said many input old new
 Does task.Why word code said refusal many input old new = ExplainsScript code said input old new
 
 -- who runs a script that is refused is pointed to what explains it

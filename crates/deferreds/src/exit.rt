@@ -1,7 +1,9 @@
 //! How the program ends.
 
 ghost use Rattle.std.specs.Prelude.{◌≡◌, [], None};
-ghost use Rattle.dv_replay.specs.Exit.{fault_refusal, fault_status, fault_text, survey_fault_status, survey_fault_text, survey_status, too_many};
+ghost use Rattle.dv_replay.specs.Exit.{fault_refusal, fault_status, fault_text};
+ghost use Rattle.dv_replay.specs.Exit.{survey_fault_status, survey_fault_text, survey_status};
+ghost use Rattle.dv_replay.specs.Exit.{too_many};
 ghost use Rattle.deferreds.specs.Ending.{hint_after};
 
 use dv_orders::fault::OrderFault;
@@ -27,7 +29,8 @@ pub struct Exit {
     pub status: u8,
     /// A line, or nothing where it is empty.
     pub text: &'static str,
-    /// A line for a person, which follows where standard error is a terminal, or nothing where it is empty.
+    /// A line for a person, which follows where standard error is a terminal, or nothing where it
+    /// is empty.
     pub hint: &'static str,
     /// Why the batches that were given are refused, which is a line of its own.
     pub refusal: Option<OrderFault>,

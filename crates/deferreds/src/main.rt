@@ -1,5 +1,5 @@
-//! Runs a script, and prints its journal and the outcome of each Deferred, or prints the run as JSON Lines, or runs it in every
-//! order of its posts, or explains where the script is refused.
+//! Runs a script, and prints its journal and the outcome of each Deferred, or prints the run as
+//! JSON Lines, or runs it in every order of its posts, or explains where the script is refused.
 #![tactic(auto)]
 
 ghost use Rattle.std.specs.Prelude.{IfOk, IfSome};

@@ -25,7 +25,8 @@ use std::random::RandomSource;
 use std::sync::Wait;
 use std::thread::Threads;
 
-/// Does this with the script of the reader, in the batches that the word says where they are given, and returns how the program ends.
+/// Does this with the script of the reader, in the batches that the word says where they are given,
+/// and returns how the program ends.
 #[tactic(auto, using(crate::proofs::Endings::endings))]
 pub fn perform<S, R, W>(rt: &S, task: Task, word: &str, reader: &mut R, writer: &mut W) -> Exit
 where
@@ -33,7 +34,8 @@ where
     R: Source,
     W: Sink,
     requires { HasFewWorkers task }
-    ensures { Does task word.now result.status result.text.now result.refusal result.too_many (R.left reader.old) (W.taken writer.old) (W.taken writer.new) }
+    ensures { Does task word.now result.status result.text.now result.refusal result.too_many
+        (R.left reader.old) (W.taken writer.old) (W.taken writer.new) }
 {
     match task {
         Task::Run(Form::Lines, workers) => Exit::of_run(print_run(rt, reader, writer, workers)),
@@ -96,7 +98,8 @@ where
     R: Source,
     W: Sink,
     requires { workers ≤ MOST_WORKERS }
-    ensures { Replays form batches.now result.status result.text.now result.refusal (R.left reader.old) (W.taken writer.old) (W.taken writer.new) }
+    ensures { Replays form batches.now result.status result.text.now result.refusal
+        (R.left reader.old) (W.taken writer.old) (W.taken writer.new) }
 {
     match form {
         Form::Lines => match replay(rt, reader, writer, workers, &PlainGate, batches) {
@@ -118,7 +121,8 @@ where
     R: Source,
     W: Sink,
     requires { workers ≤ MOST_WORKERS }
-    ensures { Runs result.0 result.1.now (R.left reader.old) (W.taken writer.old) (W.taken writer.new) }
+    ensures { Runs result.0 result.1.now (R.left reader.old) (W.taken writer.old)
+        (W.taken writer.new) }
 {
     match run_and_keep(rt, reader, writer, workers, &PlainGate) {
         Ok(kept) => ended(kept),
@@ -126,7 +130,8 @@ where
     }
 }
 
-/// Returns how the program ends after a run. The script and the report aren't dropped, since the program ends.
+/// Returns how the program ends after a run. The script and the report aren't dropped, since the
+/// program ends.
 fn ended(kept: Kept) -> (u8, &'static str)
     ensures status { result.0 ≡ status (Ok kept.report) }
     ensures text { result.1.now ≡ error_text (Ok kept.report) }

@@ -1,5 +1,7 @@
 -- Where a call stands among all, and that those that wait are found by the times that they are due at.
-use Rattle.std.proofs.Common.{◌≡◌, ◌≢◌, ◌⊎◌, ℕ, zero, suc, Bool, true, false, ◌&&◌, cond, if◌then◌else◌, nat_eq, List, [], ◌∷◌, ◌++◌, length, Option, Some, None, slice_get, slice_set, refl, sym, ap, ◌∙◌, arith, subst, get_or, ⊎_elim, inl, inr, eqb}
+use Rattle.std.proofs.Common.{◌≡◌, ◌≢◌, ◌⊎◌, ℕ, zero, suc, Bool, true, false, ◌&&◌, cond, if◌then◌else◌, nat_eq, List}
+use Rattle.std.proofs.Common.{[], ◌∷◌, ◌++◌, length, Option, Some, None, slice_get, slice_set, refl, sym, ap, ◌∙◌}
+use Rattle.std.proofs.Common.{arith, subst, get_or, ⊎_elim, inl, inr, eqb}
 use Rattle.std.proofs.lemmas.Bool.Decides.{eqb_tells}
 use Rattle.std.proofs.lemmas.Map.Lookups.{exact_unsigned, exact_pairs}
 use Rattle.std.proofs.lemmas.Option.{slice_get_past, get_or_from_slice_get}
@@ -10,12 +12,14 @@ use Rattle.std.specs.Option.{option_map_or}
 use Rattle.std.specs.Ordering.{nat_cmp}
 use Rattle.std.specs.declared.cmp.Ordering.{Ordering}
 use Rattle.std.specs.declared.cmp.Ordering.TheVariants.{Less, Equal, Greater}
-use Rattle.dv_clock.specs.Clock.{by_due, is_waiting, waits_at, IsIndexOf, what_of, what_in, due_in, due_of, with_end, Leaves}
+use Rattle.dv_clock.specs.Clock.{by_due, is_waiting, waits_at, IsIndexOf, what_of, what_in, due_in, due_of, with_end}
+use Rattle.dv_clock.specs.Clock.{Leaves}
 use Rattle.dv_clock.specs.declared.call.Call.{Call}
 use Rattle.dv_clock.specs.declared.call.CallState.{CallState}
 
 -- what is put in a place is there
-pub placed_there : {X : Type 0} (xs : List X) (i : ℕ) (x y : X) → slice_get xs i ≡ Some x → slice_get (slice_set xs i y) i ≡ Some y
+pub placed_there : {X : Type 0} (xs : List X) (i : ℕ) (x y : X) → slice_get xs i ≡ Some x
+    → slice_get (slice_set xs i y) i ≡ Some y
 placed_there [] i x y h = absurd cc
 placed_there (z ∷ zs) zero x y h = refl
 placed_there (z ∷ zs) (suc i) x y h = placed_there zs i x y h
@@ -67,7 +71,8 @@ at_once x = ⊎_elim
     (λ (t : (eqb x x ≡ false) × (x ≢ x)). absurd (t.1 refl))
     (eqb_tells x x)
 
-waits_over : (calls : List Call) (number due : ℕ) (call : Call) → slice_get calls number ≡ Some call → is_waiting call.state ≡ false → waits_at (due, number) calls ≡ false
+waits_over : (calls : List Call) (number due : ℕ) (call : Call) → slice_get calls number ≡ Some call
+    → is_waiting call.state ≡ false → waits_at (due, number) calls ≡ false
 waits_over calls number due call h k = rw (h, k) (and_false (nat_eq call.due due))
 
 -- nor does a call wait for another time than its own
@@ -77,16 +82,21 @@ not_at_once x y h = ⊎_elim
     (λ (t : (eqb x y ≡ false) × (x ≢ y)). t.0)
     (eqb_tells x y)
 
-waits_elsewhere : (calls : List Call) (number due : ℕ) (call : Call) → slice_get calls number ≡ Some call → (due ≡ call.due → ⊥) → waits_at (due, number) calls ≡ false
+waits_elsewhere : (calls : List Call) (number due : ℕ) (call : Call) → slice_get calls number ≡ Some call
+    → (due ≡ call.due → ⊥) → waits_at (due, number) calls ≡ false
 waits_elsewhere calls number due call h k = rw (h, not_at_once call.due due k) refl
 
 nobody_waits : (calls : List Call) (due : ℕ) → waits_at (due, length calls) calls ≡ false
 nobody_waits calls due = rw (slice_get_past calls (length calls) (omega arith)) refl
 
 -- a call that waits no longer leaves the index, and the others stay in it
-index_kept : (index : BTreeSet (ℕ × ℕ)) (calls : List Call) (number : ℕ) (call over : Call) (q : ℕ × ℕ) → slice_get calls number ≡ Some call → is_waiting over.state ≡ false → IsIndexOf index calls → Places (call.due, number) q → cond (is_at (by_due (call.due, number)) q) false (contains by_due index q) ≡ waits_at q (slice_set calls number over)
+index_kept : (index : BTreeSet (ℕ × ℕ)) (calls : List Call) (number : ℕ) (call over : Call) (q : ℕ × ℕ)
+    → slice_get calls number ≡ Some call → is_waiting over.state ≡ false → IsIndexOf index calls
+    → Places (call.due, number) q → cond (is_at (by_due (call.due, number)) q) false (contains by_due index q)
+    ≡ waits_at q (slice_set calls number over)
 index_kept index calls number call over q h k ok (inl (t, e)) =
-    rw (t, e) (sym (waits_over (slice_set calls number over) number call.due over (placed_there calls number call over h) k))
+    rw (t, e)
+    (sym (waits_over (slice_set calls number over) number call.due over (placed_there calls number call over h) k))
 index_kept index calls number call over q h k ok (inr (f, ne)) = ⊎_elim
     (λ (t : (eqb q.1 number ≡ true) × (q.1 ≡ number)).
     let was = waits_elsewhere calls number q.0 call h (λ e. ne e t.1) in
@@ -95,31 +105,47 @@ index_kept index calls number call over q h k ok (inr (f, ne)) = ⊎_elim
     (λ (t : (eqb q.1 number ≡ false) × (q.1 ≢ number)). rw (f, ok q, others_stay calls number q.1 over t.1) refl)
     (eqb_tells q.1 number)
 
-pub index_without : (index left : BTreeSet (ℕ × ℕ)) (calls : List Call) (number : ℕ) (call over : Call) → slice_get calls number ≡ Some call → is_waiting over.state ≡ false → IsIndexOf index calls → ((q : ℕ × ℕ) → contains by_due left q ≡ cond (is_at (by_due (call.due, number)) q) false (contains by_due index q)) → IsIndexOf left (slice_set calls number over)
-index_without index left calls number call over h k ok u q = u q ∙ index_kept index calls number call over q h k ok (places (call.due, number) q)
+pub index_without : (index left : BTreeSet (ℕ × ℕ)) (calls : List Call) (number : ℕ) (call over : Call)
+    → slice_get calls number ≡ Some call → is_waiting over.state ≡ false → IsIndexOf index calls → ((q : ℕ × ℕ)
+    → contains by_due left q ≡ cond (is_at (by_due (call.due, number)) q) false (contains by_due index q))
+    → IsIndexOf left (slice_set calls number over)
+index_without index left calls number call over h k ok u q =
+    u q ∙ index_kept index calls number call over q h k ok (places (call.due, number) q)
 
 -- a call that is added and waits joins the index
-index_grown : (index : BTreeSet (ℕ × ℕ)) (calls : List Call) (call : Call) (q : ℕ × ℕ) → is_waiting call.state ≡ true → IsIndexOf index calls → Places (call.due, length calls) q → cond (is_at (by_due (call.due, length calls)) q) true (contains by_due index q) ≡ waits_at q (calls ++ call ∷ [])
+index_grown : (index : BTreeSet (ℕ × ℕ)) (calls : List Call) (call : Call) (q : ℕ × ℕ) → is_waiting call.state ≡ true
+    → IsIndexOf index calls → Places (call.due, length calls) q
+    → cond (is_at (by_due (call.due, length calls)) q) true (contains by_due index q) ≡ waits_at q (calls ++ call ∷ [])
 index_grown index calls call q k ok (inl (t, e)) = rw (t, e, added_last calls call, k) (sym (at_once call.due))
 index_grown index calls call q k ok (inr (f, ne)) = ⊎_elim
     (λ (t : (eqb q.1 (length calls) ≡ true) × (q.1 ≡ length calls)).
     let is = waits_elsewhere (calls ++ call ∷ []) (length calls) q.0 call (added_last calls call) (λ e. ne e t.1) in
     rw (f, ok q, t.1) (nobody_waits calls q.0 ∙ sym is))
-    (λ (t : (eqb q.1 (length calls) ≡ false) × (q.1 ≢ length calls)). rw (f, ok q, others_before calls call q.1 t.1) refl)
+    (λ (t : (eqb q.1 (length calls) ≡ false) × (q.1 ≢ length calls)).
+    rw (f, ok q, others_before calls call q.1 t.1) refl)
     (eqb_tells q.1 (length calls))
 
-pub index_with : (index more : BTreeSet (ℕ × ℕ)) (calls : List Call) (call : Call) → is_waiting call.state ≡ true → IsIndexOf index calls → ((q : ℕ × ℕ) → contains by_due more q ≡ cond (is_at (by_due (call.due, length calls)) q) true (contains by_due index q)) → IsIndexOf more (calls ++ call ∷ [])
-index_with index more calls call k ok u q = u q ∙ index_grown index calls call q k ok (places (call.due, length calls) q)
+pub index_with : (index more : BTreeSet (ℕ × ℕ)) (calls : List Call) (call : Call) → is_waiting call.state ≡ true
+    → IsIndexOf index calls → ((q : ℕ × ℕ)
+    → contains by_due more q ≡ cond (is_at (by_due (call.due, length calls)) q) true (contains by_due index q))
+    → IsIndexOf more (calls ++ call ∷ [])
+index_with index more calls call k ok u q =
+    u q ∙ index_grown index calls call q k ok (places (call.due, length calls) q)
 
 -- a place that joined the index where it wasn't, and leaves it again
-pub index_taken_back : (index more less : BTreeSet (ℕ × ℕ)) (p : ℕ × ℕ) → contains by_due index p ≡ false → ((q : ℕ × ℕ) → contains by_due more q ≡ cond (is_at (by_due p) q) true (contains by_due index q)) → ((q : ℕ × ℕ) → contains by_due less q ≡ cond (is_at (by_due p) q) false (contains by_due more q)) → (q : ℕ × ℕ) → contains by_due less q ≡ contains by_due index q
+pub index_taken_back : (index more less : BTreeSet (ℕ × ℕ)) (p : ℕ × ℕ) → contains by_due index p ≡ false
+    → ((q : ℕ × ℕ) → contains by_due more q ≡ cond (is_at (by_due p) q) true (contains by_due index q))
+    → ((q : ℕ × ℕ) → contains by_due less q ≡ cond (is_at (by_due p) q) false (contains by_due more q)) → (q : ℕ × ℕ)
+    → contains by_due less q ≡ contains by_due index q
 index_taken_back index more less p h u v q = v q ∙ taken_back q (places p q) where
-  taken_back : (q : ℕ × ℕ) → Places p q → cond (is_at (by_due p) q) false (contains by_due more q) ≡ contains by_due index q
+  taken_back : (q : ℕ × ℕ) → Places p q
+      → cond (is_at (by_due p) q) false (contains by_due more q) ≡ contains by_due index q
   taken_back q (inl (t, e)) = rw (t, e) (sym h)
   taken_back q (inr (f, ne)) = rw (f, u q, f) refl
 
 -- nobody waits under the next number
-pub next_is_free : (index : BTreeSet (ℕ × ℕ)) (calls : List Call) (due : ℕ) → IsIndexOf index calls → contains by_due index (due, length calls) ≡ false
+pub next_is_free : (index : BTreeSet (ℕ × ℕ)) (calls : List Call) (due : ℕ) → IsIndexOf index calls
+    → contains by_due index (due, length calls) ≡ false
 next_is_free index calls due ok = ok (due, length calls) ∙ nobody_waits calls due
 
 -- the call of a number is found, and waits for its time
@@ -128,26 +154,38 @@ pub record WaitsFor (calls : List Call) (number due : ℕ) (call : Call) : Type 
   pub time : call.due ≡ due
   pub waits : is_waiting call.state ≡ true
 
-waits_by : (calls : List Call) (number due : ℕ) (call : Call) (w : Bool) → is_waiting call.state ≡ w → slice_get calls number ≡ Some call → Some due ≡ (if w then Some call.due else None) → WaitsFor calls number due call
-waits_by calls number due call true k h e = let same : call.due ≡ due = cc in record { found = h; time = same; waits = k }
+waits_by : (calls : List Call) (number due : ℕ) (call : Call) (w : Bool) → is_waiting call.state ≡ w
+    → slice_get calls number ≡ Some call → Some due ≡ (if w then Some call.due else None)
+    → WaitsFor calls number due call
+waits_by calls number due call true k h e =
+    let same : call.due ≡ due = cc in record { found = h; time = same; waits = k }
 waits_by calls number due call false k h e = absurd cc
 
-found_by : (calls : List Call) (number due : ℕ) (call : Call) (o : Option Call) → slice_get calls number ≡ o → Some due ≡ option_map_or due_in o None → call ≡ get_or calls number call → WaitsFor calls number due call
+found_by : (calls : List Call) (number due : ℕ) (call : Call) (o : Option Call) → slice_get calls number ≡ o
+    → Some due ≡ option_map_or due_in o None → call ≡ get_or calls number call → WaitsFor calls number due call
 found_by calls number due call None h e g = absurd cc
 found_by calls number due call (Some other) h e g =
     let same : other ≡ call = sym (get_or_from_slice_get calls number other call h) ∙ sym g in
-    waits_by calls number due call (is_waiting call.state) refl (h ∙ ap Some same) (subst (λ (c : Call). Some due ≡ due_in c) same e)
+    waits_by calls number due call (is_waiting call.state) refl (h ∙ ap Some same)
+    (subst (λ (c : Call). Some due ≡ due_in c) same e)
 
-pub waits_for : (calls : List Call) (number due : ℕ) (call : Call) → Some due ≡ due_of number calls → call ≡ get_or calls number call → WaitsFor calls number due call
+pub waits_for : (calls : List Call) (number due : ℕ) (call : Call) → Some due ≡ due_of number calls
+    → call ≡ get_or calls number call → WaitsFor calls number due call
 waits_for calls number due call e g = found_by calls number due call (slice_get calls number) refl e g
 
 -- what is left when it waits no longer
-pub ended_index : (index left : BTreeSet (ℕ × ℕ)) (calls : List Call) (number due : ℕ) (call over : Call) → WaitsFor calls number due call → is_waiting over.state ≡ false → IsIndexOf index calls → Leaves index left (due, number) → IsIndexOf left (slice_set calls number over)
+pub ended_index : (index left : BTreeSet (ℕ × ℕ)) (calls : List Call) (number due : ℕ) (call over : Call)
+    → WaitsFor calls number due call → is_waiting over.state ≡ false → IsIndexOf index calls
+    → Leaves index left (due, number) → IsIndexOf left (slice_set calls number over)
 ended_index index left calls number due call over w k ok u =
-    index_without index left calls number call over w.found k ok (subst (λ (d : ℕ). Leaves index left (d, number)) (sym w.time) u)
+    index_without index left calls number call over w.found k ok
+    (subst (λ (d : ℕ). Leaves index left (d, number)) (sym w.time) u)
 
-pub ended_calls : (calls : List Call) (number due : ℕ) (call : Call) (state : CallState) → WaitsFor calls number due call → option_map_or (λ c. with_end number state c calls) (slice_get calls number) calls ≡ slice_set calls number (record call { state = state })
+pub ended_calls : (calls : List Call) (number due : ℕ) (call : Call) (state : CallState)
+    → WaitsFor calls number due call → option_map_or (λ c. with_end number state c calls) (slice_get calls number) calls
+    ≡ slice_set calls number (record call { state = state })
 ended_calls calls number due call state w = rw (w.found, w.waits) refl
 
-pub ended_what : (calls : List Call) (number due : ℕ) (call : Call) → WaitsFor calls number due call → what_of number calls ≡ what_in call.state
+pub ended_what : (calls : List Call) (number due : ℕ) (call : Call) → WaitsFor calls number due call
+    → what_of number calls ≡ what_in call.state
 ended_what calls number due call w = rw w.found refl

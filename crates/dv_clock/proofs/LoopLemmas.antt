@@ -4,7 +4,8 @@ use Rattle.std.proofs.Math.Nat.{lt-div-mul-add, div-mul-le_self, lt_of_mul-lt-mu
 use Rattle.dv_clock.specs.LoopingCall.{IsNextTurn}
 use Rattle.dv_clock.specs.Laws.{TheNextTurnIsTheFirstLater}
 
-next_by : (start interval now past : ℕ) → start ≤ now → past * interval ≤ now - start → now - start < past * interval + interval → IsNextTurn start interval now (start + (past + 1) * interval)
+next_by : (start interval now past : ℕ) → start ≤ now → past * interval ≤ now - start
+    → now - start < past * interval + interval → IsNextTurn start interval now (start + (past + 1) * interval)
 next_by start interval now past h low high =
     let more = add-mul past 1 interval in
     record {
@@ -18,4 +19,5 @@ next_by start interval now past h low high =
     }
 
 pub next_is_first : TheNextTurnIsTheFirstLater
-next_is_first start interval now h k = next_by start interval now ((now - start) / interval) h (div-mul-le_self (now - start) interval) (lt-div-mul-add k)
+next_is_first start interval now h k =
+    next_by start interval now ((now - start) / interval) h (div-mul-le_self (now - start) interval) (lt-div-mul-add k)

@@ -1,5 +1,6 @@
 -- Delayed calls, and the time that they wait for (Twisted: `Clock`, `DelayedCall`).
-use Rattle.std.specs.Prelude.{◌≡◌, ◌≢◌, ℕ, ◌+◌, min, Bool, true, false, ◌&&◌, nat_eq, nat_lt, if◌then◌else◌, List, [], ◌∷◌, ◌++◌, length, Option, Some, None, Result, Ok, Err, slice_get, slice_set}
+use Rattle.std.specs.Prelude.{◌≡◌, ◌≢◌, ℕ, ◌+◌, min, Bool, true, false, ◌&&◌, nat_eq, nat_lt, if◌then◌else◌, List, []}
+use Rattle.std.specs.Prelude.{◌∷◌, ◌++◌, length, Option, Some, None, Result, Ok, Err, slice_get, slice_set}
 use Rattle.std.specs.BTreeMap.{is_at}
 use Rattle.std.specs.BTreeSet.{BTreeSet, contains}
 use Rattle.std.specs.Option.{option_map_or}
@@ -91,10 +92,12 @@ is_waiting Dropped = false
 
 -- a call waits no longer, since it was called, cancelled or dropped; one that doesn't wait stays as it is
 abbrev pub with_end : ℕ → CallState → Call → List Call → List Call
-with_end number state call calls = if is_waiting call.state then slice_set calls number (record call { state = state }) else calls
+with_end number state call calls =
+    if is_waiting call.state then slice_set calls number (record call { state = state }) else calls
 
 abbrev pub ended : ℕ → CallState → Clock → Clock
-ended number state c = record c { calls = option_map_or (λ call. with_end number state call c.calls) (slice_get c.calls number) c.calls }
+ended number state c =
+    record c { calls = option_map_or (λ call. with_end number state call c.calls) (slice_get c.calls number) c.calls }
 
 -- one call more, which waits
 abbrev pub with_call : ℕ → Due → Clock → Clock
@@ -162,12 +165,14 @@ cancel_found number (Some call) s = cancel_in number call.state s
 abbrev pub cancel : ℕ → State Clock → Cancelling
 cancel number s = cancel_found number (slice_get s.0.calls number) s
 
--- a cancelling did what the rule says, or ran out of memory where the rule has no other reason to refuse it, and nothing changed
+-- a cancelling did what the rule says, or ran out of memory where the rule has no other reason to refuse it, and
+-- nothing changed
 abbrev pub CancelsUnlessMemory : Result Unit (Fault Over) → State Clock → State Clock → Cancelling → Type 0
 CancelsUnlessMemory (Ok done) before after rule = (Ok done, after) ≡ rule
 CancelsUnlessMemory (Err (fault.Refused reason)) before after rule = (Err (fault.Refused reason), after) ≡ rule
 CancelsUnlessMemory (Err fault.Limit) before after rule = (Err fault.Limit, after) ≡ rule
-CancelsUnlessMemory (Err fault.OutOfMemory) before after rule = ((reason : Over) → rule.0 ≢ Err (fault.Refused reason)) × (rule.0 ≢ Err fault.Limit) × (after ≡ before)
+CancelsUnlessMemory (Err fault.OutOfMemory) before after rule =
+    ((reason : Over) → rule.0 ≢ Err (fault.Refused reason)) × (rule.0 ≢ Err fault.Limit) × (after ≡ before)
 
 -- what the call of a number is, where it waits
 abbrev pub what_of : ℕ → List Call → Option Due
@@ -204,7 +209,8 @@ has_run number calls = option_map_or (λ call. was_called call.state) (slice_get
 
 -- whether it waits for this time
 abbrev pub waits_at : ℕ × ℕ → List Call → Bool
-waits_at place calls = option_map_or (λ call. nat_eq call.due place.0 && is_waiting call.state) (slice_get calls place.1) false
+waits_at place calls =
+    option_map_or (λ call. nat_eq call.due place.0 && is_waiting call.state) (slice_get calls place.1) false
 
 -- those that wait are found by the times that they are due at and their numbers
 abbrev pub IsIndexOf : BTreeSet (ℕ × ℕ) → List Call → Type 0
@@ -212,11 +218,15 @@ IsIndexOf index calls = (place : ℕ × ℕ) → contains by_due index place ≡
 
 -- a place joins an index
 abbrev pub Joins : BTreeSet (ℕ × ℕ) → BTreeSet (ℕ × ℕ) → ℕ × ℕ → Type 0
-Joins old new place = (other : ℕ × ℕ) → contains by_due new other ≡ (if is_at (by_due place) other then true else contains by_due old other)
+Joins old new place =
+    (other : ℕ × ℕ)
+    → contains by_due new other ≡ (if is_at (by_due place) other then true else contains by_due old other)
 
 -- a place leaves an index
 abbrev pub Leaves : BTreeSet (ℕ × ℕ) → BTreeSet (ℕ × ℕ) → ℕ × ℕ → Type 0
-Leaves old new place = (other : ℕ × ℕ) → contains by_due new other ≡ (if is_at (by_due place) other then false else contains by_due old other)
+Leaves old new place =
+    (other : ℕ × ℕ)
+    → contains by_due new other ≡ (if is_at (by_due place) other then false else contains by_due old other)
 
 -- an index has the places that it had
 abbrev pub Keeps : BTreeSet (ℕ × ℕ) → BTreeSet (ℕ × ℕ) → Type 0

@@ -13,8 +13,10 @@ use Rattle.dv_clock.specs.declared.due.Due.{Due}
 pub record RunsBeforeOthers (c : Clock) (next : Upcoming) : Type 0 where
   pub waits : slice_get c.calls next.number ≡ Some (record { due = next.due; state = Waiting next.what })
   pub is_due : next.due ≤ c.time
-  pub soonest : (n due : ℕ) (what : Due) → slice_get c.calls n ≡ Some (record { due = due; state = Waiting what }) → next.due ≤ due
-  pub in_order : (n : ℕ) (what : Due) → slice_get c.calls n ≡ Some (record { due = next.due; state = Waiting what }) → next.number ≤ n
+  pub soonest : (n due : ℕ) (what : Due) → slice_get c.calls n ≡ Some (record { due = due; state = Waiting what })
+      → next.due ≤ due
+  pub in_order : (n : ℕ) (what : Due) → slice_get c.calls n ≡ Some (record { due = next.due; state = Waiting what })
+      → next.number ≤ n
 
 -- so is the call that runs next
 abbrev pub TheFirstRunsNext : Type 0
@@ -22,12 +24,15 @@ TheFirstRunsNext = (c : Clock) (next : Upcoming) → next_call c ≡ Some next �
 
 -- where no call runs next, each that waits is due later than now
 abbrev pub WhatIsDueRuns : Type 0
-WhatIsDueRuns = (c : Clock) → next_call c ≡ None → (n due : ℕ) (what : Due) → slice_get c.calls n ≡ Some (record { due = due; state = Waiting what }) → c.time < due
+WhatIsDueRuns =
+    (c : Clock) → next_call c ≡ None → (n due : ℕ) (what : Due)
+    → slice_get c.calls n ≡ Some (record { due = due; state = Waiting what }) → c.time < due
 
 -- what a clock results in, whatever is done with it
 pub data Becomes (c : Clock) : Clock → Type 0 where
   Same : Becomes c c
-  Schedules : (d : Clock) (j : Written) (what : Due) (due : ℕ) → Becomes c d → Becomes c (scheduled_at what due (d, j)).1.0
+  Schedules : (d : Clock) (j : Written) (what : Due) (due : ℕ) → Becomes c d
+      → Becomes c (scheduled_at what due (d, j)).1.0
   Advances : (d : Clock) (j : Written) (time : ℕ) → d.time ≤ time → Becomes c d → Becomes c (advance_to time (d, j)).1.0
   Runs : (d : Clock) (j : Written) → Becomes c d → Becomes c (due (d, j)).1.0
   Cancels : (d : Clock) (j : Written) (n : ℕ) → Becomes c d → Becomes c (cancel n (d, j)).1.0
@@ -39,15 +44,20 @@ TimeNeverGoesBack = (c d : Clock) → Becomes c d → c.time ≤ d.time
 
 -- a call that was called, cancelled or dropped never runs again
 abbrev pub EndedCallsNeverRun : Type 0
-EndedCallsNeverRun = (c d : Clock) (n : ℕ) (call : Call) (next : Upcoming) → slice_get c.calls n ≡ Some call → is_waiting call.state ≡ false → Becomes c d → next_call d ≡ Some next → next.number ≢ n
+EndedCallsNeverRun =
+    (c d : Clock) (n : ℕ) (call : Call) (next : Upcoming) → slice_get c.calls n ≡ Some call
+    → is_waiting call.state ≡ false → Becomes c d → next_call d ≡ Some next → next.number ≢ n
 
 -- a call that runs never runs again
 abbrev pub CallsRunOnceAtMost : Type 0
-CallsRunOnceAtMost = (c d : Clock) (j : Written) (once again : Upcoming) → next_call c ≡ Some once → fits j (coming_due once.what) ≡ true → Becomes (due (c, j)).1.0 d → next_call d ≡ Some again → again.number ≢ once.number
+CallsRunOnceAtMost =
+    (c d : Clock) (j : Written) (once again : Upcoming) → next_call c ≡ Some once → fits j (coming_due once.what) ≡ true
+    → Becomes (due (c, j)).1.0 d → next_call d ≡ Some again → again.number ≢ once.number
 
 -- a loop's next turn is at the first time after now that is a whole number of intervals after its start
 abbrev pub TheNextTurnIsTheFirstLater : Type 0
-TheNextTurnIsTheFirstLater = (start interval now : ℕ) → start ≤ now → 0 < interval → IsNextTurn start interval now (loop_next start interval now)
+TheNextTurnIsTheFirstLater =
+    (start interval now : ℕ) → start ≤ now → 0 < interval → IsNextTurn start interval now (loop_next start interval now)
 
 -- when a task leaves, it is still the turn of whoever's turn it was, if that is another
 abbrev pub NobodyIsSkipped : Type 0

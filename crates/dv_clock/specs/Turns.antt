@@ -1,5 +1,6 @@
 -- Whose turn it is among tasks that join and leave (Twisted: `Cooperator`).
-use Rattle.std.specs.Prelude.{◌≡◌, ◌<◌, ◌≤◌, ◌+◌, ◌-◌, ℕ, suc, Bool, nat_eq, nat_lt, if◌then◌else◌, List, [], ◌∷◌, ◌++◌, length, map, take, Option, None, Some, slice_get}
+use Rattle.std.specs.Prelude.{◌≡◌, ◌<◌, ◌≤◌, ◌+◌, ◌-◌, ℕ, suc, Bool, nat_eq, nat_lt, if◌then◌else◌, List, [], ◌∷◌, ◌++◌}
+use Rattle.std.specs.Prelude.{length, map, take, Option, None, Some, slice_get}
 use Rattle.std.specs.BTreeMap.{BTreeMap, get, is_at}
 use Rattle.std.specs.List.{list_any}
 use Rattle.std.specs.List.Sorted.{IsStrictlySortedBy}
@@ -30,7 +31,10 @@ is_before task t = is_among task (take t.position t.tasks)
 
 -- a task leaves; where it stands before the position, the position goes back by one, so that nobody's turn is skipped
 abbrev pub left : ℕ → Turns → Turns
-left task t = record { tasks = remove_key (nat_eq task) t.tasks; position = if is_before task t then t.position - 1 else t.position }
+left task t = record {
+  tasks = remove_key (nat_eq task) t.tasks;
+  position = if is_before task t then t.position - 1 else t.position;
+}
 
 -- the place of the task whose turn it is: that at the position, and the first where the position is the list's end
 abbrev pub place_of_turn : Turns → ℕ
@@ -85,7 +89,8 @@ abbrev pub AreOnce : List Joined → Type 0
 AreOnce [] = Unit
 AreOnce (j ∷ order) = (number_of j.1 order ≡ None) × AreOnce order
 
--- those that joined, with the numbers by which each is found, how many numbers were given, and from which on the next is looked for
+-- those that joined, with the numbers by which each is found, how many numbers were given, and from which on the next
+-- is looked for
 pub record IsKept (order : List Joined) (numbers : BTreeMap ℕ ℕ) (given next : ℕ) : Type 0 where
   pub ascends : IsStrictlySortedBy nat_cmp (keys_of order)
   pub below : AreBelow given order
@@ -95,7 +100,8 @@ pub record IsKept (order : List Joined) (numbers : BTreeMap ℕ ℕ) (given next
 
 -- a task is found by a number, and the others as before
 abbrev pub FindsToo : BTreeMap ℕ ℕ → BTreeMap ℕ ℕ → ℕ → ℕ → Type 0
-FindsToo old new task number = (other : ℕ) → get nat_cmp new other ≡ (if is_at (nat_cmp task) other then Some number else get nat_cmp old other)
+FindsToo old new task number =
+    (other : ℕ) → get nat_cmp new other ≡ (if is_at (nat_cmp task) other then Some number else get nat_cmp old other)
 
 -- all are found as before
 abbrev pub FindsSame : BTreeMap ℕ ℕ → BTreeMap ℕ ℕ → Type 0

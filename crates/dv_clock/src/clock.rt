@@ -16,9 +16,11 @@ use std::collections::BTreeSet;
 use std::marker::Model;
 use std::mem;
 
-/// A clock that is moved by hand, with what waits for its time (Twisted: `Clock`). Times are in ticks.
+/// A clock that is moved by hand, with what waits for its time (Twisted: `Clock`). Times are in
+/// ticks.
 ///
-/// A number that isn't of this clock means nothing to it: `cancel` answers Ok and `drop_call` answers that it didn't wait.
+/// A number that isn't of this clock means nothing to it: `cancel` answers Ok and `drop_call`
+/// answers that it didn't wait.
 #[derive(Drop)]
 pub struct Clock {
     alloc: Global,
@@ -43,7 +45,10 @@ impl Model for Clock {
 }
 
 impl Clock {
-    ghost use Rattle.dv_clock.specs.Clock.{new_clock, later, next_turn, scheduled_at, advance_to, due, cancel, CancelsUnlessMemory, ended, due_of, what_of, waits, has_run, is_waiting, next_call, numbered, with_number};
+    ghost use Rattle.dv_clock.specs.Clock.{new_clock, later, next_turn, scheduled_at, advance_to};
+    ghost use Rattle.dv_clock.specs.Clock.{due, cancel, CancelsUnlessMemory, ended, due_of};
+    ghost use Rattle.dv_clock.specs.Clock.{what_of, waits, has_run, is_waiting, next_call};
+    ghost use Rattle.dv_clock.specs.Clock.{numbered, with_number};
     ghost use Rattle.dv_journal.specs.Telling.{UnlessMemory};
 
     /// Time begins at 0, and nothing is scheduled.
@@ -66,18 +71,20 @@ impl Clock {
         self.time
     }
 
-    /// Schedules what is due so many ticks from now, and answers its number (Twisted: `Clock.callLater`).
+    /// Schedules what is due so many ticks from now, and answers its number (Twisted:
+    /// `Clock.callLater`).
     pub fn later(&mut self, journal: &mut Journal, what: Due, delay: u64) -> Result<CallId, Stop>
         requires short { delay ≤ MOST_DELAY }
-        ensures { UnlessMemory result (self.old, journal.old) (self.new, journal.new) (later what delay (self.old, journal.old)) }
+        ensures { UnlessMemory result (self.old, journal.old) (self.new, journal.new)
+            (later what delay (self.old, journal.old)) }
     {
         let due = self.time + delay;
         self.at(journal, what, due)
     }
 
-    /// Schedules what is the next turn of a loop that was started at `start`, and answers its number: it is due at the
-    /// first time later than now that is a whole number of intervals after the start (Twisted: `LoopingCall`). A start
-    /// that isn't past yet counts as now.
+    /// Schedules what is the next turn of a loop that was started at `start`, and answers its
+    /// number: it is due at the first time later than now that is a whole number of intervals after
+    /// the start (Twisted: `LoopingCall`). A start that isn't past yet counts as now.
     pub fn next_turn(
         &mut self,
         journal: &mut Journal,
@@ -85,7 +92,8 @@ impl Clock {
         start: u64,
         interval: Interval,
     ) -> Result<CallId, Stop>
-        ensures { UnlessMemory result (self.old, journal.old) (self.new, journal.new) (next_turn what start interval (self.old, journal.old)) }
+        ensures { UnlessMemory result (self.old, journal.old) (self.new, journal.new)
+            (next_turn what start interval (self.old, journal.old)) }
     {
         let due = loop_next(start.min(self.time), interval.ticks(), self.time);
         self.at(journal, what, due)
@@ -93,7 +101,8 @@ impl Clock {
 
     /// Schedules what is due at this time.
     fn at(&mut self, journal: &mut Journal, what: Due, due: u64) -> Result<CallId, Stop>
-        ensures { UnlessMemory result (self.old, journal.old) (self.new, journal.new) (scheduled_at what due (self.old, journal.old)) }
+        ensures { UnlessMemory result (self.old, journal.old) (self.new, journal.new)
+            (scheduled_at what due (self.old, journal.old)) }
     {
         if !journal.fits_plain() {
             return Err(Stop::Limit);
@@ -132,9 +141,11 @@ impl Clock {
         self.due_time(id.number()).is_some()
     }
 
-    /// Cancels a call of the script (Twisted: `DelayedCall.cancel`). What else waits, as a loop's turn, is left alone.
+    /// Cancels a call of the script (Twisted: `DelayedCall.cancel`). What else waits, as a loop's
+    /// turn, is left alone.
     pub fn cancel(&mut self, journal: &mut Journal, id: CallId) -> Result<(), CancelFault>
-        ensures { CancelsUnlessMemory result (self.old, journal.old) (self.new, journal.new) (cancel id (self.old, journal.old)) }
+        ensures { CancelsUnlessMemory result (self.old, journal.old) (self.new, journal.new)
+            (cancel id (self.old, journal.old)) }
     {
         let Some(call) = self.calls.get(id.number()) else {
             return Ok(());
@@ -166,22 +177,24 @@ impl Clock {
         self.end(id.number(), CallState::Dropped).is_some()
     }
 
-    /// Lets time go on to `time`, in ticks from the beginning; what is due by then is then given by `due`, at this time,
-    /// one after the other (Twisted: `Clock.advance`).
+    /// Lets time go on to `time`, in ticks from the beginning; what is due by then is then given by
+    /// `due`, at this time, one after the other (Twisted: `Clock.advance`).
     pub fn advance_to(&mut self, journal: &mut Journal, time: u64) -> Result<(), Stop>
         requires onward { self.old.time ≤ time }
         requires early { time ≤ MOST_TICKS }
-        ensures { UnlessMemory result (self.old, journal.old) (self.new, journal.new) (advance_to time (self.old, journal.old)) }
+        ensures { UnlessMemory result (self.old, journal.old) (self.new, journal.new)
+            (advance_to time (self.old, journal.old)) }
     {
         journal.write(Entry::Advance(time))?;
         self.time = time;
         Ok(())
     }
 
-    /// Takes what is to run next, of what is due by now: what is due first, and of what is due at one time what was
-    /// scheduled first. None where nothing is due, which isn't logged.
+    /// Takes what is to run next, of what is due by now: what is due first, and of what is due at
+    /// one time what was scheduled first. None where nothing is due, which isn't logged.
     pub fn due(&mut self, journal: &mut Journal) -> Result<Option<Due>, Stop>
-        ensures { UnlessMemory result (self.old, journal.old) (self.new, journal.new) (due (self.old, journal.old)) }
+        ensures { UnlessMemory result (self.old, journal.old) (self.new, journal.new)
+            (due (self.old, journal.old)) }
     {
         let Some((number, what)) = self.next() else {
             return Ok(None);
@@ -203,7 +216,8 @@ impl Clock {
 
     /// The number of what is to run next, and what it is, where something is due.
     fn next(&self) -> Option<(usize, &Due)>
-        ensures next { option_map (λ found. with_number found.0 found.1.now) result ≡ option_map numbered (next_call self.now) }
+        ensures next { option_map (λ found. with_number found.0 found.1.now) result
+            ≡ option_map numbered (next_call self.now) }
         ensures waits { IfSome result (λ found. what_of found.0 self.now.calls ≡ Some found.1.now) }
     {
         let number = self.next_number()?;
@@ -296,13 +310,15 @@ fn make_room(calls: &mut Vec<Call>) -> Result<(), AllocError>
 /// A call is added, which waits.
 fn add(calls: &mut Vec<Call>, due: u64, what: Due)
     requires { vec_len calls.old + 1 ≤ vec_capacity calls.old }
-    ensures { calls.new.items ≡ calls.old.items ++ (record { due = due; state = CallState.Waiting what }) ∷ [] }
+    ensures { calls.new.items
+        ≡ calls.old.items ++ (record { due = due; state = CallState.Waiting what }) ∷ [] }
 {
     let state = CallState::Waiting(what);
     calls.push(Call { due, state }).unwrap();
 }
 
-/// The place of what is scheduled joins the index, and that is logged. On allocation failure, it doesn't.
+/// The place of what is scheduled joins the index, and that is logged. On allocation failure, it
+/// doesn't.
 fn schedule(
     alloc: Global,
     journal: &mut Journal,
@@ -313,7 +329,8 @@ fn schedule(
     requires room { fits journal.old (scheduling what.now place.0) ≡ true }
     requires new { contains by_due waiting.old place ≡ false }
     ensures joined { OnOk result (Joins waiting.old waiting.new place) }
-    ensures written { OnOk result (journal.new ≡ with_entry journal.old (scheduling what.now place.0)) }
+    ensures written { OnOk result
+        (journal.new ≡ with_entry journal.old (scheduling what.now place.0)) }
     ensures kept { OnErr result (Keeps waiting.old waiting.new) }
     ensures err { OnErr result (journal.new ≡ journal.old) }
 {

@@ -6,9 +6,9 @@ use dv_journal::entry::Entry;
 use dv_value::text::Text;
 use std::alloc::{AllocError, Global};
 
-/// What waits for its time. The names, the job's number and the timer's Deferred are those that the journal's lines show;
-/// the number that comes last in each of the others is the caller's own, by which it knows what is due, since a name can
-/// be bound anew.
+/// What waits for its time. The names, the job's number and the timer's Deferred are those that the
+/// journal's lines show; the number that comes last in each of the others is the caller's own, by
+/// which it knows what is due, since a name can be bound anew.
 #[derive(Debug, Drop)]
 pub enum Due {
     /// A delayed call of the script (Twisted: `callLater`).

@@ -4,7 +4,8 @@ ghost use Rattle.dv_clock.specs.declared.limits.TheConstants.{MOST_DELAY};
 use crate::limits::MOST_DELAY;
 use std::marker::Model;
 
-/// How many ticks lie between two turns of a loop, from 1 to `MOST_DELAY`, which contracts see as that number.
+/// How many ticks lie between two turns of a loop, from 1 to `MOST_DELAY`, which contracts see as
+/// that number.
 #[derive(Clone, Copy, Debug, PartialEq, Eq)]
 pub struct Interval(u64);
 

@@ -1,8 +1,11 @@
 //! Laws of the definitions, each a function with an empty body whose clauses are the laws.
 
-ghost use Rattle.dv_clock.specs.Laws.{TheFirstRunsNext, WhatIsDueRuns, TimeNeverGoesBack, EndedCallsNeverRun, CallsRunOnceAtMost, TheNextTurnIsTheFirstLater, NobodyIsSkipped};
+ghost use Rattle.dv_clock.specs.Laws.{TheFirstRunsNext, WhatIsDueRuns, TimeNeverGoesBack};
+ghost use Rattle.dv_clock.specs.Laws.{EndedCallsNeverRun, CallsRunOnceAtMost};
+ghost use Rattle.dv_clock.specs.Laws.{TheNextTurnIsTheFirstLater, NobodyIsSkipped};
 
-/// What runs next is due, and of all that wait it is due first, and of those that are due with it, it was scheduled first.
+/// What runs next is due, and of all that wait it is due first, and of those that are due with it,
+/// it was scheduled first.
 pub fn the_first_runs_next()
     ensures { TheFirstRunsNext }
 {}
@@ -28,7 +31,8 @@ pub fn calls_run_once_at_most()
     ensures { CallsRunOnceAtMost }
 {}
 
-/// A loop's next turn is at the first time after now that is a whole number of intervals after its start.
+/// A loop's next turn is at the first time after now that is a whole number of intervals after its
+/// start.
 pub fn the_next_turn_is_the_first_later()
     ensures { TheNextTurnIsTheFirstLater }
 {}

@@ -5,11 +5,11 @@ use std::alloc::{AllocError, Global};
 use std::collections::BTreeMap;
 use std::marker::Model;
 
-/// The tasks that take turns, each in its order of joining, round and round (Twisted: `Cooperator`). Where one leaves,
-/// nobody's turn is skipped.
+/// The tasks that take turns, each in its order of joining, round and round (Twisted:
+/// `Cooperator`). Where one leaves, nobody's turn is skipped.
 ///
-/// Each task is kept under a number that grows with each that joins; `next` is the number from which on the next is
-/// looked for.
+/// Each task is kept under a number that grows with each that joins; `next` is the number from
+/// which on the next is looked for.
 #[derive(Drop)]
 pub struct Turns {
     order: BTreeMap<u64, u32>,
@@ -26,7 +26,10 @@ impl Model for Turns {
 
     ghost coded = { Prim.hlevel codes };
 
-    ghost view = { λ t. record { tasks = tasks_of t.order.entries; position = stepped t.next t.order.entries } };
+    ghost view = { λ t. record {
+      tasks = tasks_of t.order.entries;
+      position = stepped t.next t.order.entries;
+    } };
 
     ghost invariant = { λ t. IsKept t.order.entries t.numbers t.given t.next };
 }
@@ -53,8 +56,8 @@ impl Turns {
         self.order.len()
     }
 
-    /// A task joins, last; one that takes turns already stays where it is. On allocation failure, or as the 2^64th
-    /// that joins, it doesn't join.
+    /// A task joins, last; one that takes turns already stays where it is. On allocation failure,
+    /// or as the 2^64th that joins, it doesn't join.
     pub fn add(&mut self, task: TaskId) -> Result<(), AllocError>
         ensures ok { OnOk result (self.new ≡ joined task self.old) }
         ensures err { OnErr result (self.new ≡ self.old) }
@@ -92,7 +95,8 @@ impl Turns {
         Some(TaskId::new(task))
     }
 
-    /// The task whose turn it is; then it is the turn of the one after it. None where nobody takes turns.
+    /// The task whose turn it is; then it is the turn of the one after it. None where nobody takes
+    /// turns.
     pub fn next(&mut self) -> Option<TaskId>
         ensures turn { result ≡ turn_of self.old }
         ensures rest { self.new ≡ gone_on self.old }
@@ -132,7 +136,8 @@ fn join(
     number: u64,
 ) -> Result<(), AllocError>
     requires new { get nat_cmp numbers.old task ≡ None }
-    ensures ordered { OnOk result (order.new.entries ≡ insert_entry nat_cmp order.old.entries number task) }
+    ensures ordered { OnOk result
+        (order.new.entries ≡ insert_entry nat_cmp order.old.entries number task) }
     ensures ascends { OnOk result (IsOrdered nat_cmp order.new) }
     ensures found { OnOk result (FindsToo numbers.old numbers.new task number) }
     ensures same_order { OnErr result (order.new.entries ≡ order.old.entries) }

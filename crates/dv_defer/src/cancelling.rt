@@ -54,8 +54,8 @@ fn fire_cancelled<'s>(turn: &mut Turn<'s>, id: DeferredId) -> Result<(), AllocEr
     fire_and_settle(turn, id, cancelled(turn.alloc)?)
 }
 
-/// The children of a DeferredList are to be cancelled in order. A failure that leaves a cancel is logged, and the
-/// next one follows.
+/// The children of a DeferredList are to be cancelled in order. A failure that leaves a cancel is
+/// logged, and the next one follows.
 fn cancel_children<'s>(stack: &mut Frames<'s>, children: &[DeferredId]) -> Result<(), AllocError>
     ensures { OnOk result (stack.new ≡ page.cancel_children children.now ++ stack.old) }
 {
@@ -66,10 +66,12 @@ fn cancel_children<'s>(stack: &mut Frames<'s>, children: &[DeferredId]) -> Resul
     Ok(())
 }
 
-/// What an inline body awaits is to be cancelled, where it awaits something, and nothing else happens.
+/// What an inline body awaits is to be cancelled, where it awaits something, and nothing else
+/// happens.
 fn cancel_awaited(turn: &mut Turn<'_>, inline: InlineId) -> Result<(), AllocError>
     requires done { turn.old.performed ≡ Done }
-    ensures { OnOk result (turn.new ≡ after (what_is_awaited inline λ e. calls (cancels e)) turn.old) }
+    ensures { OnOk result
+        (turn.new ≡ after (what_is_awaited inline λ e. calls (cancels e)) turn.old) }
 {
     if let Some(awaited) = turn.world.awaited(inline) {
         turn.stack.push(Frame::Cancel(awaited))?;
@@ -77,8 +79,8 @@ fn cancel_awaited(turn: &mut Turn<'_>, inline: InlineId) -> Result<(), AllocErro
     Ok(())
 }
 
-/// Goes on after a canceller of a Deferred, by its result: its failure is raised, and else the Deferred is fired
-/// where it still may be.
+/// Goes on after a canceller of a Deferred, by its result: its failure is raised, and else the
+/// Deferred is fired where it still may be.
 pub fn end_canceller<'s>(
     turn: &mut Turn<'s>,
     id: DeferredId,

@@ -44,7 +44,8 @@ pub fn make<'s>(
 ) -> Result<(), AllocError>
     requires bounded { Bounded turn.old.world }
     requires done { turn.old.performed ≡ Done }
-    ensures { OnOk result (turn.new ≡ after (Make (Some name.now) (option_map CancellerBody canceller.now) next finished) turn.old) }
+    ensures { OnOk result (turn.new ≡ after (Make (Some name.now)
+        (option_map CancellerBody canceller.now) next finished) turn.old) }
 {
     turn.world
         .make(Some(TextRef::new(name)), canceller_of(canceller))
@@ -69,7 +70,8 @@ fn canceller_of<'s>(canceller: &'s Option<Body>) -> Option<Canceller<'s>>
     }
 }
 
-/// Fires a Deferred by its name (Twisted: `Deferred.callback`, and `Deferred.errback` where the value is a failure).
+/// Fires a Deferred by its name (Twisted: `Deferred.callback`, and `Deferred.errback` where the
+/// value is a failure).
 pub fn fire<'s>(
     turn: &mut Turn<'s>,
     itself: Option<DeferredId>,
@@ -77,7 +79,8 @@ pub fn fire<'s>(
     given: Given<'s>,
 ) -> Result<(), AllocError>
     requires done { turn.old.performed ≡ Done }
-    ensures { OnOk result (turn.new ≡ after (on_deferred itself name.now λ d. Fires d given.entry) turn.old) }
+    ensures { OnOk result
+        (turn.new ≡ after (on_deferred itself name.now λ d. Fires d given.entry) turn.old) }
 {
     let Some(id) = turn.find(itself, name)? else {
         drop(given);
@@ -87,8 +90,8 @@ pub fn fire<'s>(
     fire_and_settle(turn, id, kept)
 }
 
-/// The value that a Deferred is to be fired with; null where the firing is refused or swallowed, since no value is kept
-/// then.
+/// The value that a Deferred is to be fired with; null where the firing is refused or swallowed,
+/// since no value is kept then.
 #[tactic(auto, using(crate::proofs::FireLemmas::fires_alike))]
 fn kept<'s>(
     alloc: Global,
@@ -114,7 +117,8 @@ pub fn add<'s>(
     pair: Pair<'s>,
 ) -> Result<(), AllocError>
     requires done { turn.old.performed ≡ Done }
-    ensures { OnOk result (turn.new ≡ after (on_deferred itself name.now λ d. page.add d pair.entry) turn.old) }
+    ensures { OnOk result
+        (turn.new ≡ after (on_deferred itself name.now λ d. page.add d pair.entry) turn.old) }
 {
     let Some(id) = turn.find(itself, name)? else {
         drop(pair);
@@ -123,7 +127,8 @@ pub fn add<'s>(
     add_and_settle(turn, id, pair)
 }
 
-/// Adds a pair to a Deferred that fires another, both by their names (Twisted: `Deferred.chainDeferred`).
+/// Adds a pair to a Deferred that fires another, both by their names (Twisted:
+/// `Deferred.chainDeferred`).
 pub fn chain<'s>(
     turn: &mut Turn<'s>,
     itself: Option<DeferredId>,
@@ -131,7 +136,8 @@ pub fn chain<'s>(
     other: &str,
 ) -> Result<(), AllocError>
     requires done { turn.old.performed ≡ Done }
-    ensures { OnOk result (turn.new ≡ after (on_deferred itself name.now λ d. on_deferred itself other.now λ e. page.add d (chain e)) turn.old) }
+    ensures { OnOk result (turn.new ≡ after (on_deferred itself name.now λ d.
+        on_deferred itself other.now λ e. page.add d (chain e)) turn.old) }
 {
     let bound = &itself;
     let Some(id) = turn.find(*bound, name)? else {
@@ -148,7 +154,8 @@ fn chain_found<'s>(
     other: &str,
 ) -> Result<(), AllocError>
     requires done { turn.old.performed ≡ Done }
-    ensures { OnOk result (turn.new ≡ after (on_deferred itself.now other.now λ e. page.add id (chain e)) turn.old) }
+    ensures { OnOk result
+        (turn.new ≡ after (on_deferred itself.now other.now λ e. page.add id (chain e)) turn.old) }
 {
     let Some(to) = turn.find(*itself, other)? else {
         return Ok(());
@@ -165,7 +172,8 @@ pub fn pause<'s>(
 ) -> Result<(), AllocError>
     requires bounded { Bounded turn.old.world }
     requires done { turn.old.performed ≡ Done }
-    ensures { OnOk result (turn.new ≡ after (on_deferred itself name.now λ d. Pause d next finished) turn.old) }
+    ensures { OnOk result
+        (turn.new ≡ after (on_deferred itself name.now λ d. Pause d next finished) turn.old) }
 {
     let Some(id) = turn.find(itself, name)? else {
         return Ok(());

@@ -1,6 +1,8 @@
 -- The telling cases, each worked out.
 use Rattle.std.proofs.Common.{◌≡◌, ℕ, false, [], Option, None, Some, refl}
-use Rattle.dv_definition.specs.Cases.{TokensAreWaitedFor, FullQueuesRefuse, FiredListsStay, TurnsFollow, EndedTasksStay, NameErrorsAreThrown, ErrbacksAreForFailures, ManyJobsAreRefused, FailuresOfCallsAreTold}
+use Rattle.dv_definition.specs.Cases.{TokensAreWaitedFor, FullQueuesRefuse, FiredListsStay, TurnsFollow, EndedTasksStay}
+use Rattle.dv_definition.specs.Cases.{NameErrorsAreThrown, ErrbacksAreForFailures, ManyJobsAreRefused}
+use Rattle.dv_definition.specs.Cases.{FailuresOfCallsAreTold}
 use Rattle.dv_definition.specs.Rule.{Finds, Fires, run}
 use Rattle.dv_definition.specs.Words.{finished, if_unfired}
 use Rattle.dv_objects.specs.declared.performed.Performed.TheVariants.{Done}
@@ -15,12 +17,14 @@ pub full_queues_refuse : FullQueuesRefuse
 full_queues_refuse k v w q is full = rw (is, full) refl
 
 -- whatever is due
-none_fired : (d : ℕ) (o : Option Value) (u : World) → is_unfired d u ≡ false → run (Finds o finished (λ v. if_unfired d (Fires d v) finished)) u ≡ ([], Done, u)
+none_fired : (d : ℕ) (o : Option Value) (u : World) → is_unfired d u ≡ false
+    → run (Finds o finished (λ v. if_unfired d (Fires d v) finished)) u ≡ ([], Done, u)
 none_fired d None u h = refl
 none_fired d (Some v) u h = rw h refl
 
 pub fired_lists_stay : FiredListsStay
-fired_lists_stay child input w h = let came = world.came_to child.list child.place input w in rw (none_fired child.of came.0.fire came.1 h) refl
+fired_lists_stay child input w h =
+    let came = world.came_to child.list child.place input w in rw (none_fired child.of came.0.fire came.1 h) refl
 
 pub turns_follow : TurnsFollow
 turns_follow l w x is runs = rw (is, runs) refl

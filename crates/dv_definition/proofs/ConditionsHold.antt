@@ -1,5 +1,6 @@
 -- The conditions on the page are those of the crates' steps.
-use Rattle.std.proofs.Common.{◌≡◌, ℕ, zero, suc, ◌+◌, Bool, true, false, ◌&&◌, if◌then◌else◌, List, [], ◌∷◌, length, Option, None, Some, slice_get, slice_set, nat_eq, nat_lt, refl, ap, ◌∙◌}
+use Rattle.std.proofs.Common.{◌≡◌, ℕ, zero, suc, ◌+◌, Bool, true, false, ◌&&◌, if◌then◌else◌, List, [], ◌∷◌, length}
+use Rattle.std.proofs.Common.{Option, None, Some, slice_get, slice_set, nat_eq, nat_lt, refl, ap, ◌∙◌}
 use Rattle.std.specs.Option.{option_map, option_map_or}
 use Rattle.dv_clock.specs.Clock.{Upcoming, due_at, first_from, first_of, upcoming}
 use Rattle.dv_clock.specs.declared.call.Call.{Call}
@@ -14,7 +15,8 @@ use Rattle.dv_objects.specs.Reached.{reached_unfired}
 use Rattle.dv_objects.specs.declared.canceller.Canceller.{Canceller}
 use Rattle.dv_objects.specs.declared.canceller.Canceller.TheVariants as canceller
 use Rattle.dv_objects.specs.declared.reached.Reached.TheVariants as reached
-use Rattle.dv_prims.specs.DeferredList.{Gather, count_missing, due, due_at_last, due_by_failure, due_when_kept, first_failure, first_success, kept_of, succeeded, without_places}
+use Rattle.dv_prims.specs.DeferredList.{Gather, count_missing, due, due_at_last, due_by_failure, due_when_kept}
+use Rattle.dv_prims.specs.DeferredList.{first_failure, first_success, kept_of, succeeded, without_places}
 use Rattle.dv_script.specs.declared.body.Statement.{Statement}
 use Rattle.dv_store.specs.Cancelling.{link, walk}
 use Rattle.dv_store.specs.declared.record.Record.{Record}
@@ -26,14 +28,16 @@ use Rattle.dv_value.specs.declared.value.Value.TheVariants as value
 use Rattle.dv_world.specs.World.{World, end_reached, record_reached}
 
 -- cancelling
-step_same : (o : Option ℕ) (d : ℕ) (f g : ℕ → Option ℕ) → ((e : ℕ) → f e ≡ g e) → option_map_or f o (Some d) ≡ found o (Some d) g
+step_same : (o : Option ℕ) (d : ℕ) (f g : ℕ → Option ℕ) → ((e : ℕ) → f e ≡ g e)
+    → option_map_or f o (Some d) ≡ found o (Some d) g
 step_same None d f g h = refl
 step_same (Some e) d f g h = h e
 
 walk_same : (most d : ℕ) (w : World) → walk most d w.records ≡ end_of_waiting most d w
 unfolding walk end_of_waiting
 walk_same zero d w = refl
-walk_same (suc most) d w = step_same (link w.records d) d (λ e. walk most e w.records) (λ e. end_of_waiting most e w) (λ e. walk_same most e w)
+walk_same (suc most) d w =
+    step_same (link w.records d) d (λ e. walk most e w.records) (λ e. end_of_waiting most e w) (λ e. walk_same most e w)
 
 canceller_same : (d : ℕ) (o : Option Canceller) → reached_unfired d o ≡ reached_by d o
 canceller_same d None = refl
@@ -43,16 +47,20 @@ canceller_same d (Some (canceller.Item k)) = refl
 canceller_same d (Some (canceller.Children children)) = refl
 canceller_same d (Some (canceller.Inline i)) = refl
 
-record_same : (d : ℕ) (o : Option (Record Pair Canceller)) → record_reached d o ≡ found o reached.Nothing (λ r. if r.fired then reached.Nothing else reached_by d r.canceller)
+record_same : (d : ℕ) (o : Option (Record Pair Canceller))
+    → record_reached d o ≡ found o reached.Nothing (λ r. if r.fired then reached.Nothing else reached_by d r.canceller)
 record_same d None = refl
 record_same d (Some r) = ap (λ x. if r.fired then reached.Nothing else x) (canceller_same d r.canceller)
 
-end_same : (o : Option ℕ) (w : World) → end_reached o w.records ≡ found o reached.Nothing (λ e. found (slice_get w.records e) reached.Nothing (λ r. if r.fired then reached.Nothing else reached_by e r.canceller))
+end_same : (o : Option ℕ) (w : World) → end_reached o w.records ≡ found o reached.Nothing (λ e.
+    found (slice_get w.records e) reached.Nothing (λ r. if r.fired then reached.Nothing else reached_by e r.canceller))
 end_same None w = refl
 end_same (Some e) w = record_same e (slice_get w.records e)
 
 pub cancels_reach : CancelsReach
-cancels_reach d w = ap (λ o. end_reached o w.records) (walk_same (length w.records + 1) d w) ∙ end_same (end_of_waiting (length w.records + 1) d w) w
+cancels_reach d w =
+    ap (λ o. end_reached o w.records) (walk_same (length w.records + 1) d w)
+    ∙ end_same (end_of_waiting (length w.records + 1) d w) w
 
 -- lists
 answer_of_if : {A B : Type 0} (b : Bool) (x y : A × B) → (if b then x else y).0 ≡ (if b then x.0 else y.0)
@@ -69,26 +77,31 @@ none_if : (b : Bool) (n : Option Value) (f : Failure → Option Value) → n ≡
 none_if true n f = refl
 none_if false n f = refl
 
-some_if : (b : Bool) (failure : Failure) (n : Option Value) (f : Failure → Option Value) → (if b then f failure else n) ≡ found (if b then Some failure else None) n f
+some_if : (b : Bool) (failure : Failure) (n : Option Value) (f : Failure → Option Value)
+    → (if b then f failure else n) ≡ found (if b then Some failure else None) n f
 some_if true failure n f = refl
 some_if false failure n f = refl
 
 errback_same : (i : ℕ) (o : Option Failure) (v : Value) (g : Gather)
-    → (due_by_failure i o v g).0 ≡ found (if g.flags.fire_on_one_errback then o else None) (all_came (slice_set g.places i (kept_of v))) (λ failure. Some (first_failure i failure))
+    → (due_by_failure i o v g).0 ≡ found (if g.flags.fire_on_one_errback then o
+    else None) (all_came (slice_set g.places i (kept_of v))) (λ failure. Some (first_failure i failure))
 errback_same i None v g = kept_same i v g ∙ none_if g.flags.fire_on_one_errback _ _
 errback_same i (Some failure) v g =
     answer_of_if g.flags.fire_on_one_errback (Some (first_failure i failure), without_places g) (due_when_kept i v g)
     ∙ ap (λ n. if g.flags.fire_on_one_errback then Some (first_failure i failure) else n) (kept_same i v g)
-    ∙ some_if g.flags.fire_on_one_errback failure (all_came (slice_set g.places i (kept_of v))) (λ f. Some (first_failure i f))
+    ∙ some_if g.flags.fire_on_one_errback failure (all_came (slice_set g.places i (kept_of v)))
+    (λ f. Some (first_failure i f))
 
-first_of_three : (a b : Bool) (x y z : Option Value × Gather) (n : Option Value) → z.0 ≡ n → (if a then x else if b then y else z).0 ≡ (if a then x.0 else if b then y.0 else n)
+first_of_three : (a b : Bool) (x y z : Option Value × Gather) (n : Option Value) → z.0 ≡ n
+    → (if a then x else if b then y else z).0 ≡ (if a then x.0 else if b then y.0 else n)
 first_of_three true b x y z n h = refl
 first_of_three false true x y z n h = refl
 first_of_three false false x y z n h = h
 
 pub lists_fire : ListsFire
 lists_fire i v g =
-    first_of_three g.fired (g.flags.fire_on_one_callback && succeeded v) (None, g) (Some (first_success i v), without_places g) (due_by_failure i (failure_in v) v g) _
+    first_of_three g.fired (g.flags.fire_on_one_callback && succeeded v) (None, g)
+    (Some (first_success i v), without_places g) (due_by_failure i (failure_in v) v g) _
     (errback_same i (failure_in v) v g)
 
 -- calls
@@ -100,31 +113,39 @@ first_of_same (Some a) (Some b) = refl
 first_same : (number : ℕ) (calls : List Call) → first_from number calls ≡ first_call number calls
 first_same number [] = refl
 first_same number (call ∷ calls) =
-    ap (first_of (upcoming number call)) (first_same (number + 1) calls) ∙ first_of_same (upcoming number call) (first_call (number + 1) calls)
+    ap (first_of (upcoming number call)) (first_same (number + 1) calls)
+    ∙ first_of_same (upcoming number call) (first_call (number + 1) calls)
 
-due_same : (now : ℕ) (o : Option Upcoming) → due_at now o ≡ found o None (λ call. if nat_lt now call.due then None else Some call)
+due_same : (now : ℕ) (o : Option Upcoming)
+    → due_at now o ≡ found o None (λ call. if nat_lt now call.due then None else Some call)
 due_same now None = refl
 due_same now (Some call) = refl
 
 pub calls_come : CallsComeInTurn
-calls_come w = ap (due_at w.objects.clock.time) (first_same 0 w.objects.clock.calls) ∙ due_same w.objects.clock.time (first_call 0 w.objects.clock.calls)
+calls_come w =
+    ap (due_at w.objects.clock.time) (first_same 0 w.objects.clock.calls)
+    ∙ due_same w.objects.clock.time (first_call 0 w.objects.clock.calls)
 
 -- inline bodies
 second_same : (o : Option ℕ) (catch : Catch) → second_for o (Some catch) ≡ option_map (λ class. catch.second) o
 second_same None catch = refl
 second_same (Some class) catch = refl
 
-caught_same : (classes : List Class) (failure : Failure) (o : Option Catch) → second_for (class_caught classes failure o) o ≡ caught_by classes failure o
+caught_same : (classes : List Class) (failure : Failure) (o : Option Catch)
+    → second_for (class_caught classes failure o) o ≡ caught_by classes failure o
 caught_same classes failure None = refl
 caught_same classes failure (Some catch) = second_same _ catch
 
-to_same : (outer again : Position) (o : Option (List Statement)) (rest : List Statement) (tries : List Open) (p : Position) → outer ≡ again
-    → thrown_to outer o rest tries p ≡ found o again (λ second. record p { statements = second; tries = record { catch = None; rest = rest } ∷ tries; value = value.Null })
+to_same : (outer again : Position) (o : Option (List Statement)) (rest : List Statement) (tries : List Open)
+    (p : Position) → outer ≡ again
+    → thrown_to outer o rest tries p ≡ found o again (λ second.
+    record p { statements = second; tries = record { catch = None; rest = rest } ∷ tries; value = value.Null })
 to_same outer again None rest tries p e = e
 to_same outer again (Some second) rest tries p e = refl
 
 pub failures_thrown : FailuresAreThrown
 failures_thrown classes failure [] p = refl
 failures_thrown classes failure (around ∷ tries) p =
-    ap (λ o. thrown_to (thrown_from classes failure tries p) o around.rest tries p) (caught_same classes failure around.catch)
+    ap (λ o. thrown_to (thrown_from classes failure tries p) o around.rest tries p)
+    (caught_same classes failure around.catch)
     ∙ to_same _ _ (caught_by classes failure around.catch) around.rest tries p (failures_thrown classes failure tries p)

@@ -1,7 +1,9 @@
 -- The telling case of each section of the page: what its rule leaves there, worked out by hand.
 use Rattle.std.specs.Prelude.{◌≡◌, ℕ, true, false, List, [], ◌∷◌, ◌++◌, length, Option, None, Some, slice_get}
 use Rattle.dv_clock.specs.declared.due.Due.TheVariants as what
-use Rattle.dv_definition.specs.Definition.{add, cancel_reached, acquire, put_in, deferred_of, run_with, report, add_timeout, end_turn, step_ended, await, thread, settle_by, carry_out, act, perform_rest, run_next}
+use Rattle.dv_definition.specs.Definition.{add, cancel_reached, acquire, put_in, deferred_of, run_with, report}
+use Rattle.dv_definition.specs.Definition.{add_timeout, end_turn, step_ended, await, thread, settle_by, carry_out, act}
+use Rattle.dv_definition.specs.Definition.{perform_rest, run_next}
 use Rattle.dv_definition.specs.Rule.{Fires, run, ◌after_which◌}
 use Rattle.dv_definition.specs.Words.{goes_through, is_over}
 use Rattle.dv_frames.specs.Turn.{rest_of}
@@ -35,45 +37,58 @@ use Rattle.dv_world.specs.World.{World, deferred_at, is_unfired, make, too_many_
 
 -- a Deferred that gets a pair is settled
 abbrev pub PairsAreUsed : Type 0
-PairsAreUsed = (d : ℕ) (pair : Pair) (w : World) → run (add d pair) w ≡ (frame.Settle d ∷ [], Done, world.append d pair w)
+PairsAreUsed =
+    (d : ℕ) (pair : Pair) (w : World) → run (add d pair) w ≡ (frame.Settle d ∷ [], Done, world.append d pair w)
 
 -- a cancel of a list cancels its children in order, and logs a failure of either
 abbrev pub CancelsReachChildren : Type 0
-CancelsReachChildren = (c e : ℕ) (w : World) → run (cancel_reached (reached.Children (c ∷ e ∷ []))) w ≡ (frame.Cancel c ∷ frame.Tell ∷ frame.Cancel e ∷ frame.Tell ∷ [], Done, w)
+CancelsReachChildren =
+    (c e : ℕ) (w : World) → run (cancel_reached (reached.Children (c ∷ e ∷ []))) w
+    ≡ (frame.Cancel c ∷ frame.Tell ∷ frame.Cancel e ∷ frame.Tell ∷ [], Done, w)
 
 -- where no token is free, who asks for one waits, and nobody is fired
 abbrev pub TokensAreWaitedFor : Type 0
 TokensAreWaitedFor =
-    (name : List ℕ) (l : ℕ) (w : World) (s : Semaphore) → (let made = make (Some name) (Some (Token l)) w in slice_get made.objects.semaphores l ≡ Some s → has_free s ≡ false
+    (name : List ℕ) (l : ℕ) (w : World) (s : Semaphore) → (let made = make (Some name) (Some (Token l)) w in
+    slice_get made.objects.semaphores l ≡ Some s → has_free s ≡ false
     → run (acquire name l) w ≡ ([], Done, world.ask l (length w.records) made))
 
 -- a queue that is full takes no value
 abbrev pub FullQueuesRefuse : Type 0
-FullQueuesRefuse = (k : ℕ) (v : Value) (w : World) (q : Queue) → slice_get w.objects.queues k ≡ Some q → may_put q ≡ false → run (put_in k v) w ≡ ([], Raised overflow, w)
+FullQueuesRefuse =
+    (k : ℕ) (v : Value) (w : World) (q : Queue) → slice_get w.objects.queues k ≡ Some q → may_put q ≡ false
+    → run (put_in k v) w ≡ ([], Raised overflow, w)
 
 -- a body that raises makes a Deferred that is fired with the failure
 abbrev pub FailuresAreKept : Type 0
-FailuresAreKept = (name : List ℕ) (failure : Failure) (w : World) → run (deferred_of (Named name) (Raised failure)) w ≡ run (Fires (length w.records) (Fault failure) after_which []) (make (Some name) None w)
+FailuresAreKept =
+    (name : List ℕ) (failure : Failure) (w : World) → run (deferred_of (Named name) (Raised failure)) w
+    ≡ run (Fires (length w.records) (Fault failure) after_which []) (make (Some name) None w)
 
 -- who asks for a token to perform a body with gets the pair that performs it
 abbrev pub BodiesWaitForTokens : Type 0
 BodiesWaitForTokens =
-    (name : List ℕ) (l : ℕ) (body : Body) (w : World) → (let asked = run (acquire name l) w in run (run_with name l body) w ≡ (asked.0 ++ frame.Add (length w.records) (holding l body) ∷ [], asked.1, asked.2))
+    (name : List ℕ) (l : ℕ) (body : Body) (w : World) → (let asked = run (acquire name l) w in
+    run (run_with name l body) w ≡ (asked.0 ++ frame.Add (length w.records) (holding l body) ∷ [], asked.1, asked.2))
 
 -- a list that somebody has fired is fired by no child
 abbrev pub FiredListsStay : Type 0
 FiredListsStay =
-    (child : Child) (input : Value) (w : World) → (let came = world.came_to child.list child.place input w in is_unfired child.of came.1 ≡ false
+    (child : Child) (input : Value) (w : World)
+    → (let came = world.came_to child.list child.place input w in is_unfired child.of came.1 ≡ false
     → run (report child input) w ≡ (frame.Give (Gave came.0.pass) ∷ [], Done, came.1))
 
 -- a firing ends the timer
 abbrev pub FiringsEndTimers : Type 0
 FiringsEndTimers =
-    (d delay : ℕ) (w : World) → (let t = length w.objects.clock.calls in run (add_timeout d delay) w ≡ (frame.Settle d ∷ frame.Add d (ending t) ∷ [], Done, world.append d (timing t) (world.start_timer d delay w)))
+    (d delay : ℕ) (w : World) → (let t = length w.objects.clock.calls in run (add_timeout d delay) w
+    ≡ (frame.Settle d ∷ frame.Add d (ending t) ∷ [], Done, world.append d (timing t) (world.start_timer d delay w)))
 
 -- after a turn of a loop that runs the next is scheduled
 abbrev pub TurnsFollow : Type 0
-TurnsFollow = (l : ℕ) (w : World) (x : LoopingCall) → slice_get w.objects.loops l ≡ Some x → x.running ≡ true → run (end_turn l) w ≡ ([], Done, world.schedule_turn l w)
+TurnsFollow =
+    (l : ℕ) (w : World) (x : LoopingCall) → slice_get w.objects.loops l ≡ Some x → x.running ≡ true
+    → run (end_turn l) w ≡ ([], Done, world.schedule_turn l w)
 
 -- a task that has ended waits for nothing
 abbrev pub EndedTasksStay : Type 0
@@ -88,26 +103,31 @@ NameErrorsAreThrown =
 -- one job more than a run may have is refused
 abbrev pub ManyJobsAreRefused : Type 0
 ManyJobsAreRefused =
-    (name : List ℕ) (pool : Option (List ℕ)) (delay : ℕ) (work : Work) (w : World) → is_full w.works ≡ true → run (thread name pool delay work) w ≡ ([], Raised too_many_jobs, w)
+    (name : List ℕ) (pool : Option (List ℕ)) (delay : ℕ) (work : Work) (w : World) → is_full w.works ≡ true
+    → run (thread name pool delay work) w ≡ ([], Raised too_many_jobs, w)
 
 -- an errback is added for failures
 abbrev pub ErrbacksAreForFailures : Type 0
 ErrbacksAreForFailures =
     (itself : Option ℕ) (name : List ℕ) (body : Body) (d : ℕ) (w : World) → deferred_at itself name w ≡ Some d
-    → run (carry_out itself (Action-F.AddErrback name body)) w ≡ (frame.Settle d ∷ [], Done, world.append d (errback body) w)
+    → run (carry_out itself (Action-F.AddErrback name body)) w
+    ≡ (frame.Settle d ∷ [], Done, world.append d (errback body) w)
 
 -- the actions that are left of a body follow the first
 abbrev pub BodiesGoOn : Type 0
 BodiesGoOn =
     (itself : Option ℕ) (action : Action) (rest : List Action) (end : End) (input : Value) (w : World)
-    → (let first = run (act itself action) w in run (perform_rest itself (action ∷ rest) end input) w ≡ (first.0 ++ goes_through itself rest end input, first.1, first.2))
+    → (let first = run (act itself action) w in run (perform_rest itself (action ∷ rest) end input) w
+    ≡ (first.0 ++ goes_through itself rest end input, first.1, first.2))
 
 -- who got a value by a hand-over is settled before who gave it
 abbrev pub ReceiversComeFirst : Type 0
-ReceiversComeFirst = (d c : ℕ) (w : World) → run (settle_by d (Handed c)) w ≡ (frame.Settle c ∷ frame.Settle d ∷ [], Done, w)
+ReceiversComeFirst =
+    (d c : ℕ) (w : World) → run (settle_by d (Handed c)) w ≡ (frame.Settle c ∷ frame.Settle d ∷ [], Done, w)
 
 -- a failure that leaves the body of a delayed call is logged, before what is due next is run
 abbrev pub FailuresOfCallsAreTold : Type 0
 FailuresOfCallsAreTold =
     (name : List ℕ) (key : ℕ) (body : Body) (w : World) → slice_get w.objects.bodies key ≡ Some body
-    → run (run_next (Some (what.Call name key))) w ≡ (frame.Rest (rest_of None body Null) ∷ frame.Tell ∷ frame.Due ∷ [], Done, w)
+    → run (run_next (Some (what.Call name key))) w
+    ≡ (frame.Rest (rest_of None body Null) ∷ frame.Tell ∷ frame.Due ∷ [], Done, w)

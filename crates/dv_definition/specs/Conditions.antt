@@ -2,7 +2,8 @@
 use Rattle.std.specs.Prelude.{◌≡◌, ℕ, List}
 use Rattle.dv_clock.specs.Clock.{Clock, next_call}
 use Rattle.dv_clock.specs.Turns.{Turns, turn_of}
-use Rattle.dv_definition.specs.Definition.{has_to_wait, list_fires_with, may_be_used, next_due, next_turn_at, task_in_turn, thrown, whom_reaches}
+use Rattle.dv_definition.specs.Definition.{has_to_wait, list_fires_with, may_be_used, next_due, next_turn_at}
+use Rattle.dv_definition.specs.Definition.{task_in_turn, thrown, whom_reaches}
 use Rattle.dv_inline.specs.Position.{Position, thrown_from}
 use Rattle.dv_inline.specs.declared.open.Open.{Open}
 use Rattle.dv_objects.specs.Looping.{next_due as turn_due}
@@ -48,4 +49,6 @@ TasksTakeTurns = (t : Turns) → turn_of t ≡ task_in_turn t
 
 -- a failure is thrown to where it is caught
 abbrev pub FailuresAreThrown : Type 0
-FailuresAreThrown = (classes : List Class) (failure : Failure) (tries : List Open) (p : Position) → thrown_from classes failure tries p ≡ thrown classes failure tries p
+FailuresAreThrown =
+    (classes : List Class) (failure : Failure) (tries : List Open) (p : Position)
+    → thrown_from classes failure tries p ≡ thrown classes failure tries p

@@ -1,7 +1,9 @@
--- What a script means: a rule for each action, in the order of docs/SCRIPT.md. `step next rule` is read "the step, and then the rule";
--- `rule after_which called`, "the rule, and after it these"; `word λ x. rule`, "with the word's x, the rule". A step logs its entry, if it
--- has one, and then makes its change (`Steps`). What else rules are made of is in `Rule` and, with sections 1 to 4, in `Words`.
-use Rattle.std.specs.Prelude.{ℕ, zero, suc, ◌+◌, ◌-◌, ◌*◌, ◌/◌, min, nat_eq, nat_lt, Bool, false, not, ◌&&◌, ◌||◌, if◌then◌else◌, List, [], ◌∷◌, length}
+-- What a script means: a rule for each action, in the order of docs/SCRIPT.md. `step next rule` is read "the step, and
+-- then the rule"; `rule after_which called`, "the rule, and after it these"; `word λ x. rule`, "with the word's x, the
+-- rule". A step logs its entry, if it has one, and then makes its change (`Steps`). What else rules are made of is in
+-- `Rule` and, with sections 1 to 4, in `Words`.
+use Rattle.std.specs.Prelude.{ℕ, zero, suc, ◌+◌, ◌-◌, ◌*◌, ◌/◌, min, nat_eq, nat_lt, Bool, false, not, ◌&&◌, ◌||◌}
+use Rattle.std.specs.Prelude.{if◌then◌else◌, List, [], ◌∷◌, length}
 use Rattle.std.specs.Prelude.{Option, None, Some, is_none, is_some, option_and_then, slice_get, slice_set}
 use Rattle.std.specs.Option.{option_map}
 use Rattle.std.specs.Ordering.{is_gt, nat_cmp, ordering_then}
@@ -11,10 +13,21 @@ use Rattle.dv_clock.specs.declared.call.Call.{Call}
 use Rattle.dv_clock.specs.declared.due.Due.{Due}
 use Rattle.dv_clock.specs.declared.due.Due.TheVariants as what
 use Rattle.dv_definition.specs.Flags.{list_flags, gather_flags}
-use Rattle.dv_definition.specs.Rule.{Rule, Ends, By, If, Finds, Asks, Fires, Unpauses, settles, found, ◌next◌, ◌after_which◌}
-use Rattle.dv_definition.specs.Steps.{Step, Make, Name, Append, FireGuarded, Pause, Note, TellTurn, NewLock, NewSemaphore, Ask, Release, Forget, NewQueue, Withdraw, NewList, StartTimer, EndTimer, CallLater, NewLoop, ScheduleTurn, StopLoop, EndLoop, NewTask, AwaitTask, PauseTask, ResumeTask, HoldTask, KeepTick, BeginTick, EndTick, AddInline, BeginAwait, Submit, DeliverLater, Put, PutDeferred, ComeDue, Moves, Cancel, PutInto, GetFrom, CameTo, CancelCall, TakeStep, EndTask, ComeToInline, EndAwait}
-use Rattle.dv_definition.specs.Words.{finished, give, raise, give_end, ◌and◌, calls, places, performs, goes_through, cancels, ends_canceller, makes_deferred, adds, gives, notifies, ends_step, takes_steps, goes_on, goes_on_with_answer, awaits, tells_failure, runs_due}
-use Rattle.dv_definition.specs.Words.{next_deferred, next_list, next_loop, next_call, next_inline_body, next_job, the_lock, the_queue, the_loop, the_task, the_job, the_body, what_is_awaited, its_value, all_jobs, the_clock, steps_of_a_tick, all_classes, its_time_is_over, if_unfired, if_over, fire_if, fire_with}
+use Rattle.dv_definition.specs.Rule.{Rule, Ends, By, If, Finds, Asks, Fires, Unpauses, settles, found, ◌next◌}
+use Rattle.dv_definition.specs.Rule.{◌after_which◌}
+use Rattle.dv_definition.specs.Steps.{Step, Make, Name, Append, FireGuarded, Pause, Note, TellTurn, NewLock}
+use Rattle.dv_definition.specs.Steps.{NewSemaphore, Ask, Release, Forget, NewQueue, Withdraw, NewList, StartTimer}
+use Rattle.dv_definition.specs.Steps.{EndTimer, CallLater, NewLoop, ScheduleTurn, StopLoop, EndLoop, NewTask, AwaitTask}
+use Rattle.dv_definition.specs.Steps.{PauseTask, ResumeTask, HoldTask, KeepTick, BeginTick, EndTick, AddInline}
+use Rattle.dv_definition.specs.Steps.{BeginAwait, Submit, DeliverLater, Put, PutDeferred, ComeDue, Moves, Cancel}
+use Rattle.dv_definition.specs.Steps.{PutInto, GetFrom, CameTo, CancelCall, TakeStep, EndTask, ComeToInline, EndAwait}
+use Rattle.dv_definition.specs.Words.{finished, give, raise, give_end, ◌and◌, calls, places, performs, goes_through}
+use Rattle.dv_definition.specs.Words.{cancels, ends_canceller, makes_deferred, adds, gives, notifies, ends_step}
+use Rattle.dv_definition.specs.Words.{takes_steps, goes_on, goes_on_with_answer, awaits, tells_failure, runs_due}
+use Rattle.dv_definition.specs.Words.{next_deferred, next_list, next_loop, next_call, next_inline_body, next_job}
+use Rattle.dv_definition.specs.Words.{the_lock, the_queue, the_loop, the_task, the_job, the_body, what_is_awaited}
+use Rattle.dv_definition.specs.Words.{its_value, all_jobs, the_clock, steps_of_a_tick, all_classes, its_time_is_over}
+use Rattle.dv_definition.specs.Words.{if_unfired, if_over, fire_if, fire_with}
 use Rattle.dv_definition.specs.Words.{deferred_or, on_deferred, on_all, on_lock, on_queue, on_call, on_loop, on_task}
 use Rattle.dv_frames.specs.declared.frame.Frame.{Frame}
 use Rattle.dv_frames.specs.declared.frame.Purpose.{Purpose}
@@ -27,7 +40,8 @@ use Rattle.dv_inline.specs.declared.want.Want.TheVariants.{Do, Await}
 use Rattle.dv_jobs.specs.Works.{value_of as work_value}
 use Rattle.dv_objects.specs.Cooperator.{result_of, how_ended}
 use Rattle.dv_objects.specs.Looping.{is_scheduled}
-use Rattle.dv_objects.specs.Pair.{Pair, callback, errback, both, chain, coming, results, holding, releasing, turning, resuming, continuing, timing, ending, side_for}
+use Rattle.dv_objects.specs.Pair.{Pair, callback, errback, both, chain, coming, results, holding, releasing, turning}
+use Rattle.dv_objects.specs.Pair.{resuming, continuing, timing, ending, side_for}
 use Rattle.dv_objects.specs.Performed.{failed_with}
 use Rattle.dv_objects.specs.Refusals.{cancelled, not_held, overflow, underflow, not_gathered}
 use Rattle.dv_objects.specs.Timed.{timed}
@@ -45,7 +59,8 @@ use Rattle.dv_objects.specs.declared.reached.Reached.{Reached}
 use Rattle.dv_objects.specs.declared.reached.Reached.TheVariants as reached
 use Rattle.dv_objects.specs.declared.task.TaskEnd.{TaskEnd}
 use Rattle.dv_objects.specs.declared.task.TaskEnd.TheVariants.{Finished, Stopped, Failed}
-use Rattle.dv_prims.specs.DeferredList.{Gather, count_missing, first_failure, first_success, kept_of, seconds_of, succeeded}
+use Rattle.dv_prims.specs.DeferredList.{Gather, count_missing, first_failure, first_success, kept_of, seconds_of}
+use Rattle.dv_prims.specs.DeferredList.{succeeded}
 use Rattle.dv_prims.specs.Queue.{may_put, may_get}
 use Rattle.dv_prims.specs.Tokens.{has_free, is_unheld, first_waiting}
 use Rattle.dv_prims.specs.declared.gather.Flags.{Flags}
@@ -75,11 +90,13 @@ add d pair = Append d pair next calls (settles d)
 
 -- 6. Cancelling (Twisted: `Deferred.cancel`).
 
--- after the canceller of d: raises its failure to the caller of the cancel; else fires d with CancelledError, if d is unfired
+-- after the canceller of d: raises its failure to the caller of the cancel; else fires d with CancelledError, if d is
+-- unfired
 abbrev pub after_canceller : ℕ → Performed → Rule
 after_canceller d p = Finds (failed_with p) (if_unfired d (Fires d cancelled) finished) λ failure. raise failure
 
--- cancels the children of a list in order, and logs as unhandled what the cancel of a child raises (Twisted: `DeferredList.cancel`)
+-- cancels the children of a list in order, and logs as unhandled what the cancel of a child raises (Twisted:
+-- `DeferredList.cancel`)
 abbrev pub cancel_children : List ℕ → List Frame
 cancel_children [] = []
 cancel_children (c ∷ cs) = cancels c and tells_failure and cancel_children cs
@@ -88,7 +105,8 @@ cancel_children (c ∷ cs) = cancels c and tells_failure and cancel_children cs
 abbrev pub waited_for : ℕ → World → Option ℕ
 waited_for d w = option_and_then (λ r. r.waits_for) (slice_get w.records d)
 
--- follows the waits from d to the first Deferred that waits for none. In a circle there is none; `most` bounds the steps
+-- follows the waits from d to the first Deferred that waits for none. In a circle there is none; `most` bounds the
+-- steps
 unfoldable pub end_of_waiting : ℕ → ℕ → World → Option ℕ
 end_of_waiting zero d w = None
 end_of_waiting (suc most) d w = found (waited_for d w) (Some d) λ e. end_of_waiting most e w
@@ -102,18 +120,18 @@ reached_by d (Some (canceller.Item k)) = reached.ForItem d k
 reached_by d (Some (canceller.Children children)) = reached.Children children
 reached_by d (Some (canceller.Inline i)) = reached.Inline i
 
--- whom a cancel of d reaches: the one at the end of the waiting, unless it is fired; nobody in a circle. The step `Cancel` answers this
--- (Twisted: `Deferred.cancel`, but `circle-of-waits`, `cancel-of-a-fired-list`)
+-- whom a cancel of d reaches: the one at the end of the waiting, unless it is fired; nobody in a circle. The step
+-- `Cancel` answers this (Twisted: `Deferred.cancel`, but `circle-of-waits`, `cancel-of-a-fired-list`)
 abbrev pub whom_reaches : ℕ → World → Reached
 whom_reaches d w =
     found (end_of_waiting (length w.records + 1) d w) reached.Nothing λ e.
     found (slice_get w.records e) reached.Nothing λ r.
     if r.fired then reached.Nothing else reached_by e r.canceller
 
--- by whom a cancel reaches. Nobody: nothing happens. One without a canceller is fired with CancelledError, and its next firing is swallowed.
--- One with a canceller of the script: that is performed. One that waits for a token, or for a value of a queue, waits no longer, and is
--- fired with CancelledError. A list: its children are cancelled. An inline body: what it awaits is cancelled (Twisted: `Deferred.cancel`,
--- but `cancelled-inline`, `cancelled-running-inline`)
+-- by whom a cancel reaches. Nobody: nothing happens. One without a canceller is fired with CancelledError, and its next
+-- firing is swallowed. One with a canceller of the script: that is performed. One that waits for a token, or for a
+-- value of a queue, waits no longer, and is fired with CancelledError. A list: its children are cancelled. An inline
+-- body: what it awaits is cancelled (Twisted: `Deferred.cancel`, but `cancelled-inline`, `cancelled-running-inline`)
 abbrev pub cancel_reached : Reached → Rule
 cancel_reached reached.Nothing = finished
 cancel_reached (reached.Fire d) = FireGuarded d next calls (settles d)
@@ -159,7 +177,8 @@ release l =
 abbrev pub hand_out : Option (ℕ × Value) → Rule
 hand_out who = Finds who finished λ (d, v). Fires d v
 
--- raises QueueOverflow if a queue is full and nobody waits. Else puts a value into it, and the first that waits is fired with it
+-- raises QueueOverflow if a queue is full and nobody waits. Else puts a value into it, and the first that waits is
+-- fired with it
 abbrev pub put_in : ℕ → Value → Rule
 put_in k v =
     the_queue k λ q.
@@ -184,8 +203,8 @@ name_for (Named name) = Some name
 name_for (Holding l) = None
 name_for (Turning l) = None
 
--- what it is used for. By a name: nothing more. With a token: that is released once d has a result, and d is returned. In a turn: the
--- loop goes on or ends once d has a result
+-- what it is used for. By a name: nothing more. With a token: that is released once d has a result, and d is returned.
+-- In a turn: the loop goes on or ends once d has a result
 abbrev pub used_for : Purpose → ℕ → List Frame
 used_for (Named name) d = []
 used_for (Holding l) d = adds d (releasing l) and gives (Awaits d)
@@ -204,7 +223,8 @@ taken_for (Named name) e = Name e name next finished
 taken_for (Holding l) e = calls (used_for (Holding l) e)
 taken_for (Turning l) e = calls (used_for (Turning l) e)
 
--- by what a body gave. Nothing: a new Deferred, fired with null. A value or a failure: a new one, fired with that. A Deferred: that one
+-- by what a body gave. Nothing: a new Deferred, fired with null. A value or a failure: a new one, fired with that. A
+-- Deferred: that one
 abbrev pub deferred_of : Purpose → Performed → Rule
 deferred_of purpose Done = made_with purpose Null
 deferred_of purpose (Gave v) = made_with purpose v
@@ -243,7 +263,8 @@ has_all_at_once (c ∷ cs) flags = false
 
 -- fires the list at once where that is due, and adds the pairs of its children
 abbrev pub list_begun : ℕ → ℕ → List ℕ → Flags → Rule
-list_begun l d children flags = fire_if (has_all_at_once children flags) d (value.List []) after_which add_children l d 0 children
+list_begun l d children flags =
+    fire_if (has_all_at_once children flags) d (value.List []) after_which add_children l d 0 children
 
 -- makes a list of children
 abbrev pub list : List ℕ → List ℕ → Flags → Rule
@@ -262,9 +283,10 @@ gather name children flags = next_deferred λ d. list name children flags after_
 abbrev pub all_came : List Value → Option Value
 all_came places = if nat_eq (count_missing places) 0 then Some (value.List places) else None
 
--- what a list is fired with when child i is fired with v, if it is. A list that is fired fires nothing more. Under `fireOnOneCallback` a
--- success fires it, with its place; under `fireOnOneErrback` a failure does, in a FirstError; else the last child does. What is kept
--- of a child is whether it succeeded, and its value. The step `CameTo` answers this
+-- what a list is fired with when child i is fired with v, if it is. A list that is fired fires nothing more. Under
+-- `fireOnOneCallback` a success fires it, with its place; under `fireOnOneErrback` a failure does, in a FirstError;
+-- else the last child does. What is kept of a child is whether it succeeded, and its value. The step `CameTo` answers
+-- this
 abbrev pub list_fires_with : ℕ → Value → Gather → Option Value
 list_fires_with i v g =
     if g.fired then None else
@@ -277,20 +299,21 @@ list_fires_with i v g =
 abbrev pub fire_list : ℕ → Option Value → Rule
 fire_list d due = Finds due finished λ v. if_unfired d (Fires d v) finished
 
--- reports the result of a child to its list, which is fired with what is due. The child keeps its result; under `consumeErrors` a failure
--- becomes null
+-- reports the result of a child to its list, which is fired with what is due. The child keeps its result; under
+-- `consumeErrors` a failure becomes null
 abbrev pub report : Child → Value → Rule
-report child input = Asks (CameTo child.list child.place input) λ came. fire_list child.of came.fire after_which gives (Gave came.pass)
+report child input =
+    Asks (CameTo child.list child.place input) λ came. fire_list child.of came.fire after_which gives (Gave came.pass)
 
--- gives what the children gave, from the result of their list; raises TypeError if that isn't such a result (Twisted: `gatherResults`, but
--- `gather-fired-by-hand`)
+-- gives what the children gave, from the result of their list; raises TypeError if that isn't such a result (Twisted:
+-- `gatherResults`, but `gather-fired-by-hand`)
 abbrev pub give_gathered : Value → Rule
 give_gathered input = Finds (seconds_of input) (raise not_gathered) give
 
 -- 12. Time-outs (Twisted: `Deferred.addTimeout`).
 
--- cancels d after so many ticks, unless its second pair has run by then. A timer is started, and d gets two pairs: one turns a cancellation
--- by the timer into TimeoutError, and one ends the timer
+-- cancels d after so many ticks, unless its second pair has run by then. A timer is started, and d gets two pairs: one
+-- turns a cancellation by the timer into TimeoutError, and one ends the timer
 abbrev pub add_timeout : ℕ → ℕ → Rule
 add_timeout d delay =
     next_call λ t.
@@ -299,8 +322,8 @@ add_timeout d delay =
 
 -- 13. Loops (Twisted: `LoopingCall`).
 
--- when the next turn of a loop is due: at the first time after now that is a whole number of intervals after its start. The step
--- `ScheduleTurn` schedules it then
+-- when the next turn of a loop is due: at the first time after now that is a whole number of intervals after its start.
+-- The step `ScheduleTurn` schedules it then
 abbrev pub next_turn_at : LoopingCall → Clock → ℕ
 next_turn_at x c = let start = min x.start c.time in start + ((c.time - start) / x.interval + 1) * x.interval
 
@@ -330,8 +353,8 @@ loop name of interval at_once body =
 abbrev pub take_turn : ℕ → Rule
 take_turn l = the_loop l λ x. turn l x.body
 
--- a turn has ended: schedules the next if the loop runs; else fires its Deferred with its name (Twisted: `LoopingCall`, but
--- `loop-fired-by-hand`)
+-- a turn has ended: schedules the next if the loop runs; else fires its Deferred with its name (Twisted: `LoopingCall`,
+-- but `loop-fired-by-hand`)
 abbrev pub end_turn : ℕ → Rule
 end_turn l =
     the_loop l λ x.
@@ -344,8 +367,8 @@ fail_turn l failure =
     the_loop l λ x.
     Fires x.of failure
 
--- raises AssertionError if the loop isn't running. Else stops it, and fires its Deferred at once if a turn was scheduled; if a turn is under
--- way, the end of that turn fires it (Twisted: `LoopingCall.stop`)
+-- raises AssertionError if the loop isn't running. Else stops it, and fires its Deferred at once if a turn was
+-- scheduled; if a turn is under way, the end of that turn fires it (Twisted: `LoopingCall.stop`)
 abbrev pub stop_loop : ℕ → Rule
 stop_loop l =
     the_loop l λ x.
@@ -361,14 +384,14 @@ notify d t =
     Finds x.end finished λ end.
     Fires d (result_of x.name end)
 
--- fires all that wait for the end of a task, in order, and logs AlreadyCalledError as unhandled (Twisted: `CooperativeTask`, but
--- `refused-when-done`)
+-- fires all that wait for the end of a task, in order, and logs AlreadyCalledError as unhandled (Twisted:
+-- `CooperativeTask`, but `refused-when-done`)
 abbrev pub notify_all : ℕ → List ℕ → List Frame
 notify_all t [] = []
 notify_all t (d ∷ ds) = notifies d t and tells_failure and notify_all t ds
 
--- ends a task, unless it has ended, and fires who waits for its end. `KeepTick` has the next tick scheduled while a task takes turns, and
--- no tick while none does
+-- ends a task, unless it has ended, and fires who waits for its end. `KeepTick` has the next tick scheduled while a
+-- task takes turns, and no tick while none does
 abbrev pub end_task : ℕ → TaskEnd → Rule
 end_task t end = Asks (EndTask t end) λ waiting. KeepTick next calls (notify_all t waiting)
 
@@ -400,8 +423,8 @@ resume_task t =
     the_task t λ x.
     If (nat_eq x.pauses 0) (raise not_paused) (ResumeTask t next KeepTick next finished)
 
--- the Deferred that a task waited for has a value: resumes the task, unless it has ended (Twisted: `CooperativeTask`, but
--- `hold-on-an-ended-task`)
+-- the Deferred that a task waited for has a value: resumes the task, unless it has ended (Twisted: `CooperativeTask`,
+-- but `hold-on-an-ended-task`)
 abbrev pub resume_held : ℕ → Rule
 resume_held t = if_over t finished (resume_task t)
 
@@ -420,8 +443,8 @@ after_step t (Awaits e) = HoldTask t e next KeepTick next calls (adds e (resumin
 abbrev pub step_ended : ℕ → Performed → Rule
 step_ended t p = if_over t finished (after_step t p)
 
--- the task whose turn it is, among those that take turns in order of joining: the one at the position, or the first if the position is past
--- the end. The step `TakeStep` takes it (Twisted: `Cooperator`, but `skipped-turn`)
+-- the task whose turn it is, among those that take turns in order of joining: the one at the position, or the first if
+-- the position is past the end. The step `TakeStep` takes it (Twisted: `Cooperator`, but `skipped-turn`)
 abbrev pub task_in_turn : Turns → Option ℕ
 task_in_turn t = slice_get t.tasks (if nat_lt t.position (length t.tasks) then t.position else 0)
 
@@ -458,10 +481,12 @@ inline name statements =
 -- what follows where a `try` catches a failure: its second statements
 abbrev pub caught_by : List Class → Failure → Option Catch → Option (List Statement)
 caught_by classes failure None = None
-caught_by classes failure (Some catch) = option_map (λ class. catch.second) (check classes (class_of failure) catch.classes)
+caught_by classes failure (Some catch) =
+    option_map (λ class. catch.second) (check classes (class_of failure) catch.classes)
 
--- where a body goes on when a failure is thrown: in the innermost `try` that catches it, with its second statements, on null. If none does,
--- the body ends with the failure. `answered` goes by this (Twisted: `inlineCallbacks`, but `end-in-a-try`)
+-- where a body goes on when a failure is thrown: in the innermost `try` that catches it, with its second statements, on
+-- null. If none does, the body ends with the failure. `answered` goes by this (Twisted: `inlineCallbacks`, but
+-- `end-in-a-try`)
 abbrev pub thrown : List Class → Failure → List Open → Position → Position
 thrown classes failure [] p = record p { tries = []; value = Null; result = Some (Fault failure) }
 thrown classes failure (around ∷ tries) p =
@@ -525,16 +550,17 @@ thread name pool delay work =
 abbrev pub deliver : ℕ → ℕ → Rule
 deliver job d = the_job job λ work. Fires d (work_value work)
 
--- 17. Settling: the pairs of a Deferred are used in order, each on what the one before left (Twisted: `Deferred._runCallbacks`, but
--- `abandoned-chain`).
+-- 17. Settling: the pairs of a Deferred are used in order, each on what the one before left (Twisted:
+-- `Deferred._runCallbacks`, but `abandoned-chain`).
 
--- whether the next item of a Deferred may be used: it was fired, none of its sides runs, it isn't paused, and it waits for no other. The
--- step `Moves` uses one then (Twisted: `Deferred._runCallbacks`, but `pause-in-own-side`, `paused-receiver`)
+-- whether the next item of a Deferred may be used: it was fired, none of its sides runs, it isn't paused, and it waits
+-- for no other. The step `Moves` uses one then (Twisted: `Deferred._runCallbacks`, but `pause-in-own-side`,
+-- `paused-receiver`)
 abbrev pub may_be_used : Record Pair Canceller → Bool
 may_be_used r = r.fired && not r.running && nat_eq r.pauses 0 && is_none r.waits_for
 
--- whether d waits for e, which a side of d gave: e is d itself, is unfired or paused, or waits itself. Else d takes the value of e at once.
--- The step `PutDeferred` goes by this
+-- whether d waits for e, which a side of d gave: e is d itself, is unfired or paused, or waits itself. Else d takes the
+-- value of e at once. The step `PutDeferred` goes by this
 abbrev pub has_to_wait : ℕ → ℕ → Record Pair Canceller → Bool
 has_to_wait d e r = nat_eq d e || not r.fired || not (nat_eq r.pauses 0) || is_some r.waits_for
 
@@ -543,7 +569,8 @@ abbrev pub run_side : ℕ → Option Side → Value → Rule
 run_side d None input = give input
 run_side d (Some (side.Body body)) input = calls (performs (Some d) body input)
 run_side d (Some (side.Fire e)) input = Fires e input
-run_side d (Some (side.Timed t)) input = all_classes λ classes. its_time_is_over t λ is_over. give (timed classes is_over input)
+run_side d (Some (side.Timed t)) input =
+    all_classes λ classes. its_time_is_over t λ is_over. give (timed classes is_over input)
 run_side d (Some (side.EndTimer t)) input = EndTimer t next give input
 run_side d (Some (side.Come child)) input = report child input
 run_side d (Some side.Results) input = give_gathered input
@@ -566,8 +593,9 @@ placing d (Awaits e) = PutDeferred d e
 abbrev pub put_in_place : ℕ → Performed → Rule
 put_in_place d p = placing d p next calls (settles d)
 
--- by the first unused item of d. None that may be used: nothing is done. A pair that the value passes by: d is settled again. A side that
--- runs: what it returns for the value of d is put in place. A hand-over, by which c got the value of d: c is settled, and then d
+-- by the first unused item of d. None that may be used: nothing is done. A pair that the value passes by: d is settled
+-- again. A side that runs: what it returns for the value of d is put in place. A hand-over, by which c got the value of
+-- d: c is settled, and then d
 abbrev pub settle_by : ℕ → Move Pair → Rule
 settle_by d Nothing = finished
 settle_by d Passed = calls (settles d)
@@ -588,8 +616,10 @@ carry_out itself (Action-F.Errback name class message) = on_deferred itself name
 carry_out itself (Action-F.AddCallback name body) = on_deferred itself name λ d. add d (callback body)
 carry_out itself (Action-F.AddErrback name body) = on_deferred itself name λ d. add d (errback body)
 carry_out itself (Action-F.AddBoth name body) = on_deferred itself name λ d. add d (both body body)
-carry_out itself (Action-F.AddCallbacks name on_value on_failure) = on_deferred itself name λ d. add d (both on_value on_failure)
-carry_out itself (Action-F.Chain name after) = on_deferred itself name λ d. on_deferred itself after λ e. add d (chain e)
+carry_out itself (Action-F.AddCallbacks name on_value on_failure) =
+    on_deferred itself name λ d. add d (both on_value on_failure)
+carry_out itself (Action-F.Chain name after) =
+    on_deferred itself name λ d. on_deferred itself after λ e. add d (chain e)
 carry_out itself (Action-F.Pause name) = on_deferred itself name λ d. Pause d next finished
 carry_out itself (Action-F.Unpause name) = on_deferred itself name Unpauses
 carry_out itself (Action-F.Cancel name) = on_deferred itself name cancel
@@ -605,7 +635,8 @@ carry_out itself (Action-F.Get name queue) = on_queue queue λ k. get_out name k
 carry_out itself (Action-F.Maybe name body) = maybe name body
 carry_out itself (Action-F.RunWith name lock body) = on_lock lock λ l. run_with name l body
 carry_out itself (Action-F.List name children flags) = on_all itself children λ ds. list name ds (list_flags flags)
-carry_out itself (Action-F.Gather name children flags) = on_all itself children λ ds. gather name ds (gather_flags flags)
+carry_out itself (Action-F.Gather name children flags) =
+    on_all itself children λ ds. gather name ds (gather_flags flags)
 carry_out itself (Action-F.Later name delay body) = CallLater name delay body next finished
 carry_out itself (Action-F.CancelCall name) = on_call name λ number. Asks (CancelCall number) Ends
 carry_out itself (Action-F.Loop name of interval at_once body) = loop name of interval at_once body
@@ -623,28 +654,31 @@ carry_out itself (Action-F.ThreadIn name pool delay work) = thread name (Some po
 abbrev pub act : Option ℕ → Action → Rule
 act itself action = carry_out itself (out-Action action)
 
--- 19. What is left of a body: its actions in order, and then what its end returns for the input. An action that raises ends it, since
--- what is left is only gone through `unless_raised` (21).
+-- 19. What is left of a body: its actions in order, and then what its end returns for the input. An action that raises
+-- ends it, since what is left is only gone through `unless_raised` (21).
 abbrev pub perform_rest : Option ℕ → List Action → End → Value → Rule
 perform_rest itself [] end input = give_end itself end input
 perform_rest itself (action ∷ rest) end input = act itself action after_which goes_through itself rest end input
 
 -- 20. What goes on.
 
--- goes on with an inline body by what it wants: nothing, an action, whose answer it goes on with, or the result of a Deferred
+-- goes on with an inline body by what it wants: nothing, an action, whose answer it goes on with, or the result of a
+-- Deferred
 abbrev pub do_wanted : Inline → Option Want → Position → Rule
 do_wanted i None p = finished
 do_wanted i (Some (Do action)) p = act (Some i.of) action after_which goes_on_with_answer i p
 do_wanted i (Some (Await name)) p = await i name p
 
--- goes on with an inline body: `come` moves it up to what it wants, or to its end, where it fires its Deferred with its result
+-- goes on with an inline body: `come` moves it up to what it wants, or to its end, where it fires its Deferred with its
+-- result
 abbrev pub go_on : Inline → Position → Rule
 go_on i p =
     let now = come p in
     Finds now.result (do_wanted i (want_at now) now) λ result.
     Fires i.of result
 
--- which of two calls runs first: the one that is due earlier; if both are due at one time, the one that was scheduled earlier
+-- which of two calls runs first: the one that is due earlier; if both are due at one time, the one that was scheduled
+-- earlier
 abbrev pub earlier : Upcoming → Upcoming → Upcoming
 earlier a b = if is_gt (ordering_then (nat_cmp a.due b.due) (nat_cmp a.number b.number)) then b else a
 
@@ -655,16 +689,19 @@ first_call number (call ∷ calls) =
     let after = first_call (number + 1) calls in
     found (upcoming number call) after λ a. found after (Some a) λ b. Some (earlier a b)
 
--- which call runs next: the first of those that wait, if its time isn't later than now. The step `ComeDue` takes it, and logs it
+-- which call runs next: the first of those that wait, if its time isn't later than now. The step `ComeDue` takes it,
+-- and logs it
 abbrev pub next_due : World → Option Upcoming
-next_due w = found (first_call 0 w.objects.clock.calls) None λ call. if nat_lt w.objects.clock.time call.due then None else Some call
+next_due w =
+    found (first_call 0 w.objects.clock.calls) None λ call. if nat_lt w.objects.clock.time call.due then None
+    else Some call
 
 -- performs the body of a delayed call, logs its failure as unhandled, and runs what is due after it
 abbrev pub run_call : ℕ → Rule
 run_call key = the_body key (calls runs_due) λ body. calls (performs None body Null and tells_failure and runs_due)
 
--- runs what is due next, and then what is due after it; logs as unhandled a failure of a call, a delivery or a time-out (Twisted:
--- `Clock.advance`, but `error-leaves-advance`)
+-- runs what is due next, and then what is due after it; logs as unhandled a failure of a call, a delivery or a time-out
+-- (Twisted: `Clock.advance`, but `error-leaves-advance`)
 abbrev pub run_next : Option Due → Rule
 run_next None = finished
 run_next (Some (what.Call name key)) = run_call key

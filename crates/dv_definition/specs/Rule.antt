@@ -1,5 +1,5 @@
--- What a rule is, and its two readings: what it says, which is what a script means, and the frames that it leaves, which is what the code
--- does. `a and_then λ x. b` is read "a, and with its result x, b".
+-- What a rule is, and its two readings: what it says, which is what a script means, and the frames that it leaves,
+-- which is what the code does. `a and_then λ x. b` is read "a, and with its result x, b".
 use Rattle.std.specs.Prelude.{ℕ, nat_eq, Bool, false, not, if◌then◌else◌, List, [], ◌∷◌, Option, None, Some, slice_get}
 use Rattle.std.specs.Option.{option_map_or}
 use Rattle.dv_definition.specs.Steps.{Step, stepped, Question, Reply, asked}
@@ -14,8 +14,9 @@ use Rattle.dv_value.specs.declared.value.Value.{Value}
 use Rattle.dv_world.specs.World as world
 use Rattle.dv_world.specs.World.{World}
 
--- What doing something gives, and the world after it. It gives nothing (`Done`), a value (`Gave`), a Deferred (`Awaits`), or it raises a
--- failure (`Raised`). There is no answer where things lie deeper in one another than the bound of section 21 allows.
+-- What doing something gives, and the world after it. It gives nothing (`Done`), a value (`Gave`), a Deferred
+-- (`Awaits`), or it raises a failure (`Raised`). There is no answer where things lie deeper in one another than the
+-- bound of section 21 allows.
 abbrev pub Answer : Type 0
 Answer = Option (Performed × World)
 
@@ -30,7 +31,8 @@ abbrev pub found : {A B : Type 0} → Option A → B → (A → B) → B
 found None nothing next = nothing
 found (Some a) nothing next = next a
 
--- What a rule calls for is a frame: "d is settled", "the rest of a body is performed". Rules name frames by the words of `Words`.
+-- What a rule calls for is a frame: "d is settled", "the rest of a body is performed". Rules name frames by the words
+-- of `Words`.
 pub data Rule : Type 1 where
   -- nothing more is done, and this is returned
   Ends : Performed → Rule
@@ -82,8 +84,9 @@ is_fired d w = option_map_or (λ r. r.fired) (slice_get w.records d) false
 abbrev pub swallows : ℕ → World → Bool
 swallows d w = option_map_or (λ r. r.swallows) (slice_get w.records d) false
 
--- Fires d. The firing is logged first; if the journal is full, the run stops. A Deferred that wasn't fired before is settled. If it was, the
--- firing is swallowed where that is due, and else raises AlreadyCalledError (Twisted: `Deferred.callback`, `Deferred.errback`)
+-- Fires d. The firing is logged first; if the journal is full, the run stops. A Deferred that wasn't fired before is
+-- settled. If it was, the firing is swallowed where that is due, and else raises AlreadyCalledError (Twisted:
+-- `Deferred.callback`, `Deferred.errback`)
 abbrev pub fires : Meant → ℕ → Value → World → Answer
 fires go d v w =
     let (follow, after) = world.fire d v w in
@@ -96,8 +99,8 @@ fires go d v w =
 abbrev pub is_unpaused : ℕ → World → Bool
 is_unpaused d w = option_map_or (λ r. nat_eq r.pauses 0) (slice_get w.records d) false
 
--- Raises AssertionError if d isn't paused. Else logs the unpause, takes one pause off d, and settles it (Twisted: `Deferred.unpause`, but
--- `unpause-at-zero`)
+-- Raises AssertionError if d isn't paused. Else logs the unpause, takes one pause off d, and settles it (Twisted:
+-- `Deferred.unpause`, but `unpause-at-zero`)
 abbrev pub unpauses : Meant → ℕ → World → Answer
 unpauses go d w =
     let (follow, after) = world.unpause d w in
@@ -117,7 +120,8 @@ say go (Fires d v) w = fires go d v w
 say go (Unpauses d) w = unpauses go d w
 say go (Over rule frames) w = say go rule w and_then λ (p, w). through go frames p w
 
--- The frames that a rule leaves, what it gave so far, and the world: what is called for is put off, and the code goes on with it.
+-- The frames that a rule leaves, what it gave so far, and the world: what is called for is put off, and the code goes
+-- on with it.
 abbrev pub run : Rule → World → Turned
 run (Ends p) w = ([], p, w)
 run (By rule) w = run (rule w) w

@@ -1,6 +1,8 @@
 -- What a script means as a whole: the rules tied together, what happens in a run, and what a script leads to.
 use Rattle.std.specs.Prelude.{ℕ, zero, suc, ◌≡◌, List, [], ◌∷◌, ◌++◌, Option, None, Some}
-use Rattle.dv_definition.specs.Definition.{settle, put_in_place, perform_rest, after_canceller, deferred_of, add, cancel, notify, step_ended, tick, run_due, go_on, go_with, after_awaiting, answer_of, act}
+use Rattle.dv_definition.specs.Definition.{settle, put_in_place, perform_rest, after_canceller, deferred_of, add}
+use Rattle.dv_definition.specs.Definition.{cancel, notify, step_ended, tick, run_due, go_on, go_with, after_awaiting}
+use Rattle.dv_definition.specs.Definition.{answer_of, act}
 use Rattle.dv_definition.specs.Rule.{Rule, Ends, Finds, Meant, say, ◌and_then◌, ◌next◌, ◌after_which◌}
 use Rattle.dv_definition.specs.Steps.{Advance, TellDrain, TellPost, TellUnhandled}
 use Rattle.dv_definition.specs.Words.{finished, raise, ◌and◌, calls, performs, runs_due, tells_failure}
@@ -56,8 +58,8 @@ rule_of frame.Tell p = tell_failure p
 rule_of frame.Due p = run_due
 rule_of (frame.Inline inlining) p = inline_goes inlining p
 
--- does what is called for inside the rule that calls for it; no answer where calls nest deeper than `depth`. That some depth suffices for
--- every script is a law
+-- does what is called for inside the rule that calls for it; no answer where calls nest deeper than `depth`. That some
+-- depth suffices for every script is a law
 unfoldable pub within : ℕ → Meant
 within zero frame p w = None
 within (suc depth) frame p w = say (within depth) (rule_of frame p) w
@@ -74,9 +76,10 @@ pub data Occurrence : Type 0 where
   Occurs : (event : Event) → Occurrence
   Comes : (posted : Posted) (body : Body) → Occurrence
 
--- An action is performed, in which `@` isn't bound; a failure that it raises is logged as unhandled. An advance sets the time forward, and
--- runs what is due. A drain is logged; its posts occur after it, and `most` decides which batches fit the script. A post is logged, and its
--- body performed, in which `@` isn't bound; a failure that it raises is logged as unhandled
+-- An action is performed, in which `@` isn't bound; a failure that it raises is logged as unhandled. An advance sets
+-- the time forward, and runs what is due. A drain is logged; its posts occur after it, and `most` decides which batches
+-- fit the script. A post is logged, and its body performed, in which `@` isn't bound; a failure that it raises is
+-- logged as unhandled
 abbrev pub happens : Occurrence → Rule
 happens (Occurs (event.Action action)) = act None action after_which tells_failure
 happens (Occurs (event.Advance ticks)) = Advance ticks next calls runs_due
@@ -120,9 +123,13 @@ later_batches (batch ∷ batches) = batches
 -- the events in order; the next batch follows each drain, and the last batch the last event
 abbrev pub occurrences : Callers → List Event → List Batch → List Occurrence
 occurrences callers [] batches = comings callers (next_batch batches)
-occurrences callers (event.Action action ∷ events) batches = Occurs (event.Action action) ∷ occurrences callers events batches
-occurrences callers (event.Advance ticks ∷ events) batches = Occurs (event.Advance ticks) ∷ occurrences callers events batches
-occurrences callers (event.Drain most ∷ events) batches = Occurs (event.Drain most) ∷ (comings callers (next_batch batches) ++ occurrences callers events (later_batches batches))
+occurrences callers (event.Action action ∷ events) batches =
+    Occurs (event.Action action) ∷ occurrences callers events batches
+occurrences callers (event.Advance ticks ∷ events) batches =
+    Occurs (event.Advance ticks) ∷ occurrences callers events batches
+occurrences callers (event.Drain most ∷ events) batches =
+    Occurs (event.Drain most)
+    ∷ (comings callers (next_batch batches) ++ occurrences callers events (later_batches batches))
 
 -- a script leads, where these batches of posts are taken, from a world in which nothing is made to this one
 abbrev pub Leads : Script → List Batch → World → Type 0

@@ -50,7 +50,8 @@ raise failure = Ends (Raised failure)
 abbrev pub give_end : Option ℕ → End → Value → Rule
 give_end itself end input = By λ w. Ends (ended itself end input w)
 
--- 2. What a rule calls for, which is done inside it. Each may lie in itself without end. One more stands in `Rule`: `settles`.
+-- 2. What a rule calls for, which is done inside it. Each may lie in itself without end. One more stands in `Rule`:
+-- `settles`.
 
 infixr 11 ◌and◌
 -- one after the other
@@ -71,7 +72,8 @@ performs itself body input = frame.Rest (rest_of itself body input) ∷ []
 
 -- what is left of a body is performed (19)
 abbrev pub goes_through : Option ℕ → List Action → End → Value → List Frame
-goes_through itself actions end input = frame.Rest (record { itself = itself; actions = actions; end = end; input = input }) ∷ []
+goes_through itself actions end input =
+    frame.Rest (record { itself = itself; actions = actions; end = end; input = input }) ∷ []
 
 -- d is cancelled (6)
 abbrev pub cancels : ℕ → List Frame

@@ -1,12 +1,21 @@
 //! Laws of the page, each a function with an empty body whose clauses are the law.
 
-ghost use Rattle.dv_definition.specs.Cases.{BodiesGoOn, BodiesWaitForTokens, CancelsReachChildren, EndedTasksStay, ErrbacksAreForFailures, FailuresAreKept, FailuresOfCallsAreTold, FiredListsStay, FiringsEndTimers, FullQueuesRefuse, ManyJobsAreRefused, NameErrorsAreThrown, PairsAreUsed, ReceiversComeFirst, TokensAreWaitedFor, TurnsFollow};
-ghost use Rattle.dv_definition.specs.Conditions.{CallsComeInTurn, CancelsReach, DeferredsWaitWhenTheyHaveTo, FailuresAreThrown, ItemsAreUsedWhenTheyMay, ListsFire, TasksTakeTurns, TurnsAreDue};
+ghost use Rattle.dv_definition.specs.Cases.{BodiesGoOn, BodiesWaitForTokens, CancelsReachChildren};
+ghost use Rattle.dv_definition.specs.Cases.{EndedTasksStay, ErrbacksAreForFailures};
+ghost use Rattle.dv_definition.specs.Cases.{FailuresAreKept, FailuresOfCallsAreTold};
+ghost use Rattle.dv_definition.specs.Cases.{FiredListsStay, FiringsEndTimers, FullQueuesRefuse};
+ghost use Rattle.dv_definition.specs.Cases.{ManyJobsAreRefused, NameErrorsAreThrown, PairsAreUsed};
+ghost use Rattle.dv_definition.specs.Cases.{ReceiversComeFirst, TokensAreWaitedFor, TurnsFollow};
+ghost use Rattle.dv_definition.specs.Conditions.{CallsComeInTurn, CancelsReach};
+ghost use Rattle.dv_definition.specs.Conditions.{DeferredsWaitWhenTheyHaveTo, FailuresAreThrown};
+ghost use Rattle.dv_definition.specs.Conditions.{ItemsAreUsedWhenTheyMay, ListsFire};
+ghost use Rattle.dv_definition.specs.Conditions.{TasksTakeTurns, TurnsAreDue};
 ghost use Rattle.dv_definition.specs.Law.{FramesSayTheRule, FramesSayWhatHappens};
 
-/// The steps of the world go by the conditions that stand on the page: when an item is used, when a Deferred is waited for, whom a cancel
-/// reaches, when a list is fired and with what, which call runs next, when a loop's turn is due, whose turn it is among tasks, and where a
-/// failure is thrown in an inline body.
+/// The steps of the world go by the conditions that stand on the page: when an item is used, when a
+/// Deferred is waited for, whom a cancel reaches, when a list is fired and with what, which call
+/// runs next, when a loop's turn is due, whose turn it is among tasks, and where a failure is
+/// thrown in an inline body.
 pub fn steps_go_by_the_page()
     ensures used { ItemsAreUsedWhenTheyMay }
     ensures waited { DeferredsWaitWhenTheyHaveTo }
@@ -18,15 +27,16 @@ pub fn steps_go_by_the_page()
     ensures thrown { FailuresAreThrown }
 {}
 
-/// The frames that a rule leaves lead where the rule says, whatever frames mean; and so do those that an event or a post leaves.
+/// The frames that a rule leaves lead where the rule says, whatever frames mean; and so do those
+/// that an event or a post leaves.
 #[tactic(auto, using(crate::proofs::Sayings::rules_say, crate::proofs::Sayings::occurrences_say))]
 pub fn frames_say_the_rule()
     ensures frames { FramesSayTheRule }
     ensures happens { FramesSayWhatHappens }
 {}
 
-/// What a rule leaves in the telling case of each section of the page, worked out by hand: so that a rule that is changed by mistake is
-/// refused here.
+/// What a rule leaves in the telling case of each section of the page, worked out by hand: so that
+/// a rule that is changed by mistake is refused here.
 pub fn rules_decide_their_cases()
     ensures deferreds { PairsAreUsed }
     ensures cancelling { CancelsReachChildren }

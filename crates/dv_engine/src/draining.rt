@@ -22,8 +22,8 @@ use std::alloc::{AllocError, AllocGlobal};
 use std::random::RandomSource;
 use std::sync::Wait;
 
-/// Performs a batch, each post of which is the next one of its caller, and takes it: that of a drain, logged before, or
-/// the one after the last event. The only error is out of memory.
+/// Performs a batch, each post of which is the next one of its caller, and takes it: that of a
+/// drain, logged before, or the one after the last event. The only error is out of memory.
 pub fn drain<'s, R, J>(
     rt: &R,
     poller: &Poller,
@@ -39,7 +39,8 @@ where
     requires bounded { Bounded turn.old.world }
     requires jobs { jobs.old ≡ turn.old.world.works }
     requires next { AreNext batches.old.callers (joined batches.old.batches ++ batch) }
-    ensures runs { OnOk result (Runs (taken_for phase batches.old.callers batch) turn.old.world turn.new.world) }
+    ensures runs { OnOk result
+        (Runs (taken_for phase batches.old.callers batch) turn.old.world turn.new.world) }
     ensures jobs { OnOk result (jobs.new ≡ turn.new.world.works) }
     ensures batches { OnOk result (batches.new ≡ with_batch batch batches.old) }
     ensures callers { batches.new.callers ≡ batches.old.callers }
@@ -77,7 +78,8 @@ where
     J: JobSource,
     requires bounded { Bounded turn.old.world }
     requires jobs { jobs.old ≡ turn.old.world.works }
-    ensures runs { OnOk result (Runs (comings callers.now batch.now) turn.old.world turn.new.world) }
+    ensures runs { OnOk result
+        (Runs (comings callers.now batch.now) turn.old.world turn.new.world) }
     ensures jobs { OnOk result (jobs.new ≡ turn.new.world.works) }
 {
     for posted in batch {
@@ -100,7 +102,8 @@ where
     J: JobSource,
     requires bounded { Bounded turn.old.world }
     requires jobs { jobs.old ≡ turn.old.world.works }
-    ensures runs { OnOk result (Runs (coming callers.now posted.now) turn.old.world turn.new.world) }
+    ensures runs { OnOk result
+        (Runs (coming callers.now posted.now) turn.old.world turn.new.world) }
     ensures jobs { OnOk result (jobs.new ≡ turn.new.world.works) }
 {
     match body_of(callers, posted) {
@@ -111,7 +114,8 @@ where
 
 /// The body of a post, where there is such a post.
 fn body_of<'s>(callers: &'s [Items<Body>], posted: &Posted) -> Option<&'s Body>
-    ensures { MatchOption result (body_of callers.now posted.now ≡ None) (λ body. body_of callers.now posted.now ≡ Some body.now) }
+    ensures { MatchOption result (body_of callers.now posted.now ≡ None)
+        (λ body. body_of callers.now posted.now ≡ Some body.now) }
 {
     let bodies = callers.get(posted.caller as usize)?;
     bodies.as_slice().get(posted.index as usize)

@@ -1,7 +1,8 @@
 -- Parts of a line that are added one after the other.
 use Rattle.std.proofs.Common.{◌≡◌, ℕ, List, [], ◌++◌, OnOk, Result, Ok, Err, refl, ap, ◌∙◌, sym, append_assoc}
 use Rattle.std.proofs.lemmas.List.{append-nil}
-use Rattle.dv_facts.proofs.Visible.{visible_both, visible_bool, visible_decimal, visible_failure, visible_json, visible_number_or_null, visible_quoted}
+use Rattle.dv_facts.proofs.Visible.{visible_both, visible_bool, visible_decimal, visible_failure, visible_json}
+use Rattle.dv_facts.proofs.Visible.{visible_number_or_null, visible_quoted}
 use Rattle.dv_facts.specs.Parts.{Adds, IsVisible}
 
 pub adds_nothing : (a : List ℕ) → Adds a a
@@ -26,14 +27,28 @@ pub adds_next : {a b c : List ℕ} (before : List ℕ) → Adds a b → Adds (b 
 adds_next {a} {b} {c} before so_far more visible = adds_both a b c so_far (adds_after b c before visible more)
 
 -- the same where the call that adds the last one has answered Ok
-pub adds_last : {A E : Type 0} (r : Result A E) (a b c before : List ℕ) → OnOk r (Adds (b ++ before) c) → Adds a b → IsVisible before → OnOk r (Adds a c)
+pub adds_last : {A E : Type 0} (r : Result A E) (a b c before : List ℕ) → OnOk r (Adds (b ++ before) c) → Adds a b
+    → IsVisible before → OnOk r (Adds a c)
 adds_last (Ok x) a b c before more so_far visible = adds_next before so_far more visible
 adds_last (Err e) a b c before more so_far visible = tt
 
 -- and where that one is a text
-pub adds_end : {A E : Type 0} (r : Result A E) (a b c text : List ℕ) → OnOk r (c ≡ b ++ text) → Adds a b → IsVisible text → OnOk r (Adds a c)
+pub adds_end : {A E : Type 0} (r : Result A E) (a b c text : List ℕ) → OnOk r (c ≡ b ++ text) → Adds a b
+    → IsVisible text → OnOk r (Adds a c)
 adds_end (Ok x) a b c text is so_far visible = adds_both a b c so_far (adds_text b c text is visible)
 adds_end (Err e) a b c text is so_far visible = tt
 
 -- what the calls cite that add a part
-pub ruleset parts = (adds_nothing, adds_text, adds_both, adds_after, visible_both, visible_bool, visible_decimal, visible_failure, visible_json, visible_number_or_null, visible_quoted)
+pub ruleset parts = (
+  adds_nothing,
+  adds_text,
+  adds_both,
+  adds_after,
+  visible_both,
+  visible_bool,
+  visible_decimal,
+  visible_failure,
+  visible_json,
+  visible_number_or_null,
+  visible_quoted,
+)

@@ -18,21 +18,29 @@ module _ (table : List Class) (event : Option ℕ) (kind : List ℕ) (number : �
       visible_both (shown ++ quoted (words_of table entry) ++ codes ",\"number\":") (decimal number)
       (visible_both (shown ++ quoted (words_of table entry)) (codes ",\"number\":")
       (visible_both shown (quoted (words_of table entry))
-      (visible_both (told ++ quoted kind) (codes ",\"line\":") (visible_both told (quoted kind) (visible_both (number_or_null event) (codes ",\"kind\":") (visible_number_or_null event) refl) (visible_quoted kind)) refl)
+      (visible_both (told ++ quoted kind) (codes ",\"line\":") (visible_both told (quoted kind) (visible_both
+      (number_or_null event) (codes ",\"kind\":") (visible_number_or_null event) refl) (visible_quoted kind)) refl)
       (visible_quoted (words_of table entry))) refl) (visible_decimal number)
 
   -- what stands before them, they, and what stands after them
-  pub entry_added : (a b c d : List ℕ) → Adds a b → c ≡ b ++ entry_members table event kind number entry → Adds c d → AddsEntry table event number entry a d
+  pub entry_added : (a b c d : List ℕ) → Adds a b → c ≡ b ++ entry_members table event kind number entry → Adds c d
+      → AddsEntry table event number entry a d
   entry_added a b c d before members after =
       let line = before.text ++ entry_members table event kind number entry ++ after.text in
       record {
         line = line;
-        grew = after.is ∙ ap (λ (l : List ℕ). l ++ after.text) (members ∙ ap (λ (l : List ℕ). l ++ entry_members table event kind number entry) before.is ∙ append_assoc a before.text (entry_members table event kind number entry)) ∙ append_assoc a (before.text ++ entry_members table event kind number entry) after.text;
+        grew =
+            after.is ∙ ap (λ (l : List ℕ). l ++ after.text)
+            (members ∙ ap (λ (l : List ℕ). l ++ entry_members table event kind number entry) before.is
+            ∙ append_assoc a before.text (entry_members table event kind number entry))
+            ∙ append_assoc a (before.text ++ entry_members table event kind number entry) after.text;
         is_line = record {
           before = before.text;
           kind = kind;
           after = after.text;
           is = refl;
-          visible = visible_both (before.text ++ entry_members table event kind number entry) after.text (visible_both before.text (entry_members table event kind number entry) before.visible visible_members) after.visible;
+          visible =
+              visible_both (before.text ++ entry_members table event kind number entry) after.text (visible_both
+              before.text (entry_members table event kind number entry) before.visible visible_members) after.visible;
         };
       }

@@ -1,9 +1,11 @@
 -- Texts that end no line.
-use Rattle.std.proofs.Common.{◌≡◌, ℕ, ◌/◌, ◌%◌, suc, zero, pos, negsuc, ℤ, Bool, true, false, ◌==◌, cond, List, [], ◌∷◌, ◌++◌, Option, None, Some, map, codes, refl, ◌∙◌, subst, arith}
+use Rattle.std.proofs.Common.{◌≡◌, ℕ, ◌/◌, ◌%◌, suc, zero, pos, negsuc, ℤ, Bool, true, false, ◌==◌, cond, List, [], ◌∷◌}
+use Rattle.std.proofs.Common.{◌++◌, Option, None, Some, map, codes, refl, ◌∙◌, subst, arith}
 use Rattle.std.proofs.lemmas.List.Folds.{list_all-append}
 use Rattle.std.specs.Fmt.{decimal, digits, digits_onto, digit_glyph, signed_decimal}
 use Rattle.json.specs.Print.{quoted, escape, escape_byte}
-use Rattle.dv_value.specs.ValueText.{comma_if, rest_text, list_text, Inside, inside, after_class, failure_json_step, failure_json, json_step, json}
+use Rattle.dv_value.specs.ValueText.{comma_if, rest_text, list_text, Inside, inside, after_class, failure_json_step}
+use Rattle.dv_value.specs.ValueText.{failure_json, json_step, json}
 use Rattle.dv_value.specs.declared.failure.Failure.{Failure, map-Failure}
 use Rattle.dv_value.specs.declared.failure.Sub.{Sub}
 use Rattle.dv_value.specs.declared.failure.Failure.TheFolds.{ind-Failure, fold-Sub, fold-roll-Failure, fold-roll-Sub}
@@ -26,7 +28,8 @@ visible_onto : (k n : ℕ) (after : List ℕ) → IsVisible after → IsVisible 
 visible_onto zero n after h = h
 visible_onto (suc k) n after h =
     let longer : IsVisible (digit_glyph false (n % 10) ∷ after) = rw (visible_digit (n % 10)) h in
-    elim (n / 10 == 0) as (λ b. IsVisible (cond b (digit_glyph false (n % 10) ∷ after) (digits_onto k 10 false (n / 10) (digit_glyph false (n % 10) ∷ after)))) [
+    elim (n / 10 == 0) as (λ b. IsVisible (cond b (digit_glyph false (n % 10) ∷ after)
+    (digits_onto k 10 false (n / 10) (digit_glyph false (n % 10) ∷ after)))) [
       | true ↦ longer
       | false ↦ visible_onto k (n / 10) (digit_glyph false (n % 10) ∷ after) longer
     ]
@@ -77,7 +80,8 @@ visible_rest later (text ∷ texts) all =
 visible_list : (texts : List (List ℕ)) → AllVisible texts → IsVisible (list_text texts)
 visible_list texts all = visible_rest false texts all
 
-pub ruleset visible = (visible_both, visible_decimal, visible_signed, visible_quoted, visible_number_or_null, visible_bool)
+pub ruleset visible =
+    (visible_both, visible_decimal, visible_signed, visible_quoted, visible_number_or_null, visible_bool)
 
 module _ (table : List Class) where
   abbrev InsideVisible : Option Inside → Type 0
@@ -92,10 +96,13 @@ module _ (table : List Class) where
       visible_both (told ++ sub.1) (codes "}")
       (visible_both told sub.1
       (visible_both (placed ++ quoted message) (codes ",\"sub\":")
-      (visible_both placed (quoted message) (visible_both (decimal sub.0) (codes ",\"message\":") (visible_decimal sub.0) refl) (visible_quoted message)) refl) h) refl
+      (visible_both placed (quoted message) (visible_both (decimal sub.0) (codes ",\"message\":")
+      (visible_decimal sub.0) refl) (visible_quoted message)) refl) h) refl
 
   visible_failure_layer : (f : Failure-F (List ℕ) Inside) → InsideVisible f.sub → IsVisible (failure_json_step table f)
-  visible_failure_layer f h = visible_both (quoted (name_of table f.class)) (after_class f.message f.sub) (visible_quoted (name_of table f.class)) (visible_after f.message f.sub h)
+  visible_failure_layer f h =
+      visible_both (quoted (name_of table f.class)) (after_class f.message f.sub)
+      (visible_quoted (name_of table f.class)) (visible_after f.message f.sub h)
 
   abbrev text_inside : Sub → Inside
   text_inside = fold-Sub (List ℕ) Inside (failure_json_step table) inside
@@ -114,19 +121,26 @@ module _ (table : List Class) where
   failures_inside = map-Failure VisibleFailure VisibleSub Failure Sub (λ e. e.0) (λ e. e.0)
 
   visible_inside : (y : Failure-F VisibleFailure VisibleSub) → InsideVisible (texts_inside (failures_inside y)).sub
-  visible_inside y = elim y.sub as (λ o. InsideVisible (texts_inside (failures_inside (record y { sub = o }))).sub) [ None ↦ tt | Some e ↦ e.1 ]
+  visible_inside y = elim y.sub as (λ o. InsideVisible (texts_inside (failures_inside (record y { sub = o }))).sub) [
+    | None ↦ tt
+    | Some e ↦ e.1
+  ]
 
   pub visible_failure : (f : Failure) → IsVisible (failure_json table f)
   visible_failure = ind-Failure (λ f. IsVisible (failure_json table f)) (λ s. IsVisible (text_inside s).1)
       (λ x y is. rw (fold-roll-Failure (List ℕ) Inside (failure_json_step table) inside x)
-      (visible_failure_layer (texts_inside x) (subst (λ (z : Failure-F Failure Sub). InsideVisible (texts_inside z).sub) is (visible_inside y))))
-      (λ x y is. rw (fold-roll-Sub (List ℕ) Inside (failure_json_step table) inside x) (subst (λ z. IsVisible (failure_json table z.failure)) is y.failure.1))
+      (visible_failure_layer (texts_inside x)
+      (subst (λ (z : Failure-F Failure Sub). InsideVisible (texts_inside z).sub) is (visible_inside y))))
+      (λ x y is. rw (fold-roll-Sub (List ℕ) Inside (failure_json_step table) inside x)
+      (subst (λ z. IsVisible (failure_json table z.failure)) is y.failure.1))
 
   all_visible : (es : List ((v : Value) × IsVisible (json table v))) → AllVisible (map (json table) (map (λ e. e.0) es))
   all_visible [] = tt
   all_visible (e ∷ es) = (e.1, all_visible es)
 
-  visible_layer : (x : Value-F Value) (y : Value-F ((v : Value) × IsVisible (json table v))) → IsVisible (json_step table (map-Value Value (List ℕ) (json table) (map-Value ((v : Value) × IsVisible (json table v)) Value (λ e. e.0) y)))
+  visible_layer : (x : Value-F Value) (y : Value-F ((v : Value) × IsVisible (json table v)))
+      → IsVisible (json_step table
+      (map-Value Value (List ℕ) (json table) (map-Value ((v : Value) × IsVisible (json table v)) Value (λ e. e.0) y)))
   visible_layer x Value-F.Null = refl
   visible_layer x (Value-F.Bool true) = refl
   visible_layer x (Value-F.Bool false) = refl
@@ -137,4 +151,5 @@ module _ (table : List Class) where
 
   pub visible_json : (v : Value) → IsVisible (json table v)
   visible_json = ind-Value (λ v. IsVisible (json table v)) (λ x y is.
-      rw (fold-roll-Value (List ℕ) (json_step table) x) (subst (λ (z : Value-F Value). IsVisible (json_step table (map-Value Value (List ℕ) (json table) z))) is (visible_layer x y)))
+      rw (fold-roll-Value (List ℕ) (json_step table) x) (subst (λ (z : Value-F Value).
+      IsVisible (json_step table (map-Value Value (List ℕ) (json table) z))) is (visible_layer x y)))

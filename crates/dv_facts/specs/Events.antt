@@ -6,7 +6,8 @@ use Rattle.std.specs.List.{prefix_len}
 abbrev pub passed_at : List ℕ → ℕ → ℕ
 passed_at marks number = prefix_len (λ mark. nat_le mark number) marks
 
--- where so many of so many marks are passed: the place of the last one; none before the first event, and none where all are passed
+-- where so many of so many marks are passed: the place of the last one; none before the first event, and none where all
+-- are passed
 abbrev pub last_passed : ℕ → ℕ → Option ℕ
 last_passed passed most = if (nat_eq passed 0 || nat_eq passed most) then None else Some (passed - 1)
 

@@ -7,14 +7,16 @@ use Rattle.dv_journal.specs.Line.{words_of}
 use Rattle.dv_journal.specs.declared.entry.Entry.{Entry}
 use Rattle.dv_value.specs.declared.classes.Class.{Class}
 
--- ,"event":EVENT,"kind":KIND,"line":LINE,"number":NUMBER, with the index of an event or null, and the line of the journal
+-- ,"event":EVENT,"kind":KIND,"line":LINE,"number":NUMBER, with the index of an event or null, and the line of the
+-- journal
 abbrev pub entry_members : List Class → Option ℕ → List ℕ → ℕ → Entry → List ℕ
 entry_members table event kind number entry =
     codes ",\"event\":" ++ number_or_null event ++ codes ",\"kind\":" ++ quoted kind
     ++ codes ",\"line\":" ++ quoted (words_of table entry) ++ codes ",\"number\":" ++ decimal number
 
 -- the line has these members, and ends nowhere within
-pub record IsEntryLine (table : List Class) (event : Option ℕ) (number : ℕ) (entry : Entry) (line : List ℕ) : Type 0 where
+pub record IsEntryLine (table : List Class) (event : Option ℕ) (number : ℕ) (entry : Entry)
+    (line : List ℕ) : Type 0 where
   pub before : List ℕ
   pub kind : List ℕ
   pub after : List ℕ
@@ -22,7 +24,8 @@ pub record IsEntryLine (table : List Class) (event : Option ℕ) (number : ℕ) 
   pub visible : IsVisible line
 
 -- the line of an entry was added
-pub record AddsEntry (table : List Class) (event : Option ℕ) (number : ℕ) (entry : Entry) (old new : List ℕ) : Type 0 where
+pub record AddsEntry (table : List Class) (event : Option ℕ) (number : ℕ) (entry : Entry)
+    (old new : List ℕ) : Type 0 where
   pub line : List ℕ
   pub grew : new ≡ old ++ line
   pub is_line : IsEntryLine table event number entry line

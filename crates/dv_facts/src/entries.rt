@@ -59,7 +59,8 @@ fn passed_at(marks: &[usize], passed: usize, number: usize) -> usize
     marks.len()
 }
 
-/// The place of the last mark that is passed; None before the first event, and where all are passed.
+/// The place of the last mark that is passed; None before the first event, and where all are
+/// passed.
 fn last_passed(passed: usize, most: usize) -> Option<usize>
     ensures { result ≡ last_passed passed most }
 {
@@ -99,7 +100,8 @@ impl<'e> Story<'e> {
         entry: &'e Entry,
     ) -> Result<(), AllocError>
         requires { self.old.passed ≤ passed_at self.old.marks.now number }
-        ensures line { OnOk result (AddsEntry classes.now (event_at self.old.marks.now number) number entry.now (string_bytes out.old) (string_bytes out.new)) }
+        ensures line { OnOk result (AddsEntry classes.now (event_at self.old.marks.now number)
+            number entry.now (string_bytes out.old) (string_bytes out.new)) }
         ensures marks { self.new.marks ≡ self.old.marks }
         ensures passed { self.new.passed ≡ passed_at self.old.marks.now number }
     {
@@ -167,7 +169,8 @@ impl<'e> Story<'e> {
         object: Option<Object<'e>>,
         standing: &Standing,
     ) -> Result<(), AllocError>
-        ensures { OnOk result (AddsEntry classes.now standing.now.event standing.now.number entry.now (string_bytes out.old) (string_bytes out.new)) }
+        ensures { OnOk result (AddsEntry classes.now standing.now.event standing.now.number
+            entry.now (string_bytes out.old) (string_bytes out.new)) }
     {
         self.write_before(alloc, out, facts, &standing.place)?;
         write_members(alloc, classes, out, facts.word, entry, standing)?;
@@ -281,7 +284,8 @@ fn write_members(
     entry: &Entry,
     standing: &Standing,
 ) -> Result<(), AllocError>
-    ensures { OnOk result (string_bytes out.new ≡ string_bytes out.old ++ entry_members classes.now standing.now.event kind.now standing.now.number entry.now) }
+    ensures { OnOk result (string_bytes out.new ≡ string_bytes out.old
+        ++ entry_members classes.now standing.now.event kind.now standing.now.number entry.now) }
 {
     write_index_or_null(out, r#","event":"#, standing.event)?;
     write_quoted(alloc, out, r#","kind":"#, kind)?;
@@ -296,7 +300,8 @@ fn write_journal_line(
     out: &mut String,
     entry: &Entry,
 ) -> Result<(), AllocError>
-    ensures { OnOk result (string_bytes out.new ≡ string_bytes out.old ++ (codes ",\"line\":" ++ quoted (words_of classes.now entry.now))) }
+    ensures { OnOk result (string_bytes out.new
+        ≡ string_bytes out.old ++ (codes ",\"line\":" ++ quoted (words_of classes.now entry.now))) }
 {
     let mut line = String::new(alloc);
     write_line(alloc, classes, &mut line, entry)?;

@@ -45,7 +45,8 @@ pub enum News<'e> {
 pub struct Facts<'e> {
     /// The first word of its line, or the first two.
     pub word: &'e str,
-    /// The Deferreds that it names, in the order of its line. Without a first there is no second, and without a second no third.
+    /// The Deferreds that it names, in the order of its line. Without a first there is no second,
+    /// and without a second no third.
     pub first: Option<DeferredId>,
     pub second: Option<DeferredId>,
     pub third: Option<DeferredId>,

@@ -1,4 +1,5 @@
-//! What the entries of a journal log, where each lies, and what is left at the end of a run, as JSON.
+//! What the entries of a journal log, where each lies, and what is left at the end of a run, as
+//! JSON.
 #![tactic(auto)]
 
 pub mod entries;

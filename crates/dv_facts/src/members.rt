@@ -1,5 +1,6 @@
-//! Members of a JSON object, and items of an array, which are added at the end of a text: what stands before the value, with its key,
-//! and then the value. Where an allocation fails, it is left open what the text holds.
+//! Members of a JSON object, and items of an array, which are added at the end of a text: what
+//! stands before the value, with its key, and then the value. Where an allocation fails, it is left
+//! open what the text holds.
 
 ghost use Rattle.std.specs.Prelude.{◌≡◌, ℕ, List, ◌++◌, OnOk, codes, string_bytes};
 ghost use Rattle.std.specs.Fmt.{decimal};
@@ -13,7 +14,8 @@ use std::alloc::{AllocError, Global};
 /// Adds a number.
 #[tactic(auto, using(crate::proofs::Added::parts))]
 pub fn write_number(out: &mut String, before: &str, number: u64) -> Result<(), AllocError>
-    ensures text { OnOk result (string_bytes out.new ≡ string_bytes out.old ++ (before.now ++ decimal number)) }
+    ensures text { OnOk result
+        (string_bytes out.new ≡ string_bytes out.old ++ (before.now ++ decimal number)) }
     ensures part { OnOk result (Adds (string_bytes out.old ++ before.now) (string_bytes out.new)) }
 {
     write_text(out, before)?;
@@ -27,7 +29,8 @@ pub fn write_number_or_null(
     before: &str,
     number: Option<u64>,
 ) -> Result<(), AllocError>
-    ensures text { OnOk result (string_bytes out.new ≡ string_bytes out.old ++ (before.now ++ number_or_null number)) }
+    ensures text { OnOk result
+        (string_bytes out.new ≡ string_bytes out.old ++ (before.now ++ number_or_null number)) }
     ensures part { OnOk result (Adds (string_bytes out.old ++ before.now) (string_bytes out.new)) }
 {
     write_text(out, before)?;
@@ -44,7 +47,8 @@ pub fn write_index_or_null(
     before: &str,
     index: Option<usize>,
 ) -> Result<(), AllocError>
-    ensures text { OnOk result (string_bytes out.new ≡ string_bytes out.old ++ (before.now ++ number_or_null index)) }
+    ensures text { OnOk result
+        (string_bytes out.new ≡ string_bytes out.old ++ (before.now ++ number_or_null index)) }
     ensures part { OnOk result (Adds (string_bytes out.old ++ before.now) (string_bytes out.new)) }
 {
     write_text(out, before)?;
@@ -57,7 +61,8 @@ pub fn write_index_or_null(
 /// Adds true or false.
 #[tactic(auto, using(crate::proofs::Added::parts))]
 pub fn write_bool(out: &mut String, before: &str, is_true: bool) -> Result<(), AllocError>
-    ensures text { OnOk result (string_bytes out.new ≡ string_bytes out.old ++ (before.now ++ bool_text is_true)) }
+    ensures text { OnOk result
+        (string_bytes out.new ≡ string_bytes out.old ++ (before.now ++ bool_text is_true)) }
     ensures part { OnOk result (Adds (string_bytes out.old ++ before.now) (string_bytes out.new)) }
 {
     write_text(out, before)?;
@@ -72,7 +77,8 @@ pub fn write_quoted(
     before: &str,
     text: &str,
 ) -> Result<(), AllocError>
-    ensures text { OnOk result (string_bytes out.new ≡ string_bytes out.old ++ (before.now ++ quoted text.now)) }
+    ensures text { OnOk result
+        (string_bytes out.new ≡ string_bytes out.old ++ (before.now ++ quoted text.now)) }
     ensures part { OnOk result (Adds (string_bytes out.old ++ before.now) (string_bytes out.new)) }
 {
     write_text(out, before)?;
@@ -111,7 +117,8 @@ pub fn write_comma(out: &mut String, place: usize) -> Result<(), AllocError>
 /// Takes the newline off, where a line ends with one.
 #[tactic(auto, using(crate::proofs::Ends::without_newline))]
 pub fn take_newline(line: &mut String)
-    ensures { (words : List ℕ) → string_bytes line.old ≡ words ++ codes "\n" → string_bytes line.new ≡ words }
+    ensures { (words : List ℕ) → string_bytes line.old ≡ words ++ codes "\n"
+        → string_bytes line.new ≡ words }
 {
     let _ = line.pop();
 }

@@ -119,7 +119,8 @@ impl<'e> Objects<'e> {
         }
     }
 
-    /// The number of the object that a name stands for, where that is known. It may be made by that.
+    /// The number of the object that a name stands for, where that is known. It may be made by
+    /// that.
     fn number(
         &mut self,
         kind: ObjectKind,

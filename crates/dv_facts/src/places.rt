@@ -138,7 +138,8 @@ impl Places {
         Some(self.open.last()?.entry)
     }
 
-    /// The innermost part that came due, or the post, or the step: the last that is no side among the first three that are open.
+    /// The innermost part that came due, or the post, or the step: the last that is no side among
+    /// the first three that are open.
     fn section(&self) -> Option<usize> {
         let mut section = None;
         for open in self.open.iter().take(3) {

@@ -1,5 +1,7 @@
--- What the parts of a JSON value read as, and what the arguments of a word do, step by step: the readers that the code follows.
-use Rattle.std.specs.Prelude.{ℕ, ℤ, Bool, ◌&&◌, nat_le, List, [], ◌∷◌, Option, Some, None, option_map, option_and_then, if◌then◌else◌, ⊤, bytes_eq, codes}
+-- What the parts of a JSON value read as, and what the arguments of a word do, step by step: the readers that the code
+-- follows.
+use Rattle.std.specs.Prelude.{ℕ, ℤ, Bool, ◌&&◌, nat_le, List, [], ◌∷◌, Option, Some, None, option_map, option_and_then}
+use Rattle.std.specs.Prelude.{if◌then◌else◌, ⊤, bytes_eq, codes}
 use Rattle.serde_json.specs.Data.{Data, null, boolean, number, string, array, object, Items, no_items, item}
 use Rattle.serde_json.specs.Find.{as_i64, as_u64, as_number, as_str, as_array}
 use Rattle.dv_value.specs.declared.value.Value.{Value, Null, Bool as Flag, Int, Text, List as Values}
@@ -164,7 +166,8 @@ pair at bt ds = do
   Some (a, b)
 
 -- three items, as they are read
-unfoldable pub triple : {A B C : Type 0} → (Data → Option A) → (Data → Option B) → (Data → Option C) → Items → Option (A × B × C)
+unfoldable pub triple : {A B C : Type 0} → (Data → Option A) → (Data → Option B) → (Data → Option C) → Items
+    → Option (A × B × C)
 triple at bt ct ds = do
   p ← three ds
   a ← at p.0
@@ -181,7 +184,8 @@ abbrev pub two_of : {A B X : Type 0} → (Data → Option A) → (Data → Optio
 two_of at bt make ds = option_map (λ p. make p.0 p.1) (pair at bt ds)
 
 -- what three items make
-abbrev pub three_of : {A B C X : Type 0} → (Data → Option A) → (Data → Option B) → (Data → Option C) → (A → B → C → X) → Items → Option X
+abbrev pub three_of : {A B C X : Type 0} → (Data → Option A) → (Data → Option B) → (Data → Option C) → (A → B → C → X)
+    → Items → Option X
 three_of at bt ct make ds = option_map (λ p. make p.0 p.1 p.2) (triple at bt ct ds)
 
 -- an object with no other keys than these

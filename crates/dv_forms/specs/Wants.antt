@@ -58,7 +58,8 @@ script_want version key =
     if bytes_eq key (codes "classes") then want.Array item.Declaration else
     if bytes_eq key (codes "cooperator") then want.Keyed keyed.Cooperator else
     if bytes_eq key (codes "callers") then want.Array item.Caller else
-    if bytes_eq key (codes "pools") then (if nat_eq version 1 then want.Other (keyed.Script version) else want.Array item.Pool) else
+    if bytes_eq key (codes "pools")
+    then (if nat_eq version 1 then want.Other (keyed.Script version) else want.Array item.Pool) else
     want.Other (keyed.Script version)
 
 -- what the value of a cooperator's key is
@@ -82,7 +83,8 @@ key_want keyed.Body key = body_want key
 -- the keys that an object may have, in the order in which they are looked at
 abbrev pub keys_in : Keyed → List (List ℕ)
 keys_in (keyed.Script version) =
-    codes "version" ∷ codes "limit" ∷ codes "cooperator" ∷ (if nat_eq version 1 then codes "classes" ∷ codes "callers" ∷ codes "events" ∷ []
+    codes "version" ∷ codes "limit" ∷ codes "cooperator"
+    ∷ (if nat_eq version 1 then codes "classes" ∷ codes "callers" ∷ codes "events" ∷ []
     else codes "pools" ∷ codes "classes" ∷ codes "callers" ∷ codes "events" ∷ [])
 keys_in keyed.Cooperator = codes "units" ∷ codes "delay" ∷ []
 keys_in keyed.Body = codes "do" ∷ codes "end" ∷ []

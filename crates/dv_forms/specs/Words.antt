@@ -1,5 +1,7 @@
--- The words of the language: where each may stand, what comes with it, and since which version, as the constants say it.
-use Rattle.std.specs.Prelude.{ℕ, Bool, true, false, not, ◌&&◌, ◌||◌, nat_eq, nat_le, List, [], ◌∷◌, ◌++◌, length, map, Option, Some, None, option_and_then, if◌then◌else◌, bytes_eq}
+-- The words of the language: where each may stand, what comes with it, and since which version, as the constants say
+-- it.
+use Rattle.std.specs.Prelude.{ℕ, Bool, true, false, not, ◌&&◌, ◌||◌, nat_eq, nat_le, List, [], ◌∷◌, ◌++◌, length, map}
+use Rattle.std.specs.Prelude.{Option, Some, None, option_and_then, if◌then◌else◌, bytes_eq}
 use Rattle.std.specs.Borrow.{Bor}
 use Rattle.dv_forms.specs.declared.want.Call.{Call}
 use Rattle.dv_forms.specs.declared.want.Call.TheVariants as call
@@ -9,7 +11,8 @@ use Rattle.dv_forms.specs.declared.words.EventWord.{EventWord}
 use Rattle.dv_forms.specs.declared.words.StatementWord.{StatementWord}
 use Rattle.dv_forms.specs.declared.words.EndWord.{EndWord}
 use Rattle.dv_forms.specs.declared.words.WorkWord.{WorkWord}
-use Rattle.dv_forms.specs.declared.words.TheConstants.{ACTION_FORMS, EVENT_FORMS, STATEMENT_FORMS, LEAVING_FORMS, END_FORMS, WORK_FORMS}
+use Rattle.dv_forms.specs.declared.words.TheConstants.{ACTION_FORMS, EVENT_FORMS, STATEMENT_FORMS, LEAVING_FORMS}
+use Rattle.dv_forms.specs.declared.words.TheConstants.{END_FORMS, WORK_FORMS}
 
 -- a form of a word: what each argument has to be, how the form is shown, and the first version that has it
 pub record Form : Type 0 where
@@ -26,9 +29,11 @@ seen f = record { word = f.1.now; wants = f.2.now; shown = f.3.now; since = f.4 
 abbrev pub own_forms : Call → List Form
 own_forms call.Event = map (λ f. record { word = f.1.now; wants = f.2.now; shown = f.3.now; since = f.4 }) EVENT_FORMS
 own_forms call.Action = map (λ f. record { word = f.1.now; wants = f.2.now; shown = f.3.now; since = f.4 }) ACTION_FORMS
-own_forms call.Statement = map (λ f. record { word = f.1.now; wants = f.2.now; shown = f.3.now; since = f.4 }) STATEMENT_FORMS
+own_forms call.Statement =
+    map (λ f. record { word = f.1.now; wants = f.2.now; shown = f.3.now; since = f.4 }) STATEMENT_FORMS
 own_forms call.End = map (λ f. record { word = f.1.now; wants = f.2.now; shown = f.3.now; since = f.4 }) END_FORMS
-own_forms call.Leaving = map (λ f. record { word = f.1.now; wants = f.2.now; shown = f.3.now; since = f.4 }) LEAVING_FORMS
+own_forms call.Leaving =
+    map (λ f. record { word = f.1.now; wants = f.2.now; shown = f.3.now; since = f.4 }) LEAVING_FORMS
 own_forms call.Work = map (λ f. record { word = f.1.now; wants = f.2.now; shown = f.3.now; since = f.4 }) WORK_FORMS
 
 -- the narrower place whose words may stand at such a place, too
@@ -48,7 +53,8 @@ or_else None other = other
 -- what the so many arguments of a word have to be, by the first of these forms that has so many
 abbrev pub wants_in : List Form → List ℕ → ℕ → Option (List Want)
 wants_in [] word given = None
-wants_in (form ∷ forms) word given = if bytes_eq form.word word && nat_eq (length form.wants) given then Some form.wants else wants_in forms word given
+wants_in (form ∷ forms) word given =
+    if bytes_eq form.word word && nat_eq (length form.wants) given then Some form.wants else wants_in forms word given
 
 -- whether a form is for a word with so many arguments
 abbrev pub is_for : List ℕ → ℕ → Form → Bool
@@ -66,12 +72,14 @@ apart (form ∷ forms) = not (some_for form.word (length form.wants) forms) && a
 
 -- what they have to be, where the word may stand at such a place and has a form with so many arguments
 abbrev pub wants_of : Call → List ℕ → ℕ → Option (List Want)
-wants_of c word given = or_else (wants_in (own_forms c) word given) (option_and_then (λ n. wants_in (own_forms n) word given) (narrower c))
+wants_of c word given =
+    or_else (wants_in (own_forms c) word given) (option_and_then (λ n. wants_in (own_forms n) word given) (narrower c))
 
 -- whether these forms have a word in a script of this version
 abbrev pub has_word : List Form → List ℕ → ℕ → Bool
 has_word [] word version = false
-has_word (form ∷ forms) word version = (bytes_eq form.word word && nat_le form.since version) || has_word forms word version
+has_word (form ∷ forms) word version =
+    (bytes_eq form.word word && nat_le form.since version) || has_word forms word version
 
 -- the same of a place that there may not be
 abbrev pub has_word_at : Option Call → List ℕ → ℕ → Bool

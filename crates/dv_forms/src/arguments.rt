@@ -2,7 +2,9 @@ ghost use Rattle.serde_json.specs.View.{items_view};
 ghost use Rattle.dv_clock.specs.declared.limits.TheConstants.{MOST_DELAY};
 ghost use Rattle.dv_script.specs.declared.limits.TheConstants.{MOST_PLACES};
 ghost use Rattle.dv_forms.specs.Answer.{Reads};
-ghost use Rattle.dv_forms.specs.Parts.{text_at, integer_at, number_at, bound_at, value_at, class_at, list_flag_at, gather_flag_at, list_at, sole, pair, triple};
+ghost use Rattle.dv_forms.specs.Parts.{text_at, integer_at, number_at, bound_at, value_at};
+ghost use Rattle.dv_forms.specs.Parts.{class_at, list_flag_at, gather_flag_at, list_at, sole, pair};
+ghost use Rattle.dv_forms.specs.Parts.{triple};
 
 use crate::leaf::{
     bound, class, classes_in, gather_flags_in, integer, list_flags_in, number, one, small, text,
@@ -128,7 +130,8 @@ pub fn classes_and_value(
     classes: &Classes,
     arguments: &[Json],
 ) -> Result<(Items<ClassId>, Value), Stop>
-    ensures { Reads result (pair (list_at (class_at classes.now)) value_at (items_view arguments.now)) }
+    ensures { Reads result
+        (pair (list_at (class_at classes.now)) value_at (items_view arguments.now)) }
 {
     let (names, json) = two(arguments)?;
     let listed = classes_in(alloc, classes, names)?;
@@ -143,7 +146,8 @@ pub fn named_failure(
     classes: &Classes,
     arguments: &[Json],
 ) -> Result<(Text, ClassId, Text), Stop>
-    ensures { Reads result (triple text_at (class_at classes.now) text_at (items_view arguments.now)) }
+    ensures { Reads result
+        (triple text_at (class_at classes.now) text_at (items_view arguments.now)) }
 {
     let (name, class_name, message) = three(arguments)?;
     let name = text(alloc, name)?;
@@ -158,7 +162,8 @@ pub fn named_list(
     alloc: Global,
     arguments: &[Json],
 ) -> Result<(Text, Items<Text>, Items<ListFlag>), Stop>
-    ensures { Reads result (triple text_at (list_at text_at) (list_at list_flag_at) (items_view arguments.now)) }
+    ensures { Reads result (triple text_at (list_at text_at) (list_at list_flag_at)
+        (items_view arguments.now)) }
 {
     let (name, children, flags) = three(arguments)?;
     let name = text(alloc, name)?;
@@ -173,7 +178,8 @@ pub fn named_gathering(
     alloc: Global,
     arguments: &[Json],
 ) -> Result<(Text, Items<Text>, Items<GatherFlag>), Stop>
-    ensures { Reads result (triple text_at (list_at text_at) (list_at gather_flag_at) (items_view arguments.now)) }
+    ensures { Reads result (triple text_at (list_at text_at) (list_at gather_flag_at)
+        (items_view arguments.now)) }
 {
     let (name, children, flags) = three(arguments)?;
     let name = text(alloc, name)?;

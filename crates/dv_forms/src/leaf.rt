@@ -4,7 +4,10 @@ ghost use Rattle.serde_json.specs.View.{view, items_view, members_view};
 ghost use Rattle.serde_json.specs.Find.{as_array, as_bool};
 ghost use Rattle.dv_forms.specs.Forms.{has_only};
 ghost use Rattle.dv_forms.specs.Answer.{Reads, Gives};
-ghost use Rattle.dv_forms.specs.Parts.{text_at, integer_at, number_at, bound_at, class_at, list_flag, list_flag_at, gather_flag_named, gather_flag_at, list_at, call_at, none, first, if_any, one, one_or_two, two, three, four, five, fields_at};
+ghost use Rattle.dv_forms.specs.Parts.{text_at, integer_at, number_at, bound_at, class_at};
+ghost use Rattle.dv_forms.specs.Parts.{list_flag, list_flag_at, gather_flag_named, gather_flag_at};
+ghost use Rattle.dv_forms.specs.Parts.{list_at, call_at, none, first, if_any, one, one_or_two, two};
+ghost use Rattle.dv_forms.specs.Parts.{three, four, five, fields_at};
 
 use crate::stop::Stop;
 use dv_script::action::{GatherFlag, ListFlag};
@@ -209,7 +212,8 @@ pub fn none(items: &[Json]) -> Result<(), Stop>
 /// An argument, and the rest.
 #[tactic(auto, unfolding(crate::specs::Parts::first))]
 fn first(items: &[Json]) -> Result<(&Json, &[Json]), Stop>
-    ensures { Gives (λ p. (view p.0.now, items_view p.1.now)) result (first (items_view items.now)) }
+    ensures { Gives (λ p. (view p.0.now, items_view p.1.now)) result
+        (first (items_view items.now)) }
 {
     match items.split_first() {
         None => Err(Stop::BadShape),
@@ -220,7 +224,8 @@ fn first(items: &[Json]) -> Result<(&Json, &[Json]), Stop>
 /// An argument, or none.
 #[tactic(auto, unfolding(crate::specs::Parts::if_any))]
 fn if_any(items: &[Json]) -> Result<Option<&Json>, Stop>
-    ensures { Gives (λ o. option_map (λ json. view json.now) o) result (if_any (items_view items.now)) }
+    ensures { Gives (λ o. option_map (λ json. view json.now) o) result
+        (if_any (items_view items.now)) }
 {
     match items.split_first() {
         None => Ok(None),
@@ -244,7 +249,8 @@ pub fn one(items: &[Json]) -> Result<&Json, Stop>
 /// One argument or two.
 #[tactic(auto, unfolding(crate::specs::Parts::one_or_two))]
 pub fn one_or_two(items: &[Json]) -> Result<(&Json, Option<&Json>), Stop>
-    ensures { Gives (λ p. (view p.0.now, option_map (λ json. view json.now) p.1)) result (one_or_two (items_view items.now)) }
+    ensures { Gives (λ p. (view p.0.now, option_map (λ json. view json.now) p.1)) result
+        (one_or_two (items_view items.now)) }
 {
     let (json, rest) = first(items)?;
     let last = if_any(rest)?;
@@ -264,7 +270,8 @@ pub fn two(items: &[Json]) -> Result<(&Json, &Json), Stop>
 /// Three arguments.
 #[tactic(auto, unfolding(crate::specs::Parts::three))]
 pub fn three(items: &[Json]) -> Result<(&Json, &Json, &Json), Stop>
-    ensures { Gives (λ p. (view p.0.now, view p.1.now, view p.2.now)) result (three (items_view items.now)) }
+    ensures { Gives (λ p. (view p.0.now, view p.1.now, view p.2.now)) result
+        (three (items_view items.now)) }
 {
     let (json, rest) = first(items)?;
     let (next, last) = two(rest)?;
@@ -274,7 +281,8 @@ pub fn three(items: &[Json]) -> Result<(&Json, &Json, &Json), Stop>
 /// Four arguments.
 #[tactic(auto, unfolding(crate::specs::Parts::four))]
 pub fn four(items: &[Json]) -> Result<(&Json, &Json, &Json, &Json), Stop>
-    ensures { Gives (λ p. (view p.0.now, view p.1.now, view p.2.now, view p.3.now)) result (four (items_view items.now)) }
+    ensures { Gives (λ p. (view p.0.now, view p.1.now, view p.2.now, view p.3.now)) result
+        (four (items_view items.now)) }
 {
     let (json, rest) = first(items)?;
     let (second, third, last) = three(rest)?;
@@ -284,7 +292,8 @@ pub fn four(items: &[Json]) -> Result<(&Json, &Json, &Json, &Json), Stop>
 /// Five arguments.
 #[tactic(auto, unfolding(crate::specs::Parts::five))]
 pub fn five(items: &[Json]) -> Result<(&Json, &Json, &Json, &Json, &Json), Stop>
-    ensures { Gives (λ p. (view p.0.now, view p.1.now, view p.2.now, view p.3.now, view p.4.now)) result (five (items_view items.now)) }
+    ensures { Gives (λ p. (view p.0.now, view p.1.now, view p.2.now, view p.3.now, view p.4.now))
+        result (five (items_view items.now)) }
 {
     let (json, rest) = first(items)?;
     let (second, rest) = first(rest)?;

@@ -1,4 +1,5 @@
-//! The parts of a JSON value in which nothing nests but values: texts, numbers, classes, flags, the arguments of a word, and the classes that a script declares.
+//! The parts of a JSON value in which nothing nests but values: texts, numbers, classes, flags, the
+//! arguments of a word, and the classes that a script declares.
 #![tactic(auto)]
 
 pub mod arguments;

@@ -17,7 +17,8 @@ use std::alloc::Global;
 
 /// The classes that a script declares, which it may leave out.
 pub fn declarations(alloc: Global, json: Option<&Json>) -> Result<Items<Declaration>, Stop>
-    ensures { Reads result (field [] (list_at declaration_at) (option_map (λ d. view d.now) json.entry)) }
+    ensures { Reads result (field [] (list_at declaration_at)
+        (option_map (λ d. view d.now) json.entry)) }
 {
     match json {
         None => Ok(Items::new(alloc)),

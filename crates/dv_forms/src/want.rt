@@ -1,7 +1,8 @@
 //! What a place of a script asks for.
 
 ghost use Rattle.std.specs.Prelude.{◌≡◌, map};
-ghost use Rattle.dv_forms.specs.Wants.{item_want, key_want, keys_in, script_want, cooperator_want, body_want, pair_wants};
+ghost use Rattle.dv_forms.specs.Wants.{item_want, key_want, keys_in, script_want, cooperator_want};
+ghost use Rattle.dv_forms.specs.Wants.{body_want, pair_wants};
 
 use dv_clock::limits::MOST_DELAY;
 use dv_script::limits::{MOST_LIMIT, MOST_UNITS, MOST_WORKERS};

@@ -2,7 +2,9 @@
 
 ghost use Rattle.std.specs.Prelude.{◌≡◌, ◌≤◌, ℕ, true, option_map, map, IfSome};
 ghost use Rattle.dv_forms.specs.declared.want.Call.TheVariants.{Action as action};
-ghost use Rattle.dv_forms.specs.Words.{action_word, apart, end_word, event_word, has_word, may_stand, narrower, own_forms, seen, statement_word, wants_in, wants_of, work_word};
+ghost use Rattle.dv_forms.specs.Words.{action_word, apart, end_word, event_word, has_word};
+ghost use Rattle.dv_forms.specs.Words.{may_stand, narrower, own_forms, seen, statement_word};
+ghost use Rattle.dv_forms.specs.Words.{wants_in, wants_of, work_word};
 
 use crate::want::{Call, Item, Keyed, Leaf, Object, Want};
 use dv_clock::limits::{MOST_DELAY, MOST_TICKS};
@@ -84,8 +86,9 @@ pub enum WorkWord {
     Sum,
 }
 
-/// A form of a word: the word, its text, what each argument has to be, the form as the tables of the language show it, and the first version
-/// that has it. A word with an argument that may be left out has two forms.
+/// A form of a word: the word, its text, what each argument has to be, the form as the tables of
+/// the language show it, and the first version that has it. A word with an argument that may be
+/// left out has two forms.
 pub type Form<W> = (W, &'static str, &'static [Want], &'static str, u32);
 
 const NEW_DEFERRED: Want = Want::Leaf(Leaf::New(Object::Deferred));
@@ -499,14 +502,17 @@ pub fn narrower(call: Call) -> Option<Call>
     }
 }
 
-/// What the so many arguments of a word have to be by the first of these forms that has so many, and the first version that has this form.
+/// What the so many arguments of a word have to be by the first of these forms that has so many,
+/// and the first version that has this form.
 fn form_in<W: Copy>(
     forms: &'static [Form<W>],
     word: &str,
     given: usize,
 ) -> Option<(&'static [Want], u32)>
-    ensures wants { option_map (λ form. form.0.now) result ≡ wants_in (map seen forms.now) word.now given }
-    ensures since { IfSome result (λ form. (version : ℕ) → form.1 ≤ version → has_word (map seen forms.now) word.now version ≡ true) }
+    ensures wants { option_map (λ form. form.0.now) result
+        ≡ wants_in (map seen forms.now) word.now given }
+    ensures since { IfSome result (λ form. (version : ℕ) → form.1 ≤ version
+        → has_word (map seen forms.now) word.now version ≡ true) }
 {
     for form in forms {
         if form.2.len() == given && form.1 == word {
@@ -524,8 +530,10 @@ fn form_at<W: Copy>(
     given: usize,
 ) -> Option<(&'static [Want], u32)>
     requires apart { apart (map seen forms.now) ≡ true }
-    ensures wants { IfSome result (λ form. wants_in (map seen forms.now) word.now given ≡ Some form.0.now) }
-    ensures since { IfSome result (λ form. (version : ℕ) → form.1 ≤ version → has_word (map seen forms.now) word.now version ≡ true) }
+    ensures wants { IfSome result
+        (λ form. wants_in (map seen forms.now) word.now given ≡ Some form.0.now) }
+    ensures since { IfSome result (λ form. (version : ℕ) → form.1 ≤ version
+        → has_word (map seen forms.now) word.now version ≡ true) }
 {
     let form = forms.get(row)?;
     if form.2.len() == given && form.1 == word {
@@ -535,8 +543,8 @@ fn form_at<W: Copy>(
     }
 }
 
-/// The row of `ACTION_FORMS` in which the first form of a word likely stands, by `likely_place`. A row that is wrong costs time, and nothing
-/// else: all rows are searched then.
+/// The row of `ACTION_FORMS` in which the first form of a word likely stands, by `likely_place`. A
+/// row that is wrong costs time, and nothing else: all rows are searched then.
 const LIKELY_ROWS: [u8; 128] = [
     0, 0, 0, 0, 0, 0, 0, 0, 0, 7, 0, 16, 33, 0, 0, 32, 13, 0, 0, 12, 0, 5, 0, 4, 0, 15, 0, 0, 27,
     0, 0, 2, 9, 0, 0, 0, 0, 0, 0, 22, 0, 11, 0, 3, 0, 0, 0, 24, 35, 26, 20, 0, 0, 0, 0, 0, 0, 0,
@@ -545,17 +553,21 @@ const LIKELY_ROWS: [u8; 128] = [
     0, 0, 0, 0, 0, 0, 0, 31, 0, 0, 0,
 ];
 
-/// The place of a word in `LIKELY_ROWS`, by its length and its first and its last letter: no two words of actions have the same.
+/// The place of a word in `LIKELY_ROWS`, by its length and its first and its last letter: no two
+/// words of actions have the same.
 fn likely_place(word: &str) -> Option<usize> {
     let first = *word.as_bytes().first()?;
     let last = *word.as_bytes().last()?;
     Some((word.len() % 64 * 2 + first as usize * 7 + last as usize * 14) % 128)
 }
 
-/// The form of an action in the row in which it likely stands, where it has so many arguments there.
+/// The form of an action in the row in which it likely stands, where it has so many arguments
+/// there.
 fn likely_form(word: &str, given: usize) -> Option<(&'static [Want], u32)>
-    ensures wants { IfSome result (λ form. wants_in (own_forms action) word.now given ≡ Some form.0.now) }
-    ensures since { IfSome result (λ form. (version : ℕ) → form.1 ≤ version → has_word (own_forms action) word.now version ≡ true) }
+    ensures wants { IfSome result
+        (λ form. wants_in (own_forms action) word.now given ≡ Some form.0.now) }
+    ensures since { IfSome result (λ form. (version : ℕ) → form.1 ≤ version
+        → has_word (own_forms action) word.now version ≡ true) }
 {
     let row = LIKELY_ROWS.get(likely_place(word)?)?;
     form_at(&ACTION_FORMS, *row as usize, word, given)
@@ -563,8 +575,10 @@ fn likely_form(word: &str, given: usize) -> Option<(&'static [Want], u32)>
 
 /// The same as `form_in` of the forms of actions: a row is guessed before all are gone through.
 fn action_form(word: &str, given: usize) -> Option<(&'static [Want], u32)>
-    ensures wants { option_map (λ form. form.0.now) result ≡ wants_in (own_forms action) word.now given }
-    ensures since { IfSome result (λ form. (version : ℕ) → form.1 ≤ version → has_word (own_forms action) word.now version ≡ true) }
+    ensures wants { option_map (λ form. form.0.now) result
+        ≡ wants_in (own_forms action) word.now given }
+    ensures since { IfSome result (λ form. (version : ℕ) → form.1 ≤ version
+        → has_word (own_forms action) word.now version ≡ true) }
 {
     match likely_form(word, given) {
         Some(form) => Some(form),
@@ -574,8 +588,10 @@ fn action_form(word: &str, given: usize) -> Option<(&'static [Want], u32)>
 
 /// The same of the forms at such a place, and at none narrower.
 fn own_form(call: Call, word: &str, given: usize) -> Option<(&'static [Want], u32)>
-    ensures wants { option_map (λ form. form.0.now) result ≡ wants_in (own_forms call) word.now given }
-    ensures since { IfSome result (λ form. (version : ℕ) → form.1 ≤ version → has_word (own_forms call) word.now version ≡ true) }
+    ensures wants { option_map (λ form. form.0.now) result
+        ≡ wants_in (own_forms call) word.now given }
+    ensures since { IfSome result (λ form. (version : ℕ) → form.1 ≤ version
+        → has_word (own_forms call) word.now version ≡ true) }
 {
     match call {
         Call::Event => form_in(&EVENT_FORMS, word, given),
@@ -587,11 +603,12 @@ fn own_form(call: Call, word: &str, given: usize) -> Option<(&'static [Want], u3
     }
 }
 
-/// What the arguments of a word have to be, where it may stand at such a place and has a form with so many, and the first version that has
-/// this form.
+/// What the arguments of a word have to be, where it may stand at such a place and has a form with
+/// so many, and the first version that has this form.
 pub fn form_of(call: Call, word: &str, given: usize) -> Option<(&'static [Want], u32)>
     ensures wants { option_map (λ form. form.0.now) result ≡ wants_of call word.now given }
-    ensures since { IfSome result (λ form. (version : ℕ) → form.1 ≤ version → may_stand call word.now version ≡ true) }
+    ensures since { IfSome result (λ form. (version : ℕ) → form.1 ≤ version
+        → may_stand call word.now version ≡ true) }
 {
     if let Some(form) = own_form(call, word, given) {
         return Some(form);
@@ -602,7 +619,8 @@ pub fn form_of(call: Call, word: &str, given: usize) -> Option<(&'static [Want],
     }
 }
 
-/// What the arguments of a word have to be, where it may stand at such a place and has a form with so many.
+/// What the arguments of a word have to be, where it may stand at such a place and has a form with
+/// so many.
 pub fn wants_of(call: Call, word: &str, given: usize) -> Option<&'static [Want]>
     ensures { option_map (λ wants. wants.now) result ≡ wants_of call word.now given }
 {

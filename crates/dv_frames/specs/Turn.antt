@@ -47,4 +47,5 @@ settle_next d (follow.Raise failure) w = raised failure w
 
 -- a body from its beginning, in which `@` is the Deferred that is given
 abbrev pub rest_of : Option ℕ → Body → Value → Rest
-rest_of itself body input = record { itself = itself; actions = (out-Body body).actions; end = (out-Body body).end; input = input }
+rest_of itself body input =
+    record { itself = itself; actions = (out-Body body).actions; end = (out-Body body).end; input = input }

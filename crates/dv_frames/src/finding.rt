@@ -46,7 +46,8 @@ impl<'s> Turn<'s> {
 
     /// Looks up the lock or the semaphore of a name.
     pub fn find_lock(&mut self, name: &str) -> Result<Option<LockId>, AllocError>
-        ensures found { IfOk result (λ found. found ≡ number_of name.now self.old.world.objects.locks) }
+        ensures found { IfOk result
+            (λ found. found ≡ number_of name.now self.old.world.objects.locks) }
         ensures turn { IfOk result (λ found. self.new ≡ looked_up found name.now self.old) }
     {
         let found = self.world.find_lock(name);
@@ -55,7 +56,8 @@ impl<'s> Turn<'s> {
 
     /// Looks up the queue of a name.
     pub fn find_queue(&mut self, name: &str) -> Result<Option<QueueId>, AllocError>
-        ensures found { IfOk result (λ found. found ≡ number_of name.now self.old.world.objects.queue_names) }
+        ensures found { IfOk result
+            (λ found. found ≡ number_of name.now self.old.world.objects.queue_names) }
         ensures turn { IfOk result (λ found. self.new ≡ looked_up found name.now self.old) }
     {
         let found = self.world.find_queue(name);
@@ -64,7 +66,8 @@ impl<'s> Turn<'s> {
 
     /// Looks up the delayed call of a name.
     pub fn find_call(&mut self, name: &str) -> Result<Option<CallId>, AllocError>
-        ensures found { IfOk result (λ found. found ≡ number_of name.now self.old.world.objects.call_names) }
+        ensures found { IfOk result
+            (λ found. found ≡ number_of name.now self.old.world.objects.call_names) }
         ensures turn { IfOk result (λ found. self.new ≡ looked_up found name.now self.old) }
     {
         let found = self.world.find_call(name);
@@ -73,7 +76,8 @@ impl<'s> Turn<'s> {
 
     /// Looks up the loop of a name.
     pub fn find_loop(&mut self, name: &str) -> Result<Option<LoopId>, AllocError>
-        ensures found { IfOk result (λ found. found ≡ number_of name.now self.old.world.objects.loop_names) }
+        ensures found { IfOk result
+            (λ found. found ≡ number_of name.now self.old.world.objects.loop_names) }
         ensures turn { IfOk result (λ found. self.new ≡ looked_up found name.now self.old) }
     {
         let found = self.world.find_loop(name);
@@ -82,7 +86,8 @@ impl<'s> Turn<'s> {
 
     /// Looks up the task of a name.
     pub fn find_task(&mut self, name: &str) -> Result<Option<TaskId>, AllocError>
-        ensures found { IfOk result (λ found. found ≡ number_of name.now self.old.world.objects.cooperator.task_names) }
+        ensures found { IfOk result
+            (λ found. found ≡ number_of name.now self.old.world.objects.cooperator.task_names) }
         ensures turn { IfOk result (λ found. self.new ≡ looked_up found name.now self.old) }
     {
         let found = self.world.find_task(name);

@@ -39,10 +39,12 @@ pub fn unbound(turn: &mut Turn<'_>, name: &str) -> Result<(), AllocError>
     Ok(())
 }
 
-/// The Deferred is fired with a value, and is to be settled, where that is to follow. A refusal is raised.
+/// The Deferred is fired with a value, and is to be settled, where that is to follow. A refusal is
+/// raised.
 pub fn fire_and_settle(turn: &mut Turn<'_>, id: DeferredId, value: Value) -> Result<(), AllocError>
     requires done { turn.old.performed ≡ Done }
-    ensures { OnOk result (turn.new ≡ settle_next id (fire id value turn.old.world).0 (fire id value turn.old.world).1 onto turn.old) }
+    ensures { OnOk result (turn.new ≡ settle_next id (fire id value turn.old.world).0
+        (fire id value turn.old.world).1 onto turn.old) }
 {
     let fired = turn.world.fire(id, value)?;
     settle_next(turn, id, fired)
@@ -70,7 +72,8 @@ pub fn add_and_settle<'s>(
     pair: Pair<'s>,
 ) -> Result<(), AllocError>
     requires done { turn.old.performed ≡ Done }
-    ensures { OnOk result (turn.new ≡ settling id (append id pair.entry turn.old.world) onto turn.old) }
+    ensures { OnOk result
+        (turn.new ≡ settling id (append id pair.entry turn.old.world) onto turn.old) }
 {
     turn.world.append(id, pair)?;
     turn.stack.push(Frame::Settle(id))

@@ -37,12 +37,13 @@ pub enum Inlining<'s> {
     Goes(Inline, InlineBody<'s>),
     /// The action that it wanted has been performed, and its result is the answer.
     Acted(Inline, InlineBody<'s>),
-    /// The pair by which it awaits this Deferred has been added, and the Deferred settled. Where what it awaits has come, it
-    /// goes on; else it is parked.
+    /// The pair by which it awaits this Deferred has been added, and the Deferred settled. Where
+    /// what it awaits has come, it goes on; else it is parked.
     Awaited(Inline, DeferredId, InlineBody<'s>),
 }
 
-/// What is still to be done, in the world that it then finds. It gets the result of what was above it.
+/// What is still to be done, in the world that it then finds. It gets the result of what was above
+/// it.
 #[derive(Drop)]
 pub enum Frame<'s> {
     /// The Deferred is settled.
@@ -51,7 +52,8 @@ pub enum Frame<'s> {
     Place(DeferredId),
     /// A body goes on, unless its last action raised.
     Rest(Rest<'s>),
-    /// A canceller of the Deferred has ended. Unless it failed, the Deferred is fired where it still may be.
+    /// A canceller of the Deferred has ended. Unless it failed, the Deferred is fired where it
+    /// still may be.
     Canceller(DeferredId),
     /// A body has ended, and what it gave becomes a Deferred for this.
     Maybe(Purpose<'s>),

@@ -38,8 +38,9 @@ enum Large<'s> {
     Inline(Inlining<'s>),
 }
 
-/// Frames that lie on each other. Each takes as much room as it has to say, since as many lie here as cancels, firings and bodies
-/// lie in each other. Contracts see the list of them, from the one that was pushed last.
+/// Frames that lie on each other. Each takes as much room as it has to say, since as many lie here
+/// as cancels, firings and bodies lie in each other. Contracts see the list of them, from the one
+/// that was pushed last.
 #[derive(Drop)]
 pub struct Frames<'s> {
     kinds: Stack<Kind>,
@@ -60,7 +61,14 @@ impl<'s> Model for Frames<'s> {
 
     ghost Value = { List Seen };
 
-    ghost coded = { Prim.hlevel (codes, action_contract.the_row.coded, body_contract.the_row.coded, statement_contract.the_row.coded, failure_contract.the_row.coded, value_contract.the_row.coded) };
+    ghost coded = { Prim.hlevel (
+      codes,
+      action_contract.the_row.coded,
+      body_contract.the_row.coded,
+      statement_contract.the_row.coded,
+      failure_contract.the_row.coded,
+      value_contract.the_row.coded,
+    ) };
 
     ghost view = { λ f. frames_of f.kinds f.rests f.larges };
 
@@ -84,7 +92,8 @@ impl<'s> Frames<'s> {
     #[inline(always)]
     #[tactic(auto, unfolding(crate::specs::Frames::frames_of, crate::specs::Frames::AreThere))]
     pub fn pop(&mut self) -> Option<Frame<'s>>
-        ensures { MatchOption result ((self.old ≡ []) × (self.new ≡ [])) (λ frame. self.old ≡ frame ∷ self.new) }
+        ensures { MatchOption result ((self.old ≡ []) × (self.new ≡ []))
+            (λ frame. self.old ≡ frame ∷ self.new) }
     {
         match self.kinds.pop()? {
             Kind::Settle(id) => Some(Frame::Settle(id)),

@@ -8,7 +8,8 @@ use dv_objects::performed::Performed;
 use dv_world::world::World;
 use std::alloc::Global;
 
-/// What a rule works on: it reads and changes the world, leaves what is to follow on the stack, and returns something.
+/// What a rule works on: it reads and changes the world, leaves what is to follow on the stack, and
+/// returns something.
 #[derive(Drop)]
 pub struct Turn<'s> {
     /// Where memory is taken from.
@@ -24,7 +25,8 @@ pub struct Turn<'s> {
 impl<'s> Turn<'s> {
     /// A world in which nothing is to be done. The stack takes no memory before the first frame.
     pub fn new(alloc: Global, world: World<'s>) -> Turn<'s>
-        ensures { result ≡ record { alloc = alloc; world = world.entry; stack = []; performed = Done } }
+        ensures { result
+            ≡ record { alloc = alloc; world = world.entry; stack = []; performed = Done } }
     {
         Turn {
             alloc,

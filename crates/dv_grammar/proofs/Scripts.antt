@@ -1,6 +1,8 @@
 -- What holds of events, posts and scripts: what is read is in the grammar, and what is in the grammar is read.
-use Rattle.std.proofs.Common.{◌≡◌, ℕ, suc, ◌≤◌, Bool, List, [], ◌∷◌, Option, Some, None, option_and_then, refl, ap, codes, arith}
-use Rattle.serde_json.specs.Data.{Data, string, array, object, Items, no_items, item, Members, depth, items_depth, members_depth}
+use Rattle.std.proofs.Common.{◌≡◌, ℕ, suc, ◌≤◌, Bool, List, [], ◌∷◌, Option, Some, None, option_and_then, refl, ap}
+use Rattle.std.proofs.Common.{codes, arith}
+use Rattle.serde_json.specs.Data.{Data, string, array, object, Items, no_items, item, Members, depth, items_depth}
+use Rattle.serde_json.specs.Data.{members_depth}
 use Rattle.serde_json.specs.Find.{as_array, get_member}
 use Rattle.serde_json.specs.Read.{max_depth}
 use Rattle.dv_value.specs.declared.classes.Class.{Class}
@@ -9,7 +11,8 @@ use Rattle.dv_script.specs.declared.action.Action.{Action}
 use Rattle.dv_script.specs.declared.event.Event.{Event}
 use Rattle.dv_script.specs.declared.script.Cooperator.{Cooperator}
 use Rattle.dv_script.specs.declared.script.NamedPool.{NamedPool}
-use Rattle.dv_script.specs.declared.limits.TheConstants.{MOST_DRAINED, MOST_LIMIT, MOST_UNITS, MOST_WORKERS, USUAL_LIMIT}
+use Rattle.dv_script.specs.declared.limits.TheConstants.{MOST_DRAINED, MOST_LIMIT, MOST_UNITS, MOST_WORKERS}
+use Rattle.dv_script.specs.declared.limits.TheConstants.{USUAL_LIMIT}
 use Rattle.dv_clock.specs.declared.limits.TheConstants.{MOST_DELAY, MOST_TICKS}
 use Rattle.dv_forms.specs.declared.declaration.Declaration.{Declaration}
 use Rattle.dv_grammar.specs.declared.draft.Draft.{Draft}
@@ -17,26 +20,33 @@ use Rattle.dv_forms.specs.Forms.{Each, IsList, Field, Key, IsNumber}
 use Rattle.dv_forms.specs.Table.{table_of}
 use Rattle.dv_forms.specs.declared.words.EventWord.{EventWord}
 use Rattle.dv_forms.specs.Words.{event_word, event_words}
-use Rattle.dv_grammar.specs.Grammar.{cooperator_keys, keys_of, plain_cooperator, IsAction, IsBody, IsEvent, acts, advances, drains, IsDeclaration, declares, IsPool, pools, IsCooperator, IsScript}
-use Rattle.dv_forms.specs.Parts.{each, list_at, text_at, number_at, within, call_at, none, first, one, two, sole, pair, fields_at, field, declaration_at, table_for}
-use Rattle.dv_grammar.specs.Shape.{action_by, readers, body_at, action_at, event_by, event_at, event_of, other_event, cooperator_at, pool_at, caller_at, script_at}
+use Rattle.dv_grammar.specs.Grammar.{cooperator_keys, keys_of, plain_cooperator, IsAction, IsBody, IsEvent, acts}
+use Rattle.dv_grammar.specs.Grammar.{advances, drains, IsDeclaration, declares, IsPool, pools, IsCooperator, IsScript}
+use Rattle.dv_forms.specs.Parts.{each, list_at, text_at, number_at, within, call_at, none, first, one, two, sole, pair}
+use Rattle.dv_forms.specs.Parts.{fields_at, field, declaration_at, table_for}
+use Rattle.dv_grammar.specs.Shape.{action_by, readers, body_at, action_at, event_by, event_at, event_of, other_event}
+use Rattle.dv_grammar.specs.Shape.{cooperator_at, pool_at, caller_at, script_at}
 use Rattle.dv_grammar.proofs.Steps.{some_injective, bind}
 use Rattle.dv_grammar.proofs.WordsLemmas.{◌&◌, EachWord, found_word}
 use Rattle.dv_script.specs.declared.event.Event.TheVariants as happens
-use Rattle.dv_grammar.proofs.Leaves.{call_is, one_read, two_read, text_is, array_is, number_is, sound_list, sound_field, sound_key, fields_is, complete_list, complete_field, complete_key, complete_number}
+use Rattle.dv_grammar.proofs.Leaves.{call_is, one_read, two_read, text_is, array_is, number_is, sound_list, sound_field}
+use Rattle.dv_grammar.proofs.Leaves.{sound_key, fields_is, complete_list, complete_field, complete_key, complete_number}
 use Rattle.dv_grammar.proofs.Actions.{sound_action, sound_readers, depth-get_member, complete_action, complete_body}
 
 -- ---- events, posts, scripts
 
 -- what the word of this event reads as is in the grammar
 abbrev IsEventRead : List Class → EventWord → List ℕ → Type 0
-IsEventRead table word text = (ds : Items) (x : Event) → event_of word ds ≡ Some x → IsEvent table (array (item (string text) ds)) x
+IsEventRead table word text =
+    (ds : Items) (x : Event) → event_of word ds ≡ Some x → IsEvent table (array (item (string text) ds)) x
 
 sound_event_words : (table : List Class) → EachWord (IsEventRead table) event_words
 unfolding event_of
 sound_event_words table =
-    (λ ds x e. one_read (number_at 0 MOST_TICKS) happens.Advance ds x e (λ d n ds_is n_is made. rw (ds_is, ← made) (advances d n (number_is 0 MOST_TICKS d n n_is)))) &
-    (λ ds x e. one_read (number_at 0 MOST_DRAINED) happens.Drain ds x e (λ d n ds_is n_is made. rw (ds_is, ← made) (drains d n (number_is 0 MOST_DRAINED d n n_is)))) &
+    (λ ds x e. one_read (number_at 0 MOST_TICKS) happens.Advance ds x e
+    (λ d n ds_is n_is made. rw (ds_is, ← made) (advances d n (number_is 0 MOST_TICKS d n n_is)))) &
+    (λ ds x e. one_read (number_at 0 MOST_DRAINED) happens.Drain ds x e
+    (λ d n ds_is n_is made. rw (ds_is, ← made) (drains d n (number_is 0 MOST_DRAINED d n n_is)))) &
     tt
 
 sound_other : (table : List Class) (d : Data) (x : Event) → other_event d ≡ Some x → IsEvent table d x
@@ -44,9 +54,11 @@ unfolding other_event
 sound_other table d x e =
     bind (call_at d) _ x e (λ c c_is c_then.
     bind (event_word c.0) _ x c_then (λ w w_is w_then.
-    rw (call_is d c c_is) (found_word (IsEventRead table) event_words (sound_event_words table) c.0 w w_is c.1 x w_then)))
+    rw (call_is d c c_is)
+    (found_word (IsEventRead table) event_words (sound_event_words table) c.0 w w_is c.1 x w_then)))
 
-sound_event_by : (table : List Class) (d : Data) (x : Event) (o : Option Action) (other : Option Event) → ((a : Action) → o ≡ Some a → IsAction table d a)
+sound_event_by : (table : List Class) (d : Data) (x : Event) (o : Option Action) (other : Option Event)
+    → ((a : Action) → o ≡ Some a → IsAction table d a)
     → ((y : Event) → other ≡ Some y → IsEvent table d y) → event_by o other ≡ Some x → IsEvent table d x
 sound_event_by table d x (Some a) other act happen e = rw (← some_injective e) (acts d a (act a refl))
 sound_event_by table d x None other act happen e = happen x e
@@ -74,8 +86,12 @@ sound_cooperator (object ms) x e =
       members = ms;
       whole = refl;
       only = fields_is cooperator_keys ms t t_is;
-      units = sound_key u (IsNumber 1 MOST_UNITS) (number_at 1 MOST_UNITS) (number_is 1 MOST_UNITS) (get_member (codes "units") ms) u_is;
-      delay = sound_key v (IsNumber 1 MOST_DELAY) (number_at 1 MOST_DELAY) (number_is 1 MOST_DELAY) (get_member (codes "delay") ms) v_is;
+      units =
+          sound_key u (IsNumber 1 MOST_UNITS) (number_at 1 MOST_UNITS) (number_is 1 MOST_UNITS)
+          (get_member (codes "units") ms) u_is;
+      delay =
+          sound_key v (IsNumber 1 MOST_DELAY) (number_at 1 MOST_DELAY) (number_is 1 MOST_DELAY)
+          (get_member (codes "delay") ms) v_is;
     }))))
 sound_cooperator _ x e = cc
 
@@ -86,7 +102,8 @@ sound_pool d x e =
     two_read text_at (number_at 0 MOST_WORKERS) _ ds x ds_then (λ c f n k items_are n_is k_is made.
     rw (array_is d ds ds_is, items_are, text_is c n n_is, ← made) (pools n f k (number_is 0 MOST_WORKERS f k k_is))))
 
-sound_caller : (table : List Class) (d : Data) (posts : List Body) → caller_at table d ≡ Some posts → IsList (IsBody table) d posts
+sound_caller : (table : List Class) (d : Data) (posts : List Body) → caller_at table d ≡ Some posts
+    → IsList (IsBody table) d posts
 sound_caller table = sound_list (IsBody table) (body_at table max_depth) (sound_readers table max_depth).body
 
 -- a value that is read as a script has its shape
@@ -99,33 +116,51 @@ sound_script (object ms) draft e =
     bind (field plain_cooperator cooperator_at (get_member (codes "cooperator") ms)) _ draft l_then (λ o o_is o_then.
     bind (field [] (list_at pool_at) (get_member (codes "pools") ms)) _ draft o_then (λ q q_is q_then.
     bind (field [] (list_at declaration_at) (get_member (codes "classes") ms)) _ draft q_then (λ c c_is c_then.
-    bind (field [] (list_at (caller_at (table_of c))) (get_member (codes "callers") ms)) _ draft c_then (λ p p_is p_then.
-    bind (option_and_then (list_at (event_at (table_of c))) (get_member (codes "events") ms)) _ draft p_then (λ y y_is y_then.
+    bind (field [] (list_at (caller_at (table_of c))) (get_member (codes "callers") ms)) _ draft c_then
+    (λ p p_is p_then.
+    bind (option_and_then (list_at (event_at (table_of c))) (get_member (codes "events") ms)) _ draft p_then
+    (λ y y_is y_then.
     rw (← some_injective y_then) (record {
       members = ms;
       whole = refl;
       version = sound_key v (IsNumber 1 2) (number_at 1 2) (number_is 1 2) (get_member (codes "version") ms) v_is;
       only = fields_is (keys_of v) ms t t_is;
-      declared = sound_field [] c (IsList IsDeclaration) (list_at declaration_at) (sound_list IsDeclaration declaration_at sound_declaration) (get_member (codes "classes") ms) c_is;
+      declared =
+          sound_field [] c (IsList IsDeclaration) (list_at declaration_at)
+          (sound_list IsDeclaration declaration_at sound_declaration) (get_member (codes "classes") ms) c_is;
       all_declared = refl;
       table = refl;
-      limit = sound_field USUAL_LIMIT l (IsNumber 0 MOST_LIMIT) (number_at 0 MOST_LIMIT) (number_is 0 MOST_LIMIT) (get_member (codes "limit") ms) l_is;
-      cooperator = sound_field plain_cooperator o IsCooperator cooperator_at sound_cooperator (get_member (codes "cooperator") ms) o_is;
-      pools = sound_field [] q (IsList IsPool) (list_at pool_at) (sound_list IsPool pool_at sound_pool) (get_member (codes "pools") ms) q_is;
-      callers = sound_field [] p (IsList (IsList (IsBody (table_of c)))) (list_at (caller_at (table_of c))) (sound_list (IsList (IsBody (table_of c))) (caller_at (table_of c)) (sound_caller (table_of c))) (get_member (codes "callers") ms) p_is;
-      events = sound_key y (IsList (IsEvent (table_of c))) (list_at (event_at (table_of c))) (sound_list (IsEvent (table_of c)) (event_at (table_of c)) (sound_event (table_of c))) (get_member (codes "events") ms) y_is;
+      limit =
+          sound_field USUAL_LIMIT l (IsNumber 0 MOST_LIMIT) (number_at 0 MOST_LIMIT) (number_is 0 MOST_LIMIT)
+          (get_member (codes "limit") ms) l_is;
+      cooperator =
+          sound_field plain_cooperator o IsCooperator cooperator_at sound_cooperator
+          (get_member (codes "cooperator") ms) o_is;
+      pools =
+          sound_field [] q (IsList IsPool) (list_at pool_at) (sound_list IsPool pool_at sound_pool)
+          (get_member (codes "pools") ms) q_is;
+      callers =
+          sound_field [] p (IsList (IsList (IsBody (table_of c)))) (list_at (caller_at (table_of c)))
+          (sound_list (IsList (IsBody (table_of c))) (caller_at (table_of c)) (sound_caller (table_of c)))
+          (get_member (codes "callers") ms) p_is;
+      events =
+          sound_key y (IsList (IsEvent (table_of c))) (list_at (event_at (table_of c)))
+          (sound_list (IsEvent (table_of c)) (event_at (table_of c)) (sound_event (table_of c)))
+          (get_member (codes "events") ms) y_is;
     })))))))))
 sound_script _ draft e = cc
 
 -- ---- events, posts, scripts
 
-complete_event : (table : List Class) (d : Data) (e : Event) → depth d ≤ max_depth → IsEvent table d e → event_at table d ≡ Some e
+complete_event : (table : List Class) (d : Data) (e : Event) → depth d ≤ max_depth → IsEvent table d e
+    → event_at table d ≡ Some e
 unfolding event_at event_of other_event action_by call_at none first one sole
 complete_event table d _ h (acts _ a g) = rw (complete_action table max_depth g h) refl
 complete_event table _ _ h (advances d n g) = rw (complete_number 0 MOST_TICKS d n g) refl
 complete_event table _ _ h (drains d n g) = rw (complete_number 0 MOST_DRAINED d n g) refl
 
-complete_each_deep : {X : Type 0} (Is : Data → X → Type 0) (at : Data → Option X) → ((d : Data) (x : X) → depth d ≤ max_depth → Is d x → at d ≡ Some x)
+complete_each_deep : {X : Type 0} (Is : Data → X → Type 0) (at : Data → Option X)
+    → ((d : Data) (x : X) → depth d ≤ max_depth → Is d x → at d ≡ Some x)
     → (ds : Items) (xs : List X) → items_depth ds ≤ max_depth → Each Is ds xs → each at ds ≡ Some xs
 complete_each_deep Is at one no_items [] deep h = refl
 complete_each_deep Is at one no_items (x ∷ xs) deep h = absurd h
@@ -133,14 +168,17 @@ complete_each_deep Is at one (item d ds) [] deep h = absurd h
 complete_each_deep Is at one (item d ds) (x ∷ xs) deep h =
     rw (one d x (omega (arith, deep)) h.0, complete_each_deep Is at one ds xs (omega (arith, deep)) h.1) refl
 
-complete_list_deep : {X : Type 0} (Is : Data → X → Type 0) (at : Data → Option X) → ((d : Data) (x : X) → depth d ≤ max_depth → Is d x → at d ≡ Some x)
+complete_list_deep : {X : Type 0} (Is : Data → X → Type 0) (at : Data → Option X)
+    → ((d : Data) (x : X) → depth d ≤ max_depth → Is d x → at d ≡ Some x)
     → (d : Data) (xs : List X) → depth d ≤ max_depth → IsList Is d xs → list_at at d ≡ Some xs
 complete_list_deep Is at one d xs deep h =
     let inside : suc (items_depth h.0) ≤ max_depth = rw h.1 at deep in
     rw h.1 (complete_each_deep Is at one h.0 xs (omega (arith, inside)) h.2)
 
-complete_caller : (table : List Class) (d : Data) (posts : List Body) → depth d ≤ max_depth → IsList (IsBody table) d posts → caller_at table d ≡ Some posts
-complete_caller table = complete_list_deep (IsBody table) (body_at table max_depth) (λ d b deep h. complete_body table max_depth h deep)
+complete_caller : (table : List Class) (d : Data) (posts : List Body) → depth d ≤ max_depth
+    → IsList (IsBody table) d posts → caller_at table d ≡ Some posts
+complete_caller table =
+    complete_list_deep (IsBody table) (body_at table max_depth) (λ d b deep h. complete_body table max_depth h deep)
 
 complete_declaration : (d : Data) (c : Declaration) → IsDeclaration d c → declaration_at d ≡ Some c
 unfolding declaration_at none first one two pair
@@ -154,12 +192,15 @@ complete_cooperator : (d : Data) (c : Cooperator) → IsCooperator d c → coope
 unfolding cooperator_at fields_at
 complete_cooperator d c h =
     rw h.whole (rw h.only (rw (
-      complete_key c.units (IsNumber 1 MOST_UNITS) (number_at 1 MOST_UNITS) (complete_number 1 MOST_UNITS) (get_member (codes "units") h.members) h.units,
-      complete_key c.delay (IsNumber 1 MOST_DELAY) (number_at 1 MOST_DELAY) (complete_number 1 MOST_DELAY) (get_member (codes "delay") h.members) h.delay,
+      complete_key c.units (IsNumber 1 MOST_UNITS) (number_at 1 MOST_UNITS) (complete_number 1 MOST_UNITS)
+          (get_member (codes "units") h.members) h.units,
+      complete_key c.delay (IsNumber 1 MOST_DELAY) (number_at 1 MOST_DELAY) (complete_number 1 MOST_DELAY)
+          (get_member (codes "delay") h.members) h.delay,
     ) refl))
 
 complete_callers : (table : List Class) (ms : Members) (callers : List (List Body)) → members_depth ms ≤ max_depth
-    → (o : Option Data) → ((d : Data) → o ≡ Some d → depth d ≤ max_depth) → Field [] (IsList (IsList (IsBody table))) o callers
+    → (o : Option Data) → ((d : Data) → o ≡ Some d → depth d ≤ max_depth)
+    → Field [] (IsList (IsList (IsBody table))) o callers
     → field [] (list_at (caller_at table)) o ≡ Some callers
 complete_callers table ms callers deep None within h = rw h refl
 complete_callers table ms callers deep (Some d) within h =
@@ -174,7 +215,19 @@ complete_events table events (Some d) within h =
 
 -- a draft whose table, and whether all its classes are declared, are written out
 same_draft : (draft : Draft) (table : List Class) (all : Bool) → draft.script.classes ≡ table → draft.all_declared ≡ all
-    → record { version = draft.version; declared = draft.declared; all_declared = all; script = record { classes = table; limit = draft.script.limit; cooperator = draft.script.cooperator; pools = draft.script.pools; callers = draft.script.callers; events = draft.script.events } } ≡ draft
+    → record {
+      version = draft.version;
+      declared = draft.declared;
+      all_declared = all;
+      script = record {
+        classes = table;
+        limit = draft.script.limit;
+        cooperator = draft.script.cooperator;
+        pools = draft.script.pools;
+        callers = draft.script.callers;
+        events = draft.script.events;
+      };
+    } ≡ draft
 same_draft draft table all e f = rw (← e, ← f) refl
 
 -- a value of a script's shape is read as that script
@@ -183,17 +236,28 @@ unfolding script_at fields_at table_for
 complete_script d draft deep h =
     let inside : suc (members_depth h.members) ≤ max_depth = rw h.whole at deep in
     let within : (key : List ℕ) (e : Data) → get_member key h.members ≡ Some e → depth e ≤ max_depth =
-    (λ key e is. let below : depth e ≤ members_depth h.members = depth-get_member key h.members e is in omega (arith, inside, below)) in
-    let callers : field [] (list_at (caller_at (table_of draft.declared))) (get_member (codes "callers") h.members) ≡ Some draft.script.callers =
-    complete_callers (table_of draft.declared) h.members draft.script.callers (omega (arith, inside)) (get_member (codes "callers") h.members) (within (codes "callers")) (rw h.table at h.callers) in
-    let events : option_and_then (list_at (event_at (table_of draft.declared))) (get_member (codes "events") h.members) ≡ Some draft.script.events =
-    complete_events (table_of draft.declared) draft.script.events (get_member (codes "events") h.members) (within (codes "events")) (rw h.table at h.events) in
-    let version = complete_key draft.version (IsNumber 1 2) (number_at 1 2) (complete_number 1 2) (get_member (codes "version") h.members) h.version in
+    (λ key e is. let below : depth e ≤ members_depth h.members = depth-get_member key h.members e is in
+    omega (arith, inside, below)) in
+    let callers : field [] (list_at (caller_at (table_of draft.declared))) (get_member (codes "callers") h.members)
+    ≡ Some draft.script.callers =
+    complete_callers (table_of draft.declared) h.members draft.script.callers (omega (arith, inside))
+    (get_member (codes "callers") h.members) (within (codes "callers")) (rw h.table at h.callers) in
+    let events : option_and_then (list_at (event_at (table_of draft.declared))) (get_member (codes "events") h.members)
+    ≡ Some draft.script.events =
+    complete_events (table_of draft.declared) draft.script.events (get_member (codes "events") h.members)
+    (within (codes "events")) (rw h.table at h.events) in
+    let version = complete_key draft.version (IsNumber 1 2) (number_at 1 2) (complete_number 1 2)
+    (get_member (codes "version") h.members) h.version in
     rw h.whole (rw version (rw h.only (rw (
-      complete_field USUAL_LIMIT draft.script.limit (IsNumber 0 MOST_LIMIT) (number_at 0 MOST_LIMIT) (complete_number 0 MOST_LIMIT) (get_member (codes "limit") h.members) h.limit,
-      complete_field plain_cooperator draft.script.cooperator IsCooperator cooperator_at complete_cooperator (get_member (codes "cooperator") h.members) h.cooperator,
-      complete_field [] draft.script.pools (IsList IsPool) (list_at pool_at) (complete_list IsPool pool_at complete_pool) (get_member (codes "pools") h.members) h.pools,
-      complete_field [] draft.declared (IsList IsDeclaration) (list_at declaration_at) (complete_list IsDeclaration declaration_at complete_declaration) (get_member (codes "classes") h.members) h.declared,
+      complete_field USUAL_LIMIT draft.script.limit (IsNumber 0 MOST_LIMIT) (number_at 0 MOST_LIMIT)
+          (complete_number 0 MOST_LIMIT) (get_member (codes "limit") h.members) h.limit,
+      complete_field plain_cooperator draft.script.cooperator IsCooperator cooperator_at complete_cooperator
+          (get_member (codes "cooperator") h.members) h.cooperator,
+      complete_field [] draft.script.pools (IsList IsPool) (list_at pool_at)
+          (complete_list IsPool pool_at complete_pool) (get_member (codes "pools") h.members) h.pools,
+      complete_field [] draft.declared (IsList IsDeclaration) (list_at declaration_at)
+          (complete_list IsDeclaration declaration_at complete_declaration)
+          (get_member (codes "classes") h.members) h.declared,
       callers,
       events,
     ) (ap Some (same_draft draft _ _ h.table h.all_declared)))))

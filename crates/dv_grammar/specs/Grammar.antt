@@ -1,5 +1,7 @@
--- The grammar of scripts: which JSON stands for what, a rule a line (Twisted: the methods of `Deferred`, and of the objects round it).
-use Rattle.std.specs.Prelude.{◌≡◌, ℕ, nat_eq, if◌then◌else◌, ℤ, Bool, true, List, [], ◌∷◌, Option, Some, None, codes, ◌&&◌, min, max}
+-- The grammar of scripts: which JSON stands for what, a rule a line (Twisted: the methods of `Deferred`, and of the
+-- objects round it).
+use Rattle.std.specs.Prelude.{◌≡◌, ℕ, nat_eq, if◌then◌else◌, ℤ, Bool, true, List, [], ◌∷◌, Option, Some, None, codes}
+use Rattle.std.specs.Prelude.{◌&&◌, min, max}
 use Rattle.serde_json.specs.Data.{Data, null, boolean, string, array, object, Items, no_items, item, Members}
 use Rattle.serde_json.specs.Find.{get_member}
 use Rattle.dv_value.specs.declared.value.Value.{Value}
@@ -11,11 +13,17 @@ use Rattle.dv_script.specs.declared.body.Statement.{Statement, Do, Await, Try, E
 use Rattle.dv_script.specs.declared.work.Work.{Work}
 use Rattle.dv_script.specs.declared.action.ListFlag.{ListFlag}
 use Rattle.dv_script.specs.declared.action.GatherFlag.{GatherFlag}
-use Rattle.dv_script.specs.declared.action.Action.{Action, Deferred, Callback, Errback, AddCallback, AddErrback, AddBoth, AddCallbacks, Chain, Pause, Unpause, Cancel, AddTimeout, Note, List as ListOf, Gather, Maybe, Lock, Semaphore, Acquire, Release, RunWith, Queue, Put, Get, Later, CancelCall, Loop, StopLoop, Cooperate, WhenDone, PauseTask, StopTask, ResumeTask, Inline, Thread, ThreadIn}
+use Rattle.dv_script.specs.declared.action.Action.{Action, Deferred, Callback, Errback, AddCallback, AddErrback}
+use Rattle.dv_script.specs.declared.action.Action.{AddBoth, AddCallbacks, Chain, Pause, Unpause, Cancel, AddTimeout}
+use Rattle.dv_script.specs.declared.action.Action.{Note, List as ListOf, Gather, Maybe, Lock, Semaphore, Acquire}
+use Rattle.dv_script.specs.declared.action.Action.{Release, RunWith, Queue, Put, Get, Later, CancelCall, Loop, StopLoop}
+use Rattle.dv_script.specs.declared.action.Action.{Cooperate, WhenDone, PauseTask, StopTask, ResumeTask, Inline, Thread}
+use Rattle.dv_script.specs.declared.action.Action.{ThreadIn}
 use Rattle.dv_script.specs.declared.event.Event.{Event}
 use Rattle.dv_script.specs.declared.script.Cooperator.{Cooperator}
 use Rattle.dv_script.specs.declared.script.NamedPool.{NamedPool}
-use Rattle.dv_script.specs.declared.limits.TheConstants.{MOST_DRAINED, MOST_LIMIT, MOST_PLACES, MOST_SUM, MOST_UNITS, MOST_WORKERS, USUAL_LIMIT}
+use Rattle.dv_script.specs.declared.limits.TheConstants.{MOST_DRAINED, MOST_LIMIT, MOST_PLACES, MOST_SUM, MOST_UNITS}
+use Rattle.dv_script.specs.declared.limits.TheConstants.{MOST_WORKERS, USUAL_LIMIT}
 use Rattle.dv_clock.specs.declared.limits.TheConstants.{MOST_DELAY, MOST_TICKS}
 use Rattle.dv_forms.specs.declared.declaration.Declaration.{Declaration}
 use Rattle.dv_grammar.specs.declared.draft.Draft.{Draft}
@@ -40,7 +48,8 @@ cooperator_keys = codes "units" ∷ codes "delay" ∷ []
 
 -- the keys of a script of version 1
 abbrev pub script_keys : List (List ℕ)
-script_keys = codes "version" ∷ codes "events" ∷ codes "limit" ∷ codes "classes" ∷ codes "cooperator" ∷ codes "callers" ∷ []
+script_keys =
+    codes "version" ∷ codes "events" ∷ codes "limit" ∷ codes "classes" ∷ codes "cooperator" ∷ codes "callers" ∷ []
 
 -- the keys of a script of this version: the second has one more
 abbrev pub keys_of : ℕ → List (List ℕ)
@@ -114,10 +123,13 @@ mutual
     add_both : (name : List ℕ) (d : Data) (side : Body) → IsBody table d side
         → IsAction table (call (codes "addBoth") (string name ∷ d ∷ [])) (AddBoth name side)
     -- ["addCallbacks",D,BODY,BODY]
-    add_callbacks : (name : List ℕ) (c e : Data) (on_value on_failure : Body) → IsBody table c on_value → IsBody table e on_failure
-        → IsAction table (call (codes "addCallbacks") (string name ∷ c ∷ e ∷ [])) (AddCallbacks name on_value on_failure)
+    add_callbacks : (name : List ℕ) (c e : Data) (on_value on_failure : Body) → IsBody table c on_value
+        → IsBody table e on_failure
+        → IsAction table (call (codes "addCallbacks") (string name ∷ c ∷ e ∷ []))
+        (AddCallbacks name on_value on_failure)
     -- ["chain",D,E]
-    chain : (name other : List ℕ) → IsAction table (call (codes "chain") (string name ∷ string other ∷ [])) (Chain name other)
+    chain : (name other : List ℕ)
+        → IsAction table (call (codes "chain") (string name ∷ string other ∷ [])) (Chain name other)
     -- ["pause",D]
     pause : (name : List ℕ) → IsAction table (call (codes "pause") (string name ∷ [])) (Pause name)
     -- ["unpause",D]
@@ -130,10 +142,12 @@ mutual
     -- ["note",TEXT]
     note : (text : List ℕ) → IsAction table (call (codes "note") (string text ∷ [])) (Note text)
     -- ["list",D,[D..],[FLAG..]]
-    list : (name : List ℕ) (c e : Data) (children : List (List ℕ)) (flags : List ListFlag) → IsList IsText c children → IsList IsListFlag e flags
+    list : (name : List ℕ) (c e : Data) (children : List (List ℕ)) (flags : List ListFlag) → IsList IsText c children
+        → IsList IsListFlag e flags
         → IsAction table (call (codes "list") (string name ∷ c ∷ e ∷ [])) (ListOf name children flags)
     -- ["gather",D,[D..],[FLAG..]]
-    gather : (name : List ℕ) (c e : Data) (children : List (List ℕ)) (flags : List GatherFlag) → IsList IsText c children → IsList IsGatherFlag e flags
+    gather : (name : List ℕ) (c e : Data) (children : List (List ℕ)) (flags : List GatherFlag)
+        → IsList IsText c children → IsList IsGatherFlag e flags
         → IsAction table (call (codes "gather") (string name ∷ c ∷ e ∷ [])) (Gather name children flags)
     -- ["maybe",D,BODY]
     maybe : (name : List ℕ) (d : Data) (body : Body) → IsBody table d body
@@ -144,7 +158,8 @@ mutual
     semaphore : (name : List ℕ) (d : Data) (n : ℕ) → IsNumber 1 MOST_PLACES d n
         → IsAction table (call (codes "semaphore") (string name ∷ d ∷ [])) (Semaphore name n)
     -- ["acquire",D,L]
-    acquire : (name lock : List ℕ) → IsAction table (call (codes "acquire") (string name ∷ string lock ∷ [])) (Acquire name lock)
+    acquire : (name lock : List ℕ)
+        → IsAction table (call (codes "acquire") (string name ∷ string lock ∷ [])) (Acquire name lock)
     -- ["release",L]
     release : (name : List ℕ) → IsAction table (call (codes "release") (string name ∷ [])) (Release name)
     -- ["runWith",D,L,BODY]
@@ -166,14 +181,16 @@ mutual
     -- ["loop",P,D,N,NOW,BODY]
     loop : (name deferred : List ℕ) (c : Data) (interval : ℕ) (at_once : Bool) (d : Data) (body : Body)
         → IsNumber 1 MOST_DELAY c interval → IsBody table d body
-        → IsAction table (call (codes "loop") (string name ∷ string deferred ∷ c ∷ boolean at_once ∷ d ∷ [])) (Loop name deferred interval at_once body)
+        → IsAction table (call (codes "loop") (string name ∷ string deferred ∷ c ∷ boolean at_once ∷ d ∷ []))
+        (Loop name deferred interval at_once body)
     -- ["stopLoop",P]
     stop_loop : (name : List ℕ) → IsAction table (call (codes "stopLoop") (string name ∷ [])) (StopLoop name)
     -- ["cooperate",T,[BODY..]]
     cooperate : (name : List ℕ) (ds : Items) (bodies : List Body) → AreBodies table ds bodies
         → IsAction table (call (codes "cooperate") (string name ∷ array ds ∷ [])) (Cooperate name bodies)
     -- ["whenDone",D,T]
-    when_done : (name task : List ℕ) → IsAction table (call (codes "whenDone") (string name ∷ string task ∷ [])) (WhenDone name task)
+    when_done : (name task : List ℕ)
+        → IsAction table (call (codes "whenDone") (string name ∷ string task ∷ [])) (WhenDone name task)
     -- ["pauseTask",T]
     pause_task : (name : List ℕ) → IsAction table (call (codes "pauseTask") (string name ∷ [])) (PauseTask name)
     -- ["stopTask",T]
@@ -187,13 +204,16 @@ mutual
     thread : (name : List ℕ) (c d : Data) (delay : ℕ) (job : Work) → IsNumber 0 MOST_DELAY c delay → IsWork table d job
         → IsAction table (call (codes "thread") (string name ∷ c ∷ d ∷ [])) (Thread name delay job)
     -- ["threadIn",D,POOL,N,WORK]
-    thread_in : (name pool : List ℕ) (c d : Data) (delay : ℕ) (job : Work) → IsNumber 0 MOST_DELAY c delay → IsWork table d job
-        → IsAction table (call (codes "threadIn") (string name ∷ string pool ∷ c ∷ d ∷ [])) (ThreadIn name pool delay job)
+    thread_in : (name pool : List ℕ) (c d : Data) (delay : ℕ) (job : Work) → IsNumber 0 MOST_DELAY c delay
+        → IsWork table d job
+        → IsAction table (call (codes "threadIn") (string name ∷ string pool ∷ c ∷ d ∷ []))
+        (ThreadIn name pool delay job)
 
   -- the items of an array of actions
   pub data AreActions (table : List Class) : Items → List Action → Type 0 where
     no_actions : AreActions table no_items []
-    more_actions : (d : Data) (ds : Items) (a : Action) (rest : List Action) → IsAction table d a → AreActions table ds rest
+    more_actions : (d : Data) (ds : Items) (a : Action) (rest : List Action) → IsAction table d a
+        → AreActions table ds rest
         → AreActions table (item d ds) (a ∷ rest)
 
   -- the value of a body's key `do`, which may be absent
@@ -230,20 +250,24 @@ mutual
   -- the items of an array of statements
   pub data AreStatements (table : List Class) : Items → List Statement → Type 0 where
     no_statements : AreStatements table no_items []
-    more_statements : (d : Data) (ds : Items) (s : Statement) (rest : List Statement) → IsStatement table d s → AreStatements table ds rest
+    more_statements : (d : Data) (ds : Items) (s : Statement) (rest : List Statement) → IsStatement table d s
+        → AreStatements table ds rest
         → AreStatements table (item d ds) (s ∷ rest)
 
 -- an event: an action, or what happens to the clock or to the posts
 pub data IsEvent (table : List Class) : Data → Event → Type 0 where
   acts : (d : Data) (a : Action) → IsAction table d a → IsEvent table d (event.Action a)
   -- ["advance",N]
-  advances : (d : Data) (n : ℕ) → IsNumber 0 MOST_TICKS d n → IsEvent table (call (codes "advance") (d ∷ [])) (event.Advance n)
+  advances : (d : Data) (n : ℕ) → IsNumber 0 MOST_TICKS d n
+      → IsEvent table (call (codes "advance") (d ∷ [])) (event.Advance n)
   -- ["drain",N]
-  drains : (d : Data) (n : ℕ) → IsNumber 0 MOST_DRAINED d n → IsEvent table (call (codes "drain") (d ∷ [])) (event.Drain n)
+  drains : (d : Data) (n : ℕ) → IsNumber 0 MOST_DRAINED d n
+      → IsEvent table (call (codes "drain") (d ∷ [])) (event.Drain n)
 
 -- a class that is declared: [NAME,PARENT]
 pub data IsDeclaration : Data → Declaration → Type 0 where
-  declares : (name parent : List ℕ) → IsDeclaration (array (item (string name) (item (string parent) no_items))) (record { name = name; parent = parent })
+  declares : (name parent : List ℕ) → IsDeclaration (array (item (string name) (item (string parent) no_items)))
+      (record { name = name; parent = parent })
 
 -- a pool: [NAME,WORKERS]
 pub data IsPool : Data → NamedPool → Type 0 where
@@ -262,7 +286,8 @@ pub record IsCooperator (d : Data) (c : Cooperator) : Type 0 where
 abbrev pub plain_cooperator : Cooperator
 plain_cooperator = record { units = 1; delay = 1 }
 
--- a script by its shape, with its version and the classes that it declares: an object of the keys of its version, of which `version` and `events` have to be there
+-- a script by its shape, with its version and the classes that it declares: an object of the keys of its version, of
+-- which `version` and `events` have to be there
 pub record IsScript (d : Data) (draft : Draft) : Type 0 where
   pub members : Members
   pub whole : d ≡ object members
@@ -274,7 +299,8 @@ pub record IsScript (d : Data) (draft : Draft) : Type 0 where
   pub limit : Field USUAL_LIMIT (IsNumber 0 MOST_LIMIT) (get_member (codes "limit") members) draft.script.limit
   pub cooperator : Field plain_cooperator IsCooperator (get_member (codes "cooperator") members) draft.script.cooperator
   pub pools : Field [] (IsList IsPool) (get_member (codes "pools") members) draft.script.pools
-  pub callers : Field [] (IsList (IsList (IsBody draft.script.classes))) (get_member (codes "callers") members) draft.script.callers
+  pub callers : Field [] (IsList (IsList (IsBody draft.script.classes)))
+      (get_member (codes "callers") members) draft.script.callers
   pub events : Key (IsList (IsEvent draft.script.classes)) (get_member (codes "events") members) draft.script.events
 
 -- ---- times: the steps of the world cut a delay or an interval that is too long. None that stands in the grammar is.

@@ -10,12 +10,18 @@ use Rattle.dv_script.specs.declared.body.Body.{Body}
 use Rattle.dv_script.specs.declared.body.Statement.{Statement, Do, Await, Try, End as Leave}
 use Rattle.dv_script.specs.declared.work.Work.{Work}
 use Rattle.dv_script.specs.declared.work.Work.TheVariants as job
-use Rattle.dv_script.specs.declared.action.Action.{Action, Deferred, Callback, Errback, AddCallback, AddErrback, AddBoth, AddCallbacks, Chain, Pause, Unpause, Cancel, AddTimeout, Note, List as ListOf, Gather, Maybe, Lock, Semaphore, Acquire, Release, RunWith, Queue, Put, Get, Later, CancelCall, Loop, StopLoop, Cooperate, WhenDone, PauseTask, StopTask, ResumeTask, Inline, Thread, ThreadIn}
+use Rattle.dv_script.specs.declared.action.Action.{Action, Deferred, Callback, Errback, AddCallback, AddErrback}
+use Rattle.dv_script.specs.declared.action.Action.{AddBoth, AddCallbacks, Chain, Pause, Unpause, Cancel, AddTimeout}
+use Rattle.dv_script.specs.declared.action.Action.{Note, List as ListOf, Gather, Maybe, Lock, Semaphore, Acquire}
+use Rattle.dv_script.specs.declared.action.Action.{Release, RunWith, Queue, Put, Get, Later, CancelCall, Loop, StopLoop}
+use Rattle.dv_script.specs.declared.action.Action.{Cooperate, WhenDone, PauseTask, StopTask, ResumeTask, Inline, Thread}
+use Rattle.dv_script.specs.declared.action.Action.{ThreadIn}
 use Rattle.dv_script.specs.declared.event.Event.{Event}
 use Rattle.dv_script.specs.declared.event.Event.TheVariants as happens
 use Rattle.dv_script.specs.declared.script.Cooperator.{Cooperator}
 use Rattle.dv_script.specs.declared.script.NamedPool.{NamedPool}
-use Rattle.dv_script.specs.declared.limits.TheConstants.{MOST_DRAINED, MOST_LIMIT, MOST_PLACES, MOST_SUM, MOST_UNITS, MOST_WORKERS, USUAL_LIMIT}
+use Rattle.dv_script.specs.declared.limits.TheConstants.{MOST_DRAINED, MOST_LIMIT, MOST_PLACES, MOST_SUM, MOST_UNITS}
+use Rattle.dv_script.specs.declared.limits.TheConstants.{MOST_WORKERS, USUAL_LIMIT}
 use Rattle.dv_clock.specs.declared.limits.TheConstants.{MOST_DELAY, MOST_TICKS}
 use Rattle.dv_grammar.specs.declared.draft.Draft.{Draft}
 use Rattle.dv_grammar.specs.declared.reading.action.WithBody.{WithBody}
@@ -32,7 +38,9 @@ use Rattle.dv_forms.specs.declared.words.WorkWord.{WorkWord}
 use Rattle.dv_forms.specs.declared.words.WorkWord.TheVariants as work
 use Rattle.dv_forms.specs.Words.{action_word, event_word, end_word, statement_word, work_word}
 use Rattle.dv_forms.specs.Leaving.{may_leave}
-use Rattle.dv_forms.specs.Parts.{◌>>=◌, bound_at, call_at, class_at, declaration_at, field, fields_at, five, four, gather_flag_at, if_there, integer_at, list_at, list_flag_at, none, number_at, one_of, one_or_two, table_for, text_at, three_of, two_of, value_at}
+use Rattle.dv_forms.specs.Parts.{◌>>=◌, bound_at, call_at, class_at, declaration_at, field, fields_at, five, four}
+use Rattle.dv_forms.specs.Parts.{gather_flag_at, if_there, integer_at, list_at, list_flag_at, none, number_at, one_of}
+use Rattle.dv_forms.specs.Parts.{one_or_two, table_for, text_at, three_of, two_of, value_at}
 use Rattle.dv_grammar.specs.Grammar.{body_keys, cooperator_keys, keys_of, plain_cooperator}
 
 -- an end, by its word
@@ -109,7 +117,8 @@ with_body with.AddBoth = AddBoth
 with_body with.Maybe = Maybe
 
 -- an action by its word, whose bodies and statements are read so
-unfoldable pub action_of : List Class → (Data → Option Body) → (Data → Option Statement) → ActionWord → Items → Option Action
+unfoldable pub action_of : List Class → (Data → Option Body) → (Data → Option Statement) → ActionWord → Items
+    → Option Action
 action_of table body statement word.Deferred ds = new_deferred_of body ds
 action_of table body statement word.Callback ds = two_of text_at value_at Callback ds
 action_of table body statement word.Errback ds = three_of text_at (class_at table) text_at Errback ds
@@ -163,10 +172,12 @@ body_by table action d = do
   Some (record { actions = performed; end = last })
 
 -- a statement by its word, whose actions and statements are read so
-unfoldable pub statement_of : List Class → (Data → Option Action) → (Data → Option Statement) → StatementWord → Items → Option Statement
+unfoldable pub statement_of : List Class → (Data → Option Action) → (Data → Option Statement) → StatementWord → Items
+    → Option Statement
 statement_of table action inner statement.Do ds = one_of action Do ds
 statement_of table action inner statement.Await ds = one_of text_at Await ds
-statement_of table action inner statement.Try ds = three_of (list_at inner) (list_at (class_at table)) (list_at inner) Try ds
+statement_of table action inner statement.Try ds =
+    three_of (list_at inner) (list_at (class_at table)) (list_at inner) Try ds
 statement_of table action inner statement.End ds = one_of (leave_at table) Leave ds
 
 -- a statement, whose actions and statements are read so
@@ -260,5 +271,12 @@ script_at d = do
     version = version;
     declared = declared;
     all_declared = table.1;
-    script = record { classes = table.0; limit = limit; cooperator = cooperator; pools = pools; callers = callers; events = events };
+    script = record {
+      classes = table.0;
+      limit = limit;
+      cooperator = cooperator;
+      pools = pools;
+      callers = callers;
+      events = events;
+    };
   })

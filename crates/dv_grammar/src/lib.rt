@@ -1,4 +1,5 @@
-//! The grammar of scripts: which JSON value says which draft of a script, and reading one as what it says.
+//! The grammar of scripts: which JSON value says which draft of a script, and reading one as what
+//! it says.
 #![tactic(auto)]
 
 pub mod draft;

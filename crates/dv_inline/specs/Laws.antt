@@ -9,7 +9,9 @@ use Rattle.dv_value.specs.declared.value.Value.{Value}
 
 -- a body that begins leads where the recursion over its statements leads
 abbrev pub BodiesBeginThere : Type 0
-BodiesBeginThere = (table : List Class) (statements : List Statement) (answers : List Value) → reached table (started statements) answers ≡ inline table statements answers
+BodiesBeginThere =
+    (table : List Class) (statements : List Statement) (answers : List Value)
+    → reached table (started statements) answers ≡ inline table statements answers
 
 -- the moves that need no answer change nothing of that
 abbrev pub MovesLeadOn : Type 0
@@ -25,4 +27,5 @@ WantsStand = (p : Position) → (come p).result ≡ None → Stands (come p)
 
 -- every list of answers leads from where an answer has led as that answer and they led from before
 abbrev pub AnswersLeadOn : Type 0
-AnswersLeadOn = (table : List Class) (answer : Value) (p : Position) → IsDue p → LeadsBy table answer p (answered table answer p)
+AnswersLeadOn =
+    (table : List Class) (answer : Value) (p : Position) → IsDue p → LeadsBy table answer p (answered table answer p)

@@ -16,7 +16,8 @@ caught_there table (Some catch) flow = caught table catch.classes (all_meant tab
 -- outward through the tries
 abbrev pub through : List Class → List Open → Flow → Flow
 through table [] flow = flow
-through table (around ∷ tries) flow = through table tries (followed (caught_there table around.catch flow) (all_meant table around.rest))
+through table (around ∷ tries) flow =
+    through table tries (followed (caught_there table around.catch flow) (all_meant table around.rest))
 
 abbrev pub reached_unless : List Class → Option Value → Position → List Value → Reached
 reached_unless table None p answers = result_of (through table p.tries (all_meant table p.statements p.value answers))

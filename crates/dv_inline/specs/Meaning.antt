@@ -1,4 +1,5 @@
--- The result of an inline body by the answers that it gets, in order: a recursion over its statements (Twisted: `inlineCallbacks`).
+-- The result of an inline body by the answers that it gets, in order: a recursion over its statements (Twisted:
+-- `inlineCallbacks`).
 use Rattle.std.specs.Prelude.{ℕ, List, [], ◌∷◌, map, Option, None, Some}
 use Rattle.dv_inline.specs.declared.want.Want.{Want}
 use Rattle.dv_inline.specs.declared.want.Want.TheVariants.{Do, Await}
@@ -69,10 +70,12 @@ abbrev pub caught_by : Option ℕ → Meant → Failure → List Value → Flow
 caught_by (Some class) second failure answers = second Null answers
 caught_by None second failure answers = thrown failure answers
 
--- what the first statements of a `try` throw is caught by one of its classes, with what is inside them; an end isn't caught
+-- what the first statements of a `try` throw is caught by one of its classes, with what is inside them; an end isn't
+-- caught
 abbrev pub caught : List Class → List ℕ → Meant → Flow → Flow
 caught table listed second (past v answers) = past v answers
-caught table listed second (thrown failure answers) = caught_by (check table (class_of failure) listed) second failure answers
+caught table listed second (thrown failure answers) =
+    caught_by (check table (class_of failure) listed) second failure answers
 caught table listed second (left v) = left v
 caught table listed second (wants want) = wants want
 
@@ -89,7 +92,8 @@ ended (end.Wait name) v = v
 abbrev pub statement_meant : List Class → Statement-F (Action × Unit {0}) (Statement × Meant) (Body × Unit {0}) → Meant
 statement_meant table (Statement-F.Do action) = do_meant action.0
 statement_meant table (Statement-F.Await name) = await_meant name
-statement_meant table (Statement-F.Try first listed second) = λ v answers. caught table listed (in_order (map (λ s. s.1) second)) (in_order (map (λ s. s.1) first) v answers)
+statement_meant table (Statement-F.Try first listed second) =
+    λ v answers. caught table listed (in_order (map (λ s. s.1) second)) (in_order (map (λ s. s.1) first) v answers)
 statement_meant table (Statement-F.End e) = λ v answers. left (ended e v)
 
 -- what a statement results in

@@ -1,5 +1,6 @@
 -- Where an inline body stands, and how it goes on.
-use Rattle.std.specs.Prelude.{ℕ, zero, suc, ◌+◌, ◌≡◌, Bool, true, false, List, [], ◌∷◌, map, drop, Option, None, Some, Result, Ok, Err}
+use Rattle.std.specs.Prelude.{ℕ, zero, suc, ◌+◌, ◌≡◌, Bool, true, false, List, [], ◌∷◌, map, drop, Option, None, Some}
+use Rattle.std.specs.Prelude.{Result, Ok, Err}
 use Rattle.std.specs.declared.alloc.AllocError.{AllocError}
 use Rattle.dv_inline.specs.Meaning.{ended}
 use Rattle.dv_inline.specs.declared.open.Catch.{Catch}
@@ -34,7 +35,10 @@ over_with result p = record p { value = Null; result = Some result }
 
 -- into a `try`: its first statements, with what it catches and what follows it
 abbrev pub into_try : List Statement → List ℕ → List Statement → List Statement → Position → Position
-into_try first listed second rest p = record p { statements = first; tries = record { catch = Some (record { classes = listed; second = second }); rest = rest } ∷ p.tries }
+into_try first listed second rest p = record p {
+  statements = first;
+  tries = record { catch = Some (record { classes = listed; second = second }); rest = rest } ∷ p.tries;
+}
 
 -- behind the last statement: on to what follows the innermost `try`, or the end of the body, whose result is null
 abbrev pub outward : List Open → Position → Position
@@ -142,12 +146,15 @@ second_for (Some class) (Some catch) = Some catch.second
 -- a failure that a `try` catches goes to its second statements, on null; another goes outward
 abbrev pub thrown_to : Position → Option (List Statement) → List Statement → List Open → Position → Position
 thrown_to outer None rest tries p = outer
-thrown_to outer (Some second) rest tries p = record p { statements = second; tries = record { catch = None; rest = rest } ∷ tries; value = Null }
+thrown_to outer (Some second) rest tries p =
+    record p { statements = second; tries = record { catch = None; rest = rest } ∷ tries; value = Null }
 
 -- to the innermost `try` that catches it; where there is none, it is the result
 abbrev pub thrown_from : List Class → Failure → List Open → Position → Position
 thrown_from table failure [] p = over_with (Fault failure) (record p { tries = [] })
-thrown_from table failure (around ∷ tries) p = thrown_to (thrown_from table failure tries p) (second_for (class_caught table failure around.catch) around.catch) around.rest tries p
+thrown_from table failure (around ∷ tries) p =
+    thrown_to (thrown_from table failure tries p)
+    (second_for (class_caught table failure around.catch) around.catch) around.rest tries p
 
 -- past the first statement, with this present value
 abbrev pub passed : Value → Position → Position

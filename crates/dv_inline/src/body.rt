@@ -13,8 +13,9 @@ use futures::task::{Context, Poll};
 use std::alloc::{AllocError, Global};
 use std::marker::Model;
 
-/// An inline body that is performed: the statements that are left, the tries round them, and the present value (Twisted:
-/// the generator of `inlineCallbacks`). It is on the heap, so that whoever holds one holds an address.
+/// An inline body that is performed: the statements that are left, the tries round them, and the
+/// present value (Twisted: the generator of `inlineCallbacks`). It is on the heap, so that whoever
+/// holds one holds an address.
 #[derive(Drop)]
 pub struct InlineBody<'s> {
     walk: Box<Walk<'s>>,
@@ -28,7 +29,11 @@ impl<'s> Model for InlineBody<'s> {
 
     ghost Value = { Position };
 
-    ghost coded = { Prim.hlevel (codes, statement_contract.the_row.coded, value_contract.the_row.coded) };
+    ghost coded = { Prim.hlevel (
+      codes,
+      statement_contract.the_row.coded,
+      value_contract.the_row.coded,
+    ) };
 
     ghost view = { λ b. b.walk.value };
 }
@@ -37,24 +42,25 @@ impl<'s> InlineBody<'s> {
     /// A body at its first statement, with the present value null. AllocError where out of memory.
     pub fn start(alloc: Global, statements: &'s [Statement]) -> Result<InlineBody<'s>, AllocError>
         ensures stands { IfOk result (λ body. body ≡ started statements.now) }
-        ensures means { IfOk result (λ body. (table : _) → (answers : _) → reached table body answers ≡ inline table statements.now answers) }
+        ensures means { IfOk result (λ body. (table : _) → (answers : _)
+            → reached table body answers ≡ inline table statements.now answers) }
     {
         Ok(InlineBody {
             walk: Box::new(alloc, Walk::start(alloc, statements))?,
         })
     }
 
-    /// The action or the name of the first statement that is left: None where `poll` has a move to make before, and once the
-    /// body is over.
+    /// The action or the name of the first statement that is left: None where `poll` has a move to
+    /// make before, and once the body is over.
     pub fn want(&self) -> Option<Want<'s>>
         ensures { result ≡ want_at self.now }
     {
         self.walk.want()
     }
 
-    /// Goes on with the answer to what stands: a failure is thrown there, and goes to the innermost `try` that catches it;
-    /// any other value is the present one after an `await`, and leaves it as it was after a `do`. Where nothing stands, the
-    /// answer changes nothing. It takes no memory.
+    /// Goes on with the answer to what stands: a failure is thrown there, and goes to the innermost
+    /// `try` that catches it; any other value is the present one after an `await`, and leaves it as
+    /// it was after a `do`. Where nothing stands, the answer changes nothing. It takes no memory.
     #[tactic(auto, using(crate::proofs::LeadsLemmas::taken_leads))]
     pub fn answer(&mut self, classes: &Classes, answer: Value)
         ensures answered { self.new ≡ answered classes.now answer self.old }
@@ -76,8 +82,9 @@ impl<'s> Future for InlineBody<'s> {
 
     ghost gives = { λ b out. Gives b out };
 
-    /// Goes on until an answer is wanted, and is pending there, or until the body is over. Each poll yields: what a body
-    /// wants is asked for by `want`. After a result, or AllocError, the body can only be dropped.
+    /// Goes on until an answer is wanted, and is pending there, or until the body is over. Each
+    /// poll yields: what a body wants is asked for by `want`. After a result, or AllocError, the
+    /// body can only be dropped.
     #[tactic(auto, using(crate::proofs::LeadsLemmas::come_ends, crate::proofs::LeadsLemmas::come_wants, crate::proofs::LeadsLemmas::come_leads, crate::proofs::Moves::come_twice))]
     fn poll(&mut self, cx: &mut Context<'_>) -> Poll<Result<Value, AllocError>>
         ensures value { IfReady result (Gives self.old) }

@@ -1,4 +1,5 @@
-//! Inline bodies: what they result in by the answers that they get, and bodies that are polled by hand.
+//! Inline bodies: what they result in by the answers that they get, and bodies that are polled by
+//! hand.
 #![tactic(auto)]
 
 pub mod body;

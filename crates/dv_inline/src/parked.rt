@@ -20,7 +20,11 @@ impl<'s> Model for Parked<'s> {
 
     ghost Value = { Bodies };
 
-    ghost coded = { Prim.hlevel (codes, statement_contract.the_row.coded, value_contract.the_row.coded) };
+    ghost coded = { Prim.hlevel (
+      codes,
+      statement_contract.the_row.coded,
+      value_contract.the_row.coded,
+    ) };
 
     ghost view = { λ p. p.bodies.slots };
 }
@@ -35,7 +39,8 @@ impl<'s> Parked<'s> {
         }
     }
 
-    /// Parks a body, under a key under which none is. Where the allocation fails, it comes back, and the others stay.
+    /// Parks a body, under a key under which none is. Where the allocation fails, it comes back,
+    /// and the others stay.
     pub fn park(&mut self, body: InlineBody<'s>) -> Result<usize, (AllocError, InlineBody<'s>)>
         ensures vacant { IfOk result (λ key. body_under self.old key ≡ None) }
         ensures parked { IfOk result (λ key. Changes self.old self.new key (Some body.entry)) }

@@ -18,16 +18,17 @@ pub struct Poller {
 }
 
 impl Poller {
-    /// Makes a poller. What it needs is made once; an error is one of the system's source of random numbers, or out of
-    /// memory.
+    /// Makes a poller. What it needs is made once; an error is one of the system's source of random
+    /// numbers, or out of memory.
     pub fn new<R: RandomSource + AllocGlobal>(rt: &R) -> io::Result<Poller> {
         Ok(Poller {
             solo: Solo::new(rt, Doorbell::spinning())?,
         })
     }
 
-    /// Polls a body once: it goes on until an answer is wanted, or is over. AllocError where a `try` or a result finds no
-    /// memory; after that, and after a result, the body can only be dropped.
+    /// Polls a body once: it goes on until an answer is wanted, or is over. AllocError where a
+    /// `try` or a result finds no memory; after that, and after a result, the body can only be
+    /// dropped.
     pub fn poll(&self, body: &mut InlineBody<'_>) -> Poll<Result<Value, AllocError>>
         ensures value { IfReady result (Gives body.old) }
         ensures outcome { IfReady result (λ out. IfOk out (ComesTo body.old)) }

@@ -1,6 +1,8 @@
 ghost use Rattle.std.specs.Prelude.{◌≡◌, [], Some, None, IfOk, OnOk, IfNone, MatchOption};
 ghost use Rattle.dv_inline.specs.Meaning.{ended};
-ghost use Rattle.dv_inline.specs.Position.{started, moved, moved_by, over_with, outward, come, answered, want_at, class_caught, thrown_from, passed, went_on, Moves, MovesTo, second_for};
+ghost use Rattle.dv_inline.specs.Position.{started, moved, moved_by, over_with, outward, come};
+ghost use Rattle.dv_inline.specs.Position.{answered, want_at, class_caught, thrown_from, passed};
+ghost use Rattle.dv_inline.specs.Position.{went_on, Moves, MovesTo, second_for};
 ghost use Rattle.dv_script.specs.declared.body.Statement.{out-Statement};
 ghost use Rattle.dv_value.specs.Failure.{failure_in};
 
@@ -19,7 +21,8 @@ use std::alloc::{AllocError, Global};
 use std::marker::Model;
 use std::mem;
 
-/// How far an inline body is: the statements that are left, the tries round them, and the present value.
+/// How far an inline body is: the statements that are left, the tries round them, and the present
+/// value.
 #[derive(Drop)]
 pub struct Walk<'s> {
     alloc: Global,
@@ -38,13 +41,23 @@ impl<'s> Model for Walk<'s> {
 
     ghost Value = { Position };
 
-    ghost coded = { Prim.hlevel (codes, statement_contract.the_row.coded, value_contract.the_row.coded) };
+    ghost coded = { Prim.hlevel (
+      codes,
+      statement_contract.the_row.coded,
+      value_contract.the_row.coded,
+    ) };
 
-    ghost view = { λ b. record { statements = b.statements; tries = b.tries; value = b.value; result = b.result } };
+    ghost view = { λ b. record {
+      statements = b.statements;
+      tries = b.tries;
+      value = b.value;
+      result = b.result;
+    } };
 }
 
 impl<'s> Walk<'s> {
-    /// A body at its first statement, with the present value null. It takes no memory before it goes into a `try`.
+    /// A body at its first statement, with the present value null. It takes no memory before it
+    /// goes into a `try`.
     pub fn start(alloc: Global, statements: &'s [Statement]) -> Walk<'s>
         ensures { result ≡ started statements.now }
     {
@@ -57,8 +70,8 @@ impl<'s> Walk<'s> {
         }
     }
 
-    /// The action or the name of the first statement that is left: None where `poll` has a move to make before, and once the
-    /// body is over.
+    /// The action or the name of the first statement that is left: None where `poll` has a move to
+    /// make before, and once the body is over.
     pub fn want(&self) -> Option<Want<'s>>
         ensures { result ≡ want_at self.now }
     {
@@ -73,9 +86,9 @@ impl<'s> Walk<'s> {
         }
     }
 
-    /// Goes on with the answer to what stands: a failure is thrown there, and goes to the innermost `try` that catches it;
-    /// any other value is the present one after an `await`, and leaves it as it was after a `do`. Where nothing stands, the
-    /// answer changes nothing. It takes no memory.
+    /// Goes on with the answer to what stands: a failure is thrown there, and goes to the innermost
+    /// `try` that catches it; any other value is the present one after an `await`, and leaves it as
+    /// it was after a `do`. Where nothing stands, the answer changes nothing. It takes no memory.
     pub fn answer(&mut self, classes: &Classes, answer: Value)
         ensures { self.new ≡ answered classes.now answer self.old }
     {
@@ -172,7 +185,8 @@ impl<'s> Walk<'s> {
 
     /// Goes into a `try`, or leaves the body, and returns whether it did.
     fn begin(&mut self, statement: &'s Statement, rest: Statements<'s>) -> Result<bool, AllocError>
-        ensures { IfOk result (λ moves. MovesTo moves (moved_by (out-Statement statement.now) rest.entry self.old) self.old self.new) }
+        ensures { IfOk result (λ moves. MovesTo moves
+            (moved_by (out-Statement statement.now) rest.entry self.old) self.old self.new) }
     {
         match statement {
             Statement::Do(_) | Statement::Await(_) => Ok(false),
@@ -228,7 +242,8 @@ fn caught_by<'s>(
 ) -> Option<(Statements<'s>, Statements<'s>)>
     ensures { MatchOption result
         (second_for (class_caught classes.now failure.now around.now.catch) around.now.catch ≡ None)
-        (λ p. (second_for (class_caught classes.now failure.now around.now.catch) around.now.catch ≡ Some p.0) × (p.1 ≡ around.now.rest)) }
+        (λ p. (second_for (class_caught classes.now failure.now around.now.catch) around.now.catch
+        ≡ Some p.0) × (p.1 ≡ around.now.rest)) }
 {
     let Some(catch) = &around.catch else {
         return None;
@@ -239,7 +254,8 @@ fn caught_by<'s>(
     Some((second, rest))
 }
 
-/// What an end returns for the present value. A body has no `Trap` and no `Wait`: they return it as it is.
+/// What an end returns for the present value. A body has no `Trap` and no `Wait`: they return it as
+/// it is.
 fn ended(alloc: Global, end: &End, value: Value) -> Result<Value, AllocError>
     ensures { IfOk result (λ v. v ≡ ended end.now value) }
 {

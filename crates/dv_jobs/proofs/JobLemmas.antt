@@ -1,5 +1,7 @@
 -- Jobs in a row, and what answers them.
-use Rattle.std.proofs.Common.{◌≡◌, ℕ, zero, suc, ◌+◌, ◌<◌, ◌≤◌, nat_eq, true, false, true≢false, List, [], ◌∷◌, ◌++◌, length, map, get_or, slice_get, is_some, Some, None, Result, Ok, Err, IfOk, refl, ap, sym, ◌∙◌, arith, length-append}
+use Rattle.std.proofs.Common.{◌≡◌, ℕ, zero, suc, ◌+◌, ◌<◌, ◌≤◌, nat_eq, true, false, true≢false, List, [], ◌∷◌, ◌++◌}
+use Rattle.std.proofs.Common.{length, map, get_or, slice_get, is_some, Some, None, Result, Ok, Err, IfOk, refl, ap, sym}
+use Rattle.std.proofs.Common.{◌∙◌, arith, length-append}
 use Rattle.std.proofs.lemmas.Bool.Decides.{nat_tests}
 use Rattle.std.specs.declared.alloc.AllocError.{AllocError}
 use Rattle.dv_script.specs.declared.work.Work.{Work}
@@ -10,9 +12,12 @@ use Rattle.dv_jobs.specs.Works.{value_of}
 use Rattle.dv_jobs.specs.Jobs.{numbered, jobs_from, works_of, Answer, job_of}
 use Rattle.dv_jobs.specs.Sources.{AreInRow, work_under, IsSubmitted, IsValueUnder}
 
-pub jobs_from-snoc : (n : ℕ) (ws : List Work) (w : Work) → jobs_from n (ws ++ w ∷ []) ≡ jobs_from n ws ++ numbered (n + length ws) w ∷ []
+pub jobs_from-snoc : (n : ℕ) (ws : List Work) (w : Work)
+    → jobs_from n (ws ++ w ∷ []) ≡ jobs_from n ws ++ numbered (n + length ws) w ∷ []
 jobs_from-snoc n [] w = let e : n + 0 ≡ n = omega arith in rw e refl
-jobs_from-snoc n (x ∷ xs) w = let e : n + suc (length xs) ≡ (n + 1) + length xs = omega arith in rw e (ap (λ l. numbered n x ∷ l) (jobs_from-snoc (n + 1) xs w))
+jobs_from-snoc n (x ∷ xs) w =
+    let e : n + suc (length xs) ≡ (n + 1) + length xs = omega arith in
+    rw e (ap (λ l. numbered n x ∷ l) (jobs_from-snoc (n + 1) xs w))
 
 pub works_of-jobs_from : (n : ℕ) (ws : List Work) → works_of (jobs_from n ws) ≡ ws
 works_of-jobs_from n [] = refl
@@ -34,7 +39,8 @@ works-snoc (x ∷ xs) j = ap (λ l. x.work ∷ l) (works-snoc xs j)
 pub row-snoc : (js : List Job) (w : Work) → AreInRow js → AreInRow (js ++ numbered (length js) w ∷ [])
 row-snoc js w row =
     let len : 0 + length (works_of js) ≡ length js = omega (arith, length-works js) in
-    ap (λ l. l ++ numbered (length js) w ∷ []) row ∙ ap (λ n. jobs_from 0 (works_of js) ++ numbered n w ∷ []) (sym len) ∙ sym (jobs_from-snoc 0 (works_of js) w)
+    ap (λ l. l ++ numbered (length js) w ∷ []) row ∙ ap (λ n. jobs_from 0 (works_of js) ++ numbered n w ∷ []) (sym len)
+    ∙ sym (jobs_from-snoc 0 (works_of js) w)
     ∙ ap (jobs_from 0) (sym (works-snoc js (numbered (length js) w)))
 
 map-snoc : (all : List Answer) (a : Answer) → map job_of (all ++ a ∷ []) ≡ map job_of all ++ job_of a ∷ []
@@ -46,13 +52,16 @@ length-map [] = refl
 length-map (x ∷ xs) = ap suc (length-map xs)
 
 -- one more answer, of the job that is next
-pub one_more : (old new : List Answer) (a : Answer) (n : ℕ) (w : Work) → new ≡ old ++ a ∷ [] → job_of a ≡ numbered n w → n ≡ length old
+pub one_more : (old new : List Answer) (a : Answer) (n : ℕ) (w : Work) → new ≡ old ++ a ∷ [] → job_of a ≡ numbered n w
+    → n ≡ length old
     → map job_of new ≡ map job_of old ++ numbered (length (map job_of old)) w ∷ []
 one_more old new a n w grown is number =
-    ap (map job_of) grown ∙ map-snoc old a ∙ ap (λ j. map job_of old ++ j ∷ []) is ∙ ap (λ k. map job_of old ++ numbered k w ∷ []) (number ∙ sym (length-map old))
+    ap (map job_of) grown ∙ map-snoc old a ∙ ap (λ j. map job_of old ++ j ∷ []) is
+    ∙ ap (λ k. map job_of old ++ numbered k w ∷ []) (number ∙ sym (length-map old))
 
 -- answers that are numbered in a row stay so with that of the next job
-pub one_more_in_row : (old new : List Answer) (w : Work) → AreInRow (map job_of old) → map job_of new ≡ map job_of old ++ numbered (length (map job_of old)) w ∷ [] → AreInRow (map job_of new)
+pub one_more_in_row : (old new : List Answer) (w : Work) → AreInRow (map job_of old)
+    → map job_of new ≡ map job_of old ++ numbered (length (map job_of old)) w ∷ [] → AreInRow (map job_of new)
 one_more_in_row old new w row grown = rw grown (row-snoc (map job_of old) w row)
 
 none_some : {X : Type 0} (x : X) → None ≡ Some x → ⊥
@@ -85,23 +94,28 @@ known_row js k row known =
     omega (arith, length-works js, low)
 
 -- a place of a list of answers holds the work of its answer
-work_at : (all : List Answer) (a : Answer) (k : ℕ) → k < length all → a ≡ get_or all k a → slice_get (works_of (map job_of all)) k ≡ Some (job_of a).work
+work_at : (all : List Answer) (a : Answer) (k : ℕ) → k < length all → a ≡ get_or all k a
+    → slice_get (works_of (map job_of all)) k ≡ Some (job_of a).work
 work_at [] a k low at = absurd (omega (arith, low))
 work_at (x ∷ xs) a zero low at = ap (λ y. Some (job_of y).work) (sym at)
 work_at (x ∷ xs) a (suc k) low at = work_at xs a k (omega (arith, low)) at
 
 -- a number of so many answers is that of one
-pub low_known : (js : List Job) (all : List Answer) (k : ℕ) → js ≡ map job_of all → AreInRow (map job_of all) → IsSubmitted k js → k < length all
+pub low_known : (js : List Job) (all : List Answer) (k : ℕ) → js ≡ map job_of all → AreInRow (map job_of all)
+    → IsSubmitted k js → k < length all
 low_known js all k seen row known =
     let same : IsSubmitted k (map job_of all) = (known.0, ap (work_under k) (sym seen) ∙ known.1) in
     omega (arith, length-map all, known_row (map job_of all) k row same)
 
 -- the value that an answer's work has is that of the work under its number
-pub value_at : (js : List Job) (all : List Answer) (a : Answer) (k : ℕ) (r : Result Value AllocError) → js ≡ map job_of all → AreInRow (map job_of all) → k < length all
+pub value_at : (js : List Job) (all : List Answer) (a : Answer) (k : ℕ) (r : Result Value AllocError)
+    → js ≡ map job_of all → AreInRow (map job_of all) → k < length all
     → a ≡ get_or all k a → IfOk r (λ value. value ≡ value_of (job_of a).work) → IfOk r (IsValueUnder k js)
-value_at js all a k (Ok value) seen row low at is = ((job_of a).work, ap (work_under k) seen ∙ at_row (map job_of all) k row ∙ work_at all a k low at, is)
+value_at js all a k (Ok value) seen row low at is =
+    ((job_of a).work, ap (work_under k) seen ∙ at_row (map job_of all) k row ∙ work_at all a k low at, is)
 value_at js all a k (Err e) seen row low at is = tt
 
 -- one more answer still is one of those that may be
-pub room_for_one : (old new : List Answer) (a : Answer) → length (map job_of old) < MOST_JOBS → new ≡ old ++ a ∷ [] → length new ≤ MOST_JOBS
+pub room_for_one : (old new : List Answer) (a : Answer) → length (map job_of old) < MOST_JOBS → new ≡ old ++ a ∷ []
+    → length new ≤ MOST_JOBS
 room_for_one old new a low grown = omega (arith, length-map old, ap length grown, length-append old (a ∷ []), low)

@@ -18,7 +18,8 @@ pub fn job_in(answer: &Answer) -> &Job
     }
 }
 
-/// The value of the work, in memory of its own. AllocError where the job came back undone, or on allocation failure.
+/// The value of the work, in memory of its own. AllocError where the job came back undone, or on
+/// allocation failure.
 pub fn value_in(alloc: Global, answer: &Answer) -> Result<Value, AllocError>
     ensures { IfOk result (λ value. value ≡ value_of (job_of answer.now).work) }
 {

@@ -14,8 +14,9 @@ use std::random::RandomSource;
 use std::sync::Wait;
 use std::thread::Threads;
 
-/// A source without threads: each job is answered at its submission, at the gate, by the owner, whichever its pool. A job that
-/// came back undone, out of memory, counts as answered. Its `outcome`, and `close`, then return AllocError too.
+/// A source without threads: each job is answered at its submission, at the gate, by the owner,
+/// whichever its pool. A job that came back undone, out of memory, counts as answered. Its
+/// `outcome`, and `close`, then return AllocError too.
 #[derive(Drop)]
 pub struct OneThread<'g, G> {
     pools: u32,
@@ -35,13 +36,19 @@ impl<'g, G> Model for OneThread<'g, G> {
 
     ghost coded = { Prim.hlevel (codes, job_contract.the_row.coded) };
 
-    ghost view = { λ s. record { pools = s.pools; jobs = map job_of s.answers.items; failed = false } };
+    ghost view = { λ s. record {
+      pools = s.pools;
+      jobs = map job_of s.answers.items;
+      failed = false;
+    } };
 
-    ghost invariant = { λ s. AreInRow (map job_of s.answers.items) × (length s.answers.items ≤ MOST_JOBS) };
+    ghost invariant = { λ s. AreInRow (map job_of s.answers.items)
+        × (length s.answers.items ≤ MOST_JOBS) };
 }
 
 impl<'g, G: Gate> OneThread<'g, G> {
-    /// A source to which nothing was submitted, with so many pools beside the default one. It takes no memory before that.
+    /// A source to which nothing was submitted, with so many pools beside the default one. It takes
+    /// no memory before that.
     pub fn new(alloc: Global, pools: u32, gate: &'g G) -> OneThread<'g, G>
         ensures { result ≡ record { pools = pools; jobs = []; failed = false } }
     {

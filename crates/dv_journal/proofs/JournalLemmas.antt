@@ -1,5 +1,6 @@
 -- The text that is left to print, line by line.
-use Rattle.std.proofs.Common.{◌≡◌, ℕ, ◌+◌, ◌<◌, List, ◌∷◌, ◌++◌, Option, length, get_or, drop, ap, sym, ◌∙◌, append_assoc}
+use Rattle.std.proofs.Common.{◌≡◌, ℕ, ◌+◌, ◌<◌, List, ◌∷◌, ◌++◌, Option, length, get_or, drop, ap, sym, ◌∙◌}
+use Rattle.std.proofs.Common.{append_assoc}
 use Rattle.std.proofs.lemmas.List.{drop_more}
 use Rattle.dv_value.specs.declared.classes.Class.{Class}
 use Rattle.dv_journal.specs.declared.entry.Entry.{Entry}
@@ -14,9 +15,11 @@ next_line table entries n entry within found =
     ap (text_of table) (drop_more entries n entry within ∙ ap (λ (e : Entry). e ∷ drop (n + 1) entries) (sym found))
 
 -- the next line joins what is gathered
-pub gathered_next : (a b : Option (List ℕ)) (text : List ℕ) (table : List Class) (entries : List Entry) (n : ℕ) (entry : Entry) (gathered longer : List ℕ) →
+pub gathered_next : (a b : Option (List ℕ)) (text : List ℕ) (table : List Class) (entries : List Entry) (n : ℕ)
+    (entry : Entry) (gathered longer : List ℕ) →
     n < length entries → entry ≡ get_or entries n entry → longer ≡ gathered ++ line_of table entry →
-    AppendsBut a b text (gathered ++ text_of table (drop n entries)) → AppendsBut a b text (longer ++ text_of table (drop (n + 1) entries))
+    AppendsBut a b text (gathered ++ text_of table (drop n entries))
+    → AppendsBut a b text (longer ++ text_of table (drop (n + 1) entries))
 gathered_next a b text table entries n entry gathered longer within found is so_far =
     let rest = text_of table (drop (n + 1) entries) in
     let next : gathered ++ text_of table (drop n entries) ≡ longer ++ rest =

@@ -1,5 +1,6 @@
 -- A text that a sink takes piece by piece.
-use Rattle.std.proofs.Common.{◌≡◌, ℕ, length, List, [], ◌++◌, ◌-◌, arith, Option, take, drop, refl, sym, ◌∙◌, ap, subst, append_assoc, take-append-drop}
+use Rattle.std.proofs.Common.{◌≡◌, ℕ, length, List, [], ◌++◌, ◌-◌, arith, Option, take, drop, refl, sym, ◌∙◌, ap, subst}
+use Rattle.std.proofs.Common.{append_assoc, take-append-drop}
 use Rattle.std.proofs.lemmas.List.{append-nil, take_rest}
 use Rattle.std.proofs.KnownBytes.{Appends-nil, Appends-trans, Appends-kept}
 use Rattle.std.specs.Io.KnownBytes.{Appends, Keeps}
@@ -16,7 +17,8 @@ but_less a b c text rest n so_far more = (
   so_far.0 ++ take n rest,
   Appends-trans a b c so_far.0 (take n rest) so_far.1 more,
   so_far.2
-      ∙ ap (λ (l : List ℕ). so_far.0 ++ l) (sym (take-append-drop n rest) ∙ ap (λ (l : List ℕ). take n rest ++ l) (sym (take_rest rest n)))
+      ∙ ap (λ (l : List ℕ). so_far.0 ++ l)
+      (sym (take-append-drop n rest) ∙ ap (λ (l : List ℕ). take n rest ++ l) (sym (take_rest rest n)))
       ∙ sym (append_assoc so_far.0 (take n rest) (take (length rest - n) (drop n rest))),
 )
 
@@ -46,14 +48,18 @@ but_next a b c text part rest after so_far next more = (
 pub prefix_next : (a b c : Option (List ℕ)) (text part rest after : List ℕ) →
     AppendsBut a b text rest → rest ≡ part ++ after → AppendsPrefix b c part → AppendsPrefix a c text
 prefix_next a b c text part rest after so_far next more =
-    let (left, (taken, grew, whole)) = more in
-    (left ++ after, but_next a b c text taken rest (left ++ after) so_far (next ∙ ap (λ (l : List ℕ). l ++ after) whole ∙ append_assoc taken left after) grew)
+    let (left, (taken, grew, whole)) = more in (
+      left ++ after,
+      but_next a b c text taken rest (left ++ after) so_far
+          (next ∙ ap (λ (l : List ℕ). l ++ after) whole ∙ append_assoc taken left after) grew,
+    )
 
 -- of the next part of the text all was taken but for a rest of it
 pub but_cut : (a b c : Option (List ℕ)) (text part left after : List ℕ) →
     AppendsBut a b text (part ++ after) → AppendsBut b c part left → AppendsBut a c text (left ++ after)
 but_cut a b c text part left after so_far more =
-    but_next a b c text more.0 (part ++ after) (left ++ after) so_far (ap (λ (l : List ℕ). l ++ after) more.2 ∙ append_assoc more.0 left after) more.1
+    but_next a b c text more.0 (part ++ after) (left ++ after) so_far
+    (ap (λ (l : List ℕ). l ++ after) more.2 ∙ append_assoc more.0 left after) more.1
 
 -- what the goals of a loop over writes cite
 pub ruleset pieces = (but_kept, but_all, but_nothing, fails)

@@ -1,6 +1,7 @@
 -- The parts of a line as code has them, which borrow from the entry.
 use Rattle.std.specs.Prelude.{List, [], ◌∷◌}
-use Rattle.dv_journal.specs.Parts.{Part, Deferred, Fired, NewName, Name, Object, Job, Number, Bound, Due, Time, Outcome, Value, Failure, Text}
+use Rattle.dv_journal.specs.Parts.{Part, Deferred, Fired, NewName, Name, Object, Job, Number, Bound, Due, Time, Outcome}
+use Rattle.dv_journal.specs.Parts.{Value, Failure, Text}
 use Rattle.dv_journal.specs.declared.part.Part as of_part
 use Rattle.dv_journal.specs.declared.part.Part.TheVariants as part
 use Rattle.dv_journal.specs.declared.part.Parts as of_parts

@@ -1,6 +1,7 @@
 -- The forms of lines, as a table that has a row a kind of entry.
 use Rattle.std.specs.Prelude.{ℕ, List, Option, map, find, bytes_eq}
-use Rattle.dv_journal.specs.Parts.{Part, Deferred, Fired, NewName, Name, Object, Job, Number, Bound, Due, Time, Outcome, Value, Failure, Text, parts_of, wording_of}
+use Rattle.dv_journal.specs.Parts.{Part, Deferred, Fired, NewName, Name, Object, Job, Number, Bound, Due, Time, Outcome}
+use Rattle.dv_journal.specs.Parts.{Value, Failure, Text, parts_of, wording_of}
 use Rattle.dv_journal.specs.declared.form.LineForm.{LineForm}
 use Rattle.dv_journal.specs.declared.form.PartKind.{PartKind}
 use Rattle.dv_journal.specs.declared.form.PartKind.TheVariants as kind

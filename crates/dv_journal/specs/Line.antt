@@ -5,7 +5,8 @@ use Rattle.json.specs.Print.{quoted}
 use Rattle.dv_value.specs.ValueText.{json, failure_text, outcome}
 use Rattle.dv_value.specs.declared.classes.Class.{Class}
 use Rattle.dv_journal.specs.declared.entry.Entry.{Entry}
-use Rattle.dv_journal.specs.Parts.{Part, Deferred, Fired, NewName, Name, Object, Job, Number, Bound, Due, Time, Outcome, Value, Failure, Text, parts_of, wording_of}
+use Rattle.dv_journal.specs.Parts.{Part, Deferred, Fired, NewName, Name, Object, Job, Number, Bound, Due, Time, Outcome}
+use Rattle.dv_journal.specs.Parts.{Value, Failure, Text, parts_of, wording_of}
 
 -- #N, a Deferred by its number
 abbrev pub hash : ℕ → List ℕ

@@ -1,5 +1,6 @@
 -- What a sink over memory holds, what it answers to a piece, and what it holds then.
-use Rattle.std.specs.Prelude.{[], List, ℕ, ◌-◌, ◌++◌, ◌==◌, ◌&&◌, min, length, take, nat_lt, if◌then◌else◌, Option, Some, None, Result, Ok, Err}
+use Rattle.std.specs.Prelude.{[], List, ℕ, ◌-◌, ◌++◌, ◌==◌, ◌&&◌, min, length, take, nat_lt, if◌then◌else◌, Option}
+use Rattle.std.specs.Prelude.{Some, None, Result, Ok, Err}
 use Rattle.dv_journal.specs.declared.sink.SinkFault.{SinkFault}
 use Rattle.dv_journal.specs.declared.memory_sink.Trouble.{Trouble}
 use Rattle.dv_journal.specs.declared.memory_sink.Trouble.TheVariants.{Fails, TakesNothing}

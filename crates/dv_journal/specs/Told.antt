@@ -4,7 +4,9 @@ use Rattle.dv_value.specs.declared.value.Value.{Value}
 use Rattle.dv_journal.specs.declared.entry.Entry.{Entry}
 use Rattle.dv_journal.specs.declared.entry.Entry.TheVariants as entry
 
--- no Deferred changes; or one is made, gets a pair, is fired, has a further firing swallowed or refused, has a side run, gets what a side gave, takes the value of another, waits for another, hands its value to another, is paused, is unpaused, or is cancelled
+-- no Deferred changes; or one is made, gets a pair, is fired, has a further firing swallowed or refused, has a side
+-- run, gets what a side gave, takes the value of another, waits for another, hands its value to another, is paused, is
+-- unpaused, or is cancelled
 pub data Change : Type 0 where
   Aside : Change
   Makes : (d : ℕ) (name : Option (List ℕ)) → Change
@@ -21,14 +23,17 @@ pub data Change : Type 0 where
   Unpauses : (d : ℕ) → Change
   Cancels : (d : ℕ) → Change
 
--- what waits for its time: a delayed call of the script, by its name; the cooperator's tick; the delivery of a job's result; a timer of a Deferred. A turn of a loop isn't among these, since a first turn may be taken without waiting
+-- what waits for its time: a delayed call of the script, by its name; the cooperator's tick; the delivery of a job's
+-- result; a timer of a Deferred. A turn of a loop isn't among these, since a first turn may be taken without waiting
 pub data Timed : Type 0 where
   Called : (name : List ℕ) → Timed
   Ticking : Timed
   Delivered : (job : ℕ) → Timed
   TimedOut : (d : ℕ) → Timed
 
--- nothing that is asked for below; or what changes of a Deferred; or that something is scheduled, which is due then; or that a turn of a loop is; or that something waits no longer: it is run, or is a delayed call that is cancelled; or that time goes on to this; or that a failure is unhandled
+-- nothing that is asked for below; or what changes of a Deferred; or that something is scheduled, which is due then; or
+-- that a turn of a loop is; or that something waits no longer: it is run, or is a delayed call that is cancelled; or
+-- that time goes on to this; or that a failure is unhandled
 pub data Told : Type 0 where
   Other : Told
   Changes : (change : Change) → Told

@@ -21,9 +21,9 @@ use dv_value::value::Value;
 
 /// What one line of the journal logs. An entry is written before the change that it logs.
 ///
-/// In the lines below `N` and `E` are numbers of Deferreds, `O` is what an outcome shows of a value (`ok` and its JSON,
-/// or `fail` and its failure), `F` is a failure, `J` is the JSON of a value, and `TIME` is in ticks of the virtual clock.
-/// A name is that of the object at its making.
+/// In the lines below `N` and `E` are numbers of Deferreds, `O` is what an outcome shows of a value
+/// (`ok` and its JSON, or `fail` and its failure), `F` is a failure, `J` is the JSON of a value,
+/// and `TIME` is in ticks of the virtual clock. A name is that of the object at its making.
 #[derive(Drop)]
 pub enum Entry {
     /// `new #N NAME`: a Deferred is made; the name is `-` for one without.
@@ -34,7 +34,8 @@ pub enum Entry {
     Add(DeferredId),
     /// `fire #N O`: an unfired Deferred is fired.
     Fire(DeferredId, Value),
-    /// `swallow #N`: a fired Deferred is fired again, for the one time that its cancellation allows.
+    /// `swallow #N`: a fired Deferred is fired again, for the one time that its cancellation
+    /// allows.
     Swallow(DeferredId),
     /// `refuse #N`: a fired Deferred is fired again, and the firing is refused.
     Refuse(DeferredId),
@@ -66,7 +67,8 @@ pub enum Entry {
     Acquire(Text, DeferredId),
     /// `release L`: a token of a lock or a semaphore is released.
     Release(Text),
-    /// `queue Q SIZE BACKLOG`: a queue is made, with its bounds on what is stored and on who waits, `none` for no bound.
+    /// `queue Q SIZE BACKLOG`: a queue is made, with its bounds on what is stored and on who waits,
+    /// `none` for no bound.
     Queue(Boxed<Text>, Option<u32>, Option<u32>),
     /// `put Q J`: a value is put into a queue.
     Put(Text, Boxed<Value>),
@@ -125,7 +127,8 @@ pub enum Entry {
 }
 
 impl Entry {
-    /// Drops an entry that isn't written. A caller of it needs no proof of its own of what an entry holds.
+    /// Drops an entry that isn't written. A caller of it needs no proof of its own of what an entry
+    /// holds.
     pub fn discard(self) {
         drop(self);
     }
@@ -235,8 +238,8 @@ impl Entry {
         }
     }
 
-    /// How much the entry counts against the journal's limit: one, and the size of the value, the failure or the
-    /// noted text that its line shows. It stops at `u64::MAX`.
+    /// How much the entry counts against the journal's limit: one, and the size of the value, the
+    /// failure or the noted text that its line shows. It stops at `u64::MAX`.
     pub fn weight(&self) -> u64
         ensures { result ≡ min (weight_of self.now) (2 ^ 64 - 1) }
     {

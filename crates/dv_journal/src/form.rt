@@ -1,4 +1,5 @@
-//! What a line of the journal consists of: its word, and the kinds of its other parts, in the order of the line.
+//! What a line of the journal consists of: its word, and the kinds of its other parts, in the order
+//! of the line.
 
 /// A kind of objects that have names, and are numbered each for itself in order of making.
 #[derive(Clone, Copy)]

@@ -37,7 +37,8 @@ impl Model for Journal {
 
     ghost view = { λ j. record { entries = j.entries; limit = j.limit } };
 
-    ghost invariant = { λ j. (j.weight ≡ total_weight j.entries) × (j.weight ≤ j.limit) × (j.limit < 2 ^ 32) };
+    ghost invariant = { λ j. (j.weight ≡ total_weight j.entries) × (j.weight ≤ j.limit)
+        × (j.limit < 2 ^ 32) };
 }
 
 impl Journal {
@@ -75,7 +76,8 @@ impl Journal {
         self.entries.as_slice()
     }
 
-    /// Whether the journal stays within its limit with an entry whose line shows no value, failure or text.
+    /// Whether the journal stays within its limit with an entry whose line shows no value, failure
+    /// or text.
     pub fn fits_plain(&self) -> bool
         ensures { result ≡ has_room self.now 1 }
     {
@@ -96,8 +98,8 @@ impl Journal {
         entry.weight() <= self.limit - self.weight
     }
 
-    /// Adds an entry at the end. One that would pass the limit isn't written, whatever memory there is; an entry that
-    /// isn't written is dropped.
+    /// Adds an entry at the end. One that would pass the limit isn't written, whatever memory there
+    /// is; an entry that isn't written is dropped.
     #[tactic(auto, using(crate::proofs::WeightLemmas::total_weight_push))]
     pub fn write(&mut self, entry: Entry) -> Result<(), Stop>
         ensures ok { OnOk result (self.new ≡ with_entry self.old entry) }
@@ -114,14 +116,18 @@ impl Journal {
         Ok(())
     }
 
-    /// Writes the line of each entry, some kilobytes at a time, with one buffer for all. Where it returns early, what
-    /// was written is a prefix of the text.
+    /// Writes the line of each entry, some kilobytes at a time, with one buffer for all. Where it
+    /// returns early, what was written is a prefix of the text.
     pub fn print<W: Sink>(&self, classes: &Classes, sink: &mut W) -> Result<(), PrintFault>
-        ensures ok { OnOk result (Appends (W.taken sink.old) (W.taken sink.new) (text_of classes.now self.now.entries)) }
+        ensures ok { OnOk result (Appends (W.taken sink.old) (W.taken sink.new)
+            (text_of classes.now self.now.entries)) }
         ensures kept { OnOk result (W.failures sink.new ≡ W.failures sink.old) }
-        ensures err { OnErr result (AppendsPrefix (W.taken sink.old) (W.taken sink.new) (text_of classes.now self.now.entries)) }
-        ensures cause { IsErrOf result PrintFault.WriteFault → HasFailed (W.failures sink.old) (W.failures sink.new) }
-        ensures memory { IsErrOf result PrintFault.OutOfMemory → W.failures sink.new ≡ W.failures sink.old }
+        ensures err { OnErr result (AppendsPrefix (W.taken sink.old) (W.taken sink.new)
+            (text_of classes.now self.now.entries)) }
+        ensures cause { IsErrOf result PrintFault.WriteFault
+            → HasFailed (W.failures sink.old) (W.failures sink.new) }
+        ensures memory { IsErrOf result PrintFault.OutOfMemory
+            → W.failures sink.new ≡ W.failures sink.old }
     {
         let mut gathered = String::new(self.alloc);
         for entry in self.entries.as_slice() {

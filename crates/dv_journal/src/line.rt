@@ -49,7 +49,8 @@ fn write_part(
     out: &mut String,
     part: &Part<'_>,
 ) -> Result<(), AllocError>
-    ensures { OnOk result (string_bytes out.new ≡ string_bytes out.old ++ (codes " " ++ part_text classes.now (part_in part.now))) }
+    ensures { OnOk result (string_bytes out.new
+        ≡ string_bytes out.old ++ (codes " " ++ part_text classes.now (part_in part.now))) }
 {
     write_space(out)?;
     match part {
@@ -73,7 +74,8 @@ fn write_by_parts(
     out: &mut String,
     entry: &Entry,
 ) -> Result<(), AllocError>
-    ensures { OnOk result (string_bytes out.new ≡ string_bytes out.old ++ words_of classes.now entry.now) }
+    ensures { OnOk result
+        (string_bytes out.new ≡ string_bytes out.old ++ words_of classes.now entry.now) }
 {
     let Line(form, _) = entry.line();
     write_text(out, form.word)?;
@@ -96,7 +98,8 @@ fn write_by_parts(
 /// Adds a word, which ends in ` #`, and the number of a Deferred.
 #[inline(always)]
 fn write_id(out: &mut String, word: &str, id: DeferredId) -> Result<(), AllocError>
-    ensures { OnOk result (string_bytes out.new ≡ string_bytes out.old ++ (word.now ++ decimal id)) }
+    ensures { OnOk result
+        (string_bytes out.new ≡ string_bytes out.old ++ (word.now ++ decimal id)) }
 {
     write_text(out, word)?;
     write_u32(out, id.number())
@@ -110,7 +113,8 @@ fn write_id_and_name(
     id: DeferredId,
     name: &Option<Text>,
 ) -> Result<(), AllocError>
-    ensures { OnOk result (string_bytes out.new ≡ string_bytes out.old ++ (word.now ++ decimal id ++ codes " " ++ name_text name.now)) }
+    ensures { OnOk result (string_bytes out.new
+        ≡ string_bytes out.old ++ (word.now ++ decimal id ++ codes " " ++ name_text name.now)) }
 {
     write_id(out, word, id)?;
     write_space(out)?;
@@ -127,21 +131,24 @@ fn write_id_and_outcome(
     id: DeferredId,
     value: &Value,
 ) -> Result<(), AllocError>
-    ensures { OnOk result (string_bytes out.new ≡ string_bytes out.old ++ (word.now ++ decimal id ++ codes " " ++ outcome classes.now value.now)) }
+    ensures { OnOk result (string_bytes out.new ≡ string_bytes out.old
+        ++ (word.now ++ decimal id ++ codes " " ++ outcome classes.now value.now)) }
 {
     write_id(out, word, id)?;
     write_space(out)?;
     write_outcome(alloc, classes, out, value)
 }
 
-/// Adds the words of the line of an entry. Those that most lines are of are written at once, which takes fewer instructions.
+/// Adds the words of the line of an entry. Those that most lines are of are written at once, which
+/// takes fewer instructions.
 fn write_words(
     alloc: Global,
     classes: &Classes,
     out: &mut String,
     entry: &Entry,
 ) -> Result<(), AllocError>
-    ensures { OnOk result (string_bytes out.new ≡ string_bytes out.old ++ words_of classes.now entry.now) }
+    ensures { OnOk result
+        (string_bytes out.new ≡ string_bytes out.old ++ words_of classes.now entry.now) }
 {
     if let Entry::New(id, name) = entry {
         return write_id_and_name(out, "new #", *id, name);
@@ -171,7 +178,8 @@ pub fn write_line(
     out: &mut String,
     entry: &Entry,
 ) -> Result<(), AllocError>
-    ensures { OnOk result (string_bytes out.new ≡ string_bytes out.old ++ line_of classes.now entry.now) }
+    ensures { OnOk result
+        (string_bytes out.new ≡ string_bytes out.old ++ line_of classes.now entry.now) }
 {
     write_words(alloc, classes, out, entry)?;
     out.push('\n')

@@ -43,7 +43,8 @@ pub enum Parts<'e> {
 pub struct Line<'e>(pub LineForm, pub Parts<'e>);
 
 impl<'e> Part<'e> {
-    /// So much, and the size of the value, the failure or the noted text that the part shows. It stops at `u64::MAX`.
+    /// So much, and the size of the value, the failure or the noted text that the part shows. It
+    /// stops at `u64::MAX`.
     pub fn weight_with(&self, so_far: u64) -> u64
         ensures { result ≡ min (so_far + size_shown (part_in self.now)) (2 ^ 64 - 1) }
     {

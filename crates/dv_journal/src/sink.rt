@@ -1,7 +1,8 @@
 ghost use Rattle.std.specs.Prelude.{◌≡◌, ◌<◌, List, ℕ, Option, OnOk, OnErr, length, string_bytes};
 ghost use Rattle.std.specs.Io.{WritesAtMost};
 ghost use Rattle.std.specs.Io.KnownBytes.{Appends, WriteAppends};
-ghost use Rattle.dv_journal.specs.Sink.{failed, failures_after, HasFailed, AppendsBut, AppendsPrefix, piece_size};
+ghost use Rattle.dv_journal.specs.Sink.{failed, failures_after, HasFailed, AppendsBut};
+ghost use Rattle.dv_journal.specs.Sink.{AppendsPrefix, piece_size};
 
 use thiserror::Error;
 
@@ -49,14 +50,17 @@ pub fn write_all<W: Sink>(sink: &mut W, bytes: &[u8]) -> Result<(), SinkFault>
 /// How many bytes of lines are gathered before they are written.
 const PIECE_SIZE: usize = 4096;
 
-/// Writes what is gathered, and empties it, where it has reached a piece of some kilobytes; otherwise it waits for
-/// more. It returns at the sink's first failure; what was taken by then is a prefix of what was gathered.
+/// Writes what is gathered, and empties it, where it has reached a piece of some kilobytes;
+/// otherwise it waits for more. It returns at the sink's first failure; what was taken by then is a
+/// prefix of what was gathered.
 #[tactic(auto, using(crate::proofs::Taken::pieces))]
 pub fn write_when_full<W: Sink>(sink: &mut W, gathered: &mut String) -> Result<(), SinkFault>
-    ensures ok { OnOk result (AppendsBut (W.taken sink.old) (W.taken sink.new) (string_bytes gathered.old) (string_bytes gathered.new)) }
+    ensures ok { OnOk result (AppendsBut (W.taken sink.old) (W.taken sink.new)
+        (string_bytes gathered.old) (string_bytes gathered.new)) }
     ensures left { OnOk result (length (string_bytes gathered.new) < piece_size) }
     ensures kept { OnOk result (W.failures sink.new ≡ W.failures sink.old) }
-    ensures err { OnErr result (AppendsPrefix (W.taken sink.old) (W.taken sink.new) (string_bytes gathered.old)) }
+    ensures err { OnErr result (AppendsPrefix (W.taken sink.old) (W.taken sink.new)
+        (string_bytes gathered.old)) }
     ensures cause { OnErr result (HasFailed (W.failures sink.old) (W.failures sink.new)) }
 {
     if gathered.len() >= PIECE_SIZE {

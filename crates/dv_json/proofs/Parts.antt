@@ -19,29 +19,38 @@ text_next a b c s t first second = second ∙ ap (λ (l : List ℕ). l ++ t) fir
 
 -- an outcome line without its end
 abbrev words_of : List Class → ℕ → Outcome → List ℕ
-words_of table number o = hash number ++ codes " " ++ name_text o.name ++ codes " " ++ pauses_text o.pauses ++ state_text table o.state
+words_of table number o =
+    hash number ++ codes " " ++ name_text o.name ++ codes " " ++ pauses_text o.pauses ++ state_text table o.state
 
 -- a line that was written into an empty text, and of which the end was taken
-pub shown_added : {A E : Type 0} (r : Result A E) (table : List Class) (number : ℕ) (outcome : Outcome) (old new empty line left shown : List ℕ) →
-    OnOk r (new ≡ old ++ (codes ",\"line\":" ++ quoted shown)) → empty ≡ [] → line ≡ empty ++ outcome_line table number outcome →
-    ((words : List ℕ) → line ≡ words ++ codes "\n" → left ≡ words) → shown ≡ left → OnOk r (AddsShown table number outcome old new)
+pub shown_added : {A E : Type 0} (r : Result A E) (table : List Class) (number : ℕ) (outcome : Outcome)
+    (old new empty line left shown : List ℕ) →
+    OnOk r (new ≡ old ++ (codes ",\"line\":" ++ quoted shown)) → empty ≡ []
+    → line ≡ empty ++ outcome_line table number outcome →
+    ((words : List ℕ) → line ≡ words ++ codes "\n" → left ≡ words) → shown ≡ left
+    → OnOk r (AddsShown table number outcome old new)
 shown_added (Ok x) table number outcome old new empty line left shown grew none written taken same = record {
   shown = shown;
-  shows = ap ended (same ∙ taken (words_of table number outcome) (written ∙ ap (λ (l : List ℕ). l ++ outcome_line table number outcome) none));
+  shows =
+      ap ended (same ∙ taken (words_of table number outcome)
+      (written ∙ ap (λ (l : List ℕ). l ++ outcome_line table number outcome) none));
   grew = grew;
 }
 shown_added (Err e) table number outcome old new empty line left shown grew none written taken same = tt
 
 -- the line of a Deferred, in its parts
-pub outcome_added : {A E : Type 0} (r : Result A E) (table : List Class) (number : ℕ) (outcome : Outcome) (a b c d e f : List ℕ) → OnOk r (Adds e f) →
-    Adds a b → AddsShown table number outcome b c → Adds c d → e ≡ d ++ (codes ",\"number\":" ++ decimal number) → OnOk r (AddsOutcome table number outcome a f)
+pub outcome_added : {A E : Type 0} (r : Result A E) (table : List Class) (number : ℕ) (outcome : Outcome)
+    (a b c d e f : List ℕ) → OnOk r (Adds e f) →
+    Adds a b → AddsShown table number outcome b c → Adds c d → e ≡ d ++ (codes ",\"number\":" ++ decimal number)
+    → OnOk r (AddsOutcome table number outcome a f)
 outcome_added (Ok x) table number outcome a b c d e f after before told between numbered =
     let shown = codes ",\"line\":" ++ quoted told.shown in
     let at = codes ",\"number\":" ++ decimal number in
     record {
       line = before.text ++ shown ++ between.text ++ at ++ after.text;
       grew = text_next _ _ _ (before.text ++ shown ++ between.text ++ at) _
-          (text_next _ _ _ (before.text ++ shown ++ between.text) _ (text_next _ _ _ (before.text ++ shown) _ (text_next _ _ _ before.text _ before.is told.grew) between.is) numbered) after.is;
+          (text_next _ _ _ (before.text ++ shown ++ between.text) _ (text_next _ _ _ (before.text ++ shown) _
+          (text_next _ _ _ before.text _ before.is told.grew) between.is) numbered) after.is;
       is_line = record {
         before = before.text;
         shown = told.shown;
@@ -51,25 +60,31 @@ outcome_added (Ok x) table number outcome a b c d e f after before told between 
         is = refl;
         visible = visible_both (before.text ++ shown ++ between.text ++ at) after.text
             (visible_both (before.text ++ shown ++ between.text) at
-            (visible_both (before.text ++ shown) between.text (visible_both before.text shown before.visible (visible_quoted told.shown)) between.visible) (visible_decimal number)) after.visible;
+            (visible_both (before.text ++ shown) between.text (visible_both before.text shown before.visible
+            (visible_quoted told.shown)) between.visible) (visible_decimal number)) after.visible;
       };
     }
 outcome_added (Err e') table number outcome a b c d e f after before told between numbered = tt
 
 -- what is printed at the end, member by member
-pub totals_added : {A E : Type 0} (r : Result A E) (limit limit' : ℕ) (stopped : Bool) (time weight weight' : ℕ) (a b c d e f : List ℕ) →
-    OnOk r (f ≡ e ++ codes "}") → limit ≡ limit' → weight ≡ weight' → b ≡ a ++ (codes ",\"limit\":" ++ decimal limit) → c ≡ b ++ (codes ",\"stopped\":" ++ bool_text stopped) →
-    d ≡ c ++ (codes ",\"time\":" ++ decimal time) → e ≡ d ++ (codes ",\"type\":\"end\",\"weight\":" ++ decimal weight) → OnOk r (f ≡ a ++ totals limit' stopped time weight')
+pub totals_added : {A E : Type 0} (r : Result A E) (limit limit' : ℕ) (stopped : Bool) (time weight weight' : ℕ)
+    (a b c d e f : List ℕ) →
+    OnOk r (f ≡ e ++ codes "}") → limit ≡ limit' → weight ≡ weight' → b ≡ a ++ (codes ",\"limit\":" ++ decimal limit)
+    → c ≡ b ++ (codes ",\"stopped\":" ++ bool_text stopped) →
+    d ≡ c ++ (codes ",\"time\":" ++ decimal time) → e ≡ d ++ (codes ",\"type\":\"end\",\"weight\":" ++ decimal weight)
+    → OnOk r (f ≡ a ++ totals limit' stopped time weight')
 totals_added (Ok x) limit limit' stopped time weight weight' a b c d e f last same same' first second third fourth =
     let limited = codes ",\"limit\":" ++ decimal limit in
     let halted = codes ",\"stopped\":" ++ bool_text stopped in
     let timed = codes ",\"time\":" ++ decimal time in
     let weighed = codes ",\"type\":\"end\",\"weight\":" ++ decimal weight in
     text_next a e f (limited ++ halted ++ timed ++ weighed) (codes "}")
-    (text_next a d e (limited ++ halted ++ timed) weighed (text_next a c d (limited ++ halted) timed (text_next a b c limited halted first second) third) fourth) last
+    (text_next a d e (limited ++ halted ++ timed) weighed
+    (text_next a c d (limited ++ halted) timed (text_next a b c limited halted first second) third) fourth) last
     ∙ ap (λ (n : ℕ). a ++ totals n stopped time weight) same
     ∙ ap (λ (n : ℕ). a ++ totals limit' stopped time n) same'
-totals_added (Err e') limit limit' stopped time weight weight' a b c d e f last same same' first second third fourth = tt
+totals_added (Err e') limit limit' stopped time weight weight' a b c d e f last same same' first second third fourth =
+    tt
 
 -- what is printed at the end ends no line
 visible_totals : (limit : ℕ) (stopped : Bool) (time weight : ℕ) → IsVisible (totals limit stopped time weight)
@@ -80,11 +95,13 @@ visible_totals limit stopped time weight =
     visible_both (timed ++ (codes ",\"type\":\"end\",\"weight\":" ++ decimal weight)) (codes "}")
     (visible_both timed (codes ",\"type\":\"end\",\"weight\":" ++ decimal weight)
     (visible_both halted (codes ",\"time\":" ++ decimal time)
-    (visible_both limited (codes ",\"stopped\":" ++ bool_text stopped) (visible_decimal limit) (visible_bool stopped)) (visible_decimal time)) (visible_decimal weight)) refl
+    (visible_both limited (codes ",\"stopped\":" ++ bool_text stopped) (visible_decimal limit) (visible_bool stopped))
+    (visible_decimal time)) (visible_decimal weight)) refl
 
 -- the line that ends a run, in its parts
 pub end_added : {A E : Type 0} (r : Result A E) (journal : Written) (stopped : Bool) (time : ℕ) (a b c : List ℕ) →
-    OnOk r (c ≡ b ++ totals journal.limit stopped time (total_weight journal.entries)) → Adds a b → OnOk r (AddsEnd journal stopped a c)
+    OnOk r (c ≡ b ++ totals journal.limit stopped time (total_weight journal.entries)) → Adds a b
+    → OnOk r (AddsEnd journal stopped a c)
 end_added (Ok x) journal stopped time a b c told before =
     let last = totals journal.limit stopped time (total_weight journal.entries) in
     record {
@@ -94,25 +111,31 @@ end_added (Ok x) journal stopped time a b c told before =
         before = before.text;
         time = time;
         is = refl;
-        visible = visible_both before.text last before.visible (visible_totals journal.limit stopped time (total_weight journal.entries));
+        visible =
+            visible_both before.text last before.visible
+            (visible_totals journal.limit stopped time (total_weight journal.entries));
       };
     }
 end_added (Err e) journal stopped time a b c told before = tt
 
 -- there is a line of each Deferred
-pub outcome_exists : (table : List Class) (number : ℕ) (outcome : Outcome) → (line : List ℕ) × IsOutcomeLine table number outcome line
+pub outcome_exists : (table : List Class) (number : ℕ) (outcome : Outcome)
+    → (line : List ℕ) × IsOutcomeLine table number outcome line
 outcome_exists table number outcome =
     let shown = codes ",\"line\":" ++ quoted (words_of table number outcome) in
     let at = codes ",\"number\":" ++ decimal number in
     let nothing : (a : List ℕ) → Adds a a = adds_nothing in
-    let told : AddsShown table number outcome [] shown = record { shown = words_of table number outcome; shows = refl; grew = refl } in
+    let told : AddsShown table number outcome [] shown =
+    record { shown = words_of table number outcome; shows = refl; grew = refl } in
     let added : AddsOutcome table number outcome [] (shown ++ at) =
-    outcome_added {A = ℕ} {E = ℕ} (Ok 0) table number outcome [] [] shown shown (shown ++ at) (shown ++ at) (nothing (shown ++ at)) (nothing []) told (nothing shown) refl in
+    outcome_added {A = ℕ} {E = ℕ} (Ok 0) table number outcome [] [] shown shown (shown ++ at) (shown ++ at)
+    (nothing (shown ++ at)) (nothing []) told (nothing shown) refl in
     (added.line, added.is_line)
 
 -- there is a line that ends a run
 pub end_exists : (journal : Written) (stopped : Bool) → (line : List ℕ) × IsEndLine journal stopped line
 end_exists journal stopped =
     let last = totals journal.limit stopped 0 (total_weight journal.entries) in
-    let added : AddsEnd journal stopped [] last = end_added {A = ℕ} {E = ℕ} (Ok 0) journal stopped 0 [] [] last refl (adds_nothing []) in
+    let added : AddsEnd journal stopped [] last =
+    end_added {A = ℕ} {E = ℕ} (Ok 0) journal stopped 0 [] [] last refl (adds_nothing []) in
     (added.line, added.is_line)

@@ -9,7 +9,8 @@ use Rattle.dv_posts.specs.Batches.{AreComplete, AreLawful}
 use Rattle.dv_script.specs.declared.script.Script.{Script}
 use Rattle.dv_world.specs.World.{World}
 
--- what a script leads to with the batches that were taken, which are lawful and hold all posts; and each job ran once, with its work
+-- what a script leads to with the batches that were taken, which are lawful and hold all posts; and each job ran once,
+-- with its work
 pub record Ends (script : Script) (end : Marked) : Type 0 where
   pub world : World
   pub means : Leads script end.batches world

@@ -3,7 +3,8 @@ use Rattle.std.specs.Prelude.{ℕ, Bool, if◌then◌else◌, List, [], Result, 
 use Rattle.dv_run.specs.Exit.{fault_status, fault_text}
 use Rattle.dv_run.specs.declared.error.RunFault.{RunFault}
 
--- 1 where the run stopped at the limit of its journal, 0 where all events were performed, and otherwise that of the fault
+-- 1 where the run stopped at the limit of its journal, 0 where all events were performed, and otherwise that of the
+-- fault
 abbrev pub status : Result Bool RunFault → ℕ
 status (Ok stopped) = if stopped then 1 else 0
 status (Err fault) = fault_status fault

@@ -14,7 +14,8 @@ pub record Gathers (old : Told) (waiting : List ℕ) (new : Told) (gathered : Li
   pub written : AppendsBut old new (waiting ++ text) gathered
 
 -- lines of this kind were
-pub record GathersLines (AreLines : List (List ℕ) → Type 0) (old : Told) (waiting : List ℕ) (new : Told) (gathered : List ℕ) : Type 0 where
+pub record GathersLines (AreLines : List (List ℕ)
+    → Type 0) (old : Told) (waiting : List ℕ) (new : Told) (gathered : List ℕ) : Type 0 where
   pub lines : List (List ℕ)
   pub are : AreLines lines
   pub gathers : Gathers old waiting new gathered (flat_map ended lines)

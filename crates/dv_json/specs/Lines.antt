@@ -10,7 +10,8 @@ use Rattle.dv_run.specs.Headline.{Told}
 use Rattle.dv_run.specs.Run.{RefusesInput, SaysScript}
 use Rattle.dv_script.specs.declared.script.Script.{Script}
 
--- the input says a script, which was run to its end, and whose text was written; and whether that run stopped at the limit of its journal
+-- the input says a script, which was run to its end, and whose text was written; and whether that run stopped at the
+-- limit of its journal
 pub record HasRun (input old new : Told) (stopped : Bool) : Type 0 where
   pub script : Script
   pub end : Marked

@@ -19,7 +19,8 @@ pub record EndsIn (batches : List Batch) (script : Script) (end : Marked) : Type
   pub ends : Ends script end
   pub took : end.batches ≡ batches
 
--- the input says a script, which was run to its end in these batches, and whose text was written; and whether that run stopped at the limit of its journal
+-- the input says a script, which was run to its end in these batches, and whose text was written; and whether that run
+-- stopped at the limit of its journal
 pub record HasRunIn (batches : List Batch) (input old new : Told) (stopped : Bool) : Type 0 where
   pub script : Script
   pub end : Marked

@@ -22,23 +22,27 @@ ended line = line ++ codes "\n"
 abbrev pub start_line : List ℕ
 start_line = codes "{\"type\":\"start\",\"version\":1}"
 
--- the line of the Deferred of a number has its outcome line as a string, without its end, then its number, and ends nowhere within
+-- the line of the Deferred of a number has its outcome line as a string, without its end, then its number, and ends
+-- nowhere within
 pub record IsOutcomeLine (table : List Class) (number : ℕ) (outcome : Outcome) (line : List ℕ) : Type 0 where
   pub before : List ℕ
   pub shown : List ℕ
   pub between : List ℕ
   pub after : List ℕ
   pub shows : ended shown ≡ outcome_line table number outcome
-  pub is : line ≡ before ++ (codes ",\"line\":" ++ quoted shown) ++ between ++ (codes ",\"number\":" ++ decimal number) ++ after
+  pub is : line
+      ≡ before ++ (codes ",\"line\":" ++ quoted shown) ++ between ++ (codes ",\"number\":" ++ decimal number) ++ after
   pub visible : IsVisible line
 
 -- ,"limit":LIMIT,"stopped":STOPPED,"time":TIME,"type":"end","weight":WEIGHT}
 abbrev pub totals : ℕ → Bool → ℕ → ℕ → List ℕ
 totals limit stopped time weight =
-    (codes ",\"limit\":" ++ decimal limit) ++ (codes ",\"stopped\":" ++ bool_text stopped) ++ (codes ",\"time\":" ++ decimal time)
+    (codes ",\"limit\":" ++ decimal limit) ++ (codes ",\"stopped\":" ++ bool_text stopped)
+    ++ (codes ",\"time\":" ++ decimal time)
     ++ (codes ",\"type\":\"end\",\"weight\":" ++ decimal weight) ++ codes "}"
 
--- the line that ends a run has the limit of the journal, whether the run stopped there, and what the entries weigh together
+-- the line that ends a run has the limit of the journal, whether the run stopped there, and what the entries weigh
+-- together
 pub record IsEndLine (journal : Written) (stopped : Bool) (line : List ℕ) : Type 0 where
   pub before : List ℕ
   pub time : ℕ
@@ -50,15 +54,18 @@ abbrev pub EachHasLine : {A : Type 0} → (ℕ → A → List ℕ → Type 0) �
 EachHasLine IsLine number [] [] = Unit {0}
 EachHasLine IsLine number [] (line ∷ lines) = ⊥
 EachHasLine IsLine number (item ∷ items) [] = ⊥
-EachHasLine IsLine number (item ∷ items) (line ∷ lines) = IsLine number item line × EachHasLine IsLine (suc number) items lines
+EachHasLine IsLine number (item ∷ items) (line ∷ lines) =
+    IsLine number item line × EachHasLine IsLine (suc number) items lines
 
 -- so many lines, of which none ends within
 pub record AreSoMany (count : ℕ) (lines : List (List ℕ)) : Type 0 where
   pub as_many : length lines ≡ count
   pub visible : All IsVisible lines
 
--- the line that begins a run, one for each entry of the journal, one for each Deferred, so many for what is left, and the line that ends it
-pub record HasLines (table : List Class) (marks : List ℕ) (journal : Written) (stopped : Bool) (outcomes : List Outcome) (left : ℕ) (text : List ℕ) : Type 0 where
+-- the line that begins a run, one for each entry of the journal, one for each Deferred, so many for what is left, and
+-- the line that ends it
+pub record HasLines (table : List Class) (marks : List ℕ) (journal : Written) (stopped : Bool) (outcomes : List Outcome)
+    (left : ℕ) (text : List ℕ) : Type 0 where
   pub of_entries : List (List ℕ)
   pub of_deferreds : List (List ℕ)
   pub of_left : List (List ℕ)
@@ -71,7 +78,8 @@ pub record HasLines (table : List Class) (marks : List ℕ) (journal : Written) 
 
 -- the text of a run that ended so
 abbrev pub IsText : List Class → Marked → List ℕ → Type 0
-IsText table end text = HasLines table end.marks end.remains.journal end.remains.stopped end.remains.outcomes (length end.remains.left) text
+IsText table end text =
+    HasLines table end.marks end.remains.journal end.remains.stopped end.remains.outcomes (length end.remains.left) text
 
 -- a text of this kind was written
 pub record Writes (IsText : List ℕ → Type 0) (old new : Told) : Type 0 where

@@ -33,7 +33,8 @@ pub fn write_outcome(
     number: usize,
     outcome: &Outcome,
 ) -> Result<(), AllocError>
-    ensures { OnOk result (AddsOutcome classes.now number outcome.now (string_bytes out.old) (string_bytes out.new)) }
+    ensures { OnOk result (AddsOutcome classes.now number outcome.now (string_bytes out.old)
+        (string_bytes out.new)) }
 {
     write_index_or_null(out, r#"{"fired_by":"#, fired_by(story, number))?;
     write_outcome_line(alloc, classes, out, number, outcome)?;
@@ -55,7 +56,8 @@ fn write_outcome_line(
     number: usize,
     outcome: &Outcome,
 ) -> Result<(), AllocError>
-    ensures { OnOk result (AddsShown classes.now number outcome.now (string_bytes out.old) (string_bytes out.new)) }
+    ensures { OnOk result (AddsShown classes.now number outcome.now (string_bytes out.old)
+        (string_bytes out.new)) }
 {
     let mut line = String::new(alloc);
     write_line(alloc, classes, &mut line, number, outcome)?;

@@ -1,13 +1,15 @@
 //! The lines of a run.
 
-ghost use Rattle.std.specs.Prelude.{◌≡◌, ◌++◌, [], ◌∷◌, IsErrOf, OnErr, OnOk, codes, length, string_bytes};
+ghost use Rattle.std.specs.Prelude.{◌≡◌, ◌++◌, [], ◌∷◌, IsErrOf, OnErr, OnOk, codes, length};
+ghost use Rattle.std.specs.Prelude.{string_bytes};
 ghost use Rattle.dv_facts.specs.Events.{event_at};
 ghost use Rattle.dv_facts.specs.Lines.{IsEntryLine};
 ghost use Rattle.dv_facts.specs.Parts.{Adds};
 ghost use Rattle.dv_journal.specs.Journal.{total_weight};
 ghost use Rattle.dv_journal.specs.Sink.{AppendsBut, AppendsPrefix, HasFailed};
 ghost use Rattle.dv_json.specs.Gathered.{AddsEnd, CutsLines, GathersLines, IsEnd};
-ghost use Rattle.dv_json.specs.Text.{AreSoMany, EachHasLine, HasLines, IsOutcomeLine, IsText, Writes, WritesPrefix, start_line, totals};
+ghost use Rattle.dv_json.specs.Text.{AreSoMany, EachHasLine, HasLines, IsOutcomeLine, IsText};
+ghost use Rattle.dv_json.specs.Text.{Writes, WritesPrefix, start_line, totals};
 
 use crate::marked::Marked;
 use crate::outcomes::write_outcome;
@@ -40,8 +42,8 @@ struct Run<'r> {
     marks: &'r [usize],
 }
 
-/// Writes a run, a line of JSON an object. WriteFault where the sink fails or takes no byte, OutOfMemory when out of memory;
-/// what was written then is a prefix of such a text.
+/// Writes a run, a line of JSON an object. WriteFault where the sink fails or takes no byte,
+/// OutOfMemory when out of memory; what was written then is a prefix of such a text.
 #[tactic(auto, using(crate::proofs::Cuts::pieces))]
 pub fn print_run<W: Sink>(
     alloc: Global,
@@ -49,11 +51,15 @@ pub fn print_run<W: Sink>(
     marked: Marked,
     sink: &mut W,
 ) -> Result<(), PrintFault>
-    ensures ok { OnOk result (Writes (IsText classes.now marked) (W.taken sink.old) (W.taken sink.new)) }
-    ensures err { OnErr result (WritesPrefix (IsText classes.now marked) (W.taken sink.old) (W.taken sink.new)) }
+    ensures ok { OnOk result (Writes (IsText classes.now marked) (W.taken sink.old)
+        (W.taken sink.new)) }
+    ensures err { OnErr result (WritesPrefix (IsText classes.now marked) (W.taken sink.old)
+        (W.taken sink.new)) }
     ensures kept { OnOk result (W.failures sink.new ≡ W.failures sink.old) }
-    ensures cause { IsErrOf result PrintFault.WriteFault → HasFailed (W.failures sink.old) (W.failures sink.new) }
-    ensures memory { IsErrOf result PrintFault.OutOfMemory → W.failures sink.new ≡ W.failures sink.old }
+    ensures cause { IsErrOf result PrintFault.WriteFault
+        → HasFailed (W.failures sink.old) (W.failures sink.new) }
+    ensures memory { IsErrOf result PrintFault.OutOfMemory
+        → W.failures sink.new ≡ W.failures sink.old }
 {
     let Marked {
         remains,
@@ -88,11 +94,17 @@ fn print_borrowed<W: Sink>(
     left: &mut [Left],
     sink: &mut W,
 ) -> Result<(), PrintFault>
-    ensures ok { OnOk result (Writes (HasLines classes.now run.entry.marks.now run.entry.journal.now run.entry.stopped run.entry.outcomes.now (length left.old)) (W.taken sink.old) (W.taken sink.new)) }
-    ensures err { OnErr result (WritesPrefix (HasLines classes.now run.entry.marks.now run.entry.journal.now run.entry.stopped run.entry.outcomes.now (length left.old)) (W.taken sink.old) (W.taken sink.new)) }
+    ensures ok { OnOk result (Writes (HasLines classes.now run.entry.marks.now run.entry.journal.now
+        run.entry.stopped run.entry.outcomes.now (length left.old)) (W.taken sink.old)
+        (W.taken sink.new)) }
+    ensures err { OnErr result (WritesPrefix (HasLines classes.now run.entry.marks.now
+        run.entry.journal.now run.entry.stopped run.entry.outcomes.now (length left.old))
+        (W.taken sink.old) (W.taken sink.new)) }
     ensures kept { OnOk result (W.failures sink.new ≡ W.failures sink.old) }
-    ensures cause { IsErrOf result PrintFault.WriteFault → HasFailed (W.failures sink.old) (W.failures sink.new) }
-    ensures memory { IsErrOf result PrintFault.OutOfMemory → W.failures sink.new ≡ W.failures sink.old }
+    ensures cause { IsErrOf result PrintFault.WriteFault
+        → HasFailed (W.failures sink.old) (W.failures sink.new) }
+    ensures memory { IsErrOf result PrintFault.OutOfMemory
+        → W.failures sink.new ≡ W.failures sink.old }
 {
     let mut story = Story::new(alloc, run.marks);
     let mut gathered = String::new(alloc);
@@ -113,11 +125,17 @@ fn print_lines<'r, W: Sink>(
     requires empty { string_bytes gathered.old ≡ [] }
     requires unpassed { story.old.passed ≡ 0 }
     requires marks { story.old.marks.now ≡ run.marks.now }
-    ensures ok { OnOk result (Writes (HasLines classes.now run.entry.marks.now run.entry.journal.now run.entry.stopped run.entry.outcomes.now (length left.old)) (W.taken sink.old) (W.taken sink.new)) }
-    ensures err { OnErr result (WritesPrefix (HasLines classes.now run.entry.marks.now run.entry.journal.now run.entry.stopped run.entry.outcomes.now (length left.old)) (W.taken sink.old) (W.taken sink.new)) }
+    ensures ok { OnOk result (Writes (HasLines classes.now run.entry.marks.now run.entry.journal.now
+        run.entry.stopped run.entry.outcomes.now (length left.old)) (W.taken sink.old)
+        (W.taken sink.new)) }
+    ensures err { OnErr result (WritesPrefix (HasLines classes.now run.entry.marks.now
+        run.entry.journal.now run.entry.stopped run.entry.outcomes.now (length left.old))
+        (W.taken sink.old) (W.taken sink.new)) }
     ensures kept { OnOk result (W.failures sink.new ≡ W.failures sink.old) }
-    ensures cause { IsErrOf result PrintFault.WriteFault → HasFailed (W.failures sink.old) (W.failures sink.new) }
-    ensures memory { IsErrOf result PrintFault.OutOfMemory → W.failures sink.new ≡ W.failures sink.old }
+    ensures cause { IsErrOf result PrintFault.WriteFault
+        → HasFailed (W.failures sink.old) (W.failures sink.new) }
+    ensures memory { IsErrOf result PrintFault.OutOfMemory
+        → W.failures sink.new ≡ W.failures sink.old }
 {
     print_start(gathered, sink)?;
     let entries = run.journal.entries();
@@ -139,11 +157,15 @@ fn print_lines<'r, W: Sink>(
 /// Ends a line, and writes what is gathered once that is some kilobytes.
 #[tactic(auto, using(crate::proofs::Cuts::pieces))]
 fn end_line<W: Sink>(gathered: &mut String, sink: &mut W) -> Result<(), PrintFault>
-    ensures ok { OnOk result (AppendsBut (W.taken sink.old) (W.taken sink.new) (string_bytes gathered.old ++ codes "\n") (string_bytes gathered.new)) }
-    ensures err { OnErr result (AppendsPrefix (W.taken sink.old) (W.taken sink.new) (string_bytes gathered.old ++ codes "\n")) }
+    ensures ok { OnOk result (AppendsBut (W.taken sink.old) (W.taken sink.new)
+        (string_bytes gathered.old ++ codes "\n") (string_bytes gathered.new)) }
+    ensures err { OnErr result (AppendsPrefix (W.taken sink.old) (W.taken sink.new)
+        (string_bytes gathered.old ++ codes "\n")) }
     ensures kept { OnOk result (W.failures sink.new ≡ W.failures sink.old) }
-    ensures cause { IsErrOf result PrintFault.WriteFault → HasFailed (W.failures sink.old) (W.failures sink.new) }
-    ensures memory { IsErrOf result PrintFault.OutOfMemory → W.failures sink.new ≡ W.failures sink.old }
+    ensures cause { IsErrOf result PrintFault.WriteFault
+        → HasFailed (W.failures sink.old) (W.failures sink.new) }
+    ensures memory { IsErrOf result PrintFault.OutOfMemory
+        → W.failures sink.new ≡ W.failures sink.old }
 {
     gathered.push('\n')?;
     write_when_full(sink, gathered)?;
@@ -153,11 +175,15 @@ fn end_line<W: Sink>(gathered: &mut String, sink: &mut W) -> Result<(), PrintFau
 /// Writes the line that begins a run.
 #[tactic(auto, using(crate::proofs::Cuts::pieces))]
 fn print_start<W: Sink>(gathered: &mut String, sink: &mut W) -> Result<(), PrintFault>
-    ensures ok { OnOk result (GathersLines (λ lines. lines ≡ start_line ∷ []) (W.taken sink.old) (string_bytes gathered.old) (W.taken sink.new) (string_bytes gathered.new)) }
-    ensures err { OnErr result (CutsLines (λ lines. lines ≡ start_line ∷ []) (W.taken sink.old) (string_bytes gathered.old) (W.taken sink.new)) }
+    ensures ok { OnOk result (GathersLines (λ lines. lines ≡ start_line ∷ []) (W.taken sink.old)
+        (string_bytes gathered.old) (W.taken sink.new) (string_bytes gathered.new)) }
+    ensures err { OnErr result (CutsLines (λ lines. lines ≡ start_line ∷ []) (W.taken sink.old)
+        (string_bytes gathered.old) (W.taken sink.new)) }
     ensures kept { OnOk result (W.failures sink.new ≡ W.failures sink.old) }
-    ensures cause { IsErrOf result PrintFault.WriteFault → HasFailed (W.failures sink.old) (W.failures sink.new) }
-    ensures memory { IsErrOf result PrintFault.OutOfMemory → W.failures sink.new ≡ W.failures sink.old }
+    ensures cause { IsErrOf result PrintFault.WriteFault
+        → HasFailed (W.failures sink.old) (W.failures sink.new) }
+    ensures memory { IsErrOf result PrintFault.OutOfMemory
+        → W.failures sink.new ≡ W.failures sink.old }
 {
     write_text(gathered, r#"{"type":"start","version":1}"#)?;
     end_line(gathered, sink)
@@ -174,11 +200,17 @@ fn print_entries<'e, W: Sink>(
     sink: &mut W,
 ) -> Result<(), PrintFault>
     requires { story.old.passed ≡ 0 }
-    ensures ok { OnOk result (GathersLines (EachHasLine (λ number. IsEntryLine classes.now (event_at story.old.marks.now number) number) 0 entries.now) (W.taken sink.old) (string_bytes gathered.old) (W.taken sink.new) (string_bytes gathered.new)) }
-    ensures err { OnErr result (CutsLines (EachHasLine (λ number. IsEntryLine classes.now (event_at story.old.marks.now number) number) 0 entries.now) (W.taken sink.old) (string_bytes gathered.old) (W.taken sink.new)) }
+    ensures ok { OnOk result (GathersLines (EachHasLine (λ number. IsEntryLine classes.now
+        (event_at story.old.marks.now number) number) 0 entries.now) (W.taken sink.old)
+        (string_bytes gathered.old) (W.taken sink.new) (string_bytes gathered.new)) }
+    ensures err { OnErr result (CutsLines (EachHasLine (λ number.
+        IsEntryLine classes.now (event_at story.old.marks.now number) number) 0 entries.now)
+        (W.taken sink.old) (string_bytes gathered.old) (W.taken sink.new)) }
     ensures kept { OnOk result (W.failures sink.new ≡ W.failures sink.old) }
-    ensures cause { IsErrOf result PrintFault.WriteFault → HasFailed (W.failures sink.old) (W.failures sink.new) }
-    ensures memory { IsErrOf result PrintFault.OutOfMemory → W.failures sink.new ≡ W.failures sink.old }
+    ensures cause { IsErrOf result PrintFault.WriteFault
+        → HasFailed (W.failures sink.old) (W.failures sink.new) }
+    ensures memory { IsErrOf result PrintFault.OutOfMemory
+        → W.failures sink.new ≡ W.failures sink.old }
 {
     for (number, entry) in entries.iter().enumerate() {
         story.write_next(alloc, classes, gathered, number, entry)?;
@@ -197,11 +229,16 @@ fn print_outcomes<W: Sink>(
     gathered: &mut String,
     sink: &mut W,
 ) -> Result<(), PrintFault>
-    ensures ok { OnOk result (GathersLines (EachHasLine (IsOutcomeLine classes.now) 0 outcomes.now) (W.taken sink.old) (string_bytes gathered.old) (W.taken sink.new) (string_bytes gathered.new)) }
-    ensures err { OnErr result (CutsLines (EachHasLine (IsOutcomeLine classes.now) 0 outcomes.now) (W.taken sink.old) (string_bytes gathered.old) (W.taken sink.new)) }
+    ensures ok { OnOk result (GathersLines (EachHasLine (IsOutcomeLine classes.now) 0 outcomes.now)
+        (W.taken sink.old) (string_bytes gathered.old) (W.taken sink.new)
+        (string_bytes gathered.new)) }
+    ensures err { OnErr result (CutsLines (EachHasLine (IsOutcomeLine classes.now) 0 outcomes.now)
+        (W.taken sink.old) (string_bytes gathered.old) (W.taken sink.new)) }
     ensures kept { OnOk result (W.failures sink.new ≡ W.failures sink.old) }
-    ensures cause { IsErrOf result PrintFault.WriteFault → HasFailed (W.failures sink.old) (W.failures sink.new) }
-    ensures memory { IsErrOf result PrintFault.OutOfMemory → W.failures sink.new ≡ W.failures sink.old }
+    ensures cause { IsErrOf result PrintFault.WriteFault
+        → HasFailed (W.failures sink.old) (W.failures sink.new) }
+    ensures memory { IsErrOf result PrintFault.OutOfMemory
+        → W.failures sink.new ≡ W.failures sink.old }
 {
     for (number, outcome) in outcomes.iter().enumerate() {
         write_outcome(alloc, classes, story, gathered, number, outcome)?;
@@ -218,11 +255,15 @@ fn print_left<W: Sink>(
     gathered: &mut String,
     sink: &mut W,
 ) -> Result<(), PrintFault>
-    ensures ok { OnOk result (GathersLines (AreSoMany (length left.old)) (W.taken sink.old) (string_bytes gathered.old) (W.taken sink.new) (string_bytes gathered.new)) }
-    ensures err { OnErr result (CutsLines (AreSoMany (length left.old)) (W.taken sink.old) (string_bytes gathered.old) (W.taken sink.new)) }
+    ensures ok { OnOk result (GathersLines (AreSoMany (length left.old)) (W.taken sink.old)
+        (string_bytes gathered.old) (W.taken sink.new) (string_bytes gathered.new)) }
+    ensures err { OnErr result (CutsLines (AreSoMany (length left.old)) (W.taken sink.old)
+        (string_bytes gathered.old) (W.taken sink.new)) }
     ensures kept { OnOk result (W.failures sink.new ≡ W.failures sink.old) }
-    ensures cause { IsErrOf result PrintFault.WriteFault → HasFailed (W.failures sink.old) (W.failures sink.new) }
-    ensures memory { IsErrOf result PrintFault.OutOfMemory → W.failures sink.new ≡ W.failures sink.old }
+    ensures cause { IsErrOf result PrintFault.WriteFault
+        → HasFailed (W.failures sink.old) (W.failures sink.new) }
+    ensures memory { IsErrOf result PrintFault.OutOfMemory
+        → W.failures sink.new ≡ W.failures sink.old }
 {
     for thing in left {
         known.write(gathered, thing)?;
@@ -241,11 +282,16 @@ fn print_end<W: Sink>(
     gathered: &mut String,
     sink: &mut W,
 ) -> Result<(), PrintFault>
-    ensures ok { OnOk result (GathersLines (IsEnd run.entry.journal.now run.entry.stopped) (W.taken sink.old) (string_bytes gathered.old) (W.taken sink.new) (string_bytes gathered.new)) }
-    ensures err { OnErr result (CutsLines (IsEnd run.entry.journal.now run.entry.stopped) (W.taken sink.old) (string_bytes gathered.old) (W.taken sink.new)) }
+    ensures ok { OnOk result (GathersLines (IsEnd run.entry.journal.now run.entry.stopped)
+        (W.taken sink.old) (string_bytes gathered.old) (W.taken sink.new)
+        (string_bytes gathered.new)) }
+    ensures err { OnErr result (CutsLines (IsEnd run.entry.journal.now run.entry.stopped)
+        (W.taken sink.old) (string_bytes gathered.old) (W.taken sink.new)) }
     ensures kept { OnOk result (W.failures sink.new ≡ W.failures sink.old) }
-    ensures cause { IsErrOf result PrintFault.WriteFault → HasFailed (W.failures sink.old) (W.failures sink.new) }
-    ensures memory { IsErrOf result PrintFault.OutOfMemory → W.failures sink.new ≡ W.failures sink.old }
+    ensures cause { IsErrOf result PrintFault.WriteFault
+        → HasFailed (W.failures sink.old) (W.failures sink.new) }
+    ensures memory { IsErrOf result PrintFault.OutOfMemory
+        → W.failures sink.new ≡ W.failures sink.old }
 {
     write_end(alloc, classes, run, time, gathered)?;
     end_line(gathered, sink)
@@ -259,7 +305,8 @@ fn write_end(
     time: u64,
     out: &mut String,
 ) -> Result<(), AllocError>
-    ensures { OnOk result (AddsEnd run.entry.journal.now run.entry.stopped (string_bytes out.old) (string_bytes out.new)) }
+    ensures { OnOk result (AddsEnd run.entry.journal.now run.entry.stopped (string_bytes out.old)
+        (string_bytes out.new)) }
 {
     write_work(alloc, classes, run, out)?;
     write_totals(run, time, out)
@@ -283,7 +330,9 @@ fn write_work(
 
 /// Adds the counts of the journal, and the time.
 fn write_totals(run: Run<'_>, time: u64, out: &mut String) -> Result<(), AllocError>
-    ensures { let journal = run.entry.journal.now in OnOk result (string_bytes out.new ≡ string_bytes out.old ++ totals journal.limit run.entry.stopped time (total_weight journal.entries)) }
+    ensures { let journal = run.entry.journal.now in
+        OnOk result (string_bytes out.new ≡ string_bytes out.old
+        ++ totals journal.limit run.entry.stopped time (total_weight journal.entries)) }
 {
     write_number(out, r#","limit":"#, run.journal.limit())?;
     write_bool(out, r#","stopped":"#, run.stopped)?;

@@ -19,10 +19,11 @@ use std::random::RandomSource;
 use std::sync::Wait;
 use std::thread::Threads;
 
-/// Reads a script to the end of the input, performs it in these batches as `dv_replay` does, and writes what `run` writes. Answers
-/// whether the run stopped at the limit of its journal.
+/// Reads a script to the end of the input, performs it in these batches as `dv_replay` does, and
+/// writes what `run` writes. Answers whether the run stopped at the limit of its journal.
 ///
-/// BatchesRefused where the batches aren't an order of the script: nothing was performed, and nothing written.
+/// BatchesRefused where the batches aren't an order of the script: nothing was performed, and
+/// nothing written.
 #[tactic(auto, using(crate::proofs::ReplayEnding::endings))]
 pub fn replay<S, R, W, G>(
     rt: &S,
@@ -38,8 +39,10 @@ where
     W: Sink,
     G: Gate + Sync,
     requires { workers ≤ MOST_WORKERS }
-    ensures ok { IfOk result (HasRunIn batches.now (R.left reader.old) (W.taken writer.old) (W.taken writer.new)) }
-    ensures err { IfErr result (λ fault. GivesUpIn fault batches.now (R.left reader.old) (W.taken writer.old) (W.taken writer.new)) }
+    ensures ok { IfOk result (HasRunIn batches.now (R.left reader.old) (W.taken writer.old)
+        (W.taken writer.new)) }
+    ensures err { IfErr result (λ fault. GivesUpIn fault batches.now (R.left reader.old)
+        (W.taken writer.old) (W.taken writer.new)) }
     ensures reader { ReaderFailed result (R.failures reader.old) (R.failures reader.new) }
     ensures writer { WriterFailed result (W.failures writer.old) (W.failures writer.new) }
     ensures left { Leaves result (R.left reader.old) (R.left reader.new) }

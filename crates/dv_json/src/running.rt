@@ -19,11 +19,13 @@ use std::random::RandomSource;
 use std::sync::Wait;
 use std::thread::Threads;
 
-/// Reads a script to the end of the input, performs it as `dv_run::run` does, and writes what happened, what became of each
-/// Deferred and what is left, a line of JSON an object. Answers whether the run stopped at the limit of its journal.
+/// Reads a script to the end of the input, performs it as `dv_run::run` does, and writes what
+/// happened, what became of each Deferred and what is left, a line of JSON an object. Answers
+/// whether the run stopped at the limit of its journal.
 ///
-/// ScriptRefused where the input says no script, and ReadFault where the reader fails: nothing was written. OutOfMemory where
-/// allocation fails, and WriteFault where the writer fails or takes no byte: the front of the lines may have been written.
+/// ScriptRefused where the input says no script, and ReadFault where the reader fails: nothing was
+/// written. OutOfMemory where allocation fails, and WriteFault where the writer fails or takes no
+/// byte: the front of the lines may have been written.
 #[tactic(auto, using(crate::proofs::Ending::endings))]
 pub fn run<S, R, W, G>(
     rt: &S,
@@ -38,8 +40,10 @@ where
     W: Sink,
     G: Gate + Sync,
     requires { workers ≤ MOST_WORKERS }
-    ensures ok { IfOk result (HasRun (R.left reader.old) (W.taken writer.old) (W.taken writer.new)) }
-    ensures err { IfErr result (λ fault. GivesUp fault (R.left reader.old) (W.taken writer.old) (W.taken writer.new)) }
+    ensures ok { IfOk result (HasRun (R.left reader.old) (W.taken writer.old)
+        (W.taken writer.new)) }
+    ensures err { IfErr result (λ fault. GivesUp fault (R.left reader.old) (W.taken writer.old)
+        (W.taken writer.new)) }
     ensures reader { ReaderFailed result (R.failures reader.old) (R.failures reader.new) }
     ensures writer { WriterFailed result (W.failures writer.old) (W.failures writer.new) }
     ensures left { Leaves result (R.left reader.old) (R.left reader.new) }
@@ -59,8 +63,8 @@ where
     }
 }
 
-/// The exit status of a run, and what goes to standard error: a line of this text, or nothing where it is empty. They are those of
-/// `dv_run::exit::exit_of`.
+/// The exit status of a run, and what goes to standard error: a line of this text, or nothing where
+/// it is empty. They are those of `dv_run::exit::exit_of`.
 pub fn exit_of(ended: Result<bool, RunFault>) -> (u8, &'static str)
     ensures status { result.0 ≡ status ended }
     ensures text { result.1.now ≡ error_text ended }

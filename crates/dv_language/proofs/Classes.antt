@@ -4,6 +4,7 @@ use Rattle.dv_value.specs.Builtin.{builtin}
 use Rattle.dv_language.specs.declared.beside.TheConstants.{CLASSES}
 use Rattle.dv_language.specs.Beside.{class_row, class_data}
 
-pub listed : map (λ class. class_row class.0.now (option_map (λ parent. parent.now) class.1)) CLASSES ≡ map class_data builtin
+pub listed : map (λ class. class_row class.0.now (option_map (λ parent. parent.now) class.1)) CLASSES
+    ≡ map class_data builtin
 unfolding builtin
 listed = refl

@@ -3,7 +3,8 @@ use Rattle.std.specs.Prelude.{ℕ, List, [], ◌∷◌, map, Option, None, Some,
 use Rattle.serde_json.specs.Data.{Data, null, unsigned, number, string, array, object, member, no_members}
 use Rattle.serde_json.specs.View.{items_of}
 use Rattle.dv_clock.specs.declared.limits.TheConstants.{MOST_TICKS}
-use Rattle.dv_script.specs.declared.limits.TheConstants.{MOST_BYTES, MOST_CALLERS, MOST_CLASSES, MOST_LEVELS, MOST_NODES, MOST_POOLS, MOST_POSTS, USUAL_LIMIT}
+use Rattle.dv_script.specs.declared.limits.TheConstants.{MOST_BYTES, MOST_CALLERS, MOST_CLASSES, MOST_LEVELS}
+use Rattle.dv_script.specs.declared.limits.TheConstants.{MOST_NODES, MOST_POOLS, MOST_POSTS, USUAL_LIMIT}
 use Rattle.dv_script.specs.declared.work.TheConstants.{MOST_JOBS}
 use Rattle.dv_value.specs.declared.classes.Class.{Class}
 use Rattle.dv_value.specs.Builtin.{builtin}
@@ -20,7 +21,8 @@ parent_data (Some parent) = string parent
 
 -- a class with its parent, by their names
 abbrev pub class_row : List ℕ → Option (List ℕ) → Data
-class_row name parent = object (member (codes "class") (string name) (member (codes "parent") (parent_data parent) no_members))
+class_row name parent =
+    object (member (codes "class") (string name) (member (codes "parent") (parent_data parent) no_members))
 
 -- a class of the table that every script has
 abbrev pub class_data : Class → Data
@@ -36,27 +38,33 @@ count n = number (unsigned n)
 -- the most that there may be
 abbrev pub limits_data : Data
 limits_data =
-    object (member (codes "bytes") (count MOST_BYTES) (member (codes "callers") (count MOST_CALLERS) (member (codes "classes") (count MOST_CLASSES)
-    (member (codes "depth") (count MOST_LEVELS) (member (codes "jobs") (count MOST_JOBS) (member (codes "name") (count MOST_NAME)
-    (member (codes "nodes") (count MOST_NODES) (member (codes "pools") (count MOST_POOLS) (member (codes "posts") (count MOST_POSTS)
+    object (member (codes "bytes") (count MOST_BYTES)
+    (member (codes "callers") (count MOST_CALLERS) (member (codes "classes") (count MOST_CLASSES)
+    (member (codes "depth") (count MOST_LEVELS)
+    (member (codes "jobs") (count MOST_JOBS) (member (codes "name") (count MOST_NAME)
+    (member (codes "nodes") (count MOST_NODES)
+    (member (codes "pools") (count MOST_POOLS) (member (codes "posts") (count MOST_POSTS)
     (member (codes "time") (count MOST_TICKS) no_members))))))))))
 
 -- what stands where a script leaves it out
 abbrev pub usual_data : Data
 usual_data =
-    object (member (codes "delay") (count 1) (member (codes "limit") (count USUAL_LIMIT) (member (codes "units") (count 1) no_members)))
+    object (member (codes "delay") (count 1)
+    (member (codes "limit") (count USUAL_LIMIT) (member (codes "units") (count 1) no_members)))
 
 -- a refusal, by its number and its name
 abbrev pub refusal_data : ScriptFault → Data
 refusal_data refusal =
-    object (member (codes "name") (string (refusal_name refusal)) (member (codes "refusal") (count (refusal_number refusal)) no_members))
+    object (member (codes "name") (string (refusal_name refusal))
+    (member (codes "refusal") (count (refusal_number refusal)) no_members))
 
 abbrev pub refusals_data : Data
 refusals_data = array (items_of (map refusal_data REFUSALS))
 
 -- an exit status, and when the program ends with it
 abbrev pub status_data : ℕ → List ℕ → Data
-status_data status when = object (member (codes "status") (count status) (member (codes "when") (string when) no_members))
+status_data status when =
+    object (member (codes "status") (count status) (member (codes "when") (string when) no_members))
 
 abbrev pub statuses_data : Data
 statuses_data = array (items_of (map (λ status. status_data status.0 status.1.now) STATUSES))

@@ -35,8 +35,10 @@ since keyed.Body key = 1
 -- a key
 abbrev pub key_data : Keyed → List ℕ → Data
 key_data k key =
-    object (member (codes "key") (string key) (member (codes "needed") (boolean (is_needed k key)) (member (codes "of") (string (keyed_name k))
-    (member (codes "since") (number (unsigned (since k key))) (member (codes "value") (want_data (key_want k key)) no_members)))))
+    object (member (codes "key") (string key)
+    (member (codes "needed") (boolean (is_needed k key)) (member (codes "of") (string (keyed_name k))
+    (member (codes "since") (number (unsigned (since k key)))
+    (member (codes "value") (want_data (key_want k key)) no_members)))))
 
 -- the keys that an object may have
 abbrev pub keys_of : Keyed → List Data

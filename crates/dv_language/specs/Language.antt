@@ -18,8 +18,10 @@ versions_data = array (item (count 1) (item (count 2) no_items))
 -- the language, with these lines of the journal
 abbrev pub language_with : Data → Data
 language_with lines =
-    object (member (codes "classes") classes_data (member (codes "form") (count FORM) (member (codes "keys") keys_data (member (codes "limits") limits_data
-    (member (codes "lines") lines (member (codes "refusals") refusals_data (member (codes "statuses") statuses_data (member (codes "usual") usual_data
+    object (member (codes "classes") classes_data
+    (member (codes "form") (count FORM) (member (codes "keys") keys_data (member (codes "limits") limits_data
+    (member (codes "lines") lines
+    (member (codes "refusals") refusals_data (member (codes "statuses") statuses_data (member (codes "usual") usual_data
     (member (codes "versions") versions_data (member (codes "words") words_data no_members))))))))))
 
 -- the language
@@ -28,7 +30,8 @@ IsLanguage d = (lines : Data) × AreLines lines × (d ≡ language_with lines)
 
 -- the line that was written is a JSON text of the language
 abbrev pub IsPrinted : Option (List ℕ) → Option (List ℕ) → Type 0
-IsPrinted before after = (d : Data) × (line : List ℕ) × IsLanguage d × IsInOrder line d × Appends before after (line ++ 10 ∷ [])
+IsPrinted before after =
+    (d : Data) × (line : List ℕ) × IsLanguage d × IsInOrder line d × Appends before after (line ++ 10 ∷ [])
 
 -- the exit status: 0 where it is printed, and otherwise that of the fault
 abbrev pub ended_status : Result ⊤ LanguageFault → ℕ

@@ -45,7 +45,8 @@ nesting_name nesting.Loop = codes "loop"
 -- a part of a line
 abbrev pub part_data : PartKind → Data
 part_data (part.Object kind which) =
-    object (member (codes "of") (string (kind_name kind)) (member (codes "type") (string (codes "object")) (member (codes "which") (string (naming_name which)) no_members)))
+    object (member (codes "of") (string (kind_name kind))
+    (member (codes "type") (string (codes "object")) (member (codes "which") (string (naming_name which)) no_members)))
 part_data part.Deferred = of_type (codes "deferred")
 part_data part.Fired = of_type (codes "fired")
 part_data part.NewName = of_type (codes "new name")
@@ -68,4 +69,6 @@ line_data form =
 
 -- the lines of a table in which the form of each entry is found by its word
 abbrev pub AreLines : Data → Type 0
-AreLines lines = (forms : List LineForm) × ((entry : Entry) → form_named (form_of entry).word forms ≡ Some (form_of entry)) × (lines ≡ array (items_of (map line_data forms)))
+AreLines lines =
+    (forms : List LineForm) × ((entry : Entry) → form_named (form_of entry).word forms ≡ Some (form_of entry))
+    × (lines ≡ array (items_of (map line_data forms)))

@@ -1,6 +1,7 @@
 -- What a place of a script asks for, as JSON.
 use Rattle.std.specs.Prelude.{ℕ, ◌-◌, ◌^◌, negsuc, List, [], ◌∷◌, map, codes}
-use Rattle.serde_json.specs.Data.{Data, Num, unsigned, number, string, array, object, member, no_members, item, no_items}
+use Rattle.serde_json.specs.Data.{Data, Num, unsigned, number, string, array, object, member, no_members, item}
+use Rattle.serde_json.specs.Data.{no_items}
 use Rattle.serde_json.specs.Find.{of_integer}
 use Rattle.serde_json.specs.View.{items_of}
 use Rattle.dv_forms.specs.declared.want.Object.{Object}
@@ -53,11 +54,14 @@ of_what name what = object (member (codes "of") what (member (codes "type") (str
 -- numbers from the first to the second
 abbrev pub numbers : List ℕ → Num → ℕ → Data
 numbers name least most =
-    object (member (codes "least") (number least) (member (codes "most") (number (unsigned most)) (member (codes "type") (string name) no_members)))
+    object (member (codes "least") (number least)
+    (member (codes "most") (number (unsigned most)) (member (codes "type") (string name) no_members)))
 
 -- the flags of a list, and of a gathering
 abbrev pub list_words : Data
-list_words = array (item (string (codes "fireOnOneCallback")) (item (string (codes "fireOnOneErrback")) (item (string (codes "consumeErrors")) no_items)))
+list_words =
+    array (item (string (codes "fireOnOneCallback"))
+    (item (string (codes "fireOnOneErrback")) (item (string (codes "consumeErrors")) no_items)))
 
 abbrev pub gather_words : Data
 gather_words = array (item (string (codes "consumeErrors")) no_items)
@@ -94,7 +98,8 @@ array_of items = of_what (codes "array") items
 
 -- a pair of such parts
 abbrev pub pair_of : List Data → Data
-pair_of parts = object (member (codes "parts") (array (items_of parts)) (member (codes "type") (string (codes "pair")) no_members))
+pair_of parts =
+    object (member (codes "parts") (array (items_of parts)) (member (codes "type") (string (codes "pair")) no_members))
 
 -- the same with what the parts ask for, but without what the parts of these ask for
 abbrev pub nested_data : Want → Data

@@ -23,7 +23,8 @@ places_data c = array (items_of (map (λ place. string (place_name place)) (plac
 -- a form of a word
 abbrev pub form_data : Call → Form → Data
 form_data c form =
-    object (member (codes "arguments") (wants_data form.wants) (member (codes "since") (number (unsigned form.since)) (member (codes "text") (string form.shown)
+    object (member (codes "arguments") (wants_data form.wants)
+    (member (codes "since") (number (unsigned form.since)) (member (codes "text") (string form.shown)
     (member (codes "where") (places_data c) (member (codes "word") (string form.word) no_members)))))
 
 -- the forms of the words of a place
@@ -33,4 +34,5 @@ rows_of c = map (form_data c) (own_forms c)
 -- the words
 abbrev pub words_data : Data
 words_data =
-    array (items_of (rows_of call.Event ++ (rows_of call.Action ++ (rows_of call.Statement ++ (rows_of call.Leaving ++ (rows_of call.End ++ rows_of call.Work))))))
+    array (items_of (rows_of call.Event ++ (rows_of call.Action
+    ++ (rows_of call.Statement ++ (rows_of call.Leaving ++ (rows_of call.End ++ rows_of call.Work))))))

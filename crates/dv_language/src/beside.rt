@@ -1,9 +1,11 @@
-//! What readers need beside words and lines, as JSON: classes, limits, what stands where a script leaves it out, refusals, statuses.
+//! What readers need beside words and lines, as JSON: classes, limits, what stands where a script
+//! leaves it out, refusals, statuses.
 
 ghost use Rattle.std.specs.Prelude.{◌≡◌, IfOk, map, option_map};
 ghost use Rattle.serde_json.specs.Data.{array};
 ghost use Rattle.serde_json.specs.View.{items_of, view};
-ghost use Rattle.dv_language.specs.Beside.{class_row, classes_data, limits_data, usual_data, refusal_data, refusals_data, status_data, statuses_data};
+ghost use Rattle.dv_language.specs.Beside.{class_row, classes_data, limits_data, usual_data};
+ghost use Rattle.dv_language.specs.Beside.{refusal_data, refusals_data, status_data, statuses_data};
 
 use dv_clock::limits::MOST_TICKS;
 use dv_reader::error::{REFUSALS, ScriptFault, refusal_name, refusal_number};
@@ -63,7 +65,8 @@ fn class_json(
     alloc: Global,
     class: &(&'static str, Option<&'static str>),
 ) -> Result<Json, AllocError>
-    ensures { IfOk result (λ json. view json ≡ class_row class.now.0.now (option_map (λ parent. parent.now) class.now.1)) }
+    ensures { IfOk result (λ json. view json
+        ≡ class_row class.now.0.now (option_map (λ parent. parent.now) class.now.1)) }
 {
     match class.1 {
         None => json!(in alloc; {"class": class.0, "parent": null}),
@@ -75,7 +78,8 @@ fn class_rows(
     alloc: Global,
     classes: &[(&'static str, Option<&'static str>)],
 ) -> Result<Json, AllocError>
-    ensures { IfOk result (λ json. view json ≡ array (items_of (map (λ class. class_row class.0.now (option_map (λ parent. parent.now) class.1)) classes.now))) }
+    ensures { IfOk result (λ json. view json ≡ array (items_of (map (λ class.
+        class_row class.0.now (option_map (λ parent. parent.now) class.1)) classes.now))) }
 {
     let mut rows = Vec::new(alloc);
     for class in classes {
@@ -147,7 +151,8 @@ fn status_json(alloc: Global, status: &(u32, &'static str)) -> Result<Json, Allo
 }
 
 fn status_rows(alloc: Global, statuses: &[(u32, &'static str)]) -> Result<Json, AllocError>
-    ensures { IfOk result (λ json. view json ≡ array (items_of (map (λ status. status_data status.0 status.1.now) statuses.now))) }
+    ensures { IfOk result (λ json. view json
+        ≡ array (items_of (map (λ status. status_data status.0 status.1.now) statuses.now))) }
 {
     let mut rows = Vec::new(alloc);
     for status in statuses {

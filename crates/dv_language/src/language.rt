@@ -3,7 +3,8 @@
 ghost use Rattle.std.specs.Prelude.{◌≡◌, OnOk, IfOk, IsErrOf};
 ghost use Rattle.serde_json.specs.View.{view};
 ghost use Rattle.dv_journal.specs.Sink.{HasFailed};
-ghost use Rattle.dv_language.specs.Language.{IsLanguage, IsPrinted, language_with, versions_data, ended_status, ended_text};
+ghost use Rattle.dv_language.specs.Language.{IsLanguage, IsPrinted, language_with, versions_data};
+ghost use Rattle.dv_language.specs.Language.{ended_status, ended_text};
 
 use crate::beside::{classes_json, limits_json, refusals_json, statuses_json, usual_json};
 use crate::keys::keys_json;
@@ -80,7 +81,8 @@ fn language_json(alloc: Global) -> Result<Json, AllocError>
 /// Writes the language as a line of JSON.
 pub fn print_language<W: Sink>(alloc: Global, writer: &mut W) -> Result<(), LanguageFault>
     ensures ok { OnOk result (IsPrinted (W.taken writer.old) (W.taken writer.new)) }
-    ensures write { IsErrOf result LanguageFault.WriteFault → HasFailed (W.failures writer.old) (W.failures writer.new) }
+    ensures write { IsErrOf result LanguageFault.WriteFault
+        → HasFailed (W.failures writer.old) (W.failures writer.new) }
     ensures kept { OnOk result (W.failures writer.new ≡ W.failures writer.old) }
 {
     let mut line = language_json(alloc)?.to_string(alloc)?;

@@ -3,7 +3,8 @@
 ghost use Rattle.std.specs.Prelude.{◌≡◌, IfOk, map};
 ghost use Rattle.serde_json.specs.Data.{array};
 ghost use Rattle.serde_json.specs.View.{items_of, view};
-ghost use Rattle.dv_language.specs.Lines.{kind_name, naming_name, nesting_name, part_data, line_data, AreLines};
+ghost use Rattle.dv_language.specs.Lines.{kind_name, naming_name, nesting_name, part_data};
+ghost use Rattle.dv_language.specs.Lines.{line_data, AreLines};
 
 use dv_journal::form::{LineForm, Naming, Nesting, ObjectKind, PartKind};
 use dv_journal::forms::line_forms;

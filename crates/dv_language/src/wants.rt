@@ -1,10 +1,13 @@
-//! What a place of a script asks for, as JSON. An array and a pair have what their parts ask for in them.
+//! What a place of a script asks for, as JSON. An array and a pair have what their parts ask for in
+//! them.
 
 ghost use Rattle.std.specs.Prelude.{◌≡◌, IfOk, map, codes};
 ghost use Rattle.serde_json.specs.Data.{array};
 ghost use Rattle.serde_json.specs.Find.{of_integer};
 ghost use Rattle.serde_json.specs.View.{items_of, view};
-ghost use Rattle.dv_language.specs.Wants.{object_name, place_name, keyed_name, numbers, flags, list_words, gather_words, leaf_data, flat_data, nested_data, want_data, wants_data};
+ghost use Rattle.dv_language.specs.Wants.{object_name, place_name, keyed_name, numbers, flags};
+ghost use Rattle.dv_language.specs.Wants.{list_words, gather_words, leaf_data, flat_data};
+ghost use Rattle.dv_language.specs.Wants.{nested_data, want_data, wants_data};
 
 use dv_forms::want::{Call, Keyed, Leaf, Object, Want};
 use dv_script::limits::MOST_PLACES;

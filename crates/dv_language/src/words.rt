@@ -46,7 +46,8 @@ fn push_forms<W: Copy>(
     call: Call,
     forms: &'static [Form<W>],
 ) -> Result<(), AllocError>
-    ensures { OnOk result (map view rows.new.items ≡ map view rows.old.items ++ map (form_data call) (map seen forms.now)) }
+    ensures { OnOk result (map view rows.new.items ≡ map view rows.old.items ++ map (form_data call)
+        (map seen forms.now)) }
 {
     for form in forms {
         push(rows, form_json(alloc, call, form)?)?;

@@ -1,5 +1,6 @@
 -- Only the next firing after the first may be swallowed.
-use Rattle.std.proofs.Common.{◌≡◌, ℕ, zero, suc, ◌+◌, ◌≤◌, ◌++◌, Bool, true, false, nat_eq, List, ◌∷◌, Some, refl, sym, ap, ◌∙◌, arith, slice_get, slice_set, cond, length, sum_by}
+use Rattle.std.proofs.Common.{◌≡◌, ℕ, zero, suc, ◌+◌, ◌≤◌, ◌++◌, Bool, true, false, nat_eq, List, ◌∷◌, Some, refl, sym}
+use Rattle.std.proofs.Common.{ap, ◌∙◌, arith, slice_get, slice_set, cond, length, sum_by}
 use Rattle.std.proofs.lemmas.Bool.{eqb-true}
 use Rattle.std.proofs.lemmas.List.Sums.{sum_by_push, sum_by-append, sum_by-cons}
 use Rattle.dv_journal.specs.Told.{change_of, Aside, Swallows}
@@ -56,24 +57,32 @@ nothing_of (suc k) over h m = absurd (omega (arith, h (omega arith), m))
 tells : (n : ℕ) (e : Entry) (rs : Records) (s : Both) → Tells n e rs s → Counts n s (telling_of e rs s)
 tells n e rs s t = record {
   goes_on = λ k. record {
-    over = λ q. more_refused (refusals n s.1.entries) (refusing n e) _ (λ a. t.stays (k.over a)) t.refused (omega (arith, q, sum_by_push (refusing n) s.1.entries e));
-    first = entries_on (λ told x. x ≡ entry.Swallow n → refusals n told ≡ 0) e s.1.entries k.first (λ q. nothing_of (refusals n s.1.entries) _ k.over (t.swallowed q));
+    over =
+        λ q. more_refused (refusals n s.1.entries) (refusing n e) _ (λ a. t.stays (k.over a)) t.refused
+        (omega (arith, q, sum_by_push (refusing n) s.1.entries e));
+    first =
+        entries_on (λ told x. x ≡ entry.Swallow n → refusals n told ≡ 0) e s.1.entries k.first
+        (λ q. nothing_of (refusals n s.1.entries) _ k.over (t.swallowed q));
   };
 }
 
 -- an entry that is no further firing
-plain : (n : ℕ) (e : Entry) (rs : Records) (s : Both) → refusing n e ≡ 0 → (e ≡ entry.Swallow n → ⊥) → (at over_of n s.0 ≡ 1 → at over_of n rs ≡ 1) → Counts n s (telling_of e rs s)
-plain n e rs s a b p = tells n e rs s (record { refused = λ q. absurd (omega (arith, a, q)); stays = p; swallowed = λ q. absurd (b q) })
+plain : (n : ℕ) (e : Entry) (rs : Records) (s : Both) → refusing n e ≡ 0 → (e ≡ entry.Swallow n → ⊥)
+    → (at over_of n s.0 ≡ 1 → at over_of n rs ≡ 1) → Counts n s (telling_of e rs s)
+plain n e rs s a b p =
+    tells n e rs s (record { refused = λ q. absurd (omega (arith, a, q)); stays = p; swallowed = λ q. absurd (b q) })
 
 not_swallowed : (n : ℕ) (e : Entry) → change_of e ≡ Aside → e ≡ entry.Swallow n → ⊥
 not_swallowed n e a q = let same : Swallows n ≡ Aside = ap change_of (sym q) ∙ a in absurd cc
 
 -- one of which further firings are refused stays so
-over_by : (b : Bool) (n d : ℕ) (r s : Kind) (l : Records) → nat_eq d n ≡ b → slice_get l d ≡ Some r → (over_of r ≡ 1 → over_of s ≡ 1) → at over_of n l ≡ 1 → cond b (over_of s) (at over_of n l) ≡ 1
+over_by : (b : Bool) (n d : ℕ) (r s : Kind) (l : Records) → nat_eq d n ≡ b → slice_get l d ≡ Some r
+    → (over_of r ≡ 1 → over_of s ≡ 1) → at over_of n l ≡ 1 → cond b (over_of s) (at over_of n l) ≡ 1
 over_by true n d r s l e h p q = p (ap (counted_of over_of) (sym h) ∙ ap (λ x. at over_of x l) (eqb-true d n e) ∙ q)
 over_by false n d r s l e h p q = q
 
-over_at : (n d : ℕ) (r s : Kind) (l : Records) → slice_get l d ≡ Some r → (over_of r ≡ 1 → over_of s ≡ 1) → at over_of n l ≡ 1 → at over_of n (slice_set l d s) ≡ 1
+over_at : (n d : ℕ) (r s : Kind) (l : Records) → slice_get l d ≡ Some r → (over_of r ≡ 1 → over_of s ≡ 1)
+    → at over_of n l ≡ 1 → at over_of n (slice_set l d s) ≡ 1
 over_at n d r s l h p q = set_by over_of n d r s l h ∙ over_by _ n d r s l refl h p q
 
 -- a change that leaves it
@@ -93,7 +102,8 @@ refused_over : (r : Kind) → r.fired ≡ true → r.swallows ≡ false → over
 refused_over r f q = rw (f, q) refl
 
 -- a firing that is refused, and one that is swallowed
-refused_by : (b : Bool) (n d : ℕ) (r : Kind) (l : Records) → nat_eq d n ≡ b → slice_get l d ≡ Some r → over_of r ≡ 1 → 1 ≤ cond b 1 0 → at over_of n l ≡ 1
+refused_by : (b : Bool) (n d : ℕ) (r : Kind) (l : Records) → nat_eq d n ≡ b → slice_get l d ≡ Some r → over_of r ≡ 1
+    → 1 ≤ cond b 1 0 → at over_of n l ≡ 1
 refused_by true n d r l e h p q = rw (← (eqb-true d n e), h) p
 refused_by false n d r l e h p q = absurd (omega (arith, q))
 
@@ -101,9 +111,12 @@ swallow_of : (n d : ℕ) → entry.Swallow d ≡ entry.Swallow n → d ≡ n
 swallow_of n d q = cc
 
 -- a firing by a cancel is none of a fired Deferred
-guarded_by : (b : Bool) (n d : ℕ) (r : Kind) (l : Records) → nat_eq d n ≡ b → slice_get l d ≡ Some r → r.fired ≡ false → at over_of n l ≡ 1
-    → (let fired = slice_set l d (firing.with_firing cancelled r) in cond b (at (λ x. over_of (firing.with_guard true x)) n fired) (at over_of n fired) ≡ 1)
-guarded_by true n d r l e h f q = unfired r _ f (ap (counted_of over_of) (sym h) ∙ ap (λ x. at over_of x l) (eqb-true d n e) ∙ q)
+guarded_by : (b : Bool) (n d : ℕ) (r : Kind) (l : Records) → nat_eq d n ≡ b → slice_get l d ≡ Some r → r.fired ≡ false
+    → at over_of n l ≡ 1
+    → (let fired = slice_set l d (firing.with_firing cancelled r) in
+    cond b (at (λ x. over_of (firing.with_guard true x)) n fired) (at over_of n fired) ≡ 1)
+guarded_by true n d r l e h f q =
+    unfired r _ f (ap (counted_of over_of) (sym h) ∙ ap (λ x. at over_of x l) (eqb-true d n e) ∙ q)
 guarded_by false n d r l e h f q = over_at n d r (firing.with_firing cancelled r) l h (unfired r _ f) q
 
 -- each entry logs further firings
@@ -112,11 +125,17 @@ still n = record {
   stays = λ w. record { goes_on = λ k. k };
   joins = λ u v w p q. record { goes_on = λ k. q.goes_on (p.goes_on k) };
   stops = λ w. record { goes_on = λ k. k };
-  news = λ name canceller w x. plain n (entry.New (length w.records) name) _ (state_of w) refl (λ q. absurd cc) (same_at n w.records _ (push_at over_of n (new_record name canceller) w.records refl));
+  news =
+      λ name canceller w x. plain n (entry.New (length w.records) name) _ (state_of w) refl (λ q. absurd cc)
+      (same_at n w.records _ (push_at over_of n (new_record name canceller) w.records refl));
   asides = λ e change w a c l b x. plain n e _ (state_of w) (rw a refl) (not_swallowed n e a) (λ q. q);
   arranges = λ change w s l b. record { goes_on = λ k. k };
   submits = λ d pool work w x. plain n (entry.Job (length w.works) d) _ (state_of w) refl (λ q. absurd cc) (λ q. q);
-  refuses = λ d r w x h p q. tells n (entry.Refuse d) _ (state_of w) (record { refused = refused_by _ n d r w.records refl h (refused_over r p q); stays = λ z. z; swallowed = λ z. absurd cc });
+  refuses = λ d r w x h p q. tells n (entry.Refuse d) _ (state_of w) (record {
+    refused = refused_by _ n d r w.records refl h (refused_over r p q);
+    stays = λ z. z;
+    swallowed = λ z. absurd cc;
+  });
   swallows = λ d r w x h p.
       tells n (entry.Swallow d) _ (state_of w) (record {
         refused = λ q. absurd (omega (arith, q));
@@ -126,36 +145,58 @@ still n = record {
   cancels = λ d w x. plain n (entry.Cancel d) _ (state_of w) refl (λ q. absurd cc) (λ q. q);
   guards = λ d r w x h f c.
       plain n (entry.Fire d cancelled) _ (state_of w) refl (λ q. absurd cc)
-      (λ q. changing_by over_of n d (firing.with_guard true) (slice_set w.records d (firing.with_firing cancelled r)) ∙ guarded_by (nat_eq d n) n d r w.records refl h f q);
-  fires = λ d value r w x h f. plain n (entry.Fire d value) _ (state_of w) refl (λ q. absurd cc) (over_at n d r _ w.records h (unfired r _ f));
-  adds = λ d pair r w x h. plain n (entry.Add d) _ (state_of w) refl (λ q. absurd cc) (over_at n d r _ w.records h (λ z. z));
-  pauses = λ d r w x h. plain n (entry.Pause d) _ (state_of w) refl (λ q. absurd cc) (over_at n d r _ w.records h (λ z. z));
-  unpauses = λ d r w x h p. plain n (entry.Unpause d) _ (state_of w) refl (λ q. absurd cc) (over_at n d r _ w.records h (λ z. z));
+      (λ q. changing_by over_of n d (firing.with_guard true) (slice_set w.records d (firing.with_firing cancelled r))
+      ∙ guarded_by (nat_eq d n) n d r w.records refl h f q);
+  fires =
+      λ d value r w x h f.
+      plain n (entry.Fire d value) _ (state_of w) refl (λ q. absurd cc) (over_at n d r _ w.records h (unfired r _ f));
+  adds =
+      λ d pair r w x h.
+      plain n (entry.Add d) _ (state_of w) refl (λ q. absurd cc) (over_at n d r _ w.records h (λ z. z));
+  pauses =
+      λ d r w x h. plain n (entry.Pause d) _ (state_of w) refl (λ q. absurd cc) (over_at n d r _ w.records h (λ z. z));
+  unpauses =
+      λ d r w x h p.
+      plain n (entry.Unpause d) _ (state_of w) refl (λ q. absurd cc) (over_at n d r _ w.records h (λ z. z));
 }
 
 settles : (n : ℕ) → Settles (λ w u. Counts n (state_of w) (state_of u))
 settles n = record {
   still = still n;
-  drops = λ d r pair rest w h e a. record { goes_on = λ k. record { over = λ q. over_at n d r _ w.records h (λ z. z) (k.over q); first = k.first } };
-  runs = λ d r pair rest w x h e a. plain n (entry.Run d) _ (state_of w) refl (λ q. absurd cc) (over_at n d r _ w.records h (λ z. z));
+  drops = λ d r pair rest w h e a. record {
+    goes_on = λ k. record { over = λ q. over_at n d r _ w.records h (λ z. z) (k.over q); first = k.first };
+  };
+  runs =
+      λ d r pair rest w x h e a.
+      plain n (entry.Run d) _ (state_of w) refl (λ q. absurd cc) (over_at n d r _ w.records h (λ z. z));
   hands = λ d c r rest w x h e a.
-      plain n (entry.Hand d c r.value) _ (state_of w) refl (λ q. absurd cc) (same_at n w.records _ (changing_at over_of n c (with_handed r.value) _ (λ y. refl) ∙ set_at over_of n d r _ w.records h refl));
-  sets = λ d value r w x h p. plain n (entry.Set d value) _ (state_of w) refl (λ q. absurd cc) (over_at n d r _ w.records h (λ z. z));
+      plain n (entry.Hand d c r.value) _ (state_of w) refl (λ q. absurd cc) (same_at n w.records _
+      (changing_at over_of n c (with_handed r.value) _ (λ y. refl) ∙ set_at over_of n d r _ w.records h refl));
+  sets =
+      λ d value r w x h p.
+      plain n (entry.Set d value) _ (state_of w) refl (λ q. absurd cc) (over_at n d r _ w.records h (λ z. z));
   waits = λ d e r given w x h i p q.
       plain n (entry.Wait d e) _ (state_of w) refl (λ z. absurd cc)
-      (same_at n w.records _ (changing_at over_of n d (chaining.with_wait e) _ (λ y. refl) ∙ changing_at over_of n e (with_item (item.HandOver d)) w.records (λ y. refl)));
+      (same_at n w.records _ (changing_at over_of n d (chaining.with_wait e) _ (λ y. refl)
+      ∙ changing_at over_of n e (with_item (item.HandOver d)) w.records (λ y. refl)));
   takes = λ d e r given w x h i p q.
       plain n (entry.Take d e given.value) _ (state_of w) refl (λ z. absurd cc)
-      (same_at n w.records _ (changing_at over_of n d (with_result given.value) _ (λ y. refl) ∙ changing_at over_of n e chaining.without_value w.records (λ y. refl)));
+      (same_at n w.records _ (changing_at over_of n d (with_result given.value) _ (λ y. refl)
+      ∙ changing_at over_of n e chaining.without_value w.records (λ y. refl)));
   advances = λ ticks w x. plain n (entry.Advance _) _ (state_of w) refl (λ q. absurd cc) (λ q. q);
 }
 
-world_first : (n : ℕ) (script : Script) (batches : List Batch) (w : World) → Means script batches w → FirstSwallowed n w.journal.entries
+world_first : (n : ℕ) (script : Script) (batches : List Batch) (w : World) → Means script batches w
+    → FirstSwallowed n w.journal.entries
 world_first n script batches w m =
-    ((means_keeps (λ w u. Counts n (state_of w) (state_of u)) (settles n) script batches w m).goes_on (record { over = λ q. absurd (omega (arith, q)); first = no_entries (λ told x. x ≡ entry.Swallow n → refusals n told ≡ 0) })).first
+    ((means_keeps (λ w u. Counts n (state_of w) (state_of u)) (settles n) script batches w m).goes_on (record {
+      over = λ q. absurd (omega (arith, q));
+      first = no_entries (λ told x. x ≡ entry.Swallow n → refusals n told ≡ 0);
+    })).first
 
 -- what is logged around an entry, and by it
-around : (f : Entry → ℕ) (before : List Entry) (e : Entry) (later entries : List Entry) → entries ≡ before ++ e ∷ later → sum_by f entries ≡ sum_by f before + f e + sum_by f later
+around : (f : Entry → ℕ) (before : List Entry) (e : Entry) (later entries : List Entry) → entries ≡ before ++ e ∷ later
+    → sum_by f entries ≡ sum_by f before + f e + sum_by f later
 around f before e later entries q = rw q (omega (arith, sum_by-append f before (e ∷ later), sum_by-cons f e later))
 
 itself : (n : ℕ) → swallowing n (entry.Swallow n) ≡ 1
@@ -168,6 +209,16 @@ only_next_swallowed script report r n =
     let first = reported (FirstSwallowed n) (world_first n) script report r in
     record {
       first = λ before later q. first.next before (entry.Swallow n) later q refl;
-      refused = λ before later q. omega (arith, once.once, once.swallowed.fired before later q, around (firing_by n) before (entry.Swallow n) later report.journal.entries q);
-      only = λ before later q. omega (arith, once.swallowed_once, around (swallowing n) before (entry.Swallow n) later report.journal.entries q, itself n);
+      refused = λ before later q. omega (
+        arith,
+        once.once,
+        once.swallowed.fired before later q,
+        around (firing_by n) before (entry.Swallow n) later report.journal.entries q,
+      );
+      only = λ before later q. omega (
+        arith,
+        once.swallowed_once,
+        around (swallowing n) before (entry.Swallow n) later report.journal.entries q,
+        itself n,
+      );
     }

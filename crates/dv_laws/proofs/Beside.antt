@@ -3,7 +3,8 @@ use Rattle.std.specs.Prelude.{◌≡◌, ℕ, true, false, List, [], ◌∷◌, 
 use Rattle.dv_clock.specs.Turns.{turn_of}
 use Rattle.dv_journal.specs.declared.entry.Entry.{Entry}
 use Rattle.dv_journal.specs.declared.entry.Entry.TheVariants as entry
-use Rattle.dv_objects.specs.Cooperator.{Cooperator, with_new_task, with_step, with_pause, with_resume, with_end, with_waiting, result_of}
+use Rattle.dv_objects.specs.Cooperator.{Cooperator, with_new_task, with_step, with_pause, with_resume, with_end}
+use Rattle.dv_objects.specs.Cooperator.{with_waiting, result_of}
 use Rattle.dv_objects.specs.Objects.{Objects}
 use Rattle.dv_objects.specs.declared.task.Task.{Task}
 use Rattle.dv_objects.specs.declared.task.TaskEnd.{TaskEnd}
@@ -23,36 +24,49 @@ use Rattle.dv_laws.specs.Tokens.{holding_of, Unheld}
 pub data Tasks (e : Entry) (c : Cooperator) : Cooperator → Type 0 where
   TasksRest : (new : Cooperator) → tasking_of e ≡ Untasked → new.tasks ≡ c.tasks → new.turns ≡ c.turns → Tasks e c new
   TaskMade : (name : List ℕ) (bodies : List Body) → e ≡ entry.Task name → Tasks e c (with_new_task name bodies c)
-  TaskSteps : (t : ℕ) (x : Task) → turn_of c.turns ≡ Some t → slice_get c.tasks t ≡ Some x → e ≡ entry.Step x.name → Tasks e c (with_step t x c)
-  TaskEnds : (t : ℕ) (end : TaskEnd) (x : Task) → slice_get c.tasks t ≡ Some x → x.end ≡ None → e ≡ entry.End x.name (result_of x.name end) → Tasks e c (with_end t end x c)
-  TaskPaused : (t : ℕ) (x : Task) → slice_get c.tasks t ≡ Some x → tasking_of e ≡ Untasked → Tasks e c (with_pause t x c)
-  TaskResumed : (t : ℕ) (x : Task) → slice_get c.tasks t ≡ Some x → tasking_of e ≡ Untasked → Tasks e c (with_resume t x c)
-  TaskAwaited : (t d : ℕ) (x : Task) → slice_get c.tasks t ≡ Some x → tasking_of e ≡ Untasked → Tasks e c (with_waiting t d x c)
+  TaskSteps : (t : ℕ) (x : Task) → turn_of c.turns ≡ Some t → slice_get c.tasks t ≡ Some x → e ≡ entry.Step x.name
+      → Tasks e c (with_step t x c)
+  TaskEnds : (t : ℕ) (end : TaskEnd) (x : Task) → slice_get c.tasks t ≡ Some x → x.end ≡ None
+      → e ≡ entry.End x.name (result_of x.name end) → Tasks e c (with_end t end x c)
+  TaskPaused : (t : ℕ) (x : Task) → slice_get c.tasks t ≡ Some x → tasking_of e ≡ Untasked
+      → Tasks e c (with_pause t x c)
+  TaskResumed : (t : ℕ) (x : Task) → slice_get c.tasks t ≡ Some x → tasking_of e ≡ Untasked
+      → Tasks e c (with_resume t x c)
+  TaskAwaited : (t d : ℕ) (x : Task) → slice_get c.tasks t ≡ Some x → tasking_of e ≡ Untasked
+      → Tasks e c (with_waiting t d x c)
 
 -- locks stay, or one is made, or a token of one is asked for or released, which is logged
 pub data Locks (e : Entry) (old : List Semaphore) : List Semaphore → Type 0 where
   LocksRest : (new : List Semaphore) → holding_of e ≡ Unheld → new ≡ old → Locks e old new
   LockMade : (name : List ℕ) (tokens : ℕ) → holding_of e ≡ Unheld → Locks e old (old ++ new_semaphore name tokens ∷ [])
-  LockAsked : (l d : ℕ) (s : Semaphore) → slice_get old l ≡ Some s → e ≡ entry.Acquire s.name d → Locks e old (slice_set old l (asked d s))
-  LockReleased : (l : ℕ) (s : Semaphore) → slice_get old l ≡ Some s → is_unheld s ≡ false → e ≡ entry.Release s.name → Locks e old (slice_set old l (released s))
+  LockAsked : (l d : ℕ) (s : Semaphore) → slice_get old l ≡ Some s → e ≡ entry.Acquire s.name d
+      → Locks e old (slice_set old l (asked d s))
+  LockReleased : (l : ℕ) (s : Semaphore) → slice_get old l ≡ Some s → is_unheld s ≡ false → e ≡ entry.Release s.name
+      → Locks e old (slice_set old l (released s))
 
 -- queues stay, or one is made, or a value is put into one or asked for, which is logged
 pub data Queues (e : Entry) (old : List Queue) : List Queue → Type 0 where
   QueuesRest : (new : List Queue) → queueing_of e ≡ Unqueued → new ≡ old → Queues e old new
-  QueueMade : (name : List ℕ) (size backlog : Option ℕ) → e ≡ entry.Queue name size backlog → Queues e old (old ++ new_queue name size backlog ∷ [])
-  QueuePut : (k : ℕ) (value : Value) (q : Queue) → slice_get old k ≡ Some q → may_put q ≡ true → e ≡ entry.Put q.name value → Queues e old (slice_set old k (put_to q.waiting value q))
-  QueueGot : (k d : ℕ) (q : Queue) → slice_get old k ≡ Some q → e ≡ entry.Get q.name d → Queues e old (slice_set old k (got_from q.stored d q))
+  QueueMade : (name : List ℕ) (size backlog : Option ℕ) → e ≡ entry.Queue name size backlog
+      → Queues e old (old ++ new_queue name size backlog ∷ [])
+  QueuePut : (k : ℕ) (value : Value) (q : Queue) → slice_get old k ≡ Some q → may_put q ≡ true
+      → e ≡ entry.Put q.name value → Queues e old (slice_set old k (put_to q.waiting value q))
+  QueueGot : (k d : ℕ) (q : Queue) → slice_get old k ≡ Some q → e ≡ entry.Get q.name d
+      → Queues e old (slice_set old k (got_from q.stored d q))
 
 -- loops stay, or one keeps its name, its start and its interval
 pub data LoopsKept (old : List LoopingCall) : List LoopingCall → Type 0 where
   SameLoops : (new : List LoopingCall) → new ≡ old → LoopsKept old new
-  LoopSet : (l : ℕ) (x y : LoopingCall) → slice_get old l ≡ Some x → y.name ≡ x.name → y.start ≡ x.start → y.interval ≡ x.interval → LoopsKept old (slice_set old l y)
+  LoopSet : (l : ℕ) (x y : LoopingCall) → slice_get old l ≡ Some x → y.name ≡ x.name → y.start ≡ x.start
+      → y.interval ≡ x.interval → LoopsKept old (slice_set old l y)
 
 -- so it is where nothing is logged of loops; or one is started, or its next turn is scheduled, which is logged
 pub data Loops (e : Entry) (clock : Clock) (old : List LoopingCall) : List LoopingCall → Type 0 where
   LoopsRest : (new : List LoopingCall) → looping_of e ≡ Unlooped → LoopsKept old new → Loops e clock old new
-  LoopStarts : (name : List ℕ) (d interval : ℕ) (body : Body) → e ≡ entry.Loop name d → Loops e clock old (old ++ new_loop name d clock.time interval body ∷ [])
-  LoopTurns : (l : ℕ) (x y : LoopingCall) → slice_get old l ≡ Some x → y.name ≡ x.name → y.start ≡ x.start → y.interval ≡ x.interval → e ≡ entry.LaterLoop x.name (next_due x clock) → Loops e clock old (slice_set old l y)
+  LoopStarts : (name : List ℕ) (d interval : ℕ) (body : Body) → e ≡ entry.Loop name d
+      → Loops e clock old (old ++ new_loop name d clock.time interval body ∷ [])
+  LoopTurns : (l : ℕ) (x y : LoopingCall) → slice_get old l ≡ Some x → y.name ≡ x.name → y.start ≡ x.start
+      → y.interval ≡ x.interval → e ≡ entry.LaterLoop x.name (next_due x clock) → Loops e clock old (slice_set old l y)
 
 pub record Beside (e : Entry) (old new : Objects) : Type 0 where
   pub tasks : Tasks e old.cooperator new.cooperator
@@ -61,8 +75,16 @@ pub record Beside (e : Entry) (old new : Objects) : Type 0 where
   pub loops : Loops e old.clock old.loops new.loops
 
 -- nothing of them changes, and nothing is logged of them
-pub resting : (e : Entry) (old new : Objects) → tasking_of e ≡ Untasked → holding_of e ≡ Unheld → queueing_of e ≡ Unqueued → looping_of e ≡ Unlooped → new.cooperator.tasks ≡ old.cooperator.tasks → new.cooperator.turns ≡ old.cooperator.turns → new.semaphores ≡ old.semaphores → new.queues ≡ old.queues → new.loops ≡ old.loops → Beside e old new
-resting e old new a b c d p q r s t = record { tasks = TasksRest new.cooperator a p q; locks = LocksRest new.semaphores b r; queues = QueuesRest new.queues c s; loops = LoopsRest new.loops d (SameLoops new.loops t) }
+pub resting : (e : Entry) (old new : Objects) → tasking_of e ≡ Untasked → holding_of e ≡ Unheld
+    → queueing_of e ≡ Unqueued → looping_of e ≡ Unlooped → new.cooperator.tasks ≡ old.cooperator.tasks
+    → new.cooperator.turns ≡ old.cooperator.turns → new.semaphores ≡ old.semaphores → new.queues ≡ old.queues
+    → new.loops ≡ old.loops → Beside e old new
+resting e old new a b c d p q r s t = record {
+  tasks = TasksRest new.cooperator a p q;
+  locks = LocksRest new.semaphores b r;
+  queues = QueuesRest new.queues c s;
+  loops = LoopsRest new.loops d (SameLoops new.loops t);
+}
 
 -- what isn't logged leaves tasks as they are, and one waits no longer for a token, or for a value
 pub data LocksKept (old : List Semaphore) : List Semaphore → Type 0 where
@@ -80,5 +102,13 @@ pub record Arranged (old new : Objects) : Type 0 where
   pub queues : QueuesKept old.queues new.queues
   pub loops : LoopsKept old.loops new.loops
 
-pub arranging : (old new : Objects) → new.cooperator.tasks ≡ old.cooperator.tasks → new.cooperator.turns ≡ old.cooperator.turns → new.semaphores ≡ old.semaphores → new.queues ≡ old.queues → new.loops ≡ old.loops → Arranged old new
-arranging old new p q r s t = record { tasks = p; turns = q; locks = SameLocks new.semaphores r; queues = SameQueues new.queues s; loops = SameLoops new.loops t }
+pub arranging : (old new : Objects) → new.cooperator.tasks ≡ old.cooperator.tasks
+    → new.cooperator.turns ≡ old.cooperator.turns → new.semaphores ≡ old.semaphores → new.queues ≡ old.queues
+    → new.loops ≡ old.loops → Arranged old new
+arranging old new p q r s t = record {
+  tasks = p;
+  turns = q;
+  locks = SameLocks new.semaphores r;
+  queues = SameQueues new.queues s;
+  loops = SameLoops new.loops t;
+}

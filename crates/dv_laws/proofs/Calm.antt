@@ -1,5 +1,7 @@
--- Each rule but settling leads on by steps that use no item and put nothing in place: what Calm proves, from the form of a rule.
-use Rattle.std.proofs.Common.{ℕ, ◌+◌, ◌≡◌, Bool, true, false, if◌then◌else◌, List, [], ◌∷◌, ◌++◌, Option, None, Some, length, nat_eq, slice_get, refl, arith}
+-- Each rule but settling leads on by steps that use no item and put nothing in place: what Calm proves, from the form
+-- of a rule.
+use Rattle.std.proofs.Common.{ℕ, ◌+◌, ◌≡◌, Bool, true, false, if◌then◌else◌, List, [], ◌∷◌, ◌++◌, Option, None, Some}
+use Rattle.std.proofs.Common.{length, nat_eq, slice_get, refl, arith}
 use Rattle.dv_value.specs.declared.value.Value.{Value}
 use Rattle.dv_journal.specs.declared.entry.Entry.{Entry}
 use Rattle.dv_journal.specs.declared.entry.Entry.TheVariants as entry
@@ -28,7 +30,12 @@ use Rattle.dv_frames.specs.declared.frame.Purpose.{Purpose}
 use Rattle.dv_frames.specs.declared.frame.Purpose.TheVariants.{Named, Holding, Turning}
 use Rattle.dv_journal.specs.Told.{change_of, Aside}
 use Rattle.dv_world.specs.Found.{deferreds_at}
-use Rattle.dv_world.specs.World.{World, step, append, fire, cancel, pause, unpause, make, aside, lock_told, release_found, forget, unless_stopped, put_into_found, get_from_found, withdraw, arrange, came_to_found, came_to, come_due_found, waiting_cancelled, state_cancelled, call_cancelled, cancel_call, start_timer, turn_scheduled, loop_stopped, end_loop, task_told, task_ended, end_task, tick_dropped, keep_tick, step_taken, turn_taken, come_to_inline, end_await, submit, deliver_later}
+use Rattle.dv_world.specs.World.{World, step, append, fire, cancel, pause, unpause, make, aside, lock_told}
+use Rattle.dv_world.specs.World.{release_found, forget, unless_stopped, put_into_found, get_from_found, withdraw}
+use Rattle.dv_world.specs.World.{arrange, came_to_found, came_to, come_due_found, waiting_cancelled, state_cancelled}
+use Rattle.dv_world.specs.World.{call_cancelled, cancel_call, start_timer, turn_scheduled, loop_stopped, end_loop}
+use Rattle.dv_world.specs.World.{task_told, task_ended, end_task, tick_dropped, keep_tick, step_taken, turn_taken}
+use Rattle.dv_world.specs.World.{come_to_inline, end_await, submit, deliver_later}
 use Rattle.dv_script.specs.declared.work.Work.{Work}
 use Rattle.dv_objects.specs.Cooperator.{Cooperator, with_step, result_of, unended, wants_tick, idle_tick}
 use Rattle.dv_objects.specs.Objects.{Objects, with_queue, with_list, with_ended_call, cooperating, inlining}
@@ -95,14 +102,21 @@ use Rattle.dv_world.specs.World as world
 pub record Regular (loops : List LoopingCall) : Type 0 where
   pub each : (l : ℕ) (x : LoopingCall) → slice_get loops l ≡ Some x → 1 ≤ x.interval
 
-set_by : (b : Bool) (y : LoopingCall) (o : Option LoopingCall) (x : LoopingCall) → 1 ≤ y.interval → (o ≡ Some x → 1 ≤ x.interval) → cond b (Some y) o ≡ Some x → 1 ≤ x.interval
+set_by : (b : Bool) (y : LoopingCall) (o : Option LoopingCall) (x : LoopingCall) → 1 ≤ y.interval
+    → (o ≡ Some x → 1 ≤ x.interval) → cond b (Some y) o ≡ Some x → 1 ≤ x.interval
 set_by true y o x h k q = let same : y ≡ x = cc in subst (λ z. 1 ≤ z.interval) same h
 set_by false y o x h k q = k q
 
-regular_set : (l : ℕ) (x y : LoopingCall) (loops : List LoopingCall) → slice_get loops l ≡ Some x → y.interval ≡ x.interval → Regular loops → Regular (slice_set loops l y)
-regular_set l x y loops h p k = record { each = λ n z q. set_by (nat_eq l n) y (slice_get loops n) z (omega (arith, p, k.each l x h)) (k.each n z) (sym (get_set loops l n x y h) ∙ q) }
+regular_set : (l : ℕ) (x y : LoopingCall) (loops : List LoopingCall) → slice_get loops l ≡ Some x
+    → y.interval ≡ x.interval → Regular loops → Regular (slice_set loops l y)
+regular_set l x y loops h p k = record {
+  each = λ n z q. set_by (nat_eq l n) y (slice_get loops n) z (omega (arith, p, k.each l x h)) (k.each n z)
+      (sym (get_set loops l n x y h) ∙ q);
+}
 
-pushed_by : (n : ℕ) (y x : LoopingCall) (loops : List LoopingCall) → 1 ≤ y.interval → ((l : ℕ) (z : LoopingCall) → slice_get loops l ≡ Some z → 1 ≤ z.interval) → slice_get (loops ++ y ∷ []) n ≡ Some x → 1 ≤ x.interval
+pushed_by : (n : ℕ) (y x : LoopingCall) (loops : List LoopingCall) → 1 ≤ y.interval
+    → ((l : ℕ) (z : LoopingCall) → slice_get loops l ≡ Some z → 1 ≤ z.interval) → slice_get (loops ++ y ∷ []) n ≡ Some x
+    → 1 ≤ x.interval
 pushed_by zero y x [] h k q = let same : y ≡ x = cc in subst (λ z. 1 ≤ z.interval) same h
 pushed_by (suc n) y x [] h k q = absurd cc
 pushed_by zero y x (c ∷ loops) h k q = k 0 x q
@@ -115,7 +129,8 @@ new_regular : (interval : ℕ) → 1 ≤ max 1 (min interval MOST_DELAY)
 new_regular interval = omega arith
 
 turn_later : (x : LoopingCall) (c : Clock) → 1 ≤ x.interval → c.time ≤ next_due x c
-turn_later x c h = let next = next_is_first (min x.start c.time) x.interval c.time (omega arith) h in omega (arith, next.later)
+turn_later x c h =
+    let next = next_is_first (min x.start c.time) x.interval c.time (omega arith) h in omega (arith, next.later)
 
 -- what is kept by the steps that fire, unpause and settle nothing, and add no pair
 pub record Quiet (R : World → World → Type 0) : Type 0 where
@@ -124,8 +139,13 @@ pub record Quiet (R : World → World → Type 0) : Type 0 where
   pub by_make : (name : Option (List ℕ)) (canceller : Option Canceller) (w : World) → R w (make name canceller w)
   pub by_cancel : (d : ℕ) (w : World) → R w (cancel d w).1
   pub by_pause : (d : ℕ) (w : World) → R w (pause d w)
-  pub by_aside : (e : Entry) (change : Objects → Objects) (w : World) → change_of e ≡ Aside → (Regular w.objects.loops → Clocks e w.objects.clock (change w.objects).clock) → (Regular w.objects.loops → Regular (change w.objects).loops) → Beside e w.objects (change w.objects) → R w (aside e change w)
-  pub by_arrange : (change : Objects → Objects) (w : World) → Arranges w.objects.clock (change w.objects).clock → (Regular w.objects.loops → Regular (change w.objects).loops) → Arranged w.objects (change w.objects) → R w (arrange change w)
+  pub by_aside : (e : Entry) (change : Objects → Objects) (w : World) → change_of e ≡ Aside
+      → (Regular w.objects.loops → Clocks e w.objects.clock (change w.objects).clock)
+      → (Regular w.objects.loops → Regular (change w.objects).loops) → Beside e w.objects (change w.objects)
+      → R w (aside e change w)
+  pub by_arrange : (change : Objects → Objects) (w : World) → Arranges w.objects.clock (change w.objects).clock
+      → (Regular w.objects.loops → Regular (change w.objects).loops) → Arranged w.objects (change w.objects)
+      → R w (arrange change w)
   pub by_submit : (d : ℕ) (pool : Option (List ℕ)) (work : Work) (w : World) → R w (submit d pool work w)
 
 pub record Quietly (w u : World) : Type 1 where
@@ -180,10 +200,15 @@ same w = record { keeps = λ R l. l.stays w }
 join : (u v w : World) → Quietly u v → Quietly v w → Quietly u w
 join u v w a b = record { keeps = λ R l. l.joins u v w (a.keeps R l) (b.keeps R l) }
 
-by_aside : (e : Entry) (change : Objects → Objects) (w : World) → change_of e ≡ Aside → (Regular w.objects.loops → Clocks e w.objects.clock (change w.objects).clock) → (Regular w.objects.loops → Regular (change w.objects).loops) → Beside e w.objects (change w.objects) → Quietly w (aside e change w)
+by_aside : (e : Entry) (change : Objects → Objects) (w : World) → change_of e ≡ Aside
+    → (Regular w.objects.loops → Clocks e w.objects.clock (change w.objects).clock)
+    → (Regular w.objects.loops → Regular (change w.objects).loops) → Beside e w.objects (change w.objects)
+    → Quietly w (aside e change w)
 by_aside e change w a c r t = record { keeps = λ R l. l.by_aside e change w a c r t }
 
-by_arrange : (change : Objects → Objects) (w : World) → Arranges w.objects.clock (change w.objects).clock → (Regular w.objects.loops → Regular (change w.objects).loops) → Arranged w.objects (change w.objects) → Quietly w (arrange change w)
+by_arrange : (change : Objects → Objects) (w : World) → Arranges w.objects.clock (change w.objects).clock
+    → (Regular w.objects.loops → Regular (change w.objects).loops) → Arranged w.objects (change w.objects)
+    → Quietly w (arrange change w)
 by_arrange change w s r t = record { keeps = λ R l. l.by_arrange change w s r t }
 
 by_make : (name : Option (List ℕ)) (canceller : Option Canceller) (w : World) → Quietly w (make name canceller w)
@@ -193,7 +218,8 @@ one_comes : (b : Bool) (w u v : World) → Quietly w u → Quietly w v → Quiet
 one_comes true w u v c d = c
 one_comes false w u v c d = d
 
-first_comes : {A : Type 0} (b : Bool) (t u : A × World) (w : World) → Quietly w t.1 → Quietly w u.1 → Quietly w (if b then t else u).1
+first_comes : {A : Type 0} (b : Bool) (t u : A × World) (w : World) → Quietly w t.1 → Quietly w u.1
+    → Quietly w (if b then t else u).1
 first_comes true t u w c d = c
 first_comes false t u w c d = d
 
@@ -202,10 +228,18 @@ free_append [] gs h k = k
 free_append (f ∷ fs) gs h k = (h.0, free_append fs gs h.1 k)
 
 -- what is logged of a task alone, of a lock alone, of a queue alone, and of a loop alone
-task_beside : (e : Entry) (old : Objects) (new : Cooperator) → Tasks e old.cooperator new → holding_of e ≡ Unheld → queueing_of e ≡ Unqueued → looping_of e ≡ Unlooped → Beside e old (record old { cooperator = new })
-task_beside e old new t a b c = record { tasks = t; locks = beside.LocksRest _ a refl; queues = beside.QueuesRest _ b refl; loops = beside.LoopsRest _ c (beside.SameLoops _ refl) }
+task_beside : (e : Entry) (old : Objects) (new : Cooperator) → Tasks e old.cooperator new → holding_of e ≡ Unheld
+    → queueing_of e ≡ Unqueued → looping_of e ≡ Unlooped → Beside e old (record old { cooperator = new })
+task_beside e old new t a b c = record {
+  tasks = t;
+  locks = beside.LocksRest _ a refl;
+  queues = beside.QueuesRest _ b refl;
+  loops = beside.LoopsRest _ c (beside.SameLoops _ refl);
+}
 
-lock_beside : (e : Entry) (old : Objects) (new : Objects) → Locks e old.semaphores new.semaphores → tasking_of e ≡ Untasked → queueing_of e ≡ Unqueued → looping_of e ≡ Unlooped → new.cooperator ≡ old.cooperator → new.queues ≡ old.queues → new.loops ≡ old.loops → Beside e old new
+lock_beside : (e : Entry) (old : Objects) (new : Objects) → Locks e old.semaphores new.semaphores
+    → tasking_of e ≡ Untasked → queueing_of e ≡ Unqueued → looping_of e ≡ Unlooped → new.cooperator ≡ old.cooperator
+    → new.queues ≡ old.queues → new.loops ≡ old.loops → Beside e old new
 lock_beside e old new t a b c p q r = record {
   tasks = beside.TasksRest _ a (ap (λ (c : Cooperator). c.tasks) p) (ap (λ (c : Cooperator). c.turns) p);
   locks = t;
@@ -213,7 +247,9 @@ lock_beside e old new t a b c p q r = record {
   loops = beside.LoopsRest _ c (beside.SameLoops _ r);
 }
 
-queue_beside : (e : Entry) (old : Objects) (new : Objects) → Queues e old.queues new.queues → tasking_of e ≡ Untasked → holding_of e ≡ Unheld → looping_of e ≡ Unlooped → new.cooperator ≡ old.cooperator → new.semaphores ≡ old.semaphores → new.loops ≡ old.loops → Beside e old new
+queue_beside : (e : Entry) (old : Objects) (new : Objects) → Queues e old.queues new.queues → tasking_of e ≡ Untasked
+    → holding_of e ≡ Unheld → looping_of e ≡ Unlooped → new.cooperator ≡ old.cooperator
+    → new.semaphores ≡ old.semaphores → new.loops ≡ old.loops → Beside e old new
 queue_beside e old new t a b c p q r = record {
   tasks = beside.TasksRest _ a (ap (λ (c : Cooperator). c.tasks) p) (ap (λ (c : Cooperator). c.turns) p);
   locks = beside.LocksRest _ b q;
@@ -221,7 +257,9 @@ queue_beside e old new t a b c p q r = record {
   loops = beside.LoopsRest _ c (beside.SameLoops _ r);
 }
 
-loop_beside : (e : Entry) (old : Objects) (new : Objects) → Loops e old.clock old.loops new.loops → tasking_of e ≡ Untasked → holding_of e ≡ Unheld → queueing_of e ≡ Unqueued → new.cooperator ≡ old.cooperator → new.semaphores ≡ old.semaphores → new.queues ≡ old.queues → Beside e old new
+loop_beside : (e : Entry) (old : Objects) (new : Objects) → Loops e old.clock old.loops new.loops
+    → tasking_of e ≡ Untasked → holding_of e ≡ Unheld → queueing_of e ≡ Unqueued → new.cooperator ≡ old.cooperator
+    → new.semaphores ≡ old.semaphores → new.queues ≡ old.queues → Beside e old new
 loop_beside e old new t a b c p q r = record {
   tasks = beside.TasksRest _ a (ap (λ (c : Cooperator). c.tasks) p) (ap (λ (c : Cooperator). c.turns) p);
   locks = beside.LocksRest _ b q;
@@ -229,83 +267,136 @@ loop_beside e old new t a b c p q r = record {
   loops = t;
 }
 
-ask_comes : (l d : ℕ) (o : Option Semaphore) (w : World) → slice_get w.objects.semaphores l ≡ o → Quietly w (lock_told l (λ s. entry.Acquire s.name d) (asked d) o w)
+ask_comes : (l d : ℕ) (o : Option Semaphore) (w : World) → slice_get w.objects.semaphores l ≡ o
+    → Quietly w (lock_told l (λ s. entry.Acquire s.name d) (asked d) o w)
 ask_comes l d None w h = same w
-ask_comes l d (Some s) w h = by_aside (entry.Acquire s.name d) _ w refl (λ k. Leaves (refl, refl, refl)) (λ k. k) (lock_beside _ _ _ (beside.LockAsked l d s h refl) refl refl refl refl refl refl)
+ask_comes l d (Some s) w h =
+    by_aside (entry.Acquire s.name d) _ w refl (λ k. Leaves (refl, refl, refl)) (λ k. k)
+    (lock_beside _ _ _ (beside.LockAsked l d s h refl) refl refl refl refl refl refl)
 
-released_comes : (b : Bool) (l : ℕ) (s : Semaphore) (w : World) → is_unheld s ≡ b → slice_get w.objects.semaphores l ≡ Some s → Quietly w (if b then w else aside (entry.Release s.name) (with_lock l (released s)) w)
+released_comes : (b : Bool) (l : ℕ) (s : Semaphore) (w : World) → is_unheld s ≡ b
+    → slice_get w.objects.semaphores l ≡ Some s
+    → Quietly w (if b then w else aside (entry.Release s.name) (with_lock l (released s)) w)
 released_comes true l s w u h = same w
-released_comes false l s w u h = by_aside (entry.Release s.name) _ w refl (λ k. Leaves (refl, refl, refl)) (λ k. k) (lock_beside _ _ _ (beside.LockReleased l s h u refl) refl refl refl refl refl refl)
+released_comes false l s w u h =
+    by_aside (entry.Release s.name) _ w refl (λ k. Leaves (refl, refl, refl)) (λ k. k)
+    (lock_beside _ _ _ (beside.LockReleased l s h u refl) refl refl refl refl refl refl)
 
-release_comes : (l : ℕ) (o : Option Semaphore) (w : World) → slice_get w.objects.semaphores l ≡ o → Quietly w (release_found l o w)
+release_comes : (l : ℕ) (o : Option Semaphore) (w : World) → slice_get w.objects.semaphores l ≡ o
+    → Quietly w (release_found l o w)
 release_comes l None w h = same w
 release_comes l (Some s) w h = released_comes _ l s w refl h
 
-lock_same : (l : ℕ) (change : Semaphore → Semaphore) (o : Option Semaphore) (objects : Objects) → Arranges objects.clock (lock_changed l change o objects).clock
+lock_same : (l : ℕ) (change : Semaphore → Semaphore) (o : Option Semaphore) (objects : Objects)
+    → Arranges objects.clock (lock_changed l change o objects).clock
 lock_same l change None objects = Stays
 lock_same l change (Some s) objects = Stays
 
-lock_loops : (l : ℕ) (change : Semaphore → Semaphore) (o : Option Semaphore) (objects : Objects) → Regular objects.loops → Regular (lock_changed l change o objects).loops
+lock_loops : (l : ℕ) (change : Semaphore → Semaphore) (o : Option Semaphore) (objects : Objects) → Regular objects.loops
+    → Regular (lock_changed l change o objects).loops
 lock_loops l change None objects k = k
 lock_loops l change (Some s) objects k = k
 
-lock_arranged : (l d : ℕ) (o : Option Semaphore) (objects : Objects) → slice_get objects.semaphores l ≡ o → Arranged objects (lock_changed l (forgotten d) o objects)
+lock_arranged : (l d : ℕ) (o : Option Semaphore) (objects : Objects) → slice_get objects.semaphores l ≡ o
+    → Arranged objects (lock_changed l (forgotten d) o objects)
 lock_arranged l d None objects h = arranging _ _ refl refl refl refl refl
-lock_arranged l d (Some s) objects h = record { tasks = refl; turns = refl; locks = beside.LockForgets l d s h; queues = beside.SameQueues _ refl; loops = beside.SameLoops _ refl }
+lock_arranged l d (Some s) objects h = record {
+  tasks = refl;
+  turns = refl;
+  locks = beside.LockForgets l d s h;
+  queues = beside.SameQueues _ refl;
+  loops = beside.SameLoops _ refl;
+}
 
 forget_comes : (l d : ℕ) (w : World) → Quietly w (forget l d w)
-forget_comes l d w = by_arrange _ w (lock_same l (forgotten d) (slice_get w.objects.semaphores l) w.objects) (lock_loops l (forgotten d) (slice_get w.objects.semaphores l) w.objects) (lock_arranged l d _ w.objects refl)
+forget_comes l d w =
+    by_arrange _ w (lock_same l (forgotten d) (slice_get w.objects.semaphores l) w.objects)
+    (lock_loops l (forgotten d) (slice_get w.objects.semaphores l) w.objects) (lock_arranged l d _ w.objects refl)
 
 came_comes : (l i : ℕ) (v : Value) (o : Option Gather) (w : World) → Quietly w (came_to_found l i v o w).1
 came_comes l i v None w = same w
-came_comes l i v (Some g) w = by_arrange (with_list l (came i v g).1) w Stays (λ k. k) (arranging _ _ refl refl refl refl refl)
+came_comes l i v (Some g) w =
+    by_arrange (with_list l (came i v g).1) w Stays (λ k. k) (arranging _ _ refl refl refl refl refl)
 
 came_to_comes : (l i : ℕ) (v : Value) (w : World) → Quietly w (came_to l i v w).1
 unfolding came_to
-came_to_comes l i v w = first_comes w.stopped _ (came_to_found l i v (slice_get w.objects.lists l) w) w (same w) (came_comes l i v (slice_get w.objects.lists l) w)
+came_to_comes l i v w =
+    first_comes w.stopped _ (came_to_found l i v (slice_get w.objects.lists l) w) w (same w)
+    (came_comes l i v (slice_get w.objects.lists l) w)
 
-scheduled_comes : (l : ℕ) (o : Option LoopingCall) (w : World) → slice_get w.objects.loops l ≡ o → Quietly w (turn_scheduled l o w)
+scheduled_comes : (l : ℕ) (o : Option LoopingCall) (w : World) → slice_get w.objects.loops l ≡ o
+    → Quietly w (turn_scheduled l o w)
 scheduled_comes l None w h = same w
-scheduled_comes l (Some x) w h = by_aside (entry.LaterLoop x.name (next_due x w.objects.clock)) (with_turn l x) w refl (λ k. Adds (what.Turn x.name l) (next_due x w.objects.clock) refl (turn_later x w.objects.clock (k.each l x h))) (λ k. regular_set l x _ w.objects.loops h refl k) (loop_beside _ _ _ (beside.LoopTurns l x _ h refl refl refl refl) refl refl refl refl refl refl)
+scheduled_comes l (Some x) w h =
+    by_aside (entry.LaterLoop x.name (next_due x w.objects.clock)) (with_turn l x) w refl
+    (λ k. Adds (what.Turn x.name l) (next_due x w.objects.clock) refl (turn_later x w.objects.clock (k.each l x h)))
+    (λ k. regular_set l x _ w.objects.loops h refl k)
+    (loop_beside _ _ _ (beside.LoopTurns l x _ h refl refl refl refl) refl refl refl refl refl refl)
 
 dropped_same : (e : Entry) (o : Option ℕ) (c : Clock) → IsPlain e → Clocks e c (turn_dropped o c)
 dropped_same e None c p = Leaves p
 dropped_same e (Some number) c p = Drops number p
 
-loop_stopped_comes : (l : ℕ) (o : Option LoopingCall) (w : World) → slice_get w.objects.loops l ≡ o → Quietly w (loop_stopped l o w)
+loop_stopped_comes : (l : ℕ) (o : Option LoopingCall) (w : World) → slice_get w.objects.loops l ≡ o
+    → Quietly w (loop_stopped l o w)
 loop_stopped_comes l None w h = same w
-loop_stopped_comes l (Some x) w h = by_aside (entry.Stop x.name) (with_stopped l x) w refl (λ k. dropped_same (entry.Stop x.name) x.turn w.objects.clock (refl, refl, refl)) (λ k. regular_set l x _ w.objects.loops h refl k) (loop_beside _ _ _ (beside.LoopsRest _ refl (beside.LoopSet l x _ h refl refl refl)) refl refl refl refl refl refl)
+loop_stopped_comes l (Some x) w h =
+    by_aside (entry.Stop x.name) (with_stopped l x) w refl (λ k. dropped_same (entry.Stop x.name) x.turn w.objects.clock
+    (refl, refl, refl)) (λ k. regular_set l x _ w.objects.loops h refl k)
+    (loop_beside _ _ _ (beside.LoopsRest _ refl (beside.LoopSet l x _ h refl refl refl)) refl refl refl refl refl refl)
 
-ended_same : (l : ℕ) (o : Option LoopingCall) (objects : Objects) → Arranges objects.clock (with_ended l o objects).clock
+ended_same : (l : ℕ) (o : Option LoopingCall) (objects : Objects)
+    → Arranges objects.clock (with_ended l o objects).clock
 ended_same l None objects = Stays
 ended_same l (Some x) objects = Stays
 
-ended_loops : (l : ℕ) (o : Option LoopingCall) (objects : Objects) → slice_get objects.loops l ≡ o → Regular objects.loops → Regular (with_ended l o objects).loops
+ended_loops : (l : ℕ) (o : Option LoopingCall) (objects : Objects) → slice_get objects.loops l ≡ o
+    → Regular objects.loops → Regular (with_ended l o objects).loops
 ended_loops l None objects h k = k
 ended_loops l (Some x) objects h k = regular_set l x _ objects.loops h refl k
 
-loop_arranged : (l : ℕ) (o : Option LoopingCall) (objects : Objects) → slice_get objects.loops l ≡ o → Arranged objects (with_ended l o objects)
+loop_arranged : (l : ℕ) (o : Option LoopingCall) (objects : Objects) → slice_get objects.loops l ≡ o
+    → Arranged objects (with_ended l o objects)
 loop_arranged l None objects h = arranging _ _ refl refl refl refl refl
-loop_arranged l (Some x) objects h = record { tasks = refl; turns = refl; locks = beside.SameLocks _ refl; queues = beside.SameQueues _ refl; loops = beside.LoopSet l x _ h refl refl refl }
+loop_arranged l (Some x) objects h = record {
+  tasks = refl;
+  turns = refl;
+  locks = beside.SameLocks _ refl;
+  queues = beside.SameQueues _ refl;
+  loops = beside.LoopSet l x _ h refl refl refl;
+}
 
 end_loop_comes : (l : ℕ) (w : World) → Quietly w (end_loop l w)
-end_loop_comes l w = by_arrange _ w (ended_same l (slice_get w.objects.loops l) w.objects) (ended_loops l (slice_get w.objects.loops l) w.objects refl) (loop_arranged l (slice_get w.objects.loops l) w.objects refl)
+end_loop_comes l w =
+    by_arrange _ w (ended_same l (slice_get w.objects.loops l) w.objects) (ended_loops l
+    (slice_get w.objects.loops l) w.objects refl) (loop_arranged l (slice_get w.objects.loops l) w.objects refl)
 
-told_task_comes : (e : Task → Entry) (change : Task → Cooperator → Cooperator) (o : Option Task) (w : World) → ((x : Task) → change_of (e x) ≡ Aside) → ((x : Task) → IsPlain (e x)) → ((x : Task) → o ≡ Some x → Beside (e x) w.objects (cooperating (change x) w.objects)) → Quietly w (task_told e change o w)
+told_task_comes : (e : Task → Entry) (change : Task → Cooperator → Cooperator) (o : Option Task) (w : World)
+    → ((x : Task) → change_of (e x) ≡ Aside) → ((x : Task) → IsPlain (e x))
+    → ((x : Task) → o ≡ Some x → Beside (e x) w.objects (cooperating (change x) w.objects))
+    → Quietly w (task_told e change o w)
 told_task_comes e change None w a t k = same w
-told_task_comes e change (Some x) w a t k = by_aside (e x) (cooperating (change x)) w (a x) (λ r. Leaves (t x)) (λ r. r) (k x refl)
+told_task_comes e change (Some x) w a t k =
+    by_aside (e x) (cooperating (change x)) w (a x) (λ r. Leaves (t x)) (λ r. r) (k x refl)
 
 dropped_comes : (o : Option ℕ) (w : World) → Quietly w (tick_dropped o w)
 dropped_comes None w = same w
-dropped_comes (Some number) w = by_arrange (without_tick number) w (Loses number) (λ k. k) (arranging _ _ refl refl refl refl refl)
+dropped_comes (Some number) w =
+    by_arrange (without_tick number) w (Loses number) (λ k. k) (arranging _ _ refl refl refl refl refl)
 
 later_comes : (w : World) → Quietly w (schedule_tick w)
-later_comes w = by_aside (entry.LaterTick (w.objects.clock.time + w.objects.cooperator.delay)) (with_tick (w.objects.clock.time + w.objects.cooperator.delay)) w refl (λ k. Adds what.Tick _ refl (omega arith)) (λ k. k) (resting _ _ _ refl refl refl refl refl refl refl refl refl)
+later_comes w =
+    by_aside (entry.LaterTick (w.objects.clock.time + w.objects.cooperator.delay))
+    (with_tick (w.objects.clock.time + w.objects.cooperator.delay)) w refl (λ k. Adds what.Tick _ refl (omega arith))
+    (λ k. k) (resting _ _ _ refl refl refl refl refl refl refl refl refl)
 
 keep_comes : (w u : World) → Quietly w u → Quietly w (keep_tick u)
-keep_comes w u c = join w u _ c (one_comes (wants_tick u.objects.cooperator) u _ _ (later_comes u) (dropped_comes (idle_tick u.objects.cooperator) u))
+keep_comes w u c =
+    join w u _ c (one_comes (wants_tick u.objects.cooperator) u _ _ (later_comes u)
+    (dropped_comes (idle_tick u.objects.cooperator) u))
 
-unended_by : (o : Option TaskEnd) (x y : Task) → y.end ≡ o → (if is_some o then None else Some y) ≡ Some x → (y ≡ x) × (x.end ≡ None)
+unended_by : (o : Option TaskEnd) (x y : Task) → y.end ≡ o → (if is_some o then None else Some y) ≡ Some x
+    → (y ≡ x) × (x.end ≡ None)
 unended_by (Some end) x y e q = absurd cc
 unended_by None x y e q = let same : y ≡ x = cc in (same, ap (λ (z : Task). z.end) (sym same) ∙ e)
 
@@ -313,77 +404,123 @@ unended_is : (o : Option Task) (x : Task) → unended o ≡ Some x → (o ≡ So
 unended_is None x q = absurd cc
 unended_is (Some y) x q = let found = unended_by y.end x y refl q in (ap Some found.0, found.1)
 
-task_ended_comes : (t : ℕ) (end : TaskEnd) (o : Option Task) (w : World) → unended (slice_get w.objects.cooperator.tasks t) ≡ o → Quietly w (task_ended t end o w).1
+task_ended_comes : (t : ℕ) (end : TaskEnd) (o : Option Task) (w : World)
+    → unended (slice_get w.objects.cooperator.tasks t) ≡ o → Quietly w (task_ended t end o w).1
 task_ended_comes t end None w h = same w
 task_ended_comes t end (Some x) w h =
     let found = unended_is (slice_get w.objects.cooperator.tasks t) x h in
-    by_aside (entry.End x.name (result_of x.name end)) _ w refl (λ k. Leaves (refl, refl, refl)) (λ k. k) (task_beside _ _ _ (beside.TaskEnds t end x found.0 found.1 refl) refl refl refl)
+    by_aside (entry.End x.name (result_of x.name end)) _ w refl (λ k. Leaves (refl, refl, refl)) (λ k. k)
+    (task_beside _ _ _ (beside.TaskEnds t end x found.0 found.1 refl) refl refl refl)
 
 inlining_comes : (i : ℕ) (v : Value) (w : World) → Quietly w (come_to_inline i v w).1
 unfolding come_to_inline
-inlining_comes i v w = let t = come_to i v w.objects.inlines in first_comes w.stopped (None, w) (t.0, arrange (inlining (λ inlines. t.1)) w) w (same w) (by_arrange _ w Stays (λ k. k) (arranging _ _ refl refl refl refl refl))
+inlining_comes i v w =
+    let t = come_to i v w.objects.inlines in
+    first_comes w.stopped (None, w) (t.0, arrange (inlining (λ inlines. t.1)) w) w (same w)
+    (by_arrange _ w Stays (λ k. k) (arranging _ _ refl refl refl refl refl))
 
 end_await_comes : (i e : ℕ) (p : Position) (w : World) → Quietly w (end_await i e p w).1
 unfolding end_await
-end_await_comes i e p w = let t = end_adding i e p w.objects.inlines in first_comes w.stopped (None, w) (t.0, arrange (inlining (λ inlines. t.1)) w) w (same w) (by_arrange _ w Stays (λ k. k) (arranging _ _ refl refl refl refl refl))
+end_await_comes i e p w =
+    let t = end_adding i e p w.objects.inlines in
+    first_comes w.stopped (None, w) (t.0, arrange (inlining (λ inlines. t.1)) w) w (same w)
+    (by_arrange _ w Stays (λ k. k) (arranging _ _ refl refl refl refl refl))
 
-queue_same : (k : ℕ) (change : Queue → Queue) (o : Option Queue) (objects : Objects) → Arranges objects.clock (queue_changed k change o objects).clock
+queue_same : (k : ℕ) (change : Queue → Queue) (o : Option Queue) (objects : Objects)
+    → Arranges objects.clock (queue_changed k change o objects).clock
 queue_same k change None objects = Stays
 queue_same k change (Some q) objects = Stays
 
-queue_loops : (k : ℕ) (change : Queue → Queue) (o : Option Queue) (objects : Objects) → Regular objects.loops → Regular (queue_changed k change o objects).loops
+queue_loops : (k : ℕ) (change : Queue → Queue) (o : Option Queue) (objects : Objects) → Regular objects.loops
+    → Regular (queue_changed k change o objects).loops
 queue_loops k change None objects r = r
 queue_loops k change (Some q) objects r = r
 
-queue_arranged : (k d : ℕ) (o : Option Queue) (objects : Objects) → slice_get objects.queues k ≡ o → Arranged objects (queue_changed k (withdrawn d) o objects)
+queue_arranged : (k d : ℕ) (o : Option Queue) (objects : Objects) → slice_get objects.queues k ≡ o
+    → Arranged objects (queue_changed k (withdrawn d) o objects)
 queue_arranged k d None objects h = arranging _ _ refl refl refl refl refl
-queue_arranged k d (Some q) objects h = record { tasks = refl; turns = refl; locks = beside.SameLocks _ refl; queues = beside.QueueForgets k d q h; loops = beside.SameLoops _ refl }
+queue_arranged k d (Some q) objects h = record {
+  tasks = refl;
+  turns = refl;
+  locks = beside.SameLocks _ refl;
+  queues = beside.QueueForgets k d q h;
+  loops = beside.SameLoops _ refl;
+}
 
 withdraw_comes : (k d : ℕ) (w : World) → Quietly w (withdraw k d w)
-withdraw_comes k d w = by_arrange _ w (queue_same k (withdrawn d) (slice_get w.objects.queues k) w.objects) (queue_loops k (withdrawn d) (slice_get w.objects.queues k) w.objects) (queue_arranged k d _ w.objects refl)
+withdraw_comes k d w =
+    by_arrange _ w (queue_same k (withdrawn d) (slice_get w.objects.queues k) w.objects)
+    (queue_loops k (withdrawn d) (slice_get w.objects.queues k) w.objects) (queue_arranged k d _ w.objects refl)
 
-putting_comes : (b : Bool) (k : ℕ) (value : Value) (q : Queue) (w : World) → may_put q ≡ b → slice_get w.objects.queues k ≡ Some q
-    → Quietly w (if b then unless_stopped (receiver q.waiting value) (aside (entry.Put q.name value) (with_queue k (put_to q.waiting value q)) w) else (None, w)).1
-putting_comes true k value q w m h = by_aside (entry.Put q.name value) _ w refl (λ k. Leaves (refl, refl, refl)) (λ k. k) (queue_beside _ _ _ (beside.QueuePut k value q h m refl) refl refl refl refl refl refl)
+putting_comes : (b : Bool) (k : ℕ) (value : Value) (q : Queue) (w : World) → may_put q ≡ b
+    → slice_get w.objects.queues k ≡ Some q
+    → Quietly w (if b then unless_stopped (receiver q.waiting value)
+    (aside (entry.Put q.name value) (with_queue k (put_to q.waiting value q)) w) else (None, w)).1
+putting_comes true k value q w m h =
+    by_aside (entry.Put q.name value) _ w refl (λ k. Leaves (refl, refl, refl)) (λ k. k)
+    (queue_beside _ _ _ (beside.QueuePut k value q h m refl) refl refl refl refl refl refl)
 putting_comes false k value q w m h = same w
 
-put_comes : (k : ℕ) (value : Value) (o : Option Queue) (w : World) → slice_get w.objects.queues k ≡ o → Quietly w (put_into_found k value o w).1
+put_comes : (k : ℕ) (value : Value) (o : Option Queue) (w : World) → slice_get w.objects.queues k ≡ o
+    → Quietly w (put_into_found k value o w).1
 put_comes k value None w h = same w
 put_comes k value (Some q) w h = putting_comes _ k value q w refl h
 
-get_comes : (k d : ℕ) (o : Option Queue) (w : World) → slice_get w.objects.queues k ≡ o → Quietly w (get_from_found k d o w).1
+get_comes : (k d : ℕ) (o : Option Queue) (w : World) → slice_get w.objects.queues k ≡ o
+    → Quietly w (get_from_found k d o w).1
 get_comes k d None w h = same w
-get_comes k d (Some q) w h = by_aside (entry.Get q.name d) _ w refl (λ k. Leaves (refl, refl, refl)) (λ k. k) (queue_beside _ _ _ (beside.QueueGot k d q h refl) refl refl refl refl refl refl)
+get_comes k d (Some q) w h =
+    by_aside (entry.Get q.name d) _ w refl (λ k. Leaves (refl, refl, refl)) (λ k. k)
+    (queue_beside _ _ _ (beside.QueueGot k d q h refl) refl refl refl refl refl refl)
 
-waiting_comes : (number at : ℕ) (due : Due) (w : World) → slice_get w.objects.clock.calls number ≡ Some (record { due = at; state = call_state.Waiting due }) → Quietly w (waiting_cancelled number due w)
-waiting_comes number at (what.Call name key) w h = by_aside (entry.Uncall name) (with_ended_call number call_state.Cancelled) w refl (λ k. Cancels number at name key h refl) (λ k. k) (resting _ _ _ refl refl refl refl refl refl refl refl refl)
+waiting_comes : (number at : ℕ) (due : Due) (w : World)
+    → slice_get w.objects.clock.calls number ≡ Some (record { due = at; state = call_state.Waiting due })
+    → Quietly w (waiting_cancelled number due w)
+waiting_comes number at (what.Call name key) w h =
+    by_aside (entry.Uncall name) (with_ended_call number call_state.Cancelled) w refl
+    (λ k. Cancels number at name key h refl) (λ k. k) (resting _ _ _ refl refl refl refl refl refl refl refl refl)
 waiting_comes number at (what.Turn name key) w h = same w
 waiting_comes number at what.Tick w h = same w
 waiting_comes number at (what.Delivery job key) w h = same w
 waiting_comes number at (what.Timeout d) w h = same w
 
-state_comes : (number at : ℕ) (state : CallState) (w : World) → slice_get w.objects.clock.calls number ≡ Some (record { due = at; state = state }) → Quietly w (state_cancelled number state w).1
+state_comes : (number at : ℕ) (state : CallState) (w : World)
+    → slice_get w.objects.clock.calls number ≡ Some (record { due = at; state = state })
+    → Quietly w (state_cancelled number state w).1
 state_comes number at (call_state.Waiting due) w h = waiting_comes number at due w h
 state_comes number at call_state.Called w h = same w
 state_comes number at call_state.Cancelled w h = same w
 state_comes number at call_state.Dropped w h = same w
 
-call_comes : (number : ℕ) (o : Option Call) (w : World) → slice_get w.objects.clock.calls number ≡ o → Quietly w (call_cancelled number o w).1
+call_comes : (number : ℕ) (o : Option Call) (w : World) → slice_get w.objects.clock.calls number ≡ o
+    → Quietly w (call_cancelled number o w).1
 call_comes number None w h = same w
 call_comes number (Some call) w h = state_comes number call.due call.state w h
 
 off_comes : (number : ℕ) (w : World) → Quietly w (cancel_call number w).1
 unfolding cancel_call
-off_comes number w = first_comes w.stopped _ (call_cancelled number (slice_get w.objects.clock.calls number) w) w (same w) (call_comes number (slice_get w.objects.clock.calls number) w refl)
+off_comes number w =
+    first_comes w.stopped _ (call_cancelled number (slice_get w.objects.clock.calls number) w) w (same w)
+    (call_comes number (slice_get w.objects.clock.calls number) w refl)
 
-call_later_comes : (name : List ℕ) (delay : ℕ) (body : body_of.Body) (w : World) → Quietly w (call_later name delay body w)
-call_later_comes name delay body w = let due = w.objects.clock.time + min delay MOST_DELAY in by_aside (entry.LaterCall name due) (with_new_call name due body) w refl (λ k. Adds (what.Call name (length w.objects.bodies)) due refl (omega arith)) (λ k. k) (resting _ _ _ refl refl refl refl refl refl refl refl refl)
+call_later_comes : (name : List ℕ) (delay : ℕ) (body : body_of.Body) (w : World)
+    → Quietly w (call_later name delay body w)
+call_later_comes name delay body w =
+    let due = w.objects.clock.time + min delay MOST_DELAY in by_aside (entry.LaterCall name due)
+    (with_new_call name due body) w refl (λ k. Adds (what.Call name (length w.objects.bodies)) due refl (omega arith))
+    (λ k. k) (resting _ _ _ refl refl refl refl refl refl refl refl refl)
 
 timer_comes : (d delay : ℕ) (w : World) → Quietly w (start_timer d delay w)
-timer_comes d delay w = let due = w.objects.clock.time + min delay MOST_DELAY in by_aside (entry.LaterTimeout d due) (with_timer d due) w refl (λ k. Adds (what.Timeout d) due refl (omega arith)) (λ k. k) (resting _ _ _ refl refl refl refl refl refl refl refl refl)
+timer_comes d delay w =
+    let due = w.objects.clock.time + min delay MOST_DELAY in
+    by_aside (entry.LaterTimeout d due) (with_timer d due) w refl (λ k. Adds (what.Timeout d) due refl (omega arith))
+    (λ k. k) (resting _ _ _ refl refl refl refl refl refl refl refl refl)
 
 delivery_comes : (job d delay : ℕ) (w : World) → Quietly w (deliver_later job d delay w)
-delivery_comes job d delay w = let due = w.objects.clock.time + min delay MOST_DELAY in by_aside (entry.LaterJob job due) (with_delivery job d due) w refl (λ k. Adds (what.Delivery job d) due refl (omega arith)) (λ k. k) (resting _ _ _ refl refl refl refl refl refl refl refl refl)
+delivery_comes job d delay w =
+    let due = w.objects.clock.time + min delay MOST_DELAY in
+    by_aside (entry.LaterJob job due) (with_delivery job d due) w refl (λ k. Adds (what.Delivery job d) due refl
+    (omega arith)) (λ k. k) (resting _ _ _ refl refl refl refl refl refl refl refl refl)
 
 due_aside : (due : Due) → change_of (coming_due due) ≡ Aside
 due_aside (what.Call name key) = refl
@@ -422,11 +559,15 @@ due_unlooped (what.Timeout d) = refl
 
 upcoming_comes : (o : Option Upcoming) (w : World) → next_call w.objects.clock ≡ o → Quietly w (come_due_found o w).1
 upcoming_comes None w h = same w
-upcoming_comes (Some call) w h = by_aside (coming_due call.what) (with_ended_call call.number call_state.Called) w (due_aside call.what) (λ k. Runs call h refl) (λ k. k) (resting _ _ _ (due_untasked call.what) (due_unheld call.what) (due_unqueued call.what) (due_unlooped call.what) refl refl refl refl refl)
+upcoming_comes (Some call) w h =
+    by_aside (coming_due call.what) (with_ended_call call.number call_state.Called) w (due_aside call.what)
+    (λ k. Runs call h refl) (λ k. k) (resting _ _ _ (due_untasked call.what) (due_unheld call.what)
+    (due_unqueued call.what) (due_unlooped call.what) refl refl refl refl refl)
 
 -- 1. Steps: all but those by which a Deferred is settled and time goes on.
 
--- a Deferred to which a pair is added is settled at once, and so is one that is fired since it was cancelled, directly after the cancel
+-- a Deferred to which a pair is added is settled at once, and so is one that is fired since it was cancelled, directly
+-- after the cancel
 abbrev pub IsQuiet : steps.Step → Type 0
 IsQuiet (steps.Put d v) = ⊥
 IsQuiet (steps.PutDeferred d e) = ⊥
@@ -453,49 +594,86 @@ AsksCalmly question = Unit {0}
 
 pub step_quiet : (step : steps.Step) (w : World) → IsQuiet step → Quietly w (stepped step w)
 step_quiet (steps.Make name canceller) w m = by_make name canceller w
-step_quiet (steps.Name d name) w m = by_aside (entry.Name d (Some name)) _ w refl (λ k. Leaves (refl, refl, refl)) (λ k. k) (resting _ _ _ refl refl refl refl refl refl refl refl refl)
+step_quiet (steps.Name d name) w m =
+    by_aside (entry.Name d (Some name)) _ w refl (λ k. Leaves (refl, refl, refl)) (λ k. k)
+    (resting _ _ _ refl refl refl refl refl refl refl refl refl)
 step_quiet (steps.Append d pair) w m = absurd m
 step_quiet (steps.FireGuarded d) w m = absurd m
 step_quiet (steps.Pause d) w m = record { keeps = λ R l. l.by_pause d w }
-step_quiet (steps.Note text) w m = by_aside (entry.Note text) _ w refl (λ k. Leaves (refl, refl, refl)) (λ k. k) (resting _ _ _ refl refl refl refl refl refl refl refl refl)
-step_quiet (steps.TellTurn name) w m = by_aside (entry.Turn name) _ w refl (λ k. Leaves (refl, refl, refl)) (λ k. k) (resting _ _ _ refl refl refl refl refl refl refl refl refl)
-step_quiet (steps.TellUnhandled failure) w m = by_aside (entry.Unhandled failure) _ w refl (λ k. Leaves (refl, refl, refl)) (λ k. k) (resting _ _ _ refl refl refl refl refl refl refl refl refl)
-step_quiet (steps.NewLock name) w m = by_aside (entry.Lock name) _ w refl (λ k. Leaves (refl, refl, refl)) (λ k. k) (lock_beside _ _ _ (beside.LockMade name 1 refl) refl refl refl refl refl refl)
-step_quiet (steps.NewSemaphore name tokens) w m = by_aside (entry.Semaphore name tokens) _ w refl (λ k. Leaves (refl, refl, refl)) (λ k. k) (lock_beside _ _ _ (beside.LockMade name tokens refl) refl refl refl refl refl refl)
+step_quiet (steps.Note text) w m =
+    by_aside (entry.Note text) _ w refl (λ k. Leaves (refl, refl, refl)) (λ k. k)
+    (resting _ _ _ refl refl refl refl refl refl refl refl refl)
+step_quiet (steps.TellTurn name) w m =
+    by_aside (entry.Turn name) _ w refl (λ k. Leaves (refl, refl, refl)) (λ k. k)
+    (resting _ _ _ refl refl refl refl refl refl refl refl refl)
+step_quiet (steps.TellUnhandled failure) w m =
+    by_aside (entry.Unhandled failure) _ w refl (λ k. Leaves (refl, refl, refl)) (λ k. k)
+    (resting _ _ _ refl refl refl refl refl refl refl refl refl)
+step_quiet (steps.NewLock name) w m =
+    by_aside (entry.Lock name) _ w refl (λ k. Leaves (refl, refl, refl)) (λ k. k)
+    (lock_beside _ _ _ (beside.LockMade name 1 refl) refl refl refl refl refl refl)
+step_quiet (steps.NewSemaphore name tokens) w m =
+    by_aside (entry.Semaphore name tokens) _ w refl (λ k. Leaves (refl, refl, refl)) (λ k. k)
+    (lock_beside _ _ _ (beside.LockMade name tokens refl) refl refl refl refl refl refl)
 step_quiet (steps.Ask l d) w m = ask_comes l d (slice_get w.objects.semaphores l) w refl
 step_quiet (steps.Release l) w m = release_comes l (slice_get w.objects.semaphores l) w refl
 step_quiet (steps.Forget l d) w m = forget_comes l d w
-step_quiet (steps.NewQueue name size backlog) w m = by_aside (entry.Queue name size backlog) _ w refl (λ k. Leaves (refl, refl, refl)) (λ k. k) (queue_beside _ _ _ (beside.QueueMade name size backlog refl) refl refl refl refl refl refl)
+step_quiet (steps.NewQueue name size backlog) w m =
+    by_aside (entry.Queue name size backlog) _ w refl (λ k. Leaves (refl, refl, refl)) (λ k. k)
+    (queue_beside _ _ _ (beside.QueueMade name size backlog refl) refl refl refl refl refl refl)
 step_quiet (steps.Withdraw k d) w m = withdraw_comes k d w
 step_quiet (steps.NewList n flags) w m = by_arrange _ w Stays (λ k. k) (arranging _ _ refl refl refl refl refl)
 step_quiet (steps.StartTimer d delay) w m = timer_comes d delay w
-step_quiet (steps.EndTimer t) w m = by_arrange (with_ended_call t call_state.Dropped) w (Loses t) (λ k. k) (arranging _ _ refl refl refl refl refl)
+step_quiet (steps.EndTimer t) w m =
+    by_arrange (with_ended_call t call_state.Dropped) w (Loses t) (λ k. k) (arranging _ _ refl refl refl refl refl)
 step_quiet (steps.CallLater name delay body) w m = call_later_comes name delay body w
-step_quiet (steps.NewLoop name d interval body) w m = by_aside (entry.Loop name d) _ w refl (λ k. Leaves (refl, refl, refl)) (λ k. regular_push (new_loop name d w.objects.clock.time interval body) w.objects.loops (new_regular interval) k) (loop_beside _ _ _ (beside.LoopStarts name d interval body refl) refl refl refl refl refl refl)
+step_quiet (steps.NewLoop name d interval body) w m =
+    by_aside (entry.Loop name d) _ w refl (λ k. Leaves (refl, refl, refl))
+    (λ k. regular_push (new_loop name d w.objects.clock.time interval body) w.objects.loops (new_regular interval) k)
+    (loop_beside _ _ _ (beside.LoopStarts name d interval body refl) refl refl refl refl refl refl)
 step_quiet (steps.ScheduleTurn l) w m = scheduled_comes l (slice_get w.objects.loops l) w refl
 step_quiet (steps.StopLoop l) w m = loop_stopped_comes l (slice_get w.objects.loops l) w refl
 step_quiet (steps.EndLoop l) w m = end_loop_comes l w
-step_quiet (steps.NewTask name bodies) w m = by_aside (entry.Task name) _ w refl (λ k. Leaves (refl, refl, refl)) (λ k. k) (task_beside _ _ _ (beside.TaskMade name bodies refl) refl refl refl)
-step_quiet (steps.AwaitTask t d) w m = told_task_comes (λ x. entry.WhenDone x.name d) _ (slice_get w.objects.cooperator.tasks t) w (λ x. refl) (λ x. (refl, refl, refl)) (λ x g. task_beside _ _ _ (beside.TaskAwaited t d x g refl) refl refl refl)
-step_quiet (steps.PauseTask t) w m = told_task_comes (λ x. entry.PauseTask x.name) _ (slice_get w.objects.cooperator.tasks t) w (λ x. refl) (λ x. (refl, refl, refl)) (λ x g. task_beside _ _ _ (beside.TaskPaused t x g refl) refl refl refl)
-step_quiet (steps.ResumeTask t) w m = told_task_comes (λ x. entry.ResumeTask x.name) _ (slice_get w.objects.cooperator.tasks t) w (λ x. refl) (λ x. (refl, refl, refl)) (λ x g. task_beside _ _ _ (beside.TaskResumed t x g refl) refl refl refl)
-step_quiet (steps.HoldTask t e) w m = told_task_comes (λ x. entry.Hold x.name e) _ (slice_get w.objects.cooperator.tasks t) w (λ x. refl) (λ x. (refl, refl, refl)) (λ x g. task_beside _ _ _ (beside.TaskPaused t x g refl) refl refl refl)
+step_quiet (steps.NewTask name bodies) w m =
+    by_aside (entry.Task name) _ w refl (λ k. Leaves (refl, refl, refl)) (λ k. k)
+    (task_beside _ _ _ (beside.TaskMade name bodies refl) refl refl refl)
+step_quiet (steps.AwaitTask t d) w m =
+    told_task_comes (λ x. entry.WhenDone x.name d) _ (slice_get w.objects.cooperator.tasks t) w (λ x. refl)
+    (λ x. (refl, refl, refl)) (λ x g. task_beside _ _ _ (beside.TaskAwaited t d x g refl) refl refl refl)
+step_quiet (steps.PauseTask t) w m =
+    told_task_comes (λ x. entry.PauseTask x.name) _ (slice_get w.objects.cooperator.tasks t) w (λ x. refl)
+    (λ x. (refl, refl, refl)) (λ x g. task_beside _ _ _ (beside.TaskPaused t x g refl) refl refl refl)
+step_quiet (steps.ResumeTask t) w m =
+    told_task_comes (λ x. entry.ResumeTask x.name) _ (slice_get w.objects.cooperator.tasks t) w (λ x. refl)
+    (λ x. (refl, refl, refl)) (λ x g. task_beside _ _ _ (beside.TaskResumed t x g refl) refl refl refl)
+step_quiet (steps.HoldTask t e) w m =
+    told_task_comes (λ x. entry.Hold x.name e) _ (slice_get w.objects.cooperator.tasks t) w (λ x. refl)
+    (λ x. (refl, refl, refl)) (λ x g. task_beside _ _ _ (beside.TaskPaused t x g refl) refl refl refl)
 step_quiet steps.KeepTick w m = keep_comes w w (same w)
 step_quiet steps.BeginTick w m = by_arrange _ w Stays (λ k. k) (arranging _ _ refl refl refl refl refl)
 step_quiet steps.EndTick w m = by_arrange _ w Stays (λ k. k) (arranging _ _ refl refl refl refl refl)
 step_quiet steps.AddInline w m = by_arrange _ w Stays (λ k. k) (arranging _ _ refl refl refl refl refl)
-step_quiet (steps.BeginAwait i e) w m = by_aside (entry.Await i.of e) _ w refl (λ k. Leaves (refl, refl, refl)) (λ k. k) (resting _ _ _ refl refl refl refl refl refl refl refl refl)
+step_quiet (steps.BeginAwait i e) w m =
+    by_aside (entry.Await i.of e) _ w refl (λ k. Leaves (refl, refl, refl)) (λ k. k)
+    (resting _ _ _ refl refl refl refl refl refl refl refl refl)
 step_quiet (steps.Submit d pool work) w m = record { keeps = λ R l. l.by_submit d pool work w }
 step_quiet (steps.DeliverLater job d delay) w m = delivery_comes job d delay w
 step_quiet (steps.Advance ticks) w m = absurd m
-step_quiet steps.TellDrain w m = by_aside entry.Drain _ w refl (λ k. Leaves (refl, refl, refl)) (λ k. k) (resting _ _ _ refl refl refl refl refl refl refl refl refl)
-step_quiet (steps.TellPost caller index) w m = by_aside (entry.Post caller index) _ w refl (λ k. Leaves (refl, refl, refl)) (λ k. k) (resting _ _ _ refl refl refl refl refl refl refl refl refl)
+step_quiet steps.TellDrain w m =
+    by_aside entry.Drain _ w refl (λ k. Leaves (refl, refl, refl)) (λ k. k)
+    (resting _ _ _ refl refl refl refl refl refl refl refl refl)
+step_quiet (steps.TellPost caller index) w m =
+    by_aside (entry.Post caller index) _ w refl (λ k. Leaves (refl, refl, refl)) (λ k. k)
+    (resting _ _ _ refl refl refl refl refl refl refl refl refl)
 step_quiet (steps.Put d v) w m = absurd m
 step_quiet (steps.PutDeferred d e) w m = absurd m
 
-step_taken_comes : (t : ℕ) (o : Option Task) (w : World) → turn_of w.objects.cooperator.turns ≡ Some t → slice_get w.objects.cooperator.tasks t ≡ o → Quietly w (step_taken t o w).1
+step_taken_comes : (t : ℕ) (o : Option Task) (w : World) → turn_of w.objects.cooperator.turns ≡ Some t
+    → slice_get w.objects.cooperator.tasks t ≡ o → Quietly w (step_taken t o w).1
 step_taken_comes t None w h g = same w
-step_taken_comes t (Some x) w h g = by_aside (entry.Step x.name) (cooperating (with_step t x)) w refl (λ k. Leaves (refl, refl, refl)) (λ k. k) (task_beside _ _ _ (beside.TaskSteps t x h g refl) refl refl refl)
+step_taken_comes t (Some x) w h g =
+    by_aside (entry.Step x.name) (cooperating (with_step t x)) w refl (λ k. Leaves (refl, refl, refl)) (λ k. k)
+    (task_beside _ _ _ (beside.TaskSteps t x h g refl) refl refl refl)
 
 turn_comes : (o : Option ℕ) (w : World) → turn_of w.objects.cooperator.turns ≡ o → Quietly w (turn_taken o w).1
 turn_comes None w h = same w
@@ -508,7 +686,8 @@ question_quiet (steps.GetFrom k d) w m = get_comes k d (slice_get w.objects.queu
 question_quiet (steps.CameTo l i v) w m = came_to_comes l i v w
 question_quiet (steps.CancelCall number) w m = off_comes number w
 question_quiet steps.TakeStep w m = turn_comes (turn_of w.objects.cooperator.turns) w refl
-question_quiet (steps.EndTask t end) w m = task_ended_comes t end (unended (slice_get w.objects.cooperator.tasks t)) w refl
+question_quiet (steps.EndTask t end) w m =
+    task_ended_comes t end (unended (slice_get w.objects.cooperator.tasks t)) w refl
 question_quiet (steps.ComeToInline i v) w m = inlining_comes i v w
 question_quiet (steps.EndAwait i e p) w m = end_await_comes i e p w
 question_quiet steps.ComeDue w m = upcoming_comes (next_call w.objects.clock) w refl
@@ -555,7 +734,8 @@ reached_by (steps.EndAwait i e p) r = None
 reached_by steps.ComeDue r = None
 reached_by (steps.Moves d) r = None
 
-whom_reached : (d : ℕ) (r : Reached) (w : World) → reached_from d w.records ≡ r → HasReached (fired_by r) (record w { journal = with_entry w.journal (entry.Cancel d) })
+whom_reached : (d : ℕ) (r : Reached) (w : World) → reached_from d w.records ≡ r
+    → HasReached (fired_by r) (record w { journal = with_entry w.journal (entry.Cancel d) })
 whom_reached d reached.Nothing w e = tt
 whom_reached d (reached.Fire c) w e = record { of = d; before = w.journal.entries; last = refl; reaches = e }
 whom_reached d (reached.Run c body) w e = tt
@@ -564,11 +744,15 @@ whom_reached d (reached.ForItem c k) w e = tt
 whom_reached d (reached.Children children) w e = tt
 whom_reached d (reached.Inline i) w e = tt
 
-told_reaches : (b : Bool) (d : ℕ) (w : World) → (let a = cond {A = Reached × World} b (reached_from d w.records, record w { journal = with_entry w.journal (entry.Cancel d) }) (reached.Nothing, record w { stopped = true }) in HasReached (fired_by a.0) a.1)
+told_reaches : (b : Bool) (d : ℕ) (w : World) → (let a = cond {A = Reached × World} b (
+  reached_from d w.records,
+  record w { journal = with_entry w.journal (entry.Cancel d) },
+) (reached.Nothing, record w { stopped = true }) in HasReached (fired_by a.0) a.1)
 told_reaches true d w = whom_reached d (reached_from d w.records) w refl
 told_reaches false d w = tt
 
-unless_reaches : (b : Bool) (w : World) (p : Reached × World) → HasReached (fired_by p.0) p.1 → (let a = cond {A = Reached × World} b (reached.Nothing, w) p in HasReached (fired_by a.0) a.1)
+unless_reaches : (b : Bool) (w : World) (p : Reached × World) → HasReached (fired_by p.0) p.1
+    → (let a = cond {A = Reached × World} b (reached.Nothing, w) p in HasReached (fired_by a.0) a.1)
 unless_reaches true w p h = tt
 unless_reaches false w p h = h
 
@@ -576,7 +760,8 @@ cancel_reaches : (d : ℕ) (w : World) → HasReached (fired_by (cancel d w).0) 
 unfolding cancel
 cancel_reaches d w = unless_reaches w.stopped w _ (told_reaches (fits w.journal (entry.Cancel d)) d w)
 
-has_reached : (question : Question) (w : World) → (let a = steps.asked question w in HasReached (reached_by question a.0) a.1)
+has_reached : (question : Question) (w : World)
+    → (let a = steps.asked question w in HasReached (reached_by question a.0) a.1)
 has_reached (steps.Cancel d) w = cancel_reaches d w
 has_reached (steps.PutInto k v) w = tt
 has_reached (steps.GetFrom k d) w = tt
@@ -652,21 +837,28 @@ either_calm : (b : Bool) (w : World) (t u : Turned) → Calmly w t.2 → Calmly 
 either_calm true w t u c d = c
 either_calm false w t u c d = d
 
-found_calm : {A : Type 0} (o : Option A) (w : World) (t : Turned) (f : A → Turned) → Calmly w t.2 → ((a : A) → Calmly w (f a).2) → Calmly w (found o t f).2
+found_calm : {A : Type 0} (o : Option A) (w : World) (t : Turned) (f : A → Turned) → Calmly w t.2
+    → ((a : A) → Calmly w (f a).2) → Calmly w (found o t f).2
 found_calm None w t f c d = c
 found_calm (Some a) w t f c d = d a
 
 pub rule_calm : (rule : Rule) (o : Option ℕ) (w : World) → HasReached o w → Mildly o rule → Calmly w (run rule w).2
 rule_calm (Ends p) o w h m = quietly w w (same w)
 rule_calm (By rule) o w h m = rule_calm (rule w) o w h (m w)
-rule_calm (If b one other) o w h m = either_calm b w (run one w) (run other w) (rule_calm one o w h m.0) (rule_calm other o w h m.1)
-rule_calm (Finds x none some) o w h m = found_calm x w (run none w) (λ a. run (some a) w) (rule_calm none o w h m.0) (λ a. rule_calm (some a) o w h (m.1 a))
-rule_calm (Then step rule) o w h m = join_calm w (stepped step w) _ (step_calm step o w h m.0) (rule_calm rule None (stepped step w) tt m.2)
+rule_calm (If b one other) o w h m =
+    either_calm b w (run one w) (run other w) (rule_calm one o w h m.0) (rule_calm other o w h m.1)
+rule_calm (Finds x none some) o w h m =
+    found_calm x w (run none w) (λ a. run (some a) w) (rule_calm none o w h m.0) (λ a. rule_calm (some a) o w h (m.1 a))
+rule_calm (Then step rule) o w h m =
+    join_calm w (stepped step w) _ (step_calm step o w h m.0) (rule_calm rule None (stepped step w) tt m.2)
 rule_calm (Asks question rule) o w h m =
     let a = steps.asked question w in
-    join_calm w a.1 _ (quietly w a.1 (question_quiet question w m.0)) (rule_calm (rule a.0) (reached_by question a.0) a.1 (has_reached question w) (m.1 a.0))
-rule_calm (Fires d v) o w h m = next_calm d (world.fire d v w).0 w (world.fire d v w).1 (record { keeps = λ R l. l.by_fire d v w })
-rule_calm (Unpauses d) o w h m = next_calm d (world.unpause d w).0 w (world.unpause d w).1 (record { keeps = λ R l. l.by_unpause d w })
+    join_calm w a.1 _ (quietly w a.1 (question_quiet question w m.0))
+    (rule_calm (rule a.0) (reached_by question a.0) a.1 (has_reached question w) (m.1 a.0))
+rule_calm (Fires d v) o w h m =
+    next_calm d (world.fire d v w).0 w (world.fire d v w).1 (record { keeps = λ R l. l.by_fire d v w })
+rule_calm (Unpauses d) o w h m =
+    next_calm d (world.unpause d w).0 w (world.unpause d w).1 (record { keeps = λ R l. l.by_unpause d w })
 rule_calm (Over rule frames) o w h m = rule_calm rule o w h m.0
 
 next_free : (d : ℕ) (o : Follow) (u : World) → AllPutNothing (settle_next d o u).0
@@ -678,17 +870,21 @@ either_free : (b : Bool) (t u : Turned) → AllPutNothing t.0 → AllPutNothing 
 either_free true t u c d = c
 either_free false t u c d = d
 
-found_free : {A : Type 0} (o : Option A) (t : Turned) (f : A → Turned) → AllPutNothing t.0 → ((a : A) → AllPutNothing (f a).0) → AllPutNothing (found o t f).0
+found_free : {A : Type 0} (o : Option A) (t : Turned) (f : A → Turned) → AllPutNothing t.0
+    → ((a : A) → AllPutNothing (f a).0) → AllPutNothing (found o t f).0
 found_free None t f c d = c
 found_free (Some a) t f c d = d a
 
 pub rule_free : (rule : Rule) (o : Option ℕ) (w : World) → Mildly o rule → AllPutNothing (run rule w).0
 rule_free (Ends p) o w m = tt
 rule_free (By rule) o w m = rule_free (rule w) o w (m w)
-rule_free (If b one other) o w m = either_free b (run one w) (run other w) (rule_free one o w m.0) (rule_free other o w m.1)
-rule_free (Finds x none some) o w m = found_free x (run none w) (λ a. run (some a) w) (rule_free none o w m.0) (λ a. rule_free (some a) o w (m.1 a))
+rule_free (If b one other) o w m =
+    either_free b (run one w) (run other w) (rule_free one o w m.0) (rule_free other o w m.1)
+rule_free (Finds x none some) o w m =
+    found_free x (run none w) (λ a. run (some a) w) (rule_free none o w m.0) (λ a. rule_free (some a) o w (m.1 a))
 rule_free (Then step rule) o w m = rule_free rule None (stepped step w) m.2
-rule_free (Asks question rule) o w m = let a = steps.asked question w in rule_free (rule a.0) (reached_by question a.0) a.1 (m.1 a.0)
+rule_free (Asks question rule) o w m =
+    let a = steps.asked question w in rule_free (rule a.0) (reached_by question a.0) a.1 (m.1 a.0)
 rule_free (Fires d v) o w m = next_free d (world.fire d v w).0 (world.fire d v w).1
 rule_free (Unpauses d) o w m = next_free d (world.unpause d w).0 (world.unpause d w).1
 rule_free (Over rule frames) o w m = free_append (run rule w).0 frames (rule_free rule o w m.0) m.1
@@ -745,7 +941,8 @@ resume_mild i input = search [] depth 20
 awaited_mild : (i : Inline) (e : ℕ) (p : Position) → Mildly None (page.after_awaiting i e p)
 awaited_mild i e p = search [] depth 20
 
-pub carry_mild : (itself : Option ℕ) (action : Action-F Action Statement body_of.Body) → Mildly None (page.carry_out itself action)
+pub carry_mild : (itself : Option ℕ) (action : Action-F Action Statement body_of.Body)
+    → Mildly None (page.carry_out itself action)
 carry_mild itself (Action-F.Note text) = search [] depth 20
 carry_mild itself (Action-F.Deferred name canceller) = search [] depth 20
 carry_mild itself (Action-F.Callback name value) = search [] depth 20
@@ -753,12 +950,14 @@ carry_mild itself (Action-F.Errback name class message) = search [] depth 20
 carry_mild itself (Action-F.AddCallback name body) = λ w. (tt, λ d. add_mild d (callback body))
 carry_mild itself (Action-F.AddErrback name body) = λ w. (tt, λ d. add_mild d (errback body))
 carry_mild itself (Action-F.AddBoth name body) = λ w. (tt, λ d. add_mild d (both body body))
-carry_mild itself (Action-F.AddCallbacks name on_value on_failure) = λ w. (tt, λ d. add_mild d (both on_value on_failure))
+carry_mild itself (Action-F.AddCallbacks name on_value on_failure) =
+    λ w. (tt, λ d. add_mild d (both on_value on_failure))
 carry_mild itself (Action-F.Chain name after) = λ w. (tt, λ d. λ v. (tt, λ e. add_mild d (chain e)))
 carry_mild itself (Action-F.Pause name) = search [] depth 20
 carry_mild itself (Action-F.Unpause name) = search [] depth 20
 carry_mild itself (Action-F.Cancel name) = λ w. (tt, λ d. (tt, reached_mild))
-carry_mild itself (Action-F.AddTimeout name delay) = λ w. (tt, λ d. λ v. (tt, tt, (add_mild d (timing (length v.objects.clock.calls)), (tt, tt))))
+carry_mild itself (Action-F.AddTimeout name delay) =
+    λ w. (tt, λ d. λ v. (tt, tt, (add_mild d (timing (length v.objects.clock.calls)), (tt, tt))))
 carry_mild itself (Action-F.Lock name) = search [] depth 20
 carry_mild itself (Action-F.Semaphore name tokens) = search [] depth 20
 carry_mild itself (Action-F.Acquire name lock) = search [] depth 20
@@ -768,8 +967,11 @@ carry_mild itself (Action-F.Maybe name body) = search [] depth 20
 carry_mild itself (Action-F.Queue name size backlog) = search [] depth 20
 carry_mild itself (Action-F.Put queue value) = search [] depth 20
 carry_mild itself (Action-F.Get name queue) = search [] depth 20
-carry_mild itself (Action-F.List name children flags) = λ w. all_mild (deferreds_at itself children w) _ (λ ds. list_mild name ds (page_flags.list_flags flags))
-carry_mild itself (Action-F.Gather name children flags) = λ w. all_mild (deferreds_at itself children w) _ (λ ds. λ v. (list_mild name ds (page_flags.gather_flags flags), (tt, tt)))
+carry_mild itself (Action-F.List name children flags) =
+    λ w. all_mild (deferreds_at itself children w) _ (λ ds. list_mild name ds (page_flags.list_flags flags))
+carry_mild itself (Action-F.Gather name children flags) =
+    λ w. all_mild (deferreds_at itself children w) _
+    (λ ds. λ v. (list_mild name ds (page_flags.gather_flags flags), (tt, tt)))
 carry_mild itself (Action-F.Later name delay body) = search [] depth 20
 carry_mild itself (Action-F.CancelCall name) = search [] depth 20
 carry_mild itself (Action-F.Loop name of interval at_once body) = search [] depth 20
@@ -783,7 +985,8 @@ carry_mild itself (Action-F.Inline name statements) = search [] depth 20
 carry_mild itself (Action-F.Thread name delay work) = search [] depth 20
 carry_mild itself (Action-F.ThreadIn name pool delay work) = search [] depth 20
 
-rest_mild : (itself : Option ℕ) (actions : List Action) (end : End) (input : Value) → Mildly None (page.perform_rest itself actions end input)
+rest_mild : (itself : Option ℕ) (actions : List Action) (end : End) (input : Value)
+    → Mildly None (page.perform_rest itself actions end input)
 rest_mild itself [] end input = λ w. tt
 rest_mild itself (action ∷ rest) end input = (carry_mild itself (out-Action action), (tt, tt))
 
@@ -856,7 +1059,10 @@ rule_mild (frame.Cancel d) p m = (tt, reached_mild)
 rule_mild (frame.Give given) p m = unless_mild p _ tt
 rule_mild (frame.Notify d t) p m = search [] depth 20
 rule_mild (frame.Stepped t) p m = λ w. (tt, step_mild t p)
-rule_mild (frame.Tick units) p m = (ended_mild, (tt, λ taken. (ended_mild, λ now. ((end_mild now.0 Finished, λ body. (tt, (tt, (tt, tt)))), (tt, tt)))))
+rule_mild (frame.Tick units) p m = (
+  ended_mild,
+  (tt, λ taken. (ended_mild, λ now. ((end_mild now.0 Finished, λ body. (tt, (tt, (tt, tt)))), (tt, tt)))),
+)
 rule_mild frame.Tell p m = search [] depth 20
 rule_mild frame.Due p m = (tt, due_mild)
 rule_mild (frame.Inline x) p m = inline_mild x p
@@ -890,10 +1096,19 @@ turned_mild f p w m = run_mild (scripts.rule_of f p) w (rule_mild f p m)
 -- what happens begins so, but for that time goes on
 pub action_mild : (action : Action) (w : World) → Mild w (begun None (out-Action action) w over (frame.Tell ∷ []))
 action_mild action w =
-    run_mild (Over (page.carry_out None (out-Action action)) (frame.Tell ∷ [])) w (carry_mild None (out-Action action), (tt, tt))
+    run_mild (Over (page.carry_out None (out-Action action)) (frame.Tell ∷ [])) w (
+      carry_mild None (out-Action action),
+      (tt, tt),
+    )
 
 pub drain_mild : (w : World) → Mild w (done (world.tell entry.Drain w))
-drain_mild w = record { comes = quietly w _ (by_aside entry.Drain _ w refl (λ k. Leaves (refl, refl, refl)) (λ k. k) (resting _ _ _ refl refl refl refl refl refl refl refl refl)); free = tt }
+drain_mild w = record {
+  comes = quietly w _ (by_aside entry.Drain _ w refl (λ k. Leaves (refl, refl, refl)) (λ k. k)
+      (resting _ _ _ refl refl refl refl refl refl refl refl refl));
+  free = tt;
+}
 
 pub post_comes : (caller index : ℕ) (w : World) → Calmly w (world.tell (entry.Post caller index) w)
-post_comes caller index w = quietly w _ (by_aside (entry.Post caller index) _ w refl (λ k. Leaves (refl, refl, refl)) (λ k. k) (resting _ _ _ refl refl refl refl refl refl refl refl refl))
+post_comes caller index w =
+    quietly w _ (by_aside (entry.Post caller index) _ w refl (λ k. Leaves (refl, refl, refl)) (λ k. k)
+    (resting _ _ _ refl refl refl refl refl refl refl refl refl))

@@ -18,8 +18,11 @@ IsPlain e = (timing_of e ≡ Untimed) × (scheduled_by e ≡ None) × (ended_by 
 pub data Clocks (e : Entry) (c : Clock) : Clock → Type 0 where
   Leaves : IsPlain e → Clocks e c c
   Adds : (due_for : Due) (due : ℕ) → e ≡ scheduling due_for due → c.time ≤ due → Clocks e c (with_call due due_for c)
-  Runs : (call : Upcoming) → next_call c ≡ Some call → e ≡ coming_due call.what → Clocks e c (ended call.number call_state.Called c)
-  Cancels : (number due : ℕ) (name : List ℕ) (key : ℕ) → slice_get c.calls number ≡ Some (record { due = due; state = call_state.Waiting (what.Call name key) }) → e ≡ entry.Uncall name → Clocks e c (ended number call_state.Cancelled c)
+  Runs : (call : Upcoming) → next_call c ≡ Some call → e ≡ coming_due call.what
+      → Clocks e c (ended call.number call_state.Called c)
+  Cancels : (number due : ℕ) (name : List ℕ) (key : ℕ)
+      → slice_get c.calls number ≡ Some (record { due = due; state = call_state.Waiting (what.Call name key) })
+      → e ≡ entry.Uncall name → Clocks e c (ended number call_state.Cancelled c)
   Drops : (number : ℕ) → IsPlain e → Clocks e c (ended number call_state.Dropped c)
 
 -- what isn't logged about the clock: it stays, or something is dropped

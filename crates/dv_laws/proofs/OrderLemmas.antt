@@ -1,5 +1,7 @@
 -- Calls run in the order of the times that they are due at.
-use Rattle.std.proofs.Common.{◌≡◌, ℕ, zero, suc, ◌+◌, ◌≤◌, ◌<◌, ◌++◌, min, Bool, true, false, nat_eq, List, [], ◌∷◌, Option, None, Some, refl, sym, ap, subst, ◌∙◌, arith, append_assoc, slice_get, slice_set, cond, length}
+use Rattle.std.proofs.Common.{◌≡◌, ℕ, zero, suc, ◌+◌, ◌≤◌, ◌<◌, ◌++◌, min, Bool, true, false, nat_eq, List, [], ◌∷◌}
+use Rattle.std.proofs.Common.{Option, None, Some, refl, sym, ap, subst, ◌∙◌, arith, append_assoc, slice_get, slice_set}
+use Rattle.std.proofs.Common.{cond, length}
 use Rattle.std.proofs.lemmas.Option.{none-some, slice_get_within}
 use Rattle.dv_clock.specs.Clock.{Clock, Upcoming, next_call, with_call, ended}
 use Rattle.dv_clock.specs.Due.{scheduling, coming_due}
@@ -17,7 +19,8 @@ use Rattle.dv_posts.specs.Batches.{Batch}
 use Rattle.dv_loop.specs.Meaning.{Means}
 use Rattle.dv_script.specs.declared.script.Script.{Script}
 use Rattle.dv_world.specs.World.{World}
-use Rattle.dv_laws.specs.Calls.{is_same, count_of, scheduled_by, ended_by, schedulings, later_of, run_of, ScheduledOnce, HasRun, Precedes, IsFirst, RunsInOrder, CallsRunInOrder}
+use Rattle.dv_laws.specs.Calls.{is_same, count_of, scheduled_by, ended_by, schedulings, later_of, run_of, ScheduledOnce}
+use Rattle.dv_laws.specs.Calls.{HasRun, Precedes, IsFirst, RunsInOrder, CallsRunInOrder}
 use Rattle.dv_laws.specs.Once.{Stands}
 use Rattle.dv_laws.proofs.At.{entries_on, no_entries}
 use Rattle.dv_laws.proofs.Clocks.{IsPlain, Clocks, Leaves, Adds, Runs, Cancels, Drops, Arranges, Stays, Loses}
@@ -28,7 +31,10 @@ use Rattle.std.proofs.lemmas.List.Sums.{sum_by-cons}
 use Rattle.std.proofs.lemmas.Bool.Decides.{nat_tests}
 use Rattle.std.proofs.lemmas.Slice.Eq.{bytes_eq-Decides}
 use Rattle.dv_laws.proofs.At.{split_last}
-use Rattle.dv_laws.proofs.CallsLemmas.{timed_of, coming_is, run_ends, later_is, call_in, NeverWaits, called_ended, cancelled_ended, dropped_ended, clocks_tell, arranged, advanced, pushed_by, set_waits, ended_found, not_uncalled, scheduling_ends, named_same, named_loops, Timely, AllTold, first_timely}
+use Rattle.dv_laws.proofs.CallsLemmas.{timed_of, coming_is, run_ends, later_is, call_in, NeverWaits, called_ended}
+use Rattle.dv_laws.proofs.CallsLemmas.{cancelled_ended, dropped_ended, clocks_tell, arranged, advanced, pushed_by}
+use Rattle.dv_laws.proofs.CallsLemmas.{set_waits, ended_found, not_uncalled, scheduling_ends, named_same, named_loops}
+use Rattle.dv_laws.proofs.CallsLemmas.{Timely, AllTold, first_timely}
 
 -- what was logged once was logged with one time
 is_itself : (t : Timed) → is_same t t ≡ true
@@ -50,7 +56,8 @@ later_due (Delivered job) a b q = cc
 later_due (TimedOut d) a b q = cc
 
 -- an entry that stands among some is the first, or stands among the others
-stands_cases : (x e : Entry) (entries before later : List Entry) (Q : Type 0) → e ∷ entries ≡ before ++ x ∷ later → (x ≡ e → Q) → (Stands x entries → Q) → Q
+stands_cases : (x e : Entry) (entries before later : List Entry) (Q : Type 0) → e ∷ entries ≡ before ++ x ∷ later
+    → (x ≡ e → Q) → (Stands x entries → Q) → Q
 stands_cases x e entries [] later Q q h k = h cc
 stands_cases x e entries (b ∷ bs) later Q q h k = k (record { before = bs; later = later; among = cc })
 
@@ -61,19 +68,22 @@ stands_nowhere x (b ∷ bs) later Q q = absurd cc
 abbrev counts_of : Timed → Entry → ℕ
 counts_of t e = count_of t (scheduled_by e)
 
-counted_once : (t : Timed) (due : ℕ) (entries : List Entry) → Stands (later_of t due) entries → 1 ≤ schedulings t entries
+counted_once : (t : Timed) (due : ℕ) (entries : List Entry) → Stands (later_of t due) entries
+    → 1 ≤ schedulings t entries
 counted_once t due [] s = stands_nowhere (later_of t due) s.before s.later _ s.among
 counted_once t due (e ∷ entries) s =
     stands_cases (later_of t due) e entries s.before s.later _ s.among
     (λ q. omega (arith, sum_by-cons (counts_of t) e entries, ap (counts_of t) q, later_counts t due))
     (λ z. omega (arith, sum_by-cons (counts_of t) e entries, counted_once t due entries z))
 
-one_due : (t : Timed) (a b : ℕ) (entries : List Entry) → schedulings t entries ≤ 1 → Stands (later_of t a) entries → Stands (later_of t b) entries → a ≡ b
+one_due : (t : Timed) (a b : ℕ) (entries : List Entry) → schedulings t entries ≤ 1 → Stands (later_of t a) entries
+    → Stands (later_of t b) entries → a ≡ b
 one_due t a b [] n s r = stands_nowhere (later_of t a) s.before s.later _ s.among
 one_due t a b (e ∷ entries) n s r =
     let all = sum_by-cons (counts_of t) e entries in
     stands_cases (later_of t a) e entries s.before s.later (a ≡ b) s.among
-    (λ p. stands_cases (later_of t b) e entries r.before r.later (a ≡ b) r.among (λ q. later_due t a b (p ∙ sym q)) (λ z. absurd (omega (arith, n, all, ap (counts_of t) p, later_counts t a, counted_once t b entries z))))
+    (λ p. stands_cases (later_of t b) e entries r.before r.later (a ≡ b) r.among (λ q. later_due t a b (p ∙ sym q))
+    (λ z. absurd (omega (arith, n, all, ap (counts_of t) p, later_counts t a, counted_once t b entries z))))
     (λ y. stands_cases (later_of t b) e entries r.before r.later (a ≡ b) r.among
     (λ q. absurd (omega (arith, n, all, ap (counts_of t) q, later_counts t b, counted_once t a entries y)))
     (λ z. one_due t a b entries (omega (arith, n, all)) y z))
@@ -81,25 +91,34 @@ one_due t a b (e ∷ entries) n s r =
 -- nothing that waits is due before this, nor is this later than now
 record NotLater (due : ℕ) (c : Clock) : Type 0 where
   passed : due ≤ c.time
-  waits : (n other : ℕ) (due_for : Due) → slice_get c.calls n ≡ Some (call_in other (call_state.Waiting due_for)) → due ≤ other
+  waits : (n other : ℕ) (due_for : Due) → slice_get c.calls n ≡ Some (call_in other (call_state.Waiting due_for))
+      → due ≤ other
 
-added_later : (due other : ℕ) (due_for : Due) (c : Clock) → c.time ≤ other → NotLater due c → NotLater due (with_call other due_for c)
+added_later : (due other : ℕ) (due_for : Due) (c : Clock) → c.time ≤ other → NotLater due c
+    → NotLater due (with_call other due_for c)
 added_later due other due_for c h k = record {
   passed = k.passed;
   waits = λ n at for q.
-      pushed_by (scheduling due_for other) n (call_in other (call_state.Waiting due_for)) c.calls (λ d f. due ≤ d) k.waits (λ d f p. let same : other ≡ d = ap (λ (x : Call). x.due) p in omega (arith, h, k.passed, same)) at for q;
+      pushed_by (scheduling due_for other) n (call_in other (call_state.Waiting due_for)) c.calls (λ d f. due ≤ d)
+      k.waits (λ d f p. let same : other ≡ d = ap (λ (x : Call). x.due) p in omega (arith, h, k.passed, same)) at for q;
 }
 
 abbrev AllLater : ℕ → List Call → Type 0
-AllLater due calls = (n other : ℕ) (due_for : Due) → slice_get calls n ≡ Some (call_in other (call_state.Waiting due_for)) → due ≤ other
+AllLater due calls =
+    (n other : ℕ) (due_for : Due) → slice_get calls n ≡ Some (call_in other (call_state.Waiting due_for)) → due ≤ other
 
-ended_later : (due : ℕ) (c : Clock) (number : ℕ) (state : CallState) → NeverWaits state → AllLater due c.calls → AllLater due (ended number state c).calls
+ended_later : (due : ℕ) (c : Clock) (number : ℕ) (state : CallState) → NeverWaits state → AllLater due c.calls
+    → AllLater due (ended number state c).calls
 ended_later due c number state never k =
     ended_found (AllLater due) c.calls number state (slice_get c.calls number) refl k
-    (λ call g n other due_for h. set_waits (nat_eq number n) (record call { state = state }) (slice_get c.calls n) other due_for _ (never call.due) (k n other due_for) (sym (get_set c.calls number n call (record call { state = state }) g) ∙ h))
+    (λ call g n other due_for h.
+    set_waits (nat_eq number n) (record call { state = state }) (slice_get c.calls n) other due_for _ (never call.due)
+    (k n other due_for) (sym (get_set c.calls number n call (record call { state = state }) g) ∙ h))
 
-ends_later : (due : ℕ) (c : Clock) (number : ℕ) (state : CallState) → NeverWaits state → NotLater due c → NotLater due (ended number state c)
-ends_later due c number state never k = record { passed = k.passed; waits = ended_later due c number state never k.waits }
+ends_later : (due : ℕ) (c : Clock) (number : ℕ) (state : CallState) → NeverWaits state → NotLater due c
+    → NotLater due (ended number state c)
+ends_later due c number state never k =
+    record { passed = k.passed; waits = ended_later due c number state never k.waits }
 
 -- the next call isn't later than what waits
 next_later : (c : Clock) (call : Upcoming) → next_call c ≡ Some call → NotLater call.due c
@@ -111,94 +130,139 @@ precedes_on x y e entries p = record {
   before = p.before;
   between = p.between;
   later = p.later ++ e ∷ [];
-  among = ap (λ l. l ++ e ∷ []) p.among ∙ append_assoc p.before (x ∷ (p.between ++ y ∷ p.later)) (e ∷ []) ∙ ap (λ l. p.before ++ x ∷ l) (append_assoc p.between (y ∷ p.later) (e ∷ []));
+  among =
+      ap (λ l. l ++ e ∷ []) p.among ∙ append_assoc p.before (x ∷ (p.between ++ y ∷ p.later)) (e ∷ [])
+      ∙ ap (λ l. p.before ++ x ∷ l) (append_assoc p.between (y ∷ p.later) (e ∷ []));
 }
 
 precedes_last : (x e : Entry) (entries : List Entry) → Stands x entries → Precedes x e (entries ++ e ∷ [])
-precedes_last x e entries s = record { before = s.before; between = s.later; later = []; among = ap (λ l. l ++ e ∷ []) s.among ∙ append_assoc s.before (x ∷ s.later) (e ∷ []) }
+precedes_last x e entries s = record {
+  before = s.before;
+  between = s.later;
+  later = [];
+  among = ap (λ l. l ++ e ∷ []) s.among ∙ append_assoc s.before (x ∷ s.later) (e ∷ []);
+}
 
 -- calls that wait were logged in the order of their numbers
 abbrev InOrder : List Call → List Entry → Type 0
 InOrder calls entries =
-    (n m a b : ℕ) (f g : Due) → n < m → slice_get calls n ≡ Some (call_in a (call_state.Waiting f)) → slice_get calls m ≡ Some (call_in b (call_state.Waiting g)) → Precedes (scheduling f a) (scheduling g b) entries
+    (n m a b : ℕ) (f g : Due) → n < m → slice_get calls n ≡ Some (call_in a (call_state.Waiting f))
+    → slice_get calls m ≡ Some (call_in b (call_state.Waiting g)) → Precedes (scheduling f a) (scheduling g b) entries
 
-pushed_at : (n : ℕ) (new x : Call) (calls : List Call) (Q : Type 0) → (slice_get calls n ≡ Some x → Q) → (n ≡ length calls → new ≡ x → Q) → slice_get (calls ++ new ∷ []) n ≡ Some x → Q
+pushed_at : (n : ℕ) (new x : Call) (calls : List Call) (Q : Type 0) → (slice_get calls n ≡ Some x → Q)
+    → (n ≡ length calls → new ≡ x → Q) → slice_get (calls ++ new ∷ []) n ≡ Some x → Q
 pushed_at zero new x [] Q h k q = k refl cc
 pushed_at (suc n) new x [] Q h k q = absurd cc
 pushed_at zero new x (c ∷ calls) Q h k q = h q
 pushed_at (suc n) new x (c ∷ calls) Q h k q = pushed_at n new x calls Q h (λ e r. k (omega (arith, e)) r) q
 
-scheduled_same : (f g : Due) (a b : ℕ) → call_in a (call_state.Waiting f) ≡ call_in b (call_state.Waiting g) → scheduling f a ≡ scheduling g b
+scheduled_same : (f g : Due) (a b : ℕ) → call_in a (call_state.Waiting f) ≡ call_in b (call_state.Waiting g)
+    → scheduling f a ≡ scheduling g b
 scheduled_same f g a b q =
     let dues : a ≡ b = ap (λ (c : Call). c.due) q in
     let states : call_state.Waiting f ≡ call_state.Waiting g = ap (λ (c : Call). c.state) q in
     let sames : f ≡ g = cc in
     ap (λ x. scheduling f x) dues ∙ ap (λ x. scheduling x b) sames
 
-order_on : (e : Entry) (calls : List Call) (entries : List Entry) → InOrder calls entries → InOrder calls (entries ++ e ∷ [])
-order_on e calls entries k = λ n m a b f g l h i. precedes_on (scheduling f a) (scheduling g b) e entries (k n m a b f g l h i)
+order_on : (e : Entry) (calls : List Call) (entries : List Entry) → InOrder calls entries
+    → InOrder calls (entries ++ e ∷ [])
+order_on e calls entries k =
+    λ n m a b f g l h i. precedes_on (scheduling f a) (scheduling g b) e entries (k n m a b f g l h i)
 
-order_added : (due_for : Due) (due : ℕ) (calls : List Call) (entries : List Entry) → AllTold calls entries → InOrder calls entries → InOrder (calls ++ call_in due (call_state.Waiting due_for) ∷ []) (entries ++ scheduling due_for due ∷ [])
+order_added : (due_for : Due) (due : ℕ) (calls : List Call) (entries : List Entry) → AllTold calls entries
+    → InOrder calls entries
+    → InOrder (calls ++ call_in due (call_state.Waiting due_for) ∷ []) (entries ++ scheduling due_for due ∷ [])
 order_added due_for due calls entries told k = λ n m a b f g l h i.
     let new = call_in due (call_state.Waiting due_for) in
     let e = scheduling due_for due in
-    pushed_at n new (call_in a (call_state.Waiting f)) calls (Precedes (scheduling f a) (scheduling g b) (entries ++ e ∷ []))
-    (λ p. pushed_at m new (call_in b (call_state.Waiting g)) calls (Precedes (scheduling f a) (scheduling g b) (entries ++ e ∷ []))
+    pushed_at n new (call_in a (call_state.Waiting f)) calls
+    (Precedes (scheduling f a) (scheduling g b) (entries ++ e ∷ []))
+    (λ p. pushed_at m new (call_in b (call_state.Waiting g)) calls
+    (Precedes (scheduling f a) (scheduling g b) (entries ++ e ∷ []))
     (λ q. precedes_on (scheduling f a) (scheduling g b) e entries (k n m a b f g l p q))
-    (λ r s. subst (λ y. Precedes (scheduling f a) y (entries ++ e ∷ [])) (scheduled_same due_for g due b s) (precedes_last (scheduling f a) e entries (told.each n a f p))) i)
-    (λ r s. pushed_at m new (call_in b (call_state.Waiting g)) calls (Precedes (scheduling f a) (scheduling g b) (entries ++ e ∷ []))
+    (λ r s. subst (λ y. Precedes (scheduling f a) y (entries ++ e ∷ [])) (scheduled_same due_for g due b s)
+    (precedes_last (scheduling f a) e entries (told.each n a f p))) i)
+    (λ r s. pushed_at m new (call_in b (call_state.Waiting g)) calls
+    (Precedes (scheduling f a) (scheduling g b) (entries ++ e ∷ []))
     (λ q. absurd (omega (arith, l, r, slice_get_within calls m (call_in b (call_state.Waiting g)) q)))
     (λ x y. absurd (omega (arith, l, r, x))) i)
     h
 
-order_ended : (c : Clock) (number : ℕ) (state : CallState) (entries : List Entry) → NeverWaits state → InOrder c.calls entries → InOrder (ended number state c).calls entries
+order_ended : (c : Clock) (number : ℕ) (state : CallState) (entries : List Entry) → NeverWaits state
+    → InOrder c.calls entries → InOrder (ended number state c).calls entries
 order_ended c number state entries never k =
     ended_found (λ calls. InOrder calls entries) c.calls number state (slice_get c.calls number) refl k
     (λ call g n m a b f h l p q.
     let new = record call { state = state } in
-    set_waits (nat_eq number n) new (slice_get c.calls n) a f (Precedes (scheduling f a) (scheduling h b) entries) (never call.due)
-    (λ p2. set_waits (nat_eq number m) new (slice_get c.calls m) b h (Precedes (scheduling f a) (scheduling h b) entries) (never call.due) (λ q2. k n m a b f h l p2 q2) (sym (get_set c.calls number m call new g) ∙ q))
+    set_waits (nat_eq number n) new (slice_get c.calls n) a f (Precedes (scheduling f a) (scheduling h b) entries)
+    (never call.due)
+    (λ p2.
+    set_waits (nat_eq number m) new (slice_get c.calls m) b h (Precedes (scheduling f a) (scheduling h b) entries)
+    (never call.due) (λ q2. k n m a b f h l p2 q2) (sym (get_set c.calls number m call new g) ∙ q))
     (sym (get_set c.calls number n call new g) ∙ p))
 
 -- what waits and is due with one that has run was logged after it
 abbrev Ties : Timed → ℕ → List Call → List Entry → Type 0
-Ties t due calls entries = (n other : ℕ) (due_for : Due) → slice_get calls n ≡ Some (call_in other (call_state.Waiting due_for)) → due ≡ other → Precedes (later_of t due) (scheduling due_for other) entries
+Ties t due calls entries =
+    (n other : ℕ) (due_for : Due) → slice_get calls n ≡ Some (call_in other (call_state.Waiting due_for)) → due ≡ other
+    → Precedes (later_of t due) (scheduling due_for other) entries
 
-ties_on : (t : Timed) (due : ℕ) (e : Entry) (calls : List Call) (entries : List Entry) → Ties t due calls entries → Ties t due calls (entries ++ e ∷ [])
-ties_on t due e calls entries k = λ n other f h q. precedes_on (later_of t due) (scheduling f other) e entries (k n other f h q)
+ties_on : (t : Timed) (due : ℕ) (e : Entry) (calls : List Call) (entries : List Entry) → Ties t due calls entries
+    → Ties t due calls (entries ++ e ∷ [])
+ties_on t due e calls entries k =
+    λ n other f h q. precedes_on (later_of t due) (scheduling f other) e entries (k n other f h q)
 
-ties_added : (t : Timed) (due other : ℕ) (due_for : Due) (calls : List Call) (entries : List Entry) → Stands (later_of t due) entries → Ties t due calls entries → Ties t due (calls ++ call_in other (call_state.Waiting due_for) ∷ []) (entries ++ scheduling due_for other ∷ [])
+ties_added : (t : Timed) (due other : ℕ) (due_for : Due) (calls : List Call) (entries : List Entry)
+    → Stands (later_of t due) entries → Ties t due calls entries
+    → Ties t due (calls ++ call_in other (call_state.Waiting due_for) ∷ []) (entries ++ scheduling due_for other ∷ [])
 ties_added t due other due_for calls entries s k = λ n at f h q.
     let e = scheduling due_for other in
-    pushed_at n (call_in other (call_state.Waiting due_for)) (call_in at (call_state.Waiting f)) calls (Precedes (later_of t due) (scheduling f at) (entries ++ e ∷ []))
+    pushed_at n (call_in other (call_state.Waiting due_for)) (call_in at (call_state.Waiting f)) calls
+    (Precedes (later_of t due) (scheduling f at) (entries ++ e ∷ []))
     (λ p. precedes_on (later_of t due) (scheduling f at) e entries (k n at f p q))
-    (λ r p. subst (λ y. Precedes (later_of t due) y (entries ++ e ∷ [])) (scheduled_same due_for f other at p) (precedes_last (later_of t due) e entries s)) h
+    (λ r p. subst (λ y. Precedes (later_of t due) y (entries ++ e ∷ [])) (scheduled_same due_for f other at p)
+    (precedes_last (later_of t due) e entries s)) h
 
-ties_ended : (t : Timed) (due : ℕ) (c : Clock) (number : ℕ) (state : CallState) (entries : List Entry) → NeverWaits state → Ties t due c.calls entries → Ties t due (ended number state c).calls entries
+ties_ended : (t : Timed) (due : ℕ) (c : Clock) (number : ℕ) (state : CallState) (entries : List Entry)
+    → NeverWaits state → Ties t due c.calls entries → Ties t due (ended number state c).calls entries
 ties_ended t due c number state entries never k =
     ended_found (λ calls. Ties t due calls entries) c.calls number state (slice_get c.calls number) refl k
-    (λ call g n other f h q. set_waits (nat_eq number n) (record call { state = state }) (slice_get c.calls n) other f _ (never call.due) (λ p. k n other f p q) (sym (get_set c.calls number n call (record call { state = state }) g) ∙ h))
+    (λ call g n other f h q. set_waits (nat_eq number n) (record call { state = state }) (slice_get c.calls n) other f _
+    (never call.due) (λ p. k n other f p q) (sym (get_set c.calls number n call (record call { state = state }) g) ∙ h))
 
 -- so it is of one that runs now
-ended_is : (c : Clock) (number due : ℕ) (f : Due) (state : CallState) → slice_get c.calls number ≡ Some (call_in due (call_state.Waiting f)) → (ended number state c).calls ≡ slice_set c.calls number (call_in due state)
+ended_is : (c : Clock) (number due : ℕ) (f : Due) (state : CallState)
+    → slice_get c.calls number ≡ Some (call_in due (call_state.Waiting f))
+    → (ended number state c).calls ≡ slice_set c.calls number (call_in due state)
 ended_is c number due f state h = rw h refl
 
 apart : (b : Bool) (number n : ℕ) → nat_eq number n ≡ b → b ≡ false → number ≤ n → number < n
 apart b number n e f h = grind (arith, nat_tests)
 
-still_waits : (b : Bool) (number n due other : ℕ) (f : Due) (o : Option Call) (Q : Type 0) → nat_eq number n ≡ b → (nat_eq number n ≡ false → o ≡ Some (call_in other (call_state.Waiting f)) → Q) → cond b (Some (call_in due call_state.Called)) o ≡ Some (call_in other (call_state.Waiting f)) → Q
-still_waits true number n due other f o Q e h q = let same : call_in due call_state.Called ≡ call_in other (call_state.Waiting f) = cc in absurd (called_ended due other f same)
+still_waits : (b : Bool) (number n due other : ℕ) (f : Due) (o : Option Call) (Q : Type 0) → nat_eq number n ≡ b
+    → (nat_eq number n ≡ false → o ≡ Some (call_in other (call_state.Waiting f)) → Q)
+    → cond b (Some (call_in due call_state.Called)) o ≡ Some (call_in other (call_state.Waiting f)) → Q
+still_waits true number n due other f o Q e h q =
+    let same : call_in due call_state.Called ≡ call_in other (call_state.Waiting f) = cc in
+    absurd (called_ended due other f same)
 still_waits false number n due other f o Q e h q = h e q
 
-run_ties : (c : Clock) (call : Upcoming) (entries : List Entry) → next_call c ≡ Some call → InOrder c.calls entries → (n other : ℕ) (f : Due) → slice_get (ended call.number call_state.Called c).calls n ≡ Some (call_in other (call_state.Waiting f)) → call.due ≡ other → Precedes (scheduling call.what call.due) (scheduling f other) entries
+run_ties : (c : Clock) (call : Upcoming) (entries : List Entry) → next_call c ≡ Some call → InOrder c.calls entries
+    → (n other : ℕ) (f : Due)
+    → slice_get (ended call.number call_state.Called c).calls n ≡ Some (call_in other (call_state.Waiting f))
+    → call.due ≡ other → Precedes (scheduling call.what call.due) (scheduling f other) entries
 run_ties c call entries next k n other f h q =
     let first = first_runs_next c call next in
-    let set : slice_get (slice_set c.calls call.number (call_in call.due call_state.Called)) n ≡ Some (call_in other (call_state.Waiting f)) = ap (λ calls. slice_get calls n) (sym (ended_is c call.number call.due call.what call_state.Called first.waits)) ∙ h in
+    let set : slice_get (slice_set c.calls call.number (call_in call.due call_state.Called)) n
+    ≡ Some (call_in other (call_state.Waiting f)) =
+    ap (λ calls. slice_get calls n) (sym (ended_is c call.number call.due call.what call_state.Called first.waits))
+    ∙ h in
     still_waits _ call.number n call.due other f (slice_get c.calls n) _ refl
     (λ e p.
     let later = first.in_order n f (p ∙ ap (λ x. Some (call_in x (call_state.Waiting f))) (sym q)) in
     k call.number n call.due other call.what f (apart _ call.number n refl e later) first.waits p)
-    (sym (get_set c.calls call.number n (call_in call.due (call_state.Waiting call.what)) (call_in call.due call_state.Called) first.waits) ∙ set)
+    (sym (get_set c.calls call.number n (call_in call.due (call_state.Waiting call.what))
+    (call_in call.due call_state.Called) first.waits) ∙ set)
 
 -- what has run was due no later than what waits
 record Ordered (t u : Timed) (c : Clock) (entries : List Entry) : Type 0 where
@@ -211,20 +275,30 @@ record Ordered (t u : Timed) (c : Clock) (entries : List Entry) : Type 0 where
 
 record Keeps (t u : Timed) (w v : World) : Type 0 where
   loops : Regular w.objects.loops → Regular v.objects.loops
-  goes_on : Regular w.objects.loops → Ordered t u w.objects.clock w.journal.entries → Ordered t u v.objects.clock v.journal.entries
+  goes_on : Regular w.objects.loops → Ordered t u w.objects.clock w.journal.entries
+      → Ordered t u v.objects.clock v.journal.entries
 
-ran_before : (t : Timed) (due : ℕ) (e : Entry) (entries : List Entry) (Q : Type 0) → (HasRun t due entries → Q) → (run_of t ≡ e → ScheduledOnce t due entries → Q) → HasRun t due (entries ++ e ∷ []) → Q
+ran_before : (t : Timed) (due : ℕ) (e : Entry) (entries : List Entry) (Q : Type 0) → (HasRun t due entries → Q)
+    → (run_of t ≡ e → ScheduledOnce t due entries → Q) → HasRun t due (entries ++ e ∷ []) → Q
 ran_before t due e entries Q h k r =
-    split_last (λ b. ScheduledOnce t due b → Q) (run_of t) e entries r.before r.later (λ bs ls q s. h (record { before = bs; later = ls; ran = q; scheduled = s })) (λ q s. k q s) r.ran r.scheduled
+    split_last (λ b. ScheduledOnce t due b → Q) (run_of t) e entries r.before r.later
+    (λ bs ls q s. h (record { before = bs; later = ls; ran = q; scheduled = s })) (λ q s. k q s) r.ran r.scheduled
 
 abbrev Later : Timed → Timed → List Entry → Entry → Type 0
-Later t u told x = x ≡ run_of u → (first second : ℕ) → HasRun t first told → ScheduledOnce u second told → IsFirst t u first second told
+Later t u told x =
+    x ≡ run_of u → (first second : ℕ) → HasRun t first told → ScheduledOnce u second told
+    → IsFirst t u first second told
 
 -- what has run stands after its scheduling
 run_stands : (t : Timed) (due : ℕ) (entries : List Entry) → HasRun t due entries → Stands (later_of t due) entries
 run_stands t due entries r =
     let s = r.scheduled.scheduled in
-    record { before = s.before; later = s.later ++ run_of t ∷ r.later; among = r.ran ∙ ap (λ l. l ++ run_of t ∷ r.later) s.among ∙ append_assoc s.before (later_of t due ∷ s.later) (run_of t ∷ r.later) }
+    record {
+      before = s.before;
+      later = s.later ++ run_of t ∷ r.later;
+      among = r.ran ∙ ap (λ l. l ++ run_of t ∷ r.later) s.among
+          ∙ append_assoc s.before (later_of t due ∷ s.later) (run_of t ∷ r.later);
+    }
 
 -- what an entry changes, where something has run before
 record Follows (t : Timed) (e : Entry) (c d : Clock) (entries : List Entry) : Type 0 where
@@ -233,81 +307,123 @@ record Follows (t : Timed) (e : Entry) (c d : Clock) (entries : List Entry) : Ty
   ties : (due : ℕ) → HasRun t due entries → Ties t due c.calls entries → Ties t due d.calls (entries ++ e ∷ [])
 
 -- one more entry
-ordered : (t u : Timed) (e : Entry) (c d : Clock) (entries : List Entry) → Timely u d (entries ++ e ∷ []) → d.time ≤ MOST_TICKS → Follows t e c d entries → ((due : ℕ) → run_of t ≡ e → ScheduledOnce t due entries → NotLater due d)
-    → ((due : ℕ) → run_of t ≡ e → ScheduledOnce t due entries → Ties t due d.calls (entries ++ e ∷ [])) → Later t u entries e → Ordered t u c entries → Ordered t u d (entries ++ e ∷ [])
+ordered : (t u : Timed) (e : Entry) (c d : Clock) (entries : List Entry) → Timely u d (entries ++ e ∷ [])
+    → d.time ≤ MOST_TICKS → Follows t e c d entries
+    → ((due : ℕ) → run_of t ≡ e → ScheduledOnce t due entries → NotLater due d)
+    → ((due : ℕ) → run_of t ≡ e → ScheduledOnce t due entries → Ties t due d.calls (entries ++ e ∷ []))
+    → Later t u entries e → Ordered t u c entries → Ordered t u d (entries ++ e ∷ [])
 ordered t u e c d entries base within follows now tied late k = record {
   base = base;
   within = within;
   ran = λ due r. ran_before t due e entries (NotLater due d) (λ z. follows.goes due (k.ran due z)) (now due) r;
   told = follows.order;
-  ties = λ due r. ran_before t due e entries (Ties t due d.calls (entries ++ e ∷ [])) (λ z. follows.ties due z (k.ties due z)) (tied due) r;
+  ties =
+      λ due r. ran_before t due e entries (Ties t due d.calls (entries ++ e ∷ []))
+      (λ z. follows.ties due z (k.ties due z)) (tied due) r;
   law = entries_on (Later t u) e entries k.law late;
 }
 
 -- an entry by which nothing runs
-quiet : (t u : Timed) (e : Entry) (c d : Clock) (entries : List Entry) → ((v : Timed) → e ≡ run_of v → ⊥) → Timely u d (entries ++ e ∷ []) → d.time ≤ MOST_TICKS → Follows t e c d entries → Ordered t u c entries → Ordered t u d (entries ++ e ∷ [])
-quiet t u e c d entries n base within follows k = ordered t u e c d entries base within follows (λ due q s. absurd (n t (sym q))) (λ due q s. absurd (n t (sym q))) (λ q. absurd (n u q)) k
+quiet : (t u : Timed) (e : Entry) (c d : Clock) (entries : List Entry) → ((v : Timed) → e ≡ run_of v → ⊥)
+    → Timely u d (entries ++ e ∷ []) → d.time ≤ MOST_TICKS → Follows t e c d entries → Ordered t u c entries
+    → Ordered t u d (entries ++ e ∷ [])
+quiet t u e c d entries n base within follows k =
+    ordered t u e c d entries base within follows (λ due q s. absurd (n t (sym q))) (λ due q s. absurd (n t (sym q)))
+    (λ q. absurd (n u q)) k
 
 -- the clock's calls stay, or one of them ends
-stays_so : (t u : Timed) (e : Entry) (c d : Clock) (entries : List Entry) → d.calls ≡ c.calls → ((due : ℕ) → NotLater due c → NotLater due d) → Ordered t u c entries → Follows t e c d entries
-stays_so t u e c d entries s goes k = record { goes = goes; order = rw s (order_on e c.calls entries k.told); ties = λ due r z. rw s (ties_on t due e c.calls entries z) }
+stays_so : (t u : Timed) (e : Entry) (c d : Clock) (entries : List Entry) → d.calls ≡ c.calls
+    → ((due : ℕ) → NotLater due c → NotLater due d) → Ordered t u c entries → Follows t e c d entries
+stays_so t u e c d entries s goes k = record {
+  goes = goes;
+  order = rw s (order_on e c.calls entries k.told);
+  ties = λ due r z. rw s (ties_on t due e c.calls entries z);
+}
 
-ends_so : (t u : Timed) (e : Entry) (c : Clock) (number : ℕ) (state : CallState) (entries : List Entry) → NeverWaits state → Ordered t u c entries → Follows t e c (ended number state c) entries
+ends_so : (t u : Timed) (e : Entry) (c : Clock) (number : ℕ) (state : CallState) (entries : List Entry)
+    → NeverWaits state → Ordered t u c entries → Follows t e c (ended number state c) entries
 ends_so t u e c number state entries never k = record {
   goes = λ due z. ends_later due c number state never z;
   order = order_on e (ended number state c).calls entries (order_ended c number state entries never k.told);
-  ties = λ due r z. ties_on t due e (ended number state c).calls entries (ties_ended t due c number state entries never z);
+  ties =
+      λ due r z. ties_on t due e (ended number state c).calls entries (ties_ended t due c number state entries never z);
 }
 
 not_run : (e : Entry) (v : Timed) → ended_by e ≡ None → e ≡ run_of v → ⊥
 not_run e v p q = none-some v (sym p ∙ ap ended_by q ∙ run_ends v)
 
 -- the call that runs is the one that was logged
-same_due : (v : Timed) (c : Clock) (call : Upcoming) (due : ℕ) (entries : List Entry) → next_call c ≡ Some call → AllTold c.calls entries → coming_due call.what ≡ run_of v → ScheduledOnce v due entries → due ≡ call.due
+same_due : (v : Timed) (c : Clock) (call : Upcoming) (due : ℕ) (entries : List Entry) → next_call c ≡ Some call
+    → AllTold c.calls entries → coming_due call.what ≡ run_of v → ScheduledOnce v due entries → due ≡ call.due
 same_due v c call due entries n told q s =
     let first = first_runs_next c call n in
     let same : timed_of call.what ≡ Some v = sym (coming_is call.what) ∙ ap ended_by q ∙ run_ends v in
-    one_due v due call.due entries (omega (arith, s.once)) s.scheduled (subst (λ x. Stands x entries) (later_is call.what call.due v same) (told.each call.number call.due call.what first.waits))
+    one_due v due call.due entries (omega (arith, s.once)) s.scheduled (subst (λ x. Stands x entries)
+    (later_is call.what call.due v same) (told.each call.number call.due call.what first.waits))
 
-runs_tell : (t u : Timed) (c : Clock) (call : Upcoming) (entries : List Entry) → next_call c ≡ Some call → Ordered t u c entries → Ordered t u (ended call.number call_state.Called c) (entries ++ coming_due call.what ∷ [])
+runs_tell : (t u : Timed) (c : Clock) (call : Upcoming) (entries : List Entry) → next_call c ≡ Some call
+    → Ordered t u c entries → Ordered t u (ended call.number call_state.Called c) (entries ++ coming_due call.what ∷ [])
 runs_tell t u c call entries n k =
     let first = first_runs_next c call n in
     let e = coming_due call.what in
     let d = ended call.number call_state.Called c in
-    ordered t u e c d entries (clocks_tell u e c _ entries (Runs call n refl) k.base) k.within (ends_so t u e c call.number call_state.Called entries called_ended k)
+    ordered t u e c d entries (clocks_tell u e c _ entries (Runs call n refl) k.base) k.within
+    (ends_so t u e c call.number call_state.Called entries called_ended k)
     (λ due q s.
     let same = same_due t c call due entries n k.base.told (sym q) s in
-    subst (λ x. NotLater x d) (sym same) (ends_later call.due c call.number call_state.Called called_ended (next_later c call n)))
+    subst (λ x. NotLater x d) (sym same)
+    (ends_later call.due c call.number call_state.Called called_ended (next_later c call n)))
     (λ due q s m other f h z.
     let same = same_due t c call due entries n k.base.told (sym q) s in
-    let told : scheduling call.what call.due ≡ later_of t due = later_is call.what call.due t (sym (coming_is call.what) ∙ ap ended_by (sym q) ∙ run_ends t) ∙ ap (later_of t) (sym same) in
-    precedes_on (later_of t due) (scheduling f other) e entries (subst (λ x. Precedes x (scheduling f other) entries) told (run_ties c call entries n k.told m other f h (sym same ∙ z))))
+    let told : scheduling call.what call.due ≡ later_of t due =
+    later_is call.what call.due t (sym (coming_is call.what) ∙ ap ended_by (sym q) ∙ run_ends t)
+    ∙ ap (later_of t) (sym same) in
+    precedes_on (later_of t due) (scheduling f other) e entries (subst
+    (λ x. Precedes x (scheduling f other) entries) told (run_ties c call entries n k.told m other f h (sym same ∙ z))))
     (λ q first_due second r s.
     let same = same_due u c call second entries n k.base.told q s in
-    let told : scheduling call.what call.due ≡ later_of u second = later_is call.what call.due u (sym (coming_is call.what) ∙ ap ended_by q ∙ run_ends u) ∙ ap (later_of u) (sym same) in
+    let told : scheduling call.what call.due ≡ later_of u second =
+    later_is call.what call.due u (sym (coming_is call.what) ∙ ap ended_by q ∙ run_ends u)
+    ∙ ap (later_of u) (sym same) in
     record {
       earlier = omega (arith, same, (k.ran first_due r).waits call.number call.due call.what first.waits);
-      in_order = λ z. subst (λ y. Precedes (later_of t first_due) y entries) told (k.ties first_due r call.number call.due call.what first.waits (z ∙ same));
+      in_order =
+          λ z. subst (λ y. Precedes (later_of t first_due) y entries) told
+          (k.ties first_due r call.number call.due call.what first.waits (z ∙ same));
     })
     k
 
-clocks_order : (t u : Timed) (e : Entry) (c d : Clock) (entries : List Entry) → Clocks e c d → Ordered t u c entries → Ordered t u d (entries ++ e ∷ [])
-clocks_order t u e c d entries (Leaves p) k = quiet t u e c c entries (λ v q. not_run e v p.2 q) (clocks_tell u e c c entries (Leaves p) k.base) k.within (stays_so t u e c c entries refl (λ due z. z) k) k
+clocks_order : (t u : Timed) (e : Entry) (c d : Clock) (entries : List Entry) → Clocks e c d → Ordered t u c entries
+    → Ordered t u d (entries ++ e ∷ [])
+clocks_order t u e c d entries (Leaves p) k =
+    quiet t u e c c entries (λ v q. not_run e v p.2 q) (clocks_tell u e c c entries (Leaves p) k.base) k.within
+    (stays_so t u e c c entries refl (λ due z. z) k) k
 clocks_order t u e c d entries (Adds due_for due q h) k =
-    quiet t u e c (with_call due due_for c) entries (λ v r. not_run e v (ap ended_by q ∙ scheduling_ends due_for due) r) (clocks_tell u e c (with_call due due_for c) entries (Adds due_for due q h) k.base) k.within
+    quiet t u e c (with_call due due_for c) entries (λ v r. not_run e v (ap ended_by q ∙ scheduling_ends due_for due) r)
+    (clocks_tell u e c (with_call due due_for c) entries (Adds due_for due q h) k.base) k.within
     (record {
       goes = λ x z. added_later x due due_for c h z;
-      order = subst (λ y. InOrder (with_call due due_for c).calls (entries ++ y ∷ [])) (sym q) (order_added due_for due c.calls entries k.base.told k.told);
-      ties = λ x r z. subst (λ y. Ties t x (with_call due due_for c).calls (entries ++ y ∷ [])) (sym q) (ties_added t x due due_for c.calls entries (run_stands t x entries r) z);
+      order =
+          subst (λ y. InOrder (with_call due due_for c).calls (entries ++ y ∷ [])) (sym q)
+          (order_added due_for due c.calls entries k.base.told k.told);
+      ties =
+          λ x r z. subst (λ y. Ties t x (with_call due due_for c).calls (entries ++ y ∷ [])) (sym q)
+          (ties_added t x due due_for c.calls entries (run_stands t x entries r) z);
     }) k
-clocks_order t u e c d entries (Runs call n q) k = subst (λ x. Ordered t u (ended call.number call_state.Called c) (entries ++ x ∷ [])) (sym q) (runs_tell t u c call entries n k)
+clocks_order t u e c d entries (Runs call n q) k =
+    subst (λ x. Ordered t u (ended call.number call_state.Called c) (entries ++ x ∷ [])) (sym q)
+    (runs_tell t u c call entries n k)
 clocks_order t u e c d entries (Cancels number due name key g q) k =
-    quiet t u e c (ended number call_state.Cancelled c) entries (λ v r. not_uncalled name v _ (sym q ∙ r)) (clocks_tell u e c (ended number call_state.Cancelled c) entries (Cancels number due name key g q) k.base) k.within
+    quiet t u e c (ended number call_state.Cancelled c) entries (λ v r. not_uncalled name v _ (sym q ∙ r))
+    (clocks_tell u e c (ended number call_state.Cancelled c) entries (Cancels number due name key g q) k.base) k.within
     (ends_so t u e c number call_state.Cancelled entries cancelled_ended k) k
 clocks_order t u e c d entries (Drops number p) k =
-    quiet t u e c (ended number call_state.Dropped c) entries (λ v q. not_run e v p.2 q) (clocks_tell u e c (ended number call_state.Dropped c) entries (Drops number p) k.base) k.within (ends_so t u e c number call_state.Dropped entries dropped_ended k) k
+    quiet t u e c (ended number call_state.Dropped c) entries (λ v q. not_run e v p.2 q)
+    (clocks_tell u e c (ended number call_state.Dropped c) entries (Drops number p) k.base) k.within
+    (ends_so t u e c number call_state.Dropped entries dropped_ended k) k
 
-arranged_order : (t u : Timed) (c d : Clock) (entries : List Entry) → Arranges c d → Ordered t u c entries → Ordered t u d entries
+arranged_order : (t u : Timed) (c d : Clock) (entries : List Entry) → Arranges c d → Ordered t u c entries
+    → Ordered t u d entries
 arranged_order t u c d entries Stays k = k
 arranged_order t u c d entries (Loses number) k = record {
   base = arranged u c _ entries (Loses number) k.base;
@@ -327,25 +443,36 @@ later_time time ticks h = omega (arith, h)
 within_time : (time ticks : ℕ) → min (time + ticks) MOST_TICKS ≤ MOST_TICKS
 within_time time ticks = omega arith
 
-advanced_order : (t u : Timed) (c : Clock) (ticks : ℕ) (entries : List Entry) → Ordered t u c entries → (let time = min (c.time + ticks) MOST_TICKS in Ordered t u (record c { time = time }) (entries ++ entry.Advance time ∷ []))
+advanced_order : (t u : Timed) (c : Clock) (ticks : ℕ) (entries : List Entry) → Ordered t u c entries → (let time =
+    min (c.time + ticks) MOST_TICKS in Ordered t u (record c { time = time }) (entries ++ entry.Advance time ∷ []))
 advanced_order t u c ticks entries k =
     let time = min (c.time + ticks) MOST_TICKS in
     let d = record c { time = time } in
-    quiet t u (entry.Advance time) c d entries (λ v q. not_run (entry.Advance time) v refl q) (advanced u c time entries k.base) (within_time c.time ticks)
-    (stays_so t u (entry.Advance time) c d entries refl (λ due z. advanced_later due time c (later_time c.time ticks k.within) z) k) k
+    quiet t u (entry.Advance time) c d entries (λ v q. not_run (entry.Advance time) v refl q)
+    (advanced u c time entries k.base) (within_time c.time ticks)
+    (stays_so t u (entry.Advance time) c d entries refl
+    (λ due z. advanced_later due time c (later_time c.time ticks k.within) z) k) k
 
 -- an entry of a Deferred
-plain : (t u : Timed) (e : Entry) (w v : World) → IsPlain e → v.objects.clock ≡ w.objects.clock → v.journal.entries ≡ w.journal.entries ++ e ∷ [] → v.objects.loops ≡ w.objects.loops → Keeps t u w v
-plain t u e w v p s q l = record { loops = λ r. rw l r; goes_on = λ r k. rw (s, q) (clocks_order t u e w.objects.clock w.objects.clock w.journal.entries (Leaves p) k) }
+plain : (t u : Timed) (e : Entry) (w v : World) → IsPlain e → v.objects.clock ≡ w.objects.clock
+    → v.journal.entries ≡ w.journal.entries ++ e ∷ [] → v.objects.loops ≡ w.objects.loops → Keeps t u w v
+plain t u e w v p s q l = record {
+  loops = λ r. rw l r;
+  goes_on = λ r k. rw (s, q) (clocks_order t u e w.objects.clock w.objects.clock w.journal.entries (Leaves p) k);
+}
 
 -- each entry logs it
 still : (t u : Timed) → Still (Keeps t u)
 still t u = record {
   stays = λ w. record { loops = λ r. r; goes_on = λ r k. k };
-  joins = λ x y z p q. record { loops = λ r. q.loops (p.loops r); goes_on = λ r k. q.goes_on (p.loops r) (p.goes_on r k) };
+  joins =
+      λ x y z p q. record { loops = λ r. q.loops (p.loops r); goes_on = λ r k. q.goes_on (p.loops r) (p.goes_on r k) };
   stops = λ w. record { loops = λ r. r; goes_on = λ r k. k };
-  news = λ name canceller w x. plain t u (entry.New (length w.records) name) w _ (refl, refl, refl) (named_same name _ w.objects) refl (named_loops name _ w.objects);
-  asides = λ e change w a c l b x. record { loops = l; goes_on = λ r k. clocks_order t u e _ _ w.journal.entries (c r) k };
+  news =
+      λ name canceller w x. plain t u (entry.New (length w.records) name) w _ (refl, refl, refl)
+      (named_same name _ w.objects) refl (named_loops name _ w.objects);
+  asides =
+      λ e change w a c l b x. record { loops = l; goes_on = λ r k. clocks_order t u e _ _ w.journal.entries (c r) k };
   arranges = λ change w s l b. record { loops = l; goes_on = λ r k. arranged_order t u _ _ w.journal.entries s k };
   submits = λ d pool work w x. plain t u (entry.Job (length w.works) d) w _ (refl, refl, refl) refl refl refl;
   refuses = λ d r w x h p q. plain t u (entry.Refuse d) w _ (refl, refl, refl) refl refl refl;
@@ -367,12 +494,17 @@ settles t u = record {
   sets = λ d value r w x h p. plain t u (entry.Set d value) w _ (refl, refl, refl) refl refl refl;
   waits = λ d e r given w x h i p q. plain t u (entry.Wait d e) w _ (refl, refl, refl) refl refl refl;
   takes = λ d e r given w x h i p q. plain t u (entry.Take d e given.value) w _ (refl, refl, refl) refl refl refl;
-  advances = λ ticks w x. record { loops = λ r. r; goes_on = λ r k. advanced_order t u w.objects.clock ticks w.journal.entries k };
+  advances = λ ticks w x. record {
+    loops = λ r. r;
+    goes_on = λ r k. advanced_order t u w.objects.clock ticks w.journal.entries k;
+  };
 }
 
-world_in_order : (t u : Timed) (script : Script) (batches : List Batch) (w : World) → Means script batches w → RunsInOrder t u w.journal.entries
+world_in_order : (t u : Timed) (script : Script) (batches : List Batch) (w : World) → Means script batches w
+    → RunsInOrder t u w.journal.entries
 world_in_order t u script batches w m =
-    ((means_keeps (Keeps t u) (settles t u) script batches w m).goes_on (record { each = λ l x h. absurd (none-some x h) }) (record {
+    ((means_keeps (Keeps t u) (settles t u) script batches w m).goes_on
+    (record { each = λ l x h. absurd (none-some x h) }) (record {
       base = first_timely u _ refl refl;
       within = omega arith;
       ran = λ due r. stands_nowhere (run_of t) r.before r.later _ r.ran;

@@ -1,5 +1,6 @@
 -- The journal logs about each Deferred what the world holds.
-use Rattle.std.proofs.Common.{◌≡◌, ℕ, zero, suc, ◌++◌, Bool, true, false, nat_eq, List, [], ◌∷◌, Option, None, Some, refl, sym, ap, ◌∙◌, slice_get, slice_set, cond, length, option_map}
+use Rattle.std.proofs.Common.{◌≡◌, ℕ, zero, suc, ◌++◌, Bool, true, false, nat_eq, List, [], ◌∷◌, Option, None, Some}
+use Rattle.std.proofs.Common.{refl, sym, ap, ◌∙◌, slice_get, slice_set, cond, length, option_map}
 use Rattle.std.proofs.Math.Dec.{eqb-suc-zero, eqb-zero-suc, eqb-suc-suc}
 use Rattle.std.proofs.lemmas.Bool.{eqb-true}
 use Rattle.std.proofs.lemmas.List.Sums.{fold-append}
@@ -13,7 +14,8 @@ use Rattle.dv_store.specs.Chaining as chaining
 use Rattle.dv_store.specs.Fire.{with_guard}
 use Rattle.dv_store.specs.Record.{with_item, new_record, changed, changing}
 use Rattle.dv_store.specs.declared.record.Item.TheVariants as item
-use Rattle.dv_laws.specs.ReadBack.{Shown, with_firing, with_value, with_wait, with_handed, with_pause, without_pause, told_at, told, told_by, outcome_shown, read_back, OutcomesAreToldByTheJournal}
+use Rattle.dv_laws.specs.ReadBack.{Shown, with_firing, with_value, with_wait, with_handed, with_pause, without_pause}
+use Rattle.dv_laws.specs.ReadBack.{told_at, told, told_by, outcome_shown, read_back, OutcomesAreToldByTheJournal}
 use Rattle.dv_posts.specs.Batches.{Batch}
 use Rattle.dv_loop.specs.Meaning.{Means}
 use Rattle.dv_store.specs.Outcome.{outcome_of}
@@ -25,7 +27,8 @@ use Rattle.dv_world.specs.World.{World, Records, state_of}
 use Rattle.dv_objects.specs.Refusals.{cancelled}
 
 -- what is found after a record was set
-pub get_set : {X : Type 0} (l : List X) (d n : ℕ) (r s : X) → slice_get l d ≡ Some r → slice_get (slice_set l d s) n ≡ cond (nat_eq d n) (Some s) (slice_get l n)
+pub get_set : {X : Type 0} (l : List X) (d n : ℕ) (r s : X) → slice_get l d ≡ Some r
+    → slice_get (slice_set l d s) n ≡ cond (nat_eq d n) (Some s) (slice_get l n)
 get_set [] d n r s h = absurd (none-some r h)
 get_set (x ∷ l) zero zero r s h = refl
 get_set (x ∷ l) zero (suc n) r s h = rw eqb-zero-suc refl
@@ -41,27 +44,32 @@ abbrev pub at : ℕ → Records → Option Shown
 at n rs = option_map shown_of (slice_get rs n)
 
 -- a record that is set shows its change, by whether it is that of n
-set_cases : (b : Bool) (n d : ℕ) (f : Shown → Shown) (r s : Kind) (l : Records) → nat_eq d n ≡ b → slice_get l d ≡ Some r → shown_of s ≡ f (shown_of r)
+set_cases : (b : Bool) (n d : ℕ) (f : Shown → Shown) (r s : Kind) (l : Records) → nat_eq d n ≡ b
+    → slice_get l d ≡ Some r → shown_of s ≡ f (shown_of r)
     → option_map shown_of (cond b (Some s) (slice_get l n)) ≡ cond b (option_map f (at n l)) (at n l)
 set_cases true n d f r s l e h p = rw (← (eqb-true d n e), h, p) refl
 set_cases false n d f r s l e h p = refl
 
 -- so where it is set
-set_at : (n d : ℕ) (f : Shown → Shown) (r s : Kind) (l : Records) → slice_get l d ≡ Some r → shown_of s ≡ f (shown_of r) → at n (slice_set l d s) ≡ told_at d n f (at n l)
+set_at : (n d : ℕ) (f : Shown → Shown) (r s : Kind) (l : Records) → slice_get l d ≡ Some r → shown_of s ≡ f (shown_of r)
+    → at n (slice_set l d s) ≡ told_at d n f (at n l)
 set_at n d f r s l h p = rw (get_set l d n r s h) (set_cases _ n d f r s l refl h p)
 
 -- where there is no record, none is shown to change
-none_at : (b : Bool) (n d : ℕ) (f : Shown → Shown) (l : Records) → nat_eq d n ≡ b → slice_get l d ≡ None → at n l ≡ cond b (option_map f (at n l)) (at n l)
+none_at : (b : Bool) (n d : ℕ) (f : Shown → Shown) (l : Records) → nat_eq d n ≡ b → slice_get l d ≡ None
+    → at n l ≡ cond b (option_map f (at n l)) (at n l)
 none_at true n d f l e h = rw (← (eqb-true d n e), h) refl
 none_at false n d f l e h = refl
 
 -- a record that is changed shows it, where there is one
-changed_at : (n d : ℕ) (g : Kind → Kind) (f : Shown → Shown) (o : Option Kind) (l : Records) → slice_get l d ≡ o → ((r : Kind) → shown_of (g r) ≡ f (shown_of r)) → at n (changed d g o l) ≡ told_at d n f (at n l)
+changed_at : (n d : ℕ) (g : Kind → Kind) (f : Shown → Shown) (o : Option Kind) (l : Records) → slice_get l d ≡ o
+    → ((r : Kind) → shown_of (g r) ≡ f (shown_of r)) → at n (changed d g o l) ≡ told_at d n f (at n l)
 changed_at n d g f None l h p = none_at _ n d f l refl h
 changed_at n d g f (Some r) l h p = set_at n d f r (g r) l h (p r)
 
 -- so where it is looked for
-changing_at : (n d : ℕ) (g : Kind → Kind) (f : Shown → Shown) (l : Records) → ((r : Kind) → shown_of (g r) ≡ f (shown_of r)) → at n (changing d g l) ≡ told_at d n f (at n l)
+changing_at : (n d : ℕ) (g : Kind → Kind) (f : Shown → Shown) (l : Records)
+    → ((r : Kind) → shown_of (g r) ≡ f (shown_of r)) → at n (changing d g l) ≡ told_at d n f (at n l)
 changing_at n d g f l p = changed_at n d g f _ l refl p
 
 -- a change to the same is none
@@ -75,15 +83,18 @@ told_same true s = map_same s
 told_same false s = refl
 
 -- a record that is set to one that shows the same
-set_hidden : (n d : ℕ) (r s : Kind) (l : Records) → slice_get l d ≡ Some r → shown_of s ≡ shown_of r → at n (slice_set l d s) ≡ at n l
+set_hidden : (n d : ℕ) (r s : Kind) (l : Records) → slice_get l d ≡ Some r → shown_of s ≡ shown_of r
+    → at n (slice_set l d s) ≡ at n l
 set_hidden n d r s l h p = set_at n d (λ p. p) r s l h p ∙ told_same _ (at n l)
 
 -- a change of what isn't shown
-changing_hidden : (n d : ℕ) (g : Kind → Kind) (l : Records) → ((r : Kind) → shown_of (g r) ≡ shown_of r) → at n (changing d g l) ≡ at n l
+changing_hidden : (n d : ℕ) (g : Kind → Kind) (l : Records) → ((r : Kind) → shown_of (g r) ≡ shown_of r)
+    → at n (changing d g l) ≡ at n l
 changing_hidden n d g l p = changing_at n d g (λ p. p) l p ∙ told_same _ (at n l)
 
 -- a record that is added is shown under its number
-push_at : (n : ℕ) (s : Kind) (l : Records) → at n (l ++ s ∷ []) ≡ cond (nat_eq (length l) n) (Some (shown_of s)) (at n l)
+push_at : (n : ℕ) (s : Kind) (l : Records)
+    → at n (l ++ s ∷ []) ≡ cond (nat_eq (length l) n) (Some (shown_of s)) (at n l)
 push_at zero s [] = refl
 push_at (suc n) s [] = rw eqb-zero-suc refl
 push_at zero s (x ∷ l) = rw eqb-suc-zero refl
@@ -118,12 +129,15 @@ reads = record {
   adds = λ d pair r s x h. tells (entry.Add d) _ s (λ n. set_hidden n d r _ s.0 h refl);
   runs = λ d pair r rest s x h e. tells (entry.Run d) _ s (λ n. set_hidden n d r _ s.0 h refl);
   hands = λ d c r rest s x h e. tells (entry.Hand d c r.value) _ s
-      (λ n. changing_at n c _ (with_handed r.value) _ (λ y. refl) ∙ ap (told_at c n (with_handed r.value)) (set_at n d (with_value Null) r _ s.0 h refl));
+      (λ n. changing_at n c _ (with_handed r.value) _ (λ y. refl)
+      ∙ ap (told_at c n (with_handed r.value)) (set_at n d (with_value Null) r _ s.0 h refl));
   sets = λ d value r s x h. tells (entry.Set d value) _ s (λ n. set_at n d (with_value value) r _ s.0 h refl);
   waits = λ d e r given s x h g. tells (entry.Wait d e) _ s
-      (λ n. changing_at n d _ (with_wait e) _ (λ y. refl) ∙ ap (told_at d n (with_wait e)) (changing_hidden n e (with_item (item.HandOver d)) s.0 (λ y. refl)));
+      (λ n. changing_at n d _ (with_wait e) _ (λ y. refl)
+      ∙ ap (told_at d n (with_wait e)) (changing_hidden n e (with_item (item.HandOver d)) s.0 (λ y. refl)));
   takes = λ d e r given s x h g p. tells (entry.Take d e given.value) _ s
-      (λ n. changing_at n d _ (with_value given.value) _ (λ y. refl) ∙ ap (told_at d n (with_value given.value)) (changing_at n e chaining.without_value (with_value Null) s.0 (λ y. refl)));
+      (λ n. changing_at n d _ (with_value given.value) _ (λ y. refl) ∙ ap (told_at d n (with_value given.value))
+      (changing_at n e chaining.without_value (with_value Null) s.0 (λ y. refl)));
   pauses = λ d r s x h. tells (entry.Pause d) _ s (λ n. set_at n d with_pause r _ s.0 h refl);
   unpauses = λ d r s x h p. tells (entry.Unpause d) _ s (λ n. set_at n d without_pause r _ s.0 h refl);
 }
@@ -134,7 +148,8 @@ shown_outcome None = refl
 shown_outcome (Some r) = refl
 
 -- so the journal of a run logs what its world holds
-world_told : (script : Script) (batches : List Batch) (w : World) → Means script batches w → (n : ℕ) → read_back n w.journal.entries ≡ option_map outcome_of (slice_get w.records n)
+world_told : (script : Script) (batches : List Batch) (w : World) → Means script batches w → (n : ℕ)
+    → read_back n w.journal.entries ≡ option_map outcome_of (slice_get w.records n)
 world_told script batches w m n =
     let kept = means_keeps (λ w u. Reads (state_of w) (state_of u)) (every_step Reads reads) script batches w m in
     ap (option_map outcome_shown) (kept.goes_on (λ n. refl) n) ∙ shown_outcome (slice_get w.records n)
@@ -143,6 +158,7 @@ world_told script batches w m n =
 pub journal_tells : OutcomesAreToldByTheJournal
 journal_tells script report r n =
     ap (λ (j : Written). read_back n j.entries) r.tells.journal
-    ∙ world_told script report.batches r.world ((scripts_mean_what_is_defined script report.batches r.world).1 r.means) n
+    ∙ world_told script report.batches r.world
+    ((scripts_mean_what_is_defined script report.batches r.world).1 r.means) n
     ∙ sym (slice_get-map outcome_of r.world.records n)
     ∙ ap (λ (os : List Outcome). slice_get os n) (sym r.tells.outcomes)

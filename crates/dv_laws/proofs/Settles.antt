@@ -1,5 +1,7 @@
--- What each change with its entry keeps, a whole run keeps: only a ready Deferred uses an item, and only one of which a side runs gets what a side gave.
-use Rattle.std.proofs.Common.{◌≡◌, ℕ, ◌+◌, ◌-◌, Bool, true, false, nat_eq, List, [], ◌∷◌, ◌++◌, Option, None, Some, length, refl, slice_get, slice_set, cond}
+-- What each change with its entry keeps, a whole run keeps: only a ready Deferred uses an item, and only one of which a
+-- side runs gets what a side gave.
+use Rattle.std.proofs.Common.{◌≡◌, ℕ, ◌+◌, ◌-◌, Bool, true, false, nat_eq, List, [], ◌∷◌, ◌++◌, Option, None, Some}
+use Rattle.std.proofs.Common.{length, refl, slice_get, slice_set, cond}
 use Rattle.dv_value.specs.Failure.{is_fault}
 use Rattle.dv_value.specs.declared.value.Value.{Value, Null}
 use Rattle.dv_journal.specs.Journal.{fits, with_entry}
@@ -24,7 +26,8 @@ use Rattle.dv_script.specs.declared.work.Work.{Work}
 use Rattle.dv_journal.specs.Told.{change_of, Aside}
 use Rattle.dv_objects.specs.declared.canceller.Canceller.{Canceller}
 use Rattle.dv_objects.specs.Objects.{Objects}
-use Rattle.dv_world.specs.World.{World, fired, step, put, put_deferred, fire, fire_guarded, guarded, with_state, with_stop}
+use Rattle.dv_world.specs.World.{World, fired, step, put, put_deferred, fire, fire_guarded, guarded, with_state}
+use Rattle.dv_world.specs.World.{with_stop}
 use Rattle.dv_objects.specs.Refusals.{cancelled}
 use Rattle.dv_objects.specs.declared.follow.Follow.TheVariants as follow
 use Rattle.dv_objects.specs.Pair.{Pair}
@@ -62,58 +65,104 @@ use Rattle.dv_journal.specs.Journal.{Written}
 use Rattle.dv_world.specs.World.{first_world, value_of}
 use Rattle.dv_laws.proofs.At.{counted_of, at, first_at, set_at, changing_at, push_at, set_by, changing_by}
 use Rattle.dv_laws.proofs.Clocks.{Clocks, Arranges}
-use Rattle.dv_laws.proofs.Calm.{Regular, Mild, PutsNothing, AllPutNothing, side_mild, turned_mild, action_mild, drain_mild, post_comes}
-use Rattle.dv_laws.proofs.Steps.{telling_in, put_cases, put_deferred_cases, append_cases, pause_cases, make_cases, aside_cases, arrange_cases, submit_cases, cancel_cases, unpause_cases, fire_cases, step_cases, unless, unless_and}
+use Rattle.dv_laws.proofs.Calm.{Regular, Mild, PutsNothing, AllPutNothing, side_mild, turned_mild, action_mild}
+use Rattle.dv_laws.proofs.Calm.{drain_mild, post_comes}
+use Rattle.dv_laws.proofs.Steps.{telling_in, put_cases, put_deferred_cases, append_cases, pause_cases, make_cases}
+use Rattle.dv_laws.proofs.Steps.{aside_cases, arrange_cases, submit_cases, cancel_cases, unpause_cases, fire_cases}
+use Rattle.dv_laws.proofs.Steps.{step_cases, unless, unless_and}
 
--- a relation that holds of each change of a world with its entry, but for those by which a Deferred is settled and time goes on
+-- a relation that holds of each change of a world with its entry, but for those by which a Deferred is settled and time
+-- goes on
 pub record Still (R : World → World → Type 0) : Type 0 where
   pub stays : (w : World) → R w w
   pub joins : (u v w : World) → R u v → R v w → R u w
   pub stops : (w : World) → R w (with_stop w)
-  pub news : (name : Option (List ℕ)) (canceller : Option Canceller) (w : World) → fits w.journal (entry.New (length w.records) name) ≡ true
-      → R w (record (telling_in (entry.New (length w.records) name) (w.records ++ new_record name canceller ∷ []) w) { objects = naming_where name (length w.records) w.objects })
-  pub asides : (e : Entry) (change : Objects → Objects) (w : World) → change_of e ≡ Aside → (Regular w.objects.loops → Clocks e w.objects.clock (change w.objects).clock) → (Regular w.objects.loops → Regular (change w.objects).loops) → Beside e w.objects (change w.objects) → fits w.journal e ≡ true
+  pub news : (name : Option (List ℕ)) (canceller : Option Canceller) (w : World)
+      → fits w.journal (entry.New (length w.records) name) ≡ true
+      → R w (record (telling_in (entry.New (length w.records) name) (w.records ++ new_record name canceller ∷ []) w) {
+        objects = naming_where name (length w.records) w.objects;
+      })
+  pub asides : (e : Entry) (change : Objects → Objects) (w : World) → change_of e ≡ Aside
+      → (Regular w.objects.loops → Clocks e w.objects.clock (change w.objects).clock)
+      → (Regular w.objects.loops → Regular (change w.objects).loops) → Beside e w.objects (change w.objects)
+      → fits w.journal e ≡ true
       → R w (record w { objects = change w.objects; journal = with_entry w.journal e })
-  pub arranges : (change : Objects → Objects) (w : World) → Arranges w.objects.clock (change w.objects).clock → (Regular w.objects.loops → Regular (change w.objects).loops) → Arranged w.objects (change w.objects) → R w (record w { objects = change w.objects })
-  pub submits : (d : ℕ) (pool : Option (List ℕ)) (work : Work) (w : World) → fits w.journal (entry.Job (length w.works) d) ≡ true
-      → R w (record w { works = w.works ++ work ∷ []; pools = w.pools ++ pool ∷ []; journal = with_entry w.journal (entry.Job (length w.works) d) })
-  pub refuses : (d : ℕ) (r : Kind) (w : World) → fits w.journal (entry.Refuse d) ≡ true → slice_get w.records d ≡ Some r → r.fired ≡ true → r.swallows ≡ false → R w (telling_in (entry.Refuse d) w.records w)
-  pub swallows : (d : ℕ) (r : Kind) (w : World) → fits w.journal (entry.Swallow d) ≡ true → slice_get w.records d ≡ Some r → r.swallows ≡ true → R w (telling_in (entry.Swallow d) (slice_set w.records d (firing.with_guard false r)) w)
-  pub cancels : (d : ℕ) (w : World) → fits w.journal (entry.Cancel d) ≡ true → R w (telling_in (entry.Cancel d) w.records w)
-  pub guards : (d : ℕ) (r : Kind) (w : World) → fits w.journal (entry.Fire d cancelled) ≡ true → slice_get w.records d ≡ Some r → r.fired ≡ false → WasCancelled d w
+  pub arranges : (change : Objects → Objects) (w : World) → Arranges w.objects.clock (change w.objects).clock
+      → (Regular w.objects.loops → Regular (change w.objects).loops) → Arranged w.objects (change w.objects)
+      → R w (record w { objects = change w.objects })
+  pub submits : (d : ℕ) (pool : Option (List ℕ)) (work : Work) (w : World)
+      → fits w.journal (entry.Job (length w.works) d) ≡ true
+      → R w (record w {
+        works = w.works ++ work ∷ [];
+        pools = w.pools ++ pool ∷ [];
+        journal = with_entry w.journal (entry.Job (length w.works) d);
+      })
+  pub refuses : (d : ℕ) (r : Kind) (w : World) → fits w.journal (entry.Refuse d) ≡ true → slice_get w.records d ≡ Some r
+      → r.fired ≡ true → r.swallows ≡ false → R w (telling_in (entry.Refuse d) w.records w)
+  pub swallows : (d : ℕ) (r : Kind) (w : World) → fits w.journal (entry.Swallow d) ≡ true
+      → slice_get w.records d ≡ Some r → r.swallows ≡ true
+      → R w (telling_in (entry.Swallow d) (slice_set w.records d (firing.with_guard false r)) w)
+  pub cancels : (d : ℕ) (w : World) → fits w.journal (entry.Cancel d) ≡ true
+      → R w (telling_in (entry.Cancel d) w.records w)
+  pub guards : (d : ℕ) (r : Kind) (w : World) → fits w.journal (entry.Fire d cancelled) ≡ true
+      → slice_get w.records d ≡ Some r → r.fired ≡ false → WasCancelled d w
       → R w (telling_in (entry.Fire d cancelled) (guard d (slice_set w.records d (firing.with_firing cancelled r))) w)
-  pub fires : (d : ℕ) (value : Value) (r : Kind) (w : World) → fits w.journal (entry.Fire d value) ≡ true → slice_get w.records d ≡ Some r → r.fired ≡ false → R w (telling_in (entry.Fire d value) (slice_set w.records d (firing.with_firing value r)) w)
-  pub adds : (d : ℕ) (pair : Pair) (r : Kind) (w : World) → fits w.journal (entry.Add d) ≡ true → slice_get w.records d ≡ Some r → R w (telling_in (entry.Add d) (slice_set w.records d (with_item (item.Pair pair) r)) w)
-  pub pauses : (d : ℕ) (r : Kind) (w : World) → fits w.journal (entry.Pause d) ≡ true → slice_get w.records d ≡ Some r → R w (telling_in (entry.Pause d) (slice_set w.records d (with_pauses (r.pauses + 1) r)) w)
-  pub unpauses : (d : ℕ) (r : Kind) (w : World) → fits w.journal (entry.Unpause d) ≡ true → slice_get w.records d ≡ Some r → nat_eq r.pauses 0 ≡ false → R w (telling_in (entry.Unpause d) (slice_set w.records d (with_pauses (r.pauses - 1) r)) w)
+  pub fires : (d : ℕ) (value : Value) (r : Kind) (w : World) → fits w.journal (entry.Fire d value) ≡ true
+      → slice_get w.records d ≡ Some r → r.fired ≡ false
+      → R w (telling_in (entry.Fire d value) (slice_set w.records d (firing.with_firing value r)) w)
+  pub adds : (d : ℕ) (pair : Pair) (r : Kind) (w : World) → fits w.journal (entry.Add d) ≡ true
+      → slice_get w.records d ≡ Some r
+      → R w (telling_in (entry.Add d) (slice_set w.records d (with_item (item.Pair pair) r)) w)
+  pub pauses : (d : ℕ) (r : Kind) (w : World) → fits w.journal (entry.Pause d) ≡ true → slice_get w.records d ≡ Some r
+      → R w (telling_in (entry.Pause d) (slice_set w.records d (with_pauses (r.pauses + 1) r)) w)
+  pub unpauses : (d : ℕ) (r : Kind) (w : World) → fits w.journal (entry.Unpause d) ≡ true
+      → slice_get w.records d ≡ Some r → nat_eq r.pauses 0 ≡ false
+      → R w (telling_in (entry.Unpause d) (slice_set w.records d (with_pauses (r.pauses - 1) r)) w)
 
 -- and of those too
 pub record Settles (R : World → World → Type 0) : Type 0 where
   pub still : Still R
-  pub drops : (d : ℕ) (r : Kind) (pair : Pair) (rest : List (Item Pair)) (w : World) → slice_get w.records d ≡ Some r → r.items ≡ item.Pair pair ∷ rest → callbacks.is_ready r ≡ true → R w (with_state (slice_set w.records d (record r { items = rest }), w.journal) w)
-  pub runs : (d : ℕ) (r : Kind) (pair : Pair) (rest : List (Item Pair)) (w : World) → fits w.journal (entry.Run d) ≡ true → slice_get w.records d ≡ Some r → r.items ≡ item.Pair pair ∷ rest → callbacks.is_ready r ≡ true
+  pub drops : (d : ℕ) (r : Kind) (pair : Pair) (rest : List (Item Pair)) (w : World) → slice_get w.records d ≡ Some r
+      → r.items ≡ item.Pair pair ∷ rest → callbacks.is_ready r ≡ true
+      → R w (with_state (slice_set w.records d (record r { items = rest }), w.journal) w)
+  pub runs : (d : ℕ) (r : Kind) (pair : Pair) (rest : List (Item Pair)) (w : World)
+      → fits w.journal (entry.Run d) ≡ true → slice_get w.records d ≡ Some r → r.items ≡ item.Pair pair ∷ rest
+      → callbacks.is_ready r ≡ true
       → R w (telling_in (entry.Run d) (slice_set w.records d (record r { items = rest; running = true })) w)
-  pub hands : (d c : ℕ) (r : Kind) (rest : List (Item Pair)) (w : World) → fits w.journal (entry.Hand d c r.value) ≡ true → slice_get w.records d ≡ Some r → r.items ≡ item.HandOver c ∷ rest → callbacks.is_ready r ≡ true
-      → R w (telling_in (entry.Hand d c r.value) (changing c (with_handed r.value) (slice_set w.records d (record r { items = rest; value = Null }))) w)
-  pub sets : (d : ℕ) (value : Value) (r : Kind) (w : World) → fits w.journal (entry.Set d value) ≡ true → slice_get w.records d ≡ Some r → r.running ≡ true → R w (telling_in (entry.Set d value) (slice_set w.records d (with_result value r)) w)
-  pub waits : (d e : ℕ) (r given : Kind) (w : World) → fits w.journal (entry.Wait d e) ≡ true → slice_get w.records d ≡ Some r → slice_get w.records e ≡ Some given → r.running ≡ true → chaining.is_pending d e given ≡ true
+  pub hands : (d c : ℕ) (r : Kind) (rest : List (Item Pair)) (w : World)
+      → fits w.journal (entry.Hand d c r.value) ≡ true → slice_get w.records d ≡ Some r
+      → r.items ≡ item.HandOver c ∷ rest → callbacks.is_ready r ≡ true
+      → R w (telling_in (entry.Hand d c r.value)
+      (changing c (with_handed r.value) (slice_set w.records d (record r { items = rest; value = Null }))) w)
+  pub sets : (d : ℕ) (value : Value) (r : Kind) (w : World) → fits w.journal (entry.Set d value) ≡ true
+      → slice_get w.records d ≡ Some r → r.running ≡ true
+      → R w (telling_in (entry.Set d value) (slice_set w.records d (with_result value r)) w)
+  pub waits : (d e : ℕ) (r given : Kind) (w : World) → fits w.journal (entry.Wait d e) ≡ true
+      → slice_get w.records d ≡ Some r → slice_get w.records e ≡ Some given → r.running ≡ true
+      → chaining.is_pending d e given ≡ true
       → R w (telling_in (entry.Wait d e) (chaining.waiting d e w.records) w)
-  pub takes : (d e : ℕ) (r given : Kind) (w : World) → fits w.journal (entry.Take d e given.value) ≡ true → slice_get w.records d ≡ Some r → slice_get w.records e ≡ Some given → r.running ≡ true → chaining.is_pending d e given ≡ false
+  pub takes : (d e : ℕ) (r given : Kind) (w : World) → fits w.journal (entry.Take d e given.value) ≡ true
+      → slice_get w.records d ≡ Some r → slice_get w.records e ≡ Some given → r.running ≡ true
+      → chaining.is_pending d e given ≡ false
       → R w (telling_in (entry.Take d e given.value) (chaining.taking d e given.value w.records) w)
-  pub advances : (ticks : ℕ) (w : World) → (let time = min (w.objects.clock.time + ticks) MOST_TICKS in fits w.journal (entry.Advance time) ≡ true → R w (record w { objects = with_time time w.objects; journal = with_entry w.journal (entry.Advance time) }))
+  pub advances : (ticks : ℕ) (w : World)
+      → (let time = min (w.objects.clock.time + ticks) MOST_TICKS in fits w.journal (entry.Advance time) ≡ true
+      → R w (record w { objects = with_time time w.objects; journal = with_entry w.journal (entry.Advance time) }))
 
 module _ (R : World → World → Type 0) (k : Still R) where
   after_fire : (d : ℕ) (value : Value) (w : World) → R w (fire d value w).1
   unfolding fire
   after_fire d value w =
       unless_and w (R w) (k.stays w) (k.stops w) w.stopped follow.Nothing _
-      (fire_cases w (λ answer s. R w (fired answer s w).1) (k.stops w) d value _ refl (λ g. k.stays w) (λ r x g q. k.swallows d r w x g q) (λ r x g p q. k.refuses d r w x g p q) (λ r x g p. k.fires d value r w x g p))
+      (fire_cases w (λ answer s. R w (fired answer s w).1) (k.stops w) d value _ refl (λ g. k.stays w)
+      (λ r x g q. k.swallows d r w x g q) (λ r x g p q. k.refuses d r w x g p q) (λ r x g p. k.fires d value r w x g p))
 
   after_guarded : (d : ℕ) (w : World) → WasCancelled d w → R w (fire_guarded d w)
   unfolding fire_guarded
   after_guarded d w c =
       unless w (R w) (k.stays w) (k.stops w) w.stopped _
-      (fire_cases w (λ answer s. R w (guarded d answer s w)) (k.stops w) d cancelled _ refl (λ g. rw g (k.stays w)) (λ r x g q. k.swallows d r w x g q) (λ r x g p q. k.refuses d r w x g p q) (λ r x g p. k.guards d r w x g p c))
+      (fire_cases w (λ answer s. R w (guarded d answer s w)) (k.stops w) d cancelled _ refl (λ g. rw g (k.stays w))
+      (λ r x g q. k.swallows d r w x g q) (λ r x g p q. k.refuses d r w x g p q) (λ r x g p. k.guards d r w x g p c))
 
   -- each step but those
   pub calm : Calm R
@@ -121,12 +170,17 @@ module _ (R : World → World → Type 0) (k : Still R) where
     quiet = record {
       stays = k.stays;
       joins = k.joins;
-      by_make = λ name canceller w. make_cases w (R w) (k.stays w) (k.stops w) name canceller (λ x. k.news name canceller w x);
+      by_make =
+          λ name canceller w.
+          make_cases w (R w) (k.stays w) (k.stops w) name canceller (λ x. k.news name canceller w x);
       by_cancel = λ d w. cancel_cases w (R w) (k.stays w) (k.stops w) d (λ x. k.cancels d w x);
       by_pause = λ d w. pause_cases w (R w) (k.stays w) (k.stops w) d (λ r x g. k.pauses d r w x g);
-      by_aside = λ e change w a c l t. aside_cases w (R w) (k.stays w) (k.stops w) e change (λ x. k.asides e change w a c l t x);
+      by_aside =
+          λ e change w a c l t.
+          aside_cases w (R w) (k.stays w) (k.stops w) e change (λ x. k.asides e change w a c l t x);
       by_arrange = λ change w s l t. arrange_cases w (R w) (k.stays w) (k.stops w) change (k.arranges change w s l t);
-      by_submit = λ d pool work w. submit_cases w (R w) (k.stays w) (k.stops w) d pool work (λ x. k.submits d pool work w x);
+      by_submit =
+          λ d pool work w. submit_cases w (R w) (k.stays w) (k.stops w) d pool work (λ x. k.submits d pool work w x);
     };
     by_append = λ d pair w. append_cases w (R w) (k.stays w) (k.stops w) d pair (λ r x g. k.adds d pair r w x g);
     by_fire = after_fire;
@@ -142,7 +196,8 @@ abbrev pub running_at : ℕ → World → ℕ
 running_at n w = at running_of n w.records
 
 running_true : (r : Kind) → 1 ≤ running_of r → r.running ≡ true
-running_true r = elim r.running as (λ b. ◌≤◌ 1 (cond b 1 0) → b ≡ true) [ true ↦ λ h. refl | false ↦ λ h. absurd (omega (arith, h)) ]
+running_true r =
+    elim r.running as (λ b. ◌≤◌ 1 (cond b 1 0) → b ≡ true) [ true ↦ λ h. refl | false ↦ λ h. absurd (omega (arith, h)) ]
 
 running_found : (d : ℕ) (w : World) (r : Kind) → 1 ≤ running_at d w → slice_get w.records d ≡ Some r → r.running ≡ true
 running_found d w r h g = running_true r (subst (λ (o : Option Kind). 1 ≤ counted_of running_of o) g h)
@@ -190,7 +245,10 @@ same_running = record {
   refuses = λ d r w x g p q. record { same = λ n. refl };
   swallows = λ d r w x g q. record { same = λ n. set_at running_of n d r _ w.records g refl };
   cancels = λ d w x. record { same = λ n. refl };
-  guards = λ d r w x g p c. record { same = λ n. changing_at running_of n d (firing.with_guard true) _ (λ y. refl) ∙ set_at running_of n d r _ w.records g refl };
+  guards = λ d r w x g p c. record {
+    same = λ n. changing_at running_of n d (firing.with_guard true) _ (λ y. refl)
+        ∙ set_at running_of n d r _ w.records g refl;
+  };
   fires = λ d value r w x g p. record { same = λ n. set_at running_of n d r _ w.records g refl };
   adds = λ d pair r w x g. record { same = λ n. set_at running_of n d r _ w.records g refl };
   pauses = λ d r w x g. record { same = λ n. set_at running_of n d r _ w.records g refl };
@@ -208,10 +266,15 @@ step_runs : (n d : ℕ) (w : World) → running_at n (step d w).1 ≡ running_at
 step_runs n d w =
     step_cases w (λ move u. running_at n u ≡ running_at n w + placing n d move) (omega arith) (omega arith) d
     (λ r pair rest g e a. omega (arith, set_at running_of n d r (record r { items = rest }) w.records g refl))
-    (λ r pair rest x g e a. first_at running_of n d r (record r { items = rest; running = true }) w.records g (not_running r a) refl)
+    (λ r pair rest x g e a.
+    first_at running_of n d r (record r { items = rest; running = true }) w.records g (not_running r a) refl)
     (λ r c rest x g e a.
     let taken : Kind = record r { items = rest; value = Null } in
-    omega (arith, changing_at running_of n c (with_handed r.value) (slice_set w.records d taken) (λ y. refl), set_at running_of n d r taken w.records g refl))
+    omega (
+      arith,
+      changing_at running_of n c (with_handed r.value) (slice_set w.records d taken) (λ y. refl),
+      set_at running_of n d r taken w.records g refl,
+    ))
 
 once_of : (r : Kind) → running_of r ≤ 1
 once_of r = elim r.running as (λ b. ◌≤◌ (cond b 1 0) 1) [ true ↦ omega arith | false ↦ omega arith ]
@@ -227,17 +290,20 @@ falls_by false x y z h e = omega (arith, e)
 put_ends : (n d : ℕ) (value : Value) (w : World) → running_at n w ≤ running_at n (put d value w) + cond (nat_eq d n) 1 0
 put_ends n d value w =
     put_cases w (λ u. running_at n w ≤ running_at n u + cond (nat_eq d n) 1 0) (omega arith) (omega arith) d value
-    (λ r x g. rw (set_by running_of n d r (with_result value r) w.records g) (falls_by (nat_eq d n) _ _ _ (once_found (slice_get w.records n)) refl))
+    (λ r x g. rw (set_by running_of n d r (with_result value r) w.records g)
+    (falls_by (nat_eq d n) _ _ _ (once_found (slice_get w.records n)) refl))
 
 put_deferred_ends : (n d e : ℕ) (w : World) → running_at n w ≤ running_at n (put_deferred d e w) + cond (nat_eq d n) 1 0
 put_deferred_ends n d e w =
     put_deferred_cases w (λ u. running_at n w ≤ running_at n u + cond (nat_eq d n) 1 0) (omega arith) (omega arith) d e
     (λ r given x g h p.
     let first = changing e (with_item (item.HandOver d)) w.records in
-    rw (changing_by running_of n d (chaining.with_wait e) first) (falls_by (nat_eq d n) _ _ _ (once_found (slice_get w.records n)) (changing_at running_of n e (with_item (item.HandOver d)) w.records (λ y. refl))))
+    rw (changing_by running_of n d (chaining.with_wait e) first) (falls_by (nat_eq d n) _ _ _ (once_found
+    (slice_get w.records n)) (changing_at running_of n e (with_item (item.HandOver d)) w.records (λ y. refl))))
     (λ r given x g h p.
     let first = changing e chaining.without_value w.records in
-    rw (changing_by running_of n d (with_result given.value) first) (falls_by (nat_eq d n) _ _ _ (once_found (slice_get w.records n)) (changing_at running_of n e chaining.without_value w.records (λ y. refl))))
+    rw (changing_by running_of n d (with_result given.value) first) (falls_by (nat_eq d n) _ _ _
+    (once_found (slice_get w.records n)) (changing_at running_of n e chaining.without_value w.records (λ y. refl))))
 
 place_ends : (n d : ℕ) (o : Performed) (w : World) → running_at n w ≤ running_at n (place d o w) + cond (nat_eq d n) 1 0
 place_ends n d Done w = put_ends n d Null w
@@ -311,11 +377,21 @@ module _ (R : World → World → Type 0) (k : Settles R) where
   mild_leaves : (below : List Frame) (w : World) (t : Turned) → Standing below w → Mild w t → Leaves R below w t
   mild_leaves below w t s m = record {
     goes = m.comes.keeps R (calm R k.still);
-    standing = record { each = λ n. omega (arith, sum_by-append (place_of n) t.0 below, free_places n t.0 m.free, s.each n, (m.comes.keeps SameRunning (calm SameRunning same_running)).same n) };
+    standing = record {
+      each = λ n. omega (
+        arith,
+        sum_by-append (place_of n) t.0 below,
+        free_places n t.0 m.free,
+        s.each n,
+        (m.comes.keeps SameRunning (calm SameRunning same_running)).same n,
+      );
+    };
   }
 
   -- a side that begins to run is to be put in place
-  run_leaves : (below : List Frame) (d : ℕ) (pair : Pair) (w0 w : World) → R w0 w → ((n : ℕ) → running_at n w ≡ running_at n w0 + cond (nat_eq d n) 1 0) → Standing below w0 → Leaves R below w0 (settled d (Run pair) w)
+  run_leaves : (below : List Frame) (d : ℕ) (pair : Pair) (w0 w : World) → R w0 w
+      → ((n : ℕ) → running_at n w ≡ running_at n w0 + cond (nat_eq d n) 1 0) → Standing below w0
+      → Leaves R below w0 (settled d (Run pair) w)
   run_leaves below d pair w0 w c e s =
       let m = side_mild d (side_for pair (is_fault (value_of d w))) (value_of d w) w in
       let t = side_begun d (side_for pair (is_fault (value_of d w))) (value_of d w) w in
@@ -323,26 +399,56 @@ module _ (R : World → World → Type 0) (k : Settles R) where
         goes = k.still.joins w0 w t.2 c (m.comes.keeps R (calm R k.still));
         standing = record {
           each = λ n.
-              omega (arith, sum_by-append (place_of n) (t.0 ++ frame.Place d ∷ []) below, sum_by-append (place_of n) t.0 (frame.Place d ∷ []), sum_by-cons (place_of n) (frame.Place d) [], free_places n t.0 m.free, s.each n, e n, (m.comes.keeps SameRunning (calm SameRunning same_running)).same n);
+              omega (
+                arith,
+                sum_by-append (place_of n) (t.0 ++ frame.Place d ∷ []) below,
+                sum_by-append (place_of n) t.0 (frame.Place d ∷ []),
+                sum_by-cons (place_of n) (frame.Place d) [],
+                free_places n t.0 m.free,
+                s.each n,
+                e n,
+                (m.comes.keeps SameRunning (calm SameRunning same_running)).same n,
+              );
         };
       }
 
-  settled_leaves : (below : List Frame) (d : ℕ) (move : Step Pair) (w0 w : World) → R w0 w → ((n : ℕ) → running_at n w ≡ running_at n w0 + placing n d move) → Standing below w0 → Leaves R below w0 (settled d move w)
-  settled_leaves below d Nothing w0 w c e s = record { goes = c; standing = record { each = λ n. omega (arith, s.each n, e n) } }
-  settled_leaves below d Passed w0 w c e s = record { goes = c; standing = record { each = λ n. omega (arith, sum_by-cons (place_of n) (frame.Settle d) below, s.each n, e n) } }
+  settled_leaves : (below : List Frame) (d : ℕ) (move : Step Pair) (w0 w : World) → R w0 w
+      → ((n : ℕ) → running_at n w ≡ running_at n w0 + placing n d move) → Standing below w0
+      → Leaves R below w0 (settled d move w)
+  settled_leaves below d Nothing w0 w c e s =
+      record { goes = c; standing = record { each = λ n. omega (arith, s.each n, e n) } }
+  settled_leaves below d Passed w0 w c e s = record {
+    goes = c;
+    standing = record { each = λ n. omega (arith, sum_by-cons (place_of n) (frame.Settle d) below, s.each n, e n) };
+  }
   settled_leaves below d (Run pair) w0 w c e s = run_leaves below d pair w0 w c e s
-  settled_leaves below d (Handed other) w0 w c e s = record { goes = c; standing = record { each = λ n. omega (arith, sum_by-cons (place_of n) (frame.Settle other) (frame.Settle d ∷ below), sum_by-cons (place_of n) (frame.Settle d) below, s.each n, e n) } }
+  settled_leaves below d (Handed other) w0 w c e s = record {
+    goes = c;
+    standing = record {
+      each = λ n. omega (
+        arith,
+        sum_by-cons (place_of n) (frame.Settle other) (frame.Settle d ∷ below),
+        sum_by-cons (place_of n) (frame.Settle d) below,
+        s.each n,
+        e n,
+      );
+    };
+  }
 
   step_goes : (d : ℕ) (w : World) → R w (step d w).1
   step_goes d w =
-      step_cases w (λ move u. R w u) (k.still.stays w) (k.still.stops w) d (λ r pair rest g e a. k.drops d r pair rest w g e a) (λ r pair rest x g e a. k.runs d r pair rest w x g e a) (λ r c rest x g e a. k.hands d c r rest w x g e a)
+      step_cases w (λ move u. R w u) (k.still.stays w) (k.still.stops w) d (λ r pair rest g e a. k.drops d r pair rest w
+      g e a) (λ r pair rest x g e a. k.runs d r pair rest w x g e a) (λ r c rest x g e a. k.hands d c r rest w x g e a)
 
   put_goes : (d : ℕ) (value : Value) (w : World) → 1 ≤ running_at d w → R w (put d value w)
-  put_goes d value w h = put_cases w (R w) (k.still.stays w) (k.still.stops w) d value (λ r x g. k.sets d value r w x g (running_found d w r h g))
+  put_goes d value w h =
+      put_cases w (R w) (k.still.stays w) (k.still.stops w) d value
+      (λ r x g. k.sets d value r w x g (running_found d w r h g))
 
   put_deferred_goes : (d e : ℕ) (w : World) → 1 ≤ running_at d w → R w (put_deferred d e w)
   put_deferred_goes d e w h =
-      put_deferred_cases w (R w) (k.still.stays w) (k.still.stops w) d e (λ r given x g i p. k.waits d e r given w x g i (running_found d w r h g) p) (λ r given x g i p. k.takes d e r given w x g i (running_found d w r h g) p)
+      put_deferred_cases w (R w) (k.still.stays w) (k.still.stops w) d e (λ r given x g i p. k.waits d e r given w x g i
+      (running_found d w r h g) p) (λ r given x g i p. k.takes d e r given w x g i (running_found d w r h g) p)
 
   place_goes : (d : ℕ) (o : Performed) (w : World) → 1 ≤ running_at d w → R w (place d o w)
   place_goes d Done w h = put_goes d Null w h
@@ -353,37 +459,65 @@ module _ (R : World → World → Type 0) (k : Settles R) where
   below_stands : (f : Frame) (below : List Frame) (w : World) → Standing (f ∷ below) w → Standing below w
   below_stands f below w s = record { each = λ n. omega (arith, sum_by-cons (place_of n) f below, s.each n) }
 
-  placed_leaves : (below : List Frame) (d : ℕ) (o : Performed) (w : World) → Standing (frame.Place d ∷ below) w → Leaves R below w (settling d (place d o w))
+  placed_leaves : (below : List Frame) (d : ℕ) (o : Performed) (w : World) → Standing (frame.Place d ∷ below) w
+      → Leaves R below w (settling d (place d o w))
   placed_leaves below d o w s = record {
     goes = place_goes d o w (omega (arith, sum_by-cons (place_of d) (frame.Place d) below, s.each d, own_place d));
-    standing = record { each = λ n. omega (arith, sum_by-cons (place_of n) (frame.Place d) below, sum_by-cons (place_of n) (frame.Settle d) below, s.each n, place_ends n d o w) };
+    standing = record {
+      each = λ n. omega (
+        arith,
+        sum_by-cons (place_of n) (frame.Place d) below,
+        sum_by-cons (place_of n) (frame.Settle d) below,
+        s.each n,
+        place_ends n d o w,
+      );
+    };
   }
 
-  place_leaves : (below : List Frame) (d : ℕ) (o : Performed) (w : World) → Standing (frame.Place d ∷ below) w → Leaves R below w (turned (frame.Place d) o w)
-  place_leaves below d o w s = subst (λ (t : Turned). Leaves R below w t) (sym (place_runs d o w)) (placed_leaves below d o w s)
+  place_leaves : (below : List Frame) (d : ℕ) (o : Performed) (w : World) → Standing (frame.Place d ∷ below) w
+      → Leaves R below w (turned (frame.Place d) o w)
+  place_leaves below d o w s =
+      subst (λ (t : Turned). Leaves R below w t) (sym (place_runs d o w)) (placed_leaves below d o w s)
 
-  settle_leaves : (below : List Frame) (d : ℕ) (o : Performed) (w : World) → Standing below w → Leaves R below w (turned (frame.Settle d) o w)
-  settle_leaves below d o w s = settled_leaves below d (step d w).0 w (step d w).1 (step_goes d w) (λ n. step_runs n d w) s
+  settle_leaves : (below : List Frame) (d : ℕ) (o : Performed) (w : World) → Standing below w
+      → Leaves R below w (turned (frame.Settle d) o w)
+  settle_leaves below d o w s =
+      settled_leaves below d (step d w).0 w (step d w).1 (step_goes d w) (λ n. step_runs n d w) s
 
   -- one turn
-  turn_leaves : (f : Frame) (o : Performed) (w : World) (below : List Frame) → Standing (f ∷ below) w → Leaves R below w (turned f o w)
+  turn_leaves : (f : Frame) (o : Performed) (w : World) (below : List Frame) → Standing (f ∷ below) w
+      → Leaves R below w (turned f o w)
   turn_leaves (frame.Settle d) o w below s = settle_leaves below d o w (below_stands (frame.Settle d) below w s)
   turn_leaves (frame.Place d) o w below s = place_leaves below d o w s
-  turn_leaves (frame.Rest rest) o w below s = mild_leaves below w _ (below_stands (frame.Rest rest) below w s) (turned_mild (frame.Rest rest) o w tt)
-  turn_leaves (frame.Canceller d) o w below s = mild_leaves below w _ (below_stands (frame.Canceller d) below w s) (turned_mild (frame.Canceller d) o w tt)
-  turn_leaves (frame.Maybe purpose) o w below s = mild_leaves below w _ (below_stands (frame.Maybe purpose) below w s) (turned_mild (frame.Maybe purpose) o w tt)
-  turn_leaves (frame.Add d pair) o w below s = mild_leaves below w _ (below_stands (frame.Add d pair) below w s) (turned_mild (frame.Add d pair) o w tt)
-  turn_leaves (frame.Cancel d) o w below s = mild_leaves below w _ (below_stands (frame.Cancel d) below w s) (turned_mild (frame.Cancel d) o w tt)
-  turn_leaves (frame.Give given) o w below s = mild_leaves below w _ (below_stands (frame.Give given) below w s) (turned_mild (frame.Give given) o w tt)
-  turn_leaves (frame.Notify d t) o w below s = mild_leaves below w _ (below_stands (frame.Notify d t) below w s) (turned_mild (frame.Notify d t) o w tt)
-  turn_leaves (frame.Stepped t) o w below s = mild_leaves below w _ (below_stands (frame.Stepped t) below w s) (turned_mild (frame.Stepped t) o w tt)
-  turn_leaves (frame.Tick units) o w below s = mild_leaves below w _ (below_stands (frame.Tick units) below w s) (turned_mild (frame.Tick units) o w tt)
-  turn_leaves frame.Tell o w below s = mild_leaves below w _ (below_stands frame.Tell below w s) (turned_mild frame.Tell o w tt)
-  turn_leaves frame.Due o w below s = mild_leaves below w _ (below_stands frame.Due below w s) (turned_mild frame.Due o w tt)
-  turn_leaves (frame.Inline inlining) o w below s = mild_leaves below w _ (below_stands (frame.Inline inlining) below w s) (turned_mild (frame.Inline inlining) o w tt)
+  turn_leaves (frame.Rest rest) o w below s =
+      mild_leaves below w _ (below_stands (frame.Rest rest) below w s) (turned_mild (frame.Rest rest) o w tt)
+  turn_leaves (frame.Canceller d) o w below s =
+      mild_leaves below w _ (below_stands (frame.Canceller d) below w s) (turned_mild (frame.Canceller d) o w tt)
+  turn_leaves (frame.Maybe purpose) o w below s =
+      mild_leaves below w _ (below_stands (frame.Maybe purpose) below w s) (turned_mild (frame.Maybe purpose) o w tt)
+  turn_leaves (frame.Add d pair) o w below s =
+      mild_leaves below w _ (below_stands (frame.Add d pair) below w s) (turned_mild (frame.Add d pair) o w tt)
+  turn_leaves (frame.Cancel d) o w below s =
+      mild_leaves below w _ (below_stands (frame.Cancel d) below w s) (turned_mild (frame.Cancel d) o w tt)
+  turn_leaves (frame.Give given) o w below s =
+      mild_leaves below w _ (below_stands (frame.Give given) below w s) (turned_mild (frame.Give given) o w tt)
+  turn_leaves (frame.Notify d t) o w below s =
+      mild_leaves below w _ (below_stands (frame.Notify d t) below w s) (turned_mild (frame.Notify d t) o w tt)
+  turn_leaves (frame.Stepped t) o w below s =
+      mild_leaves below w _ (below_stands (frame.Stepped t) below w s) (turned_mild (frame.Stepped t) o w tt)
+  turn_leaves (frame.Tick units) o w below s =
+      mild_leaves below w _ (below_stands (frame.Tick units) below w s) (turned_mild (frame.Tick units) o w tt)
+  turn_leaves frame.Tell o w below s =
+      mild_leaves below w _ (below_stands frame.Tell below w s) (turned_mild frame.Tell o w tt)
+  turn_leaves frame.Due o w below s =
+      mild_leaves below w _ (below_stands frame.Due below w s) (turned_mild frame.Due o w tt)
+  turn_leaves (frame.Inline inlining) o w below s =
+      mild_leaves below w _ (below_stands (frame.Inline inlining) below w s)
+      (turned_mild (frame.Inline inlining) o w tt)
 
   -- all turns
-  run_keeps : (n : ℕ) (fs : List Frame) (o : Performed) (w : World) (q : Performed) (v : World) → run n fs o w ≡ Some (q, v) → Standing fs w → R w v
+  run_keeps : (n : ℕ) (fs : List Frame) (o : Performed) (w : World) (q : Performed) (v : World)
+      → run n fs o w ≡ Some (q, v) → Standing fs w → R w v
   unfolding run
   run_keeps zero [] o w q v h s =
       let x : Ended = (o, w) in
@@ -397,7 +531,8 @@ module _ (R : World → World → Type 0) (k : Settles R) where
       let left = turn_leaves f o w below s in
       k.still.joins w t.2 v left.goes (run_keeps n t.0 t.1 t.2 q v h left.standing)
 
-  gives_keeps : (fs : List Frame) (o : Performed) (w : World) (p : Performed) (u : World) → Gives fs o w p u → Standing fs w → R w u
+  gives_keeps : (fs : List Frame) (o : Performed) (w : World) (p : Performed) (u : World) → Gives fs o w p u
+      → Standing fs w → R w u
   gives_keeps fs o w p u g s =
       let all = finishes fs o w in
       let same = gives_one (runs_lead all.turns fs o w all.outcome all.after all.ends) g in
@@ -411,27 +546,39 @@ module _ (R : World → World → Type 0) (k : Settles R) where
   happens_keeps (Occurs (event.Action action)) w u h =
       let t = happening (Occurs (event.Action action)) w in
       let m = action_mild action w in
-      k.still.joins w t.2 u (m.comes.keeps R (calm R k.still)) (gives_keeps t.0 t.1 t.2 h.0 u h.1 (free_stands t.0 t.2 m.free))
+      k.still.joins w t.2 u (m.comes.keeps R (calm R k.still))
+      (gives_keeps t.0 t.1 t.2 h.0 u h.1 (free_stands t.0 t.2 m.free))
   happens_keeps (Occurs (event.Advance ticks)) w u h =
       let t = happening (Occurs (event.Advance ticks)) w in
-      let goes : R w t.2 = aside_cases w (R w) (k.still.stays w) (k.still.stops w) (entry.Advance _) (with_time _) (λ x. k.advances ticks w x) in
+      let goes : R w t.2 = aside_cases w (R w) (k.still.stays w) (k.still.stops w) (entry.Advance _) (with_time _)
+      (λ x. k.advances ticks w x) in
       k.still.joins w t.2 u goes (gives_keeps t.0 t.1 t.2 h.0 u h.1 (free_stands t.0 t.2 (tt, tt)))
   happens_keeps (Occurs (event.Drain most)) w u h =
       let t = happening (Occurs (event.Drain most)) w in
       let m = drain_mild w in
-      k.still.joins w t.2 u (m.comes.keeps R (calm R k.still)) (gives_keeps t.0 t.1 t.2 h.0 u h.1 (free_stands t.0 t.2 m.free))
+      k.still.joins w t.2 u (m.comes.keeps R (calm R k.still))
+      (gives_keeps t.0 t.1 t.2 h.0 u h.1 (free_stands t.0 t.2 m.free))
   happens_keeps (Comes posted body) w u h =
       let t = happening (Comes posted body) w in
-      k.still.joins w t.2 u ((post_comes posted.caller posted.index w).keeps R (calm R k.still)) (gives_keeps t.0 t.1 t.2 h.0 u h.1 (free_stands t.0 t.2 (tt, (tt, tt))))
+      k.still.joins w t.2 u ((post_comes posted.caller posted.index w).keeps R (calm R k.still))
+      (gives_keeps t.0 t.1 t.2 h.0 u h.1 (free_stands t.0 t.2 (tt, (tt, tt))))
 
   runs_keeps : (all : List Occurrence) (w u : World) → Runs all w u → R w u
   runs_keeps [] w u h = subst (λ x. R w x) (sym h) (k.still.stays w)
-  runs_keeps (occurrence ∷ rest) w u h = k.still.joins w h.0 u (happens_keeps occurrence w h.0 h.1) (runs_keeps rest h.0 u h.2)
+  runs_keeps (occurrence ∷ rest) w u h =
+      k.still.joins w h.0 u (happens_keeps occurrence w h.0 h.1) (runs_keeps rest h.0 u h.2)
 
   -- so a run keeps it
-  pub means_keeps : (script : Script) (batches : List Batch) (w : World) → Means script batches w → R (first_world script.classes script.limit script.cooperator) w
-  means_keeps script batches w h = runs_keeps (occurrences script.callers script.events batches) (first_world script.classes script.limit script.cooperator) w h
+  pub means_keeps : (script : Script) (batches : List Batch) (w : World) → Means script batches w
+      → R (first_world script.classes script.limit script.cooperator) w
+  means_keeps script batches w h =
+      runs_keeps (occurrences script.callers script.events batches)
+      (first_world script.classes script.limit script.cooperator) w h
 
 -- and what is so of the journal of each run, is so of the journal of each report
-pub reported : (P : List Entry → Type 0) → ((script : Script) (batches : List Batch) (w : World) → Means script batches w → P w.journal.entries) → (script : Script) (report : Report) → Reports script report → P report.journal.entries
-reported P h script report r = subst (λ (j : Written). P j.entries) (sym r.tells.journal) (h script report.batches r.world ((scripts_mean_what_is_defined script report.batches r.world).1 r.means))
+pub reported : (P : List Entry → Type 0)
+    → ((script : Script) (batches : List Batch) (w : World) → Means script batches w → P w.journal.entries)
+    → (script : Script) (report : Report) → Reports script report → P report.journal.entries
+reported P h script report r =
+    subst (λ (j : Written). P j.entries) (sym r.tells.journal)
+    (h script report.batches r.world ((scripts_mean_what_is_defined script report.batches r.world).1 r.means))

@@ -1,5 +1,6 @@
 -- Time never falls.
-use Rattle.std.proofs.Common.{◌≡◌, ℕ, ◌+◌, ◌≤◌, ◌++◌, min, List, [], ◌∷◌, Option, None, Some, refl, sym, subst, arith, length}
+use Rattle.std.proofs.Common.{◌≡◌, ℕ, ◌+◌, ◌≤◌, ◌++◌, min, List, [], ◌∷◌, Option, None, Some, refl, sym, subst, arith}
+use Rattle.std.proofs.Common.{length}
 use Rattle.dv_journal.specs.declared.entry.Entry.{Entry}
 use Rattle.dv_journal.specs.declared.entry.Entry.TheVariants as entry
 use Rattle.dv_clock.specs.declared.limits.TheConstants.{MOST_TICKS}
@@ -10,7 +11,8 @@ use Rattle.dv_posts.specs.Batches.{Batch}
 use Rattle.dv_loop.specs.Meaning.{Means}
 use Rattle.dv_world.specs.World.{World}
 use Rattle.dv_laws.specs.Once.{Stands}
-use Rattle.dv_laws.specs.Times.{Timing, timing_of, Untimed, Advances, Schedules, IsNoEarlier, TimeGoesOn, TimeNeverFalls}
+use Rattle.dv_laws.specs.Times.{Timing, timing_of, Untimed, Advances, Schedules, IsNoEarlier, TimeGoesOn}
+use Rattle.dv_laws.specs.Times.{TimeNeverFalls}
 use Rattle.dv_laws.proofs.At.{split_last, entries_on, no_entries}
 use Rattle.dv_clock.specs.Clock.{Clock}
 use Rattle.dv_clock.specs.Due.{scheduling, coming_due}
@@ -79,8 +81,11 @@ record Keeps (w u : World) : Type 0 where
   goes_on : Regular w.objects.loops → IsTimely w → IsTimely u
 
 -- what stands in a longer journal
-stands_before : (e x : Entry) (entries : List Entry) (P : Type 0) → (Stands e entries → P) → (e ≡ x → P) → Stands e (entries ++ x ∷ []) → P
-stands_before e x entries P h k s = split_last (λ l. P) e x entries s.before s.later (λ bs ls q. h (record { before = bs; later = ls; among = q })) k s.among
+stands_before : (e x : Entry) (entries : List Entry) (P : Type 0) → (Stands e entries → P) → (e ≡ x → P)
+    → Stands e (entries ++ x ∷ []) → P
+stands_before e x entries P h k s =
+    split_last (λ l. P) e x entries s.before s.later
+    (λ bs ls q. h (record { before = bs; later = ls; among = q })) k s.among
 
 stands_nowhere : (e : Entry) (before later : List Entry) (P : Type 0) → [] ≡ before ++ e ∷ later → P
 stands_nowhere e [] later P q = absurd cc
@@ -96,25 +101,38 @@ not_advanced : (time t : ℕ) (e : Entry) (P : Type 0) → IsTold time (timing_o
 not_advanced time t e P h q = absurd (subst (λ x. IsTold time (timing_of x)) (sym q) h)
 
 -- an entry by which no time goes on
-told_timely : (e : Entry) (time : ℕ) (entries : List Entry) → IsTold time (timing_of e) → Timely time entries → Timely time (entries ++ e ∷ [])
+told_timely : (e : Entry) (time : ℕ) (entries : List Entry) → IsTold time (timing_of e) → Timely time entries
+    → Timely time (entries ++ e ∷ [])
 told_timely e time entries h k = record {
   within = k.within;
   passed = λ t s. stands_before (entry.Advance t) e entries _ (k.passed t) (not_advanced time t e _ h) s;
-  goes = entries_on (λ told x. (t : ℕ) → Stands (entry.Advance t) told → IsNoEarlier t (timing_of x)) e entries k.goes (λ t s. told_later t time (timing_of e) (k.passed t s) h);
+  goes =
+      entries_on (λ told x. (t : ℕ) → Stands (entry.Advance t) told
+      → IsNoEarlier t (timing_of x)) e entries k.goes (λ t s. told_later t time (timing_of e) (k.passed t s) h);
 }
 
-tells : (e : Entry) (w u : World) → IsTold w.objects.clock.time (timing_of e) → u.objects.clock.time ≡ w.objects.clock.time → u.journal.entries ≡ w.journal.entries ++ e ∷ [] → u.objects.loops ≡ w.objects.loops → Keeps w u
-tells e w u h s q l = record { loops = λ r. rw l r; goes_on = λ r k. rw (s, q) (told_timely e w.objects.clock.time w.journal.entries h k) }
+tells : (e : Entry) (w u : World) → IsTold w.objects.clock.time (timing_of e)
+    → u.objects.clock.time ≡ w.objects.clock.time → u.journal.entries ≡ w.journal.entries ++ e ∷ []
+    → u.objects.loops ≡ w.objects.loops → Keeps w u
+tells e w u h s q l = record {
+  loops = λ r. rw l r;
+  goes_on = λ r k. rw (s, q) (told_timely e w.objects.clock.time w.journal.entries h k);
+}
 
 -- time goes on
 advance_of : (t time : ℕ) → entry.Advance t ≡ entry.Advance time → t ≡ time
 advance_of t time q = cc
 
-advanced : (before time : ℕ) (entries : List Entry) → before ≤ time → time ≤ MOST_TICKS → Timely before entries → Timely time (entries ++ entry.Advance time ∷ [])
+advanced : (before time : ℕ) (entries : List Entry) → before ≤ time → time ≤ MOST_TICKS → Timely before entries
+    → Timely time (entries ++ entry.Advance time ∷ [])
 advanced before time entries h m k = record {
   within = m;
-  passed = λ t s. stands_before (entry.Advance t) (entry.Advance time) entries (t ≤ time) (λ z. omega (arith, h, k.passed t z)) (λ q. omega (arith, advance_of t time q)) s;
-  goes = entries_on (λ told x. (t : ℕ) → Stands (entry.Advance t) told → IsNoEarlier t (timing_of x)) (entry.Advance time) entries k.goes (λ t s. omega (arith, h, k.passed t s));
+  passed =
+      λ t s. stands_before (entry.Advance t) (entry.Advance time) entries (t ≤ time)
+      (λ z. omega (arith, h, k.passed t z)) (λ q. omega (arith, advance_of t time q)) s;
+  goes =
+      entries_on (λ told x. (t : ℕ) → Stands (entry.Advance t) told
+      → IsNoEarlier t (timing_of x)) (entry.Advance time) entries k.goes (λ t s. omega (arith, h, k.passed t s));
 }
 
 later_time : (time ticks : ℕ) → time ≤ MOST_TICKS → time ≤ min (time + ticks) MOST_TICKS
@@ -123,7 +141,8 @@ later_time time ticks h = omega (arith, h)
 within_time : (time ticks : ℕ) → min (time + ticks) MOST_TICKS ≤ MOST_TICKS
 within_time time ticks = omega arith
 
-named_same : (name : Option (List ℕ)) (d : ℕ) (objects : Objects) → (naming_where name d objects).clock.time ≡ objects.clock.time
+named_same : (name : Option (List ℕ)) (d : ℕ) (objects : Objects)
+    → (naming_where name d objects).clock.time ≡ objects.clock.time
 named_same None d objects = refl
 named_same (Some name) d objects = refl
 
@@ -135,10 +154,17 @@ named_loops (Some name) d objects = refl
 still : Still Keeps
 still = record {
   stays = λ w. record { loops = λ r. r; goes_on = λ r k. k };
-  joins = λ u v w p q. record { loops = λ r. q.loops (p.loops r); goes_on = λ r k. q.goes_on (p.loops r) (p.goes_on r k) };
+  joins =
+      λ u v w p q. record { loops = λ r. q.loops (p.loops r); goes_on = λ r k. q.goes_on (p.loops r) (p.goes_on r k) };
   stops = λ w. record { loops = λ r. r; goes_on = λ r k. k };
-  news = λ name canceller w x. tells (entry.New (length w.records) name) w _ tt (named_same name _ w.objects) refl (named_loops name _ w.objects);
-  asides = λ e change w a c l b x. record { loops = l; goes_on = λ r k. rw (clocks_same e _ _ (c r)) (told_timely e w.objects.clock.time w.journal.entries (clocks_told e _ _ (c r)) k) };
+  news =
+      λ name canceller w x. tells (entry.New (length w.records) name) w _ tt (named_same name _ w.objects) refl
+      (named_loops name _ w.objects);
+  asides = λ e change w a c l b x. record {
+    loops = l;
+    goes_on = λ r k.
+        rw (clocks_same e _ _ (c r)) (told_timely e w.objects.clock.time w.journal.entries (clocks_told e _ _ (c r)) k);
+  };
   arranges = λ change w s l b. record { loops = l; goes_on = λ r k. rw (arranged_same _ _ s) k };
   submits = λ d pool work w x. tells (entry.Job (length w.works) d) w _ tt refl refl refl;
   refuses = λ d r w x h p q. tells (entry.Refuse d) w _ tt refl refl refl;
@@ -162,13 +188,17 @@ settles = record {
   takes = λ d e r given w x h i p q. tells (entry.Take d e given.value) w _ tt refl refl refl;
   advances = λ ticks w x. record {
     loops = λ r. r;
-    goes_on = λ r k. advanced w.objects.clock.time (min (w.objects.clock.time + ticks) MOST_TICKS) w.journal.entries (later_time w.objects.clock.time ticks k.within) (within_time w.objects.clock.time ticks) k;
+    goes_on =
+        λ r k. advanced w.objects.clock.time (min (w.objects.clock.time + ticks) MOST_TICKS) w.journal.entries
+        (later_time w.objects.clock.time ticks k.within) (within_time w.objects.clock.time ticks) k;
   };
 }
 
-world_timely : (script : Script) (batches : List Batch) (w : World) → Means script batches w → TimeGoesOn w.journal.entries
+world_timely : (script : Script) (batches : List Batch) (w : World) → Means script batches w
+    → TimeGoesOn w.journal.entries
 world_timely script batches w m =
-    ((means_keeps Keeps settles script batches w m).goes_on (record { each = λ l x h. absurd (none-some x h) }) (record {
+    ((means_keeps Keeps settles script batches w m).goes_on (record { each = λ l x h. absurd (none-some x h) })
+    (record {
       within = omega arith;
       passed = λ t s. stands_nowhere (entry.Advance t) s.before s.later _ s.among;
       goes = no_entries (λ told x. (t : ℕ) → Stands (entry.Advance t) told → IsNoEarlier t (timing_of x));

@@ -1,6 +1,7 @@
 -- Further firings of a Deferred, as its journal logs them (Twisted: `Deferred.cancel`, `AlreadyCalledError`).
 use Rattle.std.specs.Prelude.{ℕ, ◌≡◌, if◌then◌else◌, nat_eq, List, ◌∷◌, ◌++◌, sum_by}
-use Rattle.dv_journal.specs.Told.{Change, change_of, Aside, Makes, Adds, Fires, Swallows, Refuses, Runs, Sets, Takes, Waits, Hands, Pauses, Unpauses, Cancels}
+use Rattle.dv_journal.specs.Told.{Change, change_of, Aside, Makes, Adds, Fires, Swallows, Refuses, Runs, Sets, Takes}
+use Rattle.dv_journal.specs.Told.{Waits, Hands, Pauses, Unpauses, Cancels}
 use Rattle.dv_journal.specs.declared.entry.Entry.{Entry}
 use Rattle.dv_journal.specs.declared.entry.Entry.TheVariants as entry
 use Rattle.dv_script.specs.declared.script.Script.{Script}
@@ -32,7 +33,8 @@ refusing n x = refuses_of n (change_of x)
 abbrev pub refusals : ℕ → List Entry → ℕ
 refusals n entries = sum_by (refusing n) entries
 
--- a firing of n that is swallowed is the first after the one that fired it: none was refused before, and each one after it is refused, since none fires n or is swallowed
+-- a firing of n that is swallowed is the first after the one that fired it: none was refused before, and each one after
+-- it is refused, since none fires n or is swallowed
 pub record SwallowsTheFirst (n : ℕ) (entries : List Entry) : Type 0 where
   pub first : (before later : List Entry) → entries ≡ before ++ entry.Swallow n ∷ later → refusals n before ≡ 0
   pub refused : (before later : List Entry) → entries ≡ before ++ entry.Swallow n ∷ later → firings n later ≡ 0
@@ -40,4 +42,5 @@ pub record SwallowsTheFirst (n : ℕ) (entries : List Entry) : Type 0 where
 
 -- in a run only the next firing after the first may be swallowed, by its report
 abbrev pub OnlyTheNextFiringIsSwallowed : Type 0
-OnlyTheNextFiringIsSwallowed = (script : Script) (report : Report) → Reports script report → (n : ℕ) → SwallowsTheFirst n report.journal.entries
+OnlyTheNextFiringIsSwallowed =
+    (script : Script) (report : Report) → Reports script report → (n : ℕ) → SwallowsTheFirst n report.journal.entries

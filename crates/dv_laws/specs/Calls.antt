@@ -1,5 +1,7 @@
--- What a journal logs of delayed calls, and of what else waits for its time (Twisted: `callLater`, `DelayedCall.cancel`).
-use Rattle.std.specs.Prelude.{ℕ, ◌≡◌, ◌≤◌, Bool, true, false, nat_eq, bytes_eq, if◌then◌else◌, List, ◌∷◌, ◌++◌, Option, None, Some, fold, sum_by}
+-- What a journal logs of delayed calls, and of what else waits for its time (Twisted: `callLater`,
+-- `DelayedCall.cancel`).
+use Rattle.std.specs.Prelude.{ℕ, ◌≡◌, ◌≤◌, Bool, true, false, nat_eq, bytes_eq, if◌then◌else◌, List, ◌∷◌, ◌++◌, Option}
+use Rattle.std.specs.Prelude.{None, Some, fold, sum_by}
 use Rattle.dv_journal.specs.declared.entry.Entry.{Entry}
 use Rattle.dv_journal.specs.declared.entry.Entry.TheVariants as entry
 use Rattle.dv_journal.specs.Told as tells
@@ -101,9 +103,11 @@ pub record RunsInTime (t : Timed) (entries : List Entry) : Type 0 where
   pub once : AtEachPlace (λ told. endings t told ≤ schedulings t told) entries
   pub due : OfEachEntry (λ told x. x ≡ run_of t → WasDue t told) entries
 
--- in a run each call that is scheduled is run once at most, not after it was cancelled and not before its time, by its report
+-- in a run each call that is scheduled is run once at most, not after it was cancelled and not before its time, by its
+-- report
 abbrev pub CallsRunOnceInTime : Type 0
-CallsRunOnceInTime = (script : Script) (report : Report) → Reports script report → (t : Timed) → RunsInTime t report.journal.entries
+CallsRunOnceInTime =
+    (script : Script) (report : Report) → Reports script report → (t : Timed) → RunsInTime t report.journal.entries
 
 -- it was scheduled once, due at this time
 pub record ScheduledOnce (t : Timed) (due : ℕ) (told : List Entry) : Type 0 where
@@ -129,10 +133,15 @@ pub record IsFirst (t u : Timed) (first second : ℕ) (told : List Entry) : Type
   pub earlier : first ≤ second
   pub in_order : first ≡ second → Precedes (later_of t first) (later_of u second) told
 
--- of two that are scheduled once each, the one that is due earlier runs first, and of those that are due at one time the one that was scheduled first
+-- of two that are scheduled once each, the one that is due earlier runs first, and of those that are due at one time
+-- the one that was scheduled first
 abbrev pub RunsInOrder : Timed → Timed → List Entry → Type 0
-RunsInOrder t u entries = OfEachEntry (λ told x. x ≡ run_of u → (first second : ℕ) → HasRun t first told → ScheduledOnce u second told → IsFirst t u first second told) entries
+RunsInOrder t u entries =
+    OfEachEntry (λ told x. x ≡ run_of u → (first second : ℕ) → HasRun t first told → ScheduledOnce u second told
+    → IsFirst t u first second told) entries
 
--- in a run calls run in the order of the times that they are due at, and then in that of their scheduling, by its report
+-- in a run calls run in the order of the times that they are due at, and then in that of their scheduling, by its
+-- report
 abbrev pub CallsRunInOrder : Type 0
-CallsRunInOrder = (script : Script) (report : Report) → Reports script report → (t u : Timed) → RunsInOrder t u report.journal.entries
+CallsRunInOrder =
+    (script : Script) (report : Report) → Reports script report → (t u : Timed) → RunsInOrder t u report.journal.entries

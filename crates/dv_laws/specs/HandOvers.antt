@@ -1,7 +1,9 @@
--- In which order a Deferred hands its value over, as its journal logs it (Twisted: the Deferred Reference, "Chaining Deferreds").
+-- In which order a Deferred hands its value over, as its journal logs it (Twisted: the Deferred Reference, "Chaining
+-- Deferreds").
 use Rattle.std.specs.Prelude.{ℕ, ◌≡◌, if◌then◌else◌, nat_eq, List, [], ◌∷◌, ◌++◌}
 use Rattle.std.specs.List.{flat_map}
-use Rattle.dv_journal.specs.Told.{Change, change_of, Aside, Makes, Adds, Fires, Swallows, Refuses, Runs, Sets, Takes, Waits, Hands, Pauses, Unpauses, Cancels}
+use Rattle.dv_journal.specs.Told.{Change, change_of, Aside, Makes, Adds, Fires, Swallows, Refuses, Runs, Sets, Takes}
+use Rattle.dv_journal.specs.Told.{Waits, Hands, Pauses, Unpauses, Cancels}
 use Rattle.dv_journal.specs.declared.entry.Entry.{Entry}
 use Rattle.dv_script.specs.declared.script.Script.{Script}
 use Rattle.dv_engine.specs.Report.{Reports}
@@ -56,11 +58,15 @@ receives_in m x = receives_by m (change_of x)
 abbrev pub receivers : ℕ → List Entry → List ℕ
 receivers m entries = flat_map (receives_in m) entries
 
--- those that m handed its value over to, and after them those that still wait for it, are those that began to wait for it, in that order
+-- those that m handed its value over to, and after them those that still wait for it, are those that began to wait for
+-- it, in that order
 pub record HandsOverInTurn (m : ℕ) (told : List Entry) : Type 0 where
   pub waiting : List ℕ
   pub in_turn : waiters m told ≡ receivers m told ++ waiting
 
--- in a run a Deferred hands its value over to those that wait for it in the order in which they began to wait, each once, by its report
+-- in a run a Deferred hands its value over to those that wait for it in the order in which they began to wait, each
+-- once, by its report
 abbrev pub ValuesAreHandedOverInTurn : Type 0
-ValuesAreHandedOverInTurn = (script : Script) (report : Report) → Reports script report → (m : ℕ) → AtEachPlace (HandsOverInTurn m) report.journal.entries
+ValuesAreHandedOverInTurn =
+    (script : Script) (report : Report) → Reports script report → (m : ℕ)
+    → AtEachPlace (HandsOverInTurn m) report.journal.entries

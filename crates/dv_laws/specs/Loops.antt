@@ -85,9 +85,12 @@ pub record StartedOnce (name : List ℕ) (start : ℕ) (told : List Entry) : Typ
   pub among : told ≡ before ++ entry.Loop name d ∷ later
   pub at : start ≡ time_by before
 
--- each turn that is scheduled of a loop whose name was given once is due at the first time after now that is a whole number of these intervals after its start
+-- each turn that is scheduled of a loop whose name was given once is due at the first time after now that is a whole
+-- number of these intervals after its start
 abbrev pub TurnsAt : List ℕ → ℕ → List Entry → Type 0
-TurnsAt name interval entries = OfEachEntry (λ told x. (due start : ℕ) → x ≡ entry.LaterLoop name due → StartedOnce name start told → IsNextTurn start interval (time_by told) due) entries
+TurnsAt name interval entries =
+    OfEachEntry (λ told x. (due start : ℕ) → x ≡ entry.LaterLoop name due → StartedOnce name start told
+    → IsNextTurn start interval (time_by told) due) entries
 
 -- so it is with one interval
 pub record TurnsAtIntervals (name : List ℕ) (entries : List Entry) : Type 0 where
@@ -95,6 +98,9 @@ pub record TurnsAtIntervals (name : List ℕ) (entries : List Entry) : Type 0 wh
   pub some : 1 ≤ interval
   pub turns : TurnsAt name interval entries
 
--- in a run the turns of a loop are at whole intervals after its start, and none that is past is made up for, by its report
+-- in a run the turns of a loop are at whole intervals after its start, and none that is past is made up for, by its
+-- report
 abbrev pub LoopsTurnAtIntervals : Type 0
-LoopsTurnAtIntervals = (script : Script) (report : Report) → Reports script report → (name : List ℕ) → TurnsAtIntervals name report.journal.entries
+LoopsTurnAtIntervals =
+    (script : Script) (report : Report) → Reports script report → (name : List ℕ)
+    → TurnsAtIntervals name report.journal.entries

@@ -1,6 +1,8 @@
--- How the pairs of a Deferred are used, as its journal logs it (Twisted: the Deferred Reference, "Callbacks"; `Deferred._runCallbacks`).
+-- How the pairs of a Deferred are used, as its journal logs it (Twisted: the Deferred Reference, "Callbacks";
+-- `Deferred._runCallbacks`).
 use Rattle.std.specs.Prelude.{ℕ, ◌≤◌, ◌+◌, if◌then◌else◌, nat_eq, List, sum_by}
-use Rattle.dv_journal.specs.Told.{Change, change_of, Aside, Makes, Adds, Fires, Swallows, Refuses, Runs, Sets, Takes, Waits, Hands, Pauses, Unpauses, Cancels}
+use Rattle.dv_journal.specs.Told.{Change, change_of, Aside, Makes, Adds, Fires, Swallows, Refuses, Runs, Sets, Takes}
+use Rattle.dv_journal.specs.Told.{Waits, Hands, Pauses, Unpauses, Cancels}
 use Rattle.dv_journal.specs.declared.entry.Entry.{Entry}
 use Rattle.dv_script.specs.declared.script.Script.{Script}
 use Rattle.dv_engine.specs.Report.{Reports}
@@ -83,15 +85,18 @@ ends n entries = sum_by (ending n) entries
 abbrev pub UsesEachPairOnce : ℕ → List Entry → Type 0
 UsesEachPairOnce n entries = AtEachPlace (λ told. runs n told ≤ additions n told) entries
 
--- the sides of n run one at a time: at each place all that have run have ended, or all but one, and no more have ended than have run
+-- the sides of n run one at a time: at each place all that have run have ended, or all but one, and no more have ended
+-- than have run
 pub record RunsOneAtATime (n : ℕ) (entries : List Entry) : Type 0 where
   pub alone : AtEachPlace (λ told. runs n told ≤ ends n told + 1) entries
   pub begun : AtEachPlace (λ told. ends n told ≤ runs n told) entries
 
 -- a run uses each pair once at most, by its report
 abbrev pub EachPairIsUsedOnce : Type 0
-EachPairIsUsedOnce = (script : Script) (report : Report) → Reports script report → (n : ℕ) → UsesEachPairOnce n report.journal.entries
+EachPairIsUsedOnce =
+    (script : Script) (report : Report) → Reports script report → (n : ℕ) → UsesEachPairOnce n report.journal.entries
 
 -- and the sides of a Deferred run one at a time
 abbrev pub SidesRunOneAtATime : Type 0
-SidesRunOneAtATime = (script : Script) (report : Report) → Reports script report → (n : ℕ) → RunsOneAtATime n report.journal.entries
+SidesRunOneAtATime =
+    (script : Script) (report : Report) → Reports script report → (n : ℕ) → RunsOneAtATime n report.journal.entries

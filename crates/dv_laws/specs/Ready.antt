@@ -1,4 +1,5 @@
--- When a Deferred uses what was added to it, as its journal logs it (Twisted: the Deferred Reference, "Callbacks"; `Deferred.pause`).
+-- When a Deferred uses what was added to it, as its journal logs it (Twisted: the Deferred Reference, "Callbacks";
+-- `Deferred.pause`).
 use Rattle.std.specs.Prelude.{ℕ, ◌≡◌, true, List, Some, None}
 use Rattle.dv_value.specs.declared.value.Value.{Value}
 use Rattle.dv_journal.specs.declared.entry.Entry.{Entry}
@@ -24,4 +25,5 @@ pub record RunsWhereReady (n : ℕ) (entries : List Entry) : Type 0 where
 
 -- in a run no side of a Deferred is run before that is fired, while it is paused, or while it waits, by its report
 abbrev pub NothingRunsEarly : Type 0
-NothingRunsEarly = (script : Script) (report : Report) → Reports script report → (n : ℕ) → RunsWhereReady n report.journal.entries
+NothingRunsEarly =
+    (script : Script) (report : Report) → Reports script report → (n : ℕ) → RunsWhereReady n report.journal.entries

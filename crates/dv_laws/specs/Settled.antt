@@ -15,17 +15,21 @@ use Rattle.dv_laws.specs.HandOvers.{waiters, receivers}
 use Rattle.dv_laws.specs.OneAtATime.{runs, ends}
 use Rattle.dv_laws.specs.Ready.{IsReady}
 
--- at the end of a run that hasn't stopped, a Deferred whose next item may be used has none left: it is fired, no side of it runs, it isn't paused, and it waits for no other
+-- at the end of a run that hasn't stopped, a Deferred whose next item may be used has none left: it is fired, no side
+-- of it runs, it isn't paused, and it waits for no other
 abbrev pub AllThatMayRunHasRun : Type 0
 AllThatMayRunHasRun =
-    (script : Script) (batches : List Batch) (w : World) → Leads script batches w → w.stopped ≡ false → (n : ℕ) (r : Record Pair Canceller) → slice_get w.records n ≡ Some r → may_be_used r ≡ true → r.items ≡ []
+    (script : Script) (batches : List Batch) (w : World) → Leads script batches w → w.stopped ≡ false
+    → (n : ℕ) (r : Record Pair Canceller) → slice_get w.records n ≡ Some r → may_be_used r ≡ true → r.items ≡ []
 
 -- by what was logged n may go on: it is ready, and each side of it that was run has ended
 pub record MayGoOn (n : ℕ) (told : List Entry) : Type 0 where
   pub ready : IsReady n told
   pub ended : runs n told ≡ ends n told
 
--- at the end of a run that hasn't stopped nobody waits for a Deferred that may go on: each that began to wait for it was handed its value, by its report
+-- at the end of a run that hasn't stopped nobody waits for a Deferred that may go on: each that began to wait for it
+-- was handed its value, by its report
 abbrev pub NobodyIsLeftWaiting : Type 0
 NobodyIsLeftWaiting =
-    (script : Script) (report : Report) → Reports script report → report.stopped ≡ false → (n : ℕ) → MayGoOn n report.journal.entries → waiters n report.journal.entries ≡ receivers n report.journal.entries
+    (script : Script) (report : Report) → Reports script report → report.stopped ≡ false → (n : ℕ)
+    → MayGoOn n report.journal.entries → waiters n report.journal.entries ≡ receivers n report.journal.entries

@@ -12,7 +12,8 @@ use Rattle.dv_engine.specs.Report.{Reports}
 use Rattle.dv_engine.specs.declared.report.Report.{Report}
 use Rattle.dv_laws.specs.Places.{AtEachPlace}
 
--- nothing of a queue; or that one is made, which stores so many values at most, or any number; or that a value is put into one, or asked for
+-- nothing of a queue; or that one is made, which stores so many values at most, or any number; or that a value is put
+-- into one, or asked for
 pub data Queueing : Type 0 where
   Unqueued : Queueing
   MakesQueue : (name : List ℕ) (size : Option ℕ) → Queueing
@@ -79,7 +80,8 @@ abbrev pub unbound_in : Option ℕ → ℕ
 unbound_in None = 1
 unbound_in (Some size) = 0
 
--- how many values are put into a queue of this name, how many are asked for, how much room is made, and how many such queues have no bound
+-- how many values are put into a queue of this name, how many are asked for, how much room is made, and how many such
+-- queues have no bound
 abbrev pub puts_by : List ℕ → Queueing → ℕ
 puts_by name Unqueued = 0
 puts_by name (MakesQueue other size) = 0
@@ -116,14 +118,20 @@ room name entries = sum_by (λ e. room_by name (queueing_of e)) entries
 abbrev pub unbound : List ℕ → List Entry → ℕ
 unbound name entries = sum_by (λ e. unbound_by name (queueing_of e)) entries
 
--- a queue stores no more values than it has room for: at each place at most as many more were put than asked for. Where a name stands for several queues, the room of all of them counts
+-- a queue stores no more values than it has room for: at each place at most as many more were put than asked for. Where
+-- a name stands for several queues, the room of all of them counts
 abbrev pub StoresWithinItsRoom : List ℕ → List Entry → Type 0
-StoresWithinItsRoom name entries = AtEachPlace (λ told. unbound name told ≡ 0 → puts name told ≤ gets name told + room name told) entries
+StoresWithinItsRoom name entries =
+    AtEachPlace (λ told. unbound name told ≡ 0 → puts name told ≤ gets name told + room name told) entries
 
 -- in a run no queue stores more values than it may, by its report
 abbrev pub QueuesKeepTheirSize : Type 0
-QueuesKeepTheirSize = (script : Script) (report : Report) → Reports script report → (name : List ℕ) → StoresWithinItsRoom name report.journal.entries
+QueuesKeepTheirSize =
+    (script : Script) (report : Report) → Reports script report → (name : List ℕ)
+    → StoresWithinItsRoom name report.journal.entries
 
 -- at the end of a run, also where its journal is full, a queue stores no value while a Deferred waits for one
 abbrev pub NothingIsStoredWhileAnyWaits : Type 0
-NothingIsStoredWhileAnyWaits = (script : Script) (batches : List Batch) (w : World) → Leads script batches w → (k : ℕ) (q : Queue) → slice_get w.objects.queues k ≡ Some q → StoresOrIsWaitedFor q
+NothingIsStoredWhileAnyWaits =
+    (script : Script) (batches : List Batch) (w : World) → Leads script batches w → (k : ℕ) (q : Queue)
+    → slice_get w.objects.queues k ≡ Some q → StoresOrIsWaitedFor q

@@ -38,4 +38,6 @@ SwallowsAfterACancel n entries = OfEachEntry (λ told x. x ≡ entry.Swallow n �
 
 -- in a run a firing of a Deferred is swallowed only if a cancel has fired that, by its report
 abbrev pub OnlyACancelHasOneSwallowed : Type 0
-OnlyACancelHasOneSwallowed = (script : Script) (report : Report) → Reports script report → (n : ℕ) → SwallowsAfterACancel n report.journal.entries
+OnlyACancelHasOneSwallowed =
+    (script : Script) (report : Report) → Reports script report → (n : ℕ)
+    → SwallowsAfterACancel n report.journal.entries

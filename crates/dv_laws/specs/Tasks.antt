@@ -85,11 +85,13 @@ tasks_made name entries = sum_by (λ e. makes_by name (tasking_of e)) entries
 abbrev pub tasks_ended : List ℕ → List Entry → ℕ
 tasks_ended name entries = sum_by (λ e. ends_by name (tasking_of e)) entries
 
--- no more tasks of a name have ended than were made, and one takes a step only while there is one that hasn't ended: of one task, that it ends once at most, and takes no step after that
+-- no more tasks of a name have ended than were made, and one takes a step only while there is one that hasn't ended: of
+-- one task, that it ends once at most, and takes no step after that
 pub record EndsOnce (name : List ℕ) (entries : List Entry) : Type 0 where
   pub once : AtEachPlace (λ told. tasks_ended name told ≤ tasks_made name told) entries
   pub steps : OfEachEntry (λ told x. x ≡ entry.Step name → tasks_ended name told < tasks_made name told) entries
 
 -- in a run each task ends once at most, and takes no step after that, by its report
 abbrev pub TasksEndOnce : Type 0
-TasksEndOnce = (script : Script) (report : Report) → Reports script report → (name : List ℕ) → EndsOnce name report.journal.entries
+TasksEndOnce =
+    (script : Script) (report : Report) → Reports script report → (name : List ℕ) → EndsOnce name report.journal.entries

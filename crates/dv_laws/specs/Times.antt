@@ -37,7 +37,8 @@ IsNoEarlier time (Schedules due) = time ≤ due
 
 -- once time has gone on to a time, it goes on to no earlier one, and nothing is scheduled for an earlier one
 abbrev pub TimeGoesOn : List Entry → Type 0
-TimeGoesOn entries = OfEachEntry (λ told x. (time : ℕ) → Stands (entry.Advance time) told → IsNoEarlier time (timing_of x)) entries
+TimeGoesOn entries =
+    OfEachEntry (λ told x. (time : ℕ) → Stands (entry.Advance time) told → IsNoEarlier time (timing_of x)) entries
 
 -- in a run time never falls, by its report
 abbrev pub TimeNeverFalls : Type 0

@@ -89,8 +89,13 @@ releases name entries = sum_by (λ e. releases_by name (holding_of e)) entries
 
 -- in a run no more tokens of a lock are released than were asked for, by its report
 abbrev pub TokensAreAskedFor : Type 0
-TokensAreAskedFor = (script : Script) (report : Report) → Reports script report → (name : List ℕ) → AtEachPlace (λ told. releases name told ≤ asks name told) report.journal.entries
+TokensAreAskedFor =
+    (script : Script) (report : Report) → Reports script report → (name : List ℕ)
+    → AtEachPlace (λ told. releases name told ≤ asks name told) report.journal.entries
 
--- at the end of a run, also where its journal is full, no more tokens of a lock are held than it has, and a Deferred waits for one only if all are held
+-- at the end of a run, also where its journal is full, no more tokens of a lock are held than it has, and a Deferred
+-- waits for one only if all are held
 abbrev pub AllAreHeldBeforeAnyWaits : Type 0
-AllAreHeldBeforeAnyWaits = (script : Script) (batches : List Batch) (w : World) → Leads script batches w → (l : ℕ) (s : Semaphore) → slice_get w.objects.semaphores l ≡ Some s → GivesAllBeforeAnyWaits s
+AllAreHeldBeforeAnyWaits =
+    (script : Script) (batches : List Batch) (w : World) → Leads script batches w → (l : ℕ) (s : Semaphore)
+    → slice_get w.objects.semaphores l ≡ Some s → GivesAllBeforeAnyWaits s

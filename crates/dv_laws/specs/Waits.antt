@@ -1,7 +1,8 @@
 -- How a Deferred waits for another, as its journal logs it (Twisted: the Deferred Reference, "Chaining Deferreds").
 use Rattle.std.specs.Prelude.{ℕ, ◌≡◌, ◌≤◌, ◌&&◌, ◌||◌, if◌then◌else◌, nat_eq, List, ◌∷◌, ◌++◌, sum_by}
 use Rattle.dv_value.specs.declared.value.Value.{Value}
-use Rattle.dv_journal.specs.Told.{Change, change_of, Aside, Makes, Adds, Fires, Swallows, Refuses, Runs, Sets, Takes, Waits, Hands, Pauses, Unpauses, Cancels}
+use Rattle.dv_journal.specs.Told.{Change, change_of, Aside, Makes, Adds, Fires, Swallows, Refuses, Runs, Sets, Takes}
+use Rattle.dv_journal.specs.Told.{Waits, Hands, Pauses, Unpauses, Cancels}
 use Rattle.dv_journal.specs.declared.entry.Entry.{Entry}
 use Rattle.dv_journal.specs.declared.entry.Entry.TheVariants as entry
 use Rattle.dv_script.specs.declared.script.Script.{Script}
@@ -57,7 +58,8 @@ handing n m x = hands_of n m (change_of x)
 abbrev pub hand_overs : ℕ → ℕ → List Entry → ℕ
 hand_overs n m entries = sum_by (handing n m) entries
 
--- or that a side of n is run or the value of n changes: it is fired, gets what a side gave, takes or is handed the value of another, begins to wait, or gives its value to another
+-- or that a side of n is run or the value of n changes: it is fired, gets what a side gave, takes or is handed the
+-- value of another, begins to wait, or gives its value to another
 abbrev pub touches_of : ℕ → Change → ℕ
 touches_of n Aside = 0
 touches_of n (Makes d name) = 0
@@ -93,11 +95,14 @@ pub record HandsOver (m n : ℕ) (x : Entry) : Type 0 where
   pub value : Value
   pub hands : x ≡ entry.Hand m n value
 
--- n waits until it is handed a value: the first entry by which one of its sides is run or its value changes is that of m, for which it waits; and m hands its value to n no more often than n waited for m
+-- n waits until it is handed a value: the first entry by which one of its sides is run or its value changes is that of
+-- m, for which it waits; and m hands its value to n no more often than n waited for m
 pub record WaitsForItsValue (n m : ℕ) (entries : List Entry) : Type 0 where
   pub until : OfEachEntry (λ told x. StillWaits n m told → touching n x ≡ 1 → HandsOver m n x) entries
   pub once : AtEachPlace (λ told. hand_overs n m told ≤ waits n m told) entries
 
 -- in a run a Deferred that waits is left alone until it is handed the value that it waits for, by its report
 abbrev pub WaitsEndByAHandOver : Type 0
-WaitsEndByAHandOver = (script : Script) (report : Report) → Reports script report → (n m : ℕ) → WaitsForItsValue n m report.journal.entries
+WaitsEndByAHandOver =
+    (script : Script) (report : Report) → Reports script report → (n m : ℕ)
+    → WaitsForItsValue n m report.journal.entries

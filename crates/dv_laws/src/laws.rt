@@ -16,49 +16,54 @@ ghost use Rattle.dv_laws.specs.Times.{TimeNeverFalls};
 ghost use Rattle.dv_laws.specs.Tokens.{AllAreHeldBeforeAnyWaits, TokensAreAskedFor};
 ghost use Rattle.dv_laws.specs.Waits.{WaitsEndByAHandOver};
 
-/// The journal of a run logs what has become of each Deferred, that each was fired once at most, and that a further firing
-/// of it was swallowed once at most, where it was fired with CancelledError and an empty message, as a cancel does.
+/// The journal of a run logs what has become of each Deferred, that each was fired once at most,
+/// and that a further firing of it was swallowed once at most, where it was fired with
+/// CancelledError and an empty message, as a cancel does.
 pub fn journals_tell()
     ensures outcomes { OutcomesAreToldByTheJournal }
     ensures once { EachDeferredIsFiredOnce }
 {}
 
-/// In a run a firing that is swallowed is the next one after the Deferred was fired; each later one is refused. One is swallowed
-/// only if the Deferred was fired directly after a cancel of it, or of one that waits for it.
+/// In a run a firing that is swallowed is the next one after the Deferred was fired; each later one
+/// is refused. One is swallowed only if the Deferred was fired directly after a cancel of it, or of
+/// one that waits for it.
 pub fn firings_are_refused()
     ensures swallowed { OnlyTheNextFiringIsSwallowed }
     ensures cancelled { OnlyACancelHasOneSwallowed }
 {}
 
-/// In a run each pair of a Deferred is used once at most, and its sides run one at a time: none is run while another of the same
-/// Deferred hasn't ended, and each `set`, `take` or `wait` ends one that was run. None is run before the Deferred is fired, while
-/// it is paused, or while it waits for another.
+/// In a run each pair of a Deferred is used once at most, and its sides run one at a time: none is
+/// run while another of the same Deferred hasn't ended, and each `set`, `take` or `wait` ends one
+/// that was run. None is run before the Deferred is fired, while it is paused, or while it waits
+/// for another.
 pub fn callbacks_run_in_turn()
     ensures once { EachPairIsUsedOnce }
     ensures alone { SidesRunOneAtATime }
     ensures ready { NothingRunsEarly }
 {}
 
-/// In a run a Deferred that waits for another is left alone until that hands its value over to it: none of its sides is run before,
-/// and its value stays. It is handed a value no more often than it waited. Those that wait for one Deferred are handed its value in
-/// the order in which they began to wait.
+/// In a run a Deferred that waits for another is left alone until that hands its value over to it:
+/// none of its sides is run before, and its value stays. It is handed a value no more often than it
+/// waited. Those that wait for one Deferred are handed its value in the order in which they began
+/// to wait.
 pub fn waits_end()
     ensures handed { WaitsEndByAHandOver }
     ensures turns { ValuesAreHandedOverInTurn }
 {}
 
-/// In a run the times of `advance` never fall, and nothing is scheduled for a time before the last of them. Each call that is
-/// scheduled is run once at most, not after it was cancelled and not before its time; of two that are scheduled once each the
-/// one that is due earlier is run first, and of those that are due at one time the one that was scheduled first. So it is with
-/// the cooperator's ticks, deliveries and timers.
+/// In a run the times of `advance` never fall, and nothing is scheduled for a time before the last
+/// of them. Each call that is scheduled is run once at most, not after it was cancelled and not
+/// before its time; of two that are scheduled once each the one that is due earlier is run first,
+/// and of those that are due at one time the one that was scheduled first. So it is with the
+/// cooperator's ticks, deliveries and timers.
 pub fn time_goes_on()
     ensures falls { TimeNeverFalls }
     ensures calls { CallsRunOnceInTime }
     ensures order { CallsRunInOrder }
 {}
 
-/// At the end of a run that hasn't stopped, a Deferred that is fired, isn't paused, waits for no other, and no side of which is being
-/// run, has used all its pairs, and nobody waits for it.
+/// At the end of a run that hasn't stopped, a Deferred that is fired, isn't paused, waits for no
+/// other, and no side of which is being run, has used all its pairs, and nobody waits for it.
 pub fn all_that_may_run_has_run()
     ensures used { AllThatMayRunHasRun }
     ensures waiters { NobodyIsLeftWaiting }
@@ -69,22 +74,23 @@ pub fn tasks_end()
     ensures once { TasksEndOnce }
 {}
 
-/// In a run no more tokens of a lock or a semaphore are released than were asked for. At its end, also where its journal is full,
-/// no more tokens are held than there are, and a Deferred waits for one only if all are held.
+/// In a run no more tokens of a lock or a semaphore are released than were asked for. At its end,
+/// also where its journal is full, no more tokens are held than there are, and a Deferred waits for
+/// one only if all are held.
 pub fn tokens_are_held()
     ensures asked { TokensAreAskedFor }
     ensures held { AllAreHeldBeforeAnyWaits }
 {}
 
-/// In a run a queue stores no more values than it may. At its end, also where its journal is full, a queue stores none while a
-/// Deferred waits for one.
+/// In a run a queue stores no more values than it may. At its end, also where its journal is full,
+/// a queue stores none while a Deferred waits for one.
 pub fn queues_keep_their_size()
     ensures size { QueuesKeepTheirSize }
     ensures waiters { NothingIsStoredWhileAnyWaits }
 {}
 
-/// In a run the turns of a loop whose name is given once are at whole intervals after its start: each that is scheduled is due at the
-/// first such time after now.
+/// In a run the turns of a loop whose name is given once are at whole intervals after its start:
+/// each that is scheduled is due at the first such time after now.
 pub fn loops_turn()
     ensures turns { LoopsTurnAtIntervals }
 {}

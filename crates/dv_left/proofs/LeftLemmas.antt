@@ -1,5 +1,6 @@
 -- What is gathered of a world is what is left of it.
-use Rattle.std.proofs.Common.{◌≡◌, ℕ, ◌+◌, ◌<◌, suc, List, [], ◌∷◌, ◌++◌, ◌∙◌, length, map, replicate, refl, sym, ap, append_assoc, arith}
+use Rattle.std.proofs.Common.{◌≡◌, ℕ, ◌+◌, ◌<◌, suc, List, [], ◌∷◌, ◌++◌, ◌∙◌, length, map, replicate, refl, sym, ap}
+use Rattle.std.proofs.Common.{append_assoc, arith}
 use Rattle.std.proofs.lemmas.List.{length-map}
 use Rattle.dv_clock.specs.declared.call.Call.{Call}
 use Rattle.dv_objects.specs.declared.looping_call.LoopingCall.{LoopingCall}
@@ -11,8 +12,10 @@ use Rattle.dv_prims.specs.declared.semaphore.SemaphoreParts.{SemaphoreParts}
 use Rattle.dv_journal.specs.declared.entry.Entry.{Entry}
 use Rattle.dv_world.specs.World.{World}
 use Rattle.dv_left.proofs.ListsLemmas.{joined_both, told_whole}
-use Rattle.dv_left.specs.Hanging.{by_records, hung, hung_at_calls, hung_at_loops, hung_by, hung_in_lines, task_held_by, tasks_held, turn_held_by, turns_held}
-use Rattle.dv_left.specs.Left.{left_calls, left_deferred, left_deferreds, left_locks, left_loop, left_loops, left_of, left_queues, left_task, left_tasks, left_unhandled, lock_of, queue_of, standing_of}
+use Rattle.dv_left.specs.Hanging.{by_records, hung, hung_at_calls, hung_at_loops, hung_by, hung_in_lines, task_held_by}
+use Rattle.dv_left.specs.Hanging.{tasks_held, turn_held_by, turns_held}
+use Rattle.dv_left.specs.Left.{left_calls, left_deferred, left_deferreds, left_locks, left_loop, left_loops, left_of}
+use Rattle.dv_left.specs.Left.{left_queues, left_task, left_tasks, left_unhandled, lock_of, queue_of, standing_of}
 use Rattle.dv_left.specs.Linking.{hung_beside, left_beside, no_links, with_hung, with_links}
 use Rattle.dv_left.specs.Lists.{all_joined, items_of, list_at}
 use Rattle.dv_left.specs.declared.left.Hang.{Hang}
@@ -31,7 +34,8 @@ waiting_queues [] = refl
 waiting_queues (q ∷ qs) = ap (λ lines. q.waiting ∷ lines) (waiting_queues qs)
 
 -- the same hangs are reported the same
-same_deferreds : (f g : ℕ → List Hang) (n d : ℕ) (ss : List Standing) → d + length ss ≡ n → ((k : ℕ) → k < n → f k ≡ g k) → left_deferreds f d ss ≡ left_deferreds g d ss
+same_deferreds : (f g : ℕ → List Hang) (n d : ℕ) (ss : List Standing) → d + length ss ≡ n
+    → ((k : ℕ) → k < n → f k ≡ g k) → left_deferreds f d ss ≡ left_deferreds g d ss
 same_deferreds f g n d [] e same = refl
 same_deferreds f g n d (s ∷ ss) e same =
     let low : d < n = omega (arith, e) in
@@ -39,7 +43,8 @@ same_deferreds f g n d (s ∷ ss) e same =
     ap (λ unfired. left_deferred d unfired s ++ left_deferreds f (suc d) ss) (same d low)
     ∙ ap (λ rest. left_deferred d (g d) s ++ rest) (same_deferreds f g n (suc d) ss next same)
 
-same_loops : (f g : ℕ → List ℕ) (calls : List Call) (n l : ℕ) (xs : List LoopingCall) → l + length xs ≡ n → ((k : ℕ) → k < n → f k ≡ g k) → left_loops f calls l xs ≡ left_loops g calls l xs
+same_loops : (f g : ℕ → List ℕ) (calls : List Call) (n l : ℕ) (xs : List LoopingCall) → l + length xs ≡ n
+    → ((k : ℕ) → k < n → f k ≡ g k) → left_loops f calls l xs ≡ left_loops g calls l xs
 same_loops f g calls n l [] e same = refl
 same_loops f g calls n l (x ∷ xs) e same =
     let low : l < n = omega (arith, e) in
@@ -47,7 +52,8 @@ same_loops f g calls n l (x ∷ xs) e same =
     ap (λ held. left_loop l calls held x ++ left_loops f calls (suc l) xs) (same l low)
     ∙ ap (λ rest. left_loop l calls (g l) x ++ rest) (same_loops f g calls n (suc l) xs next same)
 
-same_tasks : (f g : ℕ → List ℕ) (n t : ℕ) (xs : List Task) → t + length xs ≡ n → ((k : ℕ) → k < n → f k ≡ g k) → left_tasks f t xs ≡ left_tasks g t xs
+same_tasks : (f g : ℕ → List ℕ) (n t : ℕ) (xs : List Task) → t + length xs ≡ n → ((k : ℕ) → k < n → f k ≡ g k)
+    → left_tasks f t xs ≡ left_tasks g t xs
 same_tasks f g n t [] e same = refl
 same_tasks f g n t (x ∷ xs) e same =
     let low : t < n = omega (arith, e) in
@@ -66,8 +72,10 @@ in_a_row first a b c d e =
 -- what links of a world are gathered
 abbrev pub gathered_of : World → Gathered
 gathered_of w =
-    with_hung (hung_beside (map lock_of w.objects.semaphores) (map queue_of w.objects.queues) w.objects.clock.calls w.objects.loops w.objects.cooperator.tasks)
-    (with_links (by_records hung_by 0 w.records) (by_records turn_held_by 0 w.records) (by_records task_held_by 0 w.records)
+    with_hung (hung_beside (map lock_of w.objects.semaphores)
+    (map queue_of w.objects.queues) w.objects.clock.calls w.objects.loops w.objects.cooperator.tasks)
+    (with_links (by_records hung_by 0 w.records) (by_records turn_held_by 0 w.records)
+    (by_records task_held_by 0 w.records)
     (no_links (length w.records) (length w.objects.loops) (length w.objects.cooperator.tasks)))
 
 -- all that hang are gathered
@@ -81,15 +89,19 @@ all_gathered w =
     let tasks = hung_in_lines hang.Task 0 (map (λ x. x.waiting) o.cooperator.tasks) in
     let at_locks = hung_in_lines hang.Lock 0 (map (λ p. p.waiting) (map lock_of o.semaphores)) in
     let at_queues = hung_in_lines hang.Queue 0 (map (λ p. p.waiting) (map queue_of o.queues)) in
-    sym (joined_both own (hung_beside (map lock_of o.semaphores) (map queue_of o.queues) o.clock.calls o.loops o.cooperator.tasks) empty)
+    sym (joined_both own
+    (hung_beside (map lock_of o.semaphores) (map queue_of o.queues) o.clock.calls o.loops o.cooperator.tasks) empty)
     ∙ ap (λ links. all_joined links empty) (in_a_row own at_locks at_queues calls loops tasks)
-    ∙ ap (λ lines. all_joined (own ++ hung_in_lines hang.Lock 0 lines ++ at_queues ++ calls ++ loops ++ tasks) empty) (waiting_locks o.semaphores)
-    ∙ ap (λ lines. all_joined (own ++ hung_in_lines hang.Lock 0 (map (λ s. s.waiting) o.semaphores) ++ hung_in_lines hang.Queue 0 lines ++ calls ++ loops ++ tasks) empty) (waiting_queues o.queues)
+    ∙ ap (λ lines. all_joined (own ++ hung_in_lines hang.Lock 0 lines ++ at_queues ++ calls ++ loops ++ tasks) empty)
+    (waiting_locks o.semaphores)
+    ∙ ap (λ lines. all_joined (own ++ hung_in_lines hang.Lock 0 (map (λ s. s.waiting) o.semaphores)
+    ++ hung_in_lines hang.Queue 0 lines ++ calls ++ loops ++ tasks) empty) (waiting_queues o.queues)
 
 -- what is reported with the links that are gathered is what is left
 pub left_told : (w : World) (links : Gathered) → links ≡ gathered_of w →
     left_deferreds (λ d. list_at d links.deferreds) 0 (map standing_of w.records)
-    ++ left_beside links w.objects.clock.calls w.objects.loops w.objects.cooperator.tasks (map lock_of w.objects.semaphores) (map queue_of w.objects.queues)
+    ++ left_beside links w.objects.clock.calls w.objects.loops w.objects.cooperator.tasks
+    (map lock_of w.objects.semaphores) (map queue_of w.objects.queues)
     ++ left_unhandled 0 w.journal.entries ≡ left_of w
 left_told w links is =
     let o = w.objects in
@@ -102,28 +114,41 @@ left_told w links is =
     let queues = left_queues 0 (map queue_of o.queues) in
     let unhandled = left_unhandled 0 w.journal.entries in
     let hangs : (d : ℕ) → d < n → list_at d links.deferreds ≡ items_of d (hung w) =
-    λ d low. ap (λ (g : Gathered). list_at d g.deferreds) is ∙ ap (list_at d) (all_gathered w) ∙ told_whole d n (hung w) low in
+    λ d low. ap (λ (g : Gathered). list_at d g.deferreds) is ∙ ap (list_at d) (all_gathered w)
+    ∙ told_whole d n (hung w) low in
     let turns : (l : ℕ) → l < length o.loops → list_at l links.loops ≡ items_of l (turns_held w) =
     λ l low. ap (λ (g : Gathered). list_at l g.loops) is ∙ told_whole l (length o.loops) (turns_held w) low in
     let holds : (t : ℕ) → t < length o.cooperator.tasks → list_at t links.tasks ≡ items_of t (tasks_held w) =
-    λ t low. ap (λ (g : Gathered). list_at t g.tasks) is ∙ told_whole t (length o.cooperator.tasks) (tasks_held w) low in
+    λ t low. ap (λ (g : Gathered). list_at t g.tasks) is
+    ∙ told_whole t (length o.cooperator.tasks) (tasks_held w) low in
     let count : 0 + length (map standing_of w.records) ≡ n = omega (arith, length-map w.records standing_of) in
     let count_loops : 0 + length o.loops ≡ length o.loops = omega arith in
     let count_tasks : 0 + length o.cooperator.tasks ≡ length o.cooperator.tasks = omega arith in
-    ap (λ x. x ++ left_beside links calls o.loops o.cooperator.tasks (map lock_of o.semaphores) (map queue_of o.queues) ++ unhandled)
-    (same_deferreds (λ d. list_at d links.deferreds) (λ d. items_of d (hung w)) n 0 (map standing_of w.records) count hangs)
-    ∙ ap (λ x. deferreds ++ (left_calls calls ++ x ++ left_tasks (λ t. list_at t links.tasks) 0 o.cooperator.tasks ++ locks ++ queues) ++ unhandled)
-    (same_loops (λ l. list_at l links.loops) (λ l. items_of l (turns_held w)) calls (length o.loops) 0 o.loops count_loops turns)
+    ap (λ x. x ++ left_beside links calls o.loops o.cooperator.tasks (map lock_of o.semaphores) (map queue_of o.queues)
+    ++ unhandled)
+    (same_deferreds (λ d. list_at d links.deferreds) (λ d. items_of d (hung w)) n 0
+    (map standing_of w.records) count hangs)
+    ∙ ap (λ x. deferreds ++ (left_calls calls ++ x ++ left_tasks (λ t. list_at t links.tasks) 0 o.cooperator.tasks
+    ++ locks ++ queues) ++ unhandled)
+    (same_loops (λ l. list_at l links.loops) (λ l. items_of l (turns_held w)) calls
+    (length o.loops) 0 o.loops count_loops turns)
     ∙ ap (λ x. deferreds ++ (left_calls calls ++ loops ++ x ++ locks ++ queues) ++ unhandled)
-    (same_tasks (λ t. list_at t links.tasks) (λ t. items_of t (tasks_held w)) (length o.cooperator.tasks) 0 o.cooperator.tasks count_tasks holds)
+    (same_tasks (λ t. list_at t links.tasks) (λ t. items_of t (tasks_held w))
+    (length o.cooperator.tasks) 0 o.cooperator.tasks count_tasks holds)
     ∙ ap (λ x. x ++ unhandled) (in_a_row deferreds (left_calls calls) loops tasks locks queues)
 
 -- what is reported one after the other is reported as a whole
-pub told_in_turn : (w : World) (links : Gathered) (none first second third : List Left) (standings : List Standing) (calls : List Call) (loops : List LoopingCall) (tasks : List Task) (locks : List SemaphoreParts) (queues : List QueueParts) (entries : List Entry) →
-    third ≡ second ++ left_unhandled 0 entries → second ≡ first ++ left_beside links calls loops tasks locks queues → first ≡ none ++ left_deferreds (λ d. list_at d links.deferreds) 0 standings → none ≡ [] →
-    standings ≡ map standing_of w.records → calls ≡ w.objects.clock.calls → loops ≡ w.objects.loops → tasks ≡ w.objects.cooperator.tasks →
+pub told_in_turn : (w : World) (links : Gathered) (none first second third : List Left) (standings : List Standing)
+    (calls : List Call) (loops : List LoopingCall) (tasks : List Task) (locks : List SemaphoreParts)
+    (queues : List QueueParts) (entries : List Entry) →
+    third ≡ second ++ left_unhandled 0 entries → second ≡ first ++ left_beside links calls loops tasks locks queues
+    → first ≡ none ++ left_deferreds (λ d. list_at d links.deferreds) 0 standings → none ≡ [] →
+    standings ≡ map standing_of w.records → calls ≡ w.objects.clock.calls → loops ≡ w.objects.loops
+    → tasks ≡ w.objects.cooperator.tasks →
     locks ≡ map lock_of w.objects.semaphores → queues ≡ map queue_of w.objects.queues → entries ≡ w.journal.entries →
     third ≡ left_deferreds (λ d. list_at d links.deferreds) 0 (map standing_of w.records)
-    ++ left_beside links w.objects.clock.calls w.objects.loops w.objects.cooperator.tasks (map lock_of w.objects.semaphores) (map queue_of w.objects.queues)
+    ++ left_beside links w.objects.clock.calls w.objects.loops w.objects.cooperator.tasks
+    (map lock_of w.objects.semaphores) (map queue_of w.objects.queues)
     ++ left_unhandled 0 w.journal.entries
-told_in_turn w links none first second third standings calls loops tasks locks queues entries a b c d e f g h i j k = rw (a, b, c, d, e, f, g, h, i, j, k) refl
+told_in_turn w links none first second third standings calls loops tasks locks queues entries a b c d e f g h i j k =
+    rw (a, b, c, d, e, f, g, h, i, j, k) refl

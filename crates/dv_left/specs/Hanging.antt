@@ -1,4 +1,5 @@
--- Who hangs at what at the end of a run: by whom a Deferred that is unfired is to be fired, and what loops and tasks wait for.
+-- Who hangs at what at the end of a run: by whom a Deferred that is unfired is to be fired, and what loops and tasks
+-- wait for.
 use Rattle.std.specs.Prelude.{ℕ, suc, List, [], ◌∷◌, ◌++◌, map, Option, None, Some}
 use Rattle.std.specs.List.{flat_map}
 use Rattle.dv_clock.specs.declared.call.Call.{Call}
@@ -19,7 +20,8 @@ use Rattle.dv_left.specs.declared.left.Hang.TheVariants as hang
 abbrev pub Links : Type 0 → Type 0
 Links A = List (ℕ × A)
 
--- who is fired by a side of c that is still to be used: the Deferred that c is chained to, the list that c is a child of, and that of the inline body that awaits c
+-- who is fired by a side of c that is still to be used: the Deferred that c is chained to, the list that c is a child
+-- of, and that of the inline body that awaits c
 abbrev pub hung_by : ℕ → Side → Links Hang
 hung_by c (side.Body body) = []
 hung_by c (side.Fire d) = (d, hang.Chain c) ∷ []
@@ -110,7 +112,8 @@ abbrev pub hung_at_loops : ℕ → List LoopingCall → Links Hang
 hung_at_loops l [] = []
 hung_at_loops l (x ∷ xs) = (x.of, hang.Loop l) ∷ hung_at_loops (suc l) xs
 
--- who hangs at what: at Deferreds by their numbers, each in the order in which its pairs were added, then at locks, queues, jobs and timers, loops and tasks
+-- who hangs at what: at Deferreds by their numbers, each in the order in which its pairs were added, then at locks,
+-- queues, jobs and timers, loops and tasks
 abbrev pub hung : World → Links Hang
 hung w =
     by_records hung_by 0 w.records

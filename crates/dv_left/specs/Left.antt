@@ -1,5 +1,6 @@
 -- What is left at the end of a run: `left_of`.
-use Rattle.std.specs.Prelude.{ℕ, suc, Bool, not, ◌&&◌, is_none, is_some, nat_eq, if◌then◌else◌, List, [], ◌∷◌, ◌++◌, length, map, Option, None, Some}
+use Rattle.std.specs.Prelude.{ℕ, suc, Bool, not, ◌&&◌, is_none, is_some, nat_eq, if◌then◌else◌, List, [], ◌∷◌, ◌++◌}
+use Rattle.std.specs.Prelude.{length, map, Option, None, Some}
 use Rattle.std.specs.List.{flat_map}
 use Rattle.std.specs.Option.{option_and_then}
 use Rattle.dv_clock.specs.Clock.{due_of}
@@ -35,7 +36,13 @@ use Rattle.dv_left.specs.declared.telling.Standing.{Standing}
 
 -- what is known of a Deferred, but for its outcome and what it hasn't used
 abbrev pub standing_of : Record Pair Canceller → Standing
-standing_of r = record { fired = r.fired; running = r.running; pauses = r.pauses; waits_for = r.waits_for; failed = is_fault r.value }
+standing_of r = record {
+  fired = r.fired;
+  running = r.running;
+  pauses = r.pauses;
+  waits_for = r.waits_for;
+  failed = is_fault r.value;
+}
 
 -- whether it is unfired, waits, or has a value
 abbrev pub stage_of : Standing → Stage
@@ -57,7 +64,8 @@ hangs_of unfired s = if s.fired then waits_at s.waits_for else unfired
 abbrev pub left_waiting : ℕ → List Hang → Standing → List Left
 left_waiting d unfired s =
     if is_settled s then []
-    else left.Deferred (record { id = d; stage = stage_of s; pauses = s.pauses; running = s.running; hangs = hangs_of unfired s }) ∷ []
+    else left.Deferred
+    (record { id = d; stage = stage_of s; pauses = s.pauses; running = s.running; hangs = hangs_of unfired s }) ∷ []
 
 -- nobody trapped the failure that it ends with
 abbrev pub has_failed : Standing → Bool
@@ -96,7 +104,8 @@ next_turn calls x = option_and_then (λ number. due_of number calls) x.turn
 
 abbrev pub left_loop : ℕ → List Call → List ℕ → LoopingCall → List Left
 left_loop l calls held_by x =
-    if x.running then left.Loop (record { number = l; of = x.of; due = next_turn calls x; waits_for = held_by }) ∷ [] else []
+    if x.running then left.Loop (record { number = l; of = x.of; due = next_turn calls x; waits_for = held_by }) ∷ []
+    else []
 
 abbrev pub left_loops : (ℕ → List ℕ) → List Call → ℕ → List LoopingCall → List Left
 left_loops held calls l [] = []
@@ -106,7 +115,8 @@ left_loops held calls l (x ∷ xs) = left_loop l calls (held l) x ++ left_loops 
 
 abbrev pub left_task : ℕ → List ℕ → Task → List Left
 left_task t held_by x =
-    if is_some x.end then [] else left.Task (record { number = t; pauses = x.pauses; bodies = length x.bodies; waits_for = held_by }) ∷ []
+    if is_some x.end then []
+    else left.Task (record { number = t; pauses = x.pauses; bodies = length x.bodies; waits_for = held_by }) ∷ []
 
 abbrev pub left_tasks : (ℕ → List ℕ) → ℕ → List Task → List Left
 left_tasks held t [] = []
@@ -119,7 +129,9 @@ abbrev pub lock_of : Semaphore → SemaphoreParts
 lock_of s = record { name = s.name; tokens = s.tokens; given = s.given; waiting = s.waiting }
 
 abbrev pub left_tokens : ℕ → SemaphoreParts → List Left
-left_tokens l s = if nat_eq s.given 0 then [] else left.Tokens (record { number = l; given = s.given; tokens = s.tokens; waiting = s.waiting }) ∷ []
+left_tokens l s =
+    if nat_eq s.given 0 then []
+    else left.Tokens (record { number = l; given = s.given; tokens = s.tokens; waiting = s.waiting }) ∷ []
 
 abbrev pub left_locks : ℕ → List SemaphoreParts → List Left
 left_locks l [] = []

@@ -15,12 +15,17 @@ use Rattle.dv_left.specs.declared.linking.Links.{Links as Gathered}
 
 -- nothing is gathered of so many Deferreds, loops and tasks
 abbrev pub no_links : ℕ → ℕ → ℕ → Gathered
-no_links deferreds loops tasks = record { deferreds = replicate deferreds []; loops = replicate loops []; tasks = replicate tasks [] }
+no_links deferreds loops tasks =
+    record { deferreds = replicate deferreds []; loops = replicate loops []; tasks = replicate tasks [] }
 
 -- more who hang, more Deferreds that turns wait for, and more that hold tasks
 abbrev pub with_links : Links Hang → Links ℕ → Links ℕ → Gathered → Gathered
 with_links hung turns tasks links =
-    record { deferreds = all_joined hung links.deferreds; loops = all_joined turns links.loops; tasks = all_joined tasks links.tasks }
+    record {
+      deferreds = all_joined hung links.deferreds;
+      loops = all_joined turns links.loops;
+      tasks = all_joined tasks links.tasks;
+    }
 
 -- more who hang
 abbrev pub with_hung : Links Hang → Gathered → Gathered
@@ -36,7 +41,8 @@ hung_beside locks queues calls loops tasks =
     ++ hung_in_lines hang.Task 0 (map (λ x. x.waiting) tasks)
 
 -- what is left of all but Deferreds and the journal
-abbrev pub left_beside : Gathered → List Call → List LoopingCall → List Task → List SemaphoreParts → List QueueParts → List Left
+abbrev pub left_beside : Gathered → List Call → List LoopingCall → List Task → List SemaphoreParts → List QueueParts
+    → List Left
 left_beside links calls loops tasks locks queues =
     left_calls calls
     ++ left_loops (λ l. list_at l links.loops) calls 0 loops

@@ -36,8 +36,8 @@ pub struct Remains {
     pub stopped: bool,
     /// What became of each Deferred, in order of making.
     pub outcomes: Items<Outcome>,
-    /// What is left: first of the Deferreds, then on the clock, loops, tasks, locks, queues, and what was unhandled; each in
-    /// order of making.
+    /// What is left: first of the Deferreds, then on the clock, loops, tasks, locks, queues, and
+    /// what was unhandled; each in order of making.
     pub left: Items<Left>,
 }
 
@@ -99,7 +99,8 @@ fn link_rest<'s>(
     loops: &[LoopingCall<'s>],
     tasks: &[Task<'s>],
 ) -> Result<(), AllocError>
-    ensures { OnOk result (links.new ≡ with_hung (hung_beside locks.now queues.now calls.now loops.now tasks.now) links.old) }
+    ensures { OnOk result (links.new
+        ≡ with_hung (hung_beside locks.now queues.now calls.now loops.now tasks.now) links.old) }
 {
     links.add_locks(locks)?;
     links.add_queues(queues)?;
@@ -119,7 +120,8 @@ fn add_rest<'s>(
     locks: &[SemaphoreParts],
     queues: Vec<QueueParts>,
 ) -> Result<(), AllocError>
-    ensures { OnOk result (left.new ≡ left.old ++ left_beside links.now calls.now loops.now tasks.now locks.now queues.items) }
+    ensures { OnOk result (left.new
+        ≡ left.old ++ left_beside links.now calls.now loops.now tasks.now locks.now queues.items) }
 {
     add_calls(left, calls)?;
     add_loops(alloc, left, loops, calls, &links.loops)?;
@@ -135,7 +137,9 @@ fn standings_of<'s>(
 ) -> Result<(Items<Outcome>, Items<Standing>), AllocError>
     ensures outcomes { IfOk result (λ both. both.0 ≡ map outcome_of records.entry.items) }
     ensures standings { IfOk result (λ both. both.1 ≡ map standing_of records.entry.items) }
-    ensures links { OnOk result (links.new ≡ with_links (by_records hung_by 0 records.entry.items) (by_records turn_held_by 0 records.entry.items) (by_records task_held_by 0 records.entry.items) links.old) }
+    ensures links { OnOk result (links.new ≡ with_links (by_records hung_by 0 records.entry.items)
+        (by_records turn_held_by 0 records.entry.items)
+        (by_records task_held_by 0 records.entry.items) links.old) }
 {
     let mut outcomes = Items::new(alloc);
     let mut standings = Items::new(alloc);

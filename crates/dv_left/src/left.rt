@@ -3,7 +3,8 @@ use dv_value::deque::Deque;
 use dv_value::items::Items;
 use dv_value::value::Value;
 
-/// At what a Deferred hangs. Locks, queues, loops, tasks and jobs have their numbers, in order of making from 0.
+/// At what a Deferred hangs. Locks, queues, loops, tasks and jobs have their numbers, in order of
+/// making from 0.
 #[derive(Clone, Copy, Debug, PartialEq, Eq)]
 pub enum Hang {
     /// It waits for the value of this one, which a side of it gave.
@@ -106,9 +107,11 @@ pub enum Left {
     Task(LeftTask),
     /// A lock of which tokens are given.
     Tokens(LeftTokens),
-    /// The queue of this number, and the Deferreds that wait for a value of it, from who has waited longest.
+    /// The queue of this number, and the Deferreds that wait for a value of it, from who has waited
+    /// longest.
     Getters(usize, Items<DeferredId>),
-    /// The queue of this number, and the values of it that nobody got, from the one that was put first.
+    /// The queue of this number, and the values of it that nobody got, from the one that was put
+    /// first.
     Values(usize, Deque<Value>),
     /// The place in the journal of a failure that was logged as unhandled.
     Unhandled(usize),

@@ -1,4 +1,5 @@
-//! What is left at the end of a run: what waits and what it depends on, tokens that are held, and failures that nothing trapped.
+//! What is left at the end of a run: what waits and what it depends on, tokens that are held, and
+//! failures that nothing trapped.
 #![tactic(auto)]
 
 mod end;

@@ -2,7 +2,8 @@
 
 ghost use Rattle.std.specs.Prelude.{◌≡◌, [], ◌∷◌, IfOk, OnOk, map};
 ghost use Rattle.std.specs.List.{flat_map};
-ghost use Rattle.dv_left.specs.Hanging.{hung_by, turn_held_by, task_held_by, by_item, all_hung, hung_in_lines, hung_at_call, hung_at_calls, hung_at_loops};
+ghost use Rattle.dv_left.specs.Hanging.{hung_by, turn_held_by, task_held_by, by_item, all_hung};
+ghost use Rattle.dv_left.specs.Hanging.{hung_in_lines, hung_at_call, hung_at_calls, hung_at_loops};
 ghost use Rattle.dv_left.specs.declared.left.Hang.TheVariants as hang;
 ghost use Rattle.dv_left.specs.Linking.{no_links, with_links, with_hung};
 
@@ -20,7 +21,8 @@ use dv_store::record::Item;
 use dv_value::deque::Deque;
 use std::alloc::{AllocError, Global};
 
-/// At what each Deferred hangs, and which Deferreds each loop and each task waits for, by their numbers.
+/// At what each Deferred hangs, and which Deferreds each loop and each task waits for, by their
+/// numbers.
 #[derive(Drop)]
 pub struct Links {
     pub deferreds: Lists<Hang>,
@@ -51,7 +53,9 @@ impl Links {
         at: DeferredId,
         items: Deque<Item<Pair<'s>>>,
     ) -> Result<(), AllocError>
-        ensures { OnOk result (self.new ≡ with_links (flat_map (by_item hung_by at) items.entry) (flat_map (by_item turn_held_by at) items.entry) (flat_map (by_item task_held_by at) items.entry) self.old) }
+        ensures { OnOk result (self.new ≡ with_links (flat_map (by_item hung_by at) items.entry)
+            (flat_map (by_item turn_held_by at) items.entry)
+            (flat_map (by_item task_held_by at) items.entry) self.old) }
     {
         let mut unused = items;
         for used in 0..unused.len() {
@@ -64,7 +68,8 @@ impl Links {
     }
 
     fn add_item<'s>(&mut self, at: DeferredId, item: Item<Pair<'s>>) -> Result<(), AllocError>
-        ensures { OnOk result (self.new ≡ with_links (by_item hung_by at item.entry) (by_item turn_held_by at item.entry) (by_item task_held_by at item.entry) self.old) }
+        ensures { OnOk result (self.new ≡ with_links (by_item hung_by at item.entry)
+            (by_item turn_held_by at item.entry) (by_item task_held_by at item.entry) self.old) }
     {
         match item {
             Item::HandOver(_) => Ok(()),
@@ -76,7 +81,8 @@ impl Links {
     }
 
     fn add_side<'s>(&mut self, at: DeferredId, side: &Side<'s>) -> Result<(), AllocError>
-        ensures { OnOk result (self.new ≡ with_links (hung_by at side.now) (turn_held_by at side.now) (task_held_by at side.now) self.old) }
+        ensures { OnOk result (self.new ≡ with_links (hung_by at side.now)
+            (turn_held_by at side.now) (task_held_by at side.now) self.old) }
     {
         match side {
             Side::Fire(id) => self.hang(*id, Hang::Chain(at)),
@@ -112,7 +118,8 @@ impl Links {
 
     /// Who waits for a token.
     pub fn add_locks(&mut self, locks: &[SemaphoreParts]) -> Result<(), AllocError>
-        ensures { OnOk result (self.new ≡ with_hung (hung_in_lines hang.Lock 0 (map (λ s. s.waiting) locks.now)) self.old) }
+        ensures { OnOk result (self.new
+            ≡ with_hung (hung_in_lines hang.Lock 0 (map (λ s. s.waiting) locks.now)) self.old) }
     {
         for (number, lock) in locks.iter().enumerate() {
             self.hang_all(lock.waiting.as_slice(), &Hang::Lock(number))?;
@@ -122,7 +129,8 @@ impl Links {
 
     /// Who waits for a value of a queue.
     pub fn add_queues(&mut self, queues: &[QueueParts]) -> Result<(), AllocError>
-        ensures { OnOk result (self.new ≡ with_hung (hung_in_lines hang.Queue 0 (map (λ q. q.waiting) queues.now)) self.old) }
+        ensures { OnOk result (self.new
+            ≡ with_hung (hung_in_lines hang.Queue 0 (map (λ q. q.waiting) queues.now)) self.old) }
     {
         for (number, queue) in queues.iter().enumerate() {
             self.hang_all(queue.waiting.as_slice(), &Hang::Queue(number))?;
@@ -141,7 +149,8 @@ impl Links {
     }
 
     fn add_call(&mut self, call: &Call) -> Result<(), AllocError>
-        ensures { OnOk result (self.new ≡ with_hung (hung_at_call call.now.due call.now.state) self.old) }
+        ensures { OnOk result
+            (self.new ≡ with_hung (hung_at_call call.now.due call.now.state) self.old) }
     {
         match &call.state {
             CallState::Waiting(Due::Delivery(job, id)) => {
@@ -167,7 +176,8 @@ impl Links {
 
     /// Who is fired when a task ends.
     pub fn add_tasks<'s>(&mut self, tasks: &[Task<'s>]) -> Result<(), AllocError>
-        ensures { OnOk result (self.new ≡ with_hung (hung_in_lines hang.Task 0 (map (λ x. x.waiting) tasks.now)) self.old) }
+        ensures { OnOk result (self.new
+            ≡ with_hung (hung_in_lines hang.Task 0 (map (λ x. x.waiting) tasks.now)) self.old) }
     {
         for (number, task) in tasks.iter().enumerate() {
             self.hang_all(task.waiting.as_slice(), &Hang::Task(number))?;

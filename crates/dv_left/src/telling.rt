@@ -3,7 +3,10 @@
 ghost use Rattle.std.specs.Prelude.{◌≡◌, ◌++◌, IfOk, OnOk};
 ghost use Rattle.std.specs.Option.{option_and_then};
 ghost use Rattle.dv_clock.specs.Clock.{due_of};
-ghost use Rattle.dv_left.specs.Left.{stage_of, is_settled, has_failed, hangs_of, left_deferred, left_deferreds, left_call, left_calls, next_turn, left_loop, left_loops, left_task, left_tasks, left_tokens, left_locks, left_queue, left_queues, left_entry, left_unhandled};
+ghost use Rattle.dv_left.specs.Left.{stage_of, is_settled, has_failed, hangs_of, left_deferred};
+ghost use Rattle.dv_left.specs.Left.{left_deferreds, left_call, left_calls, next_turn, left_loop};
+ghost use Rattle.dv_left.specs.Left.{left_loops, left_task, left_tasks, left_tokens, left_locks};
+ghost use Rattle.dv_left.specs.Left.{left_queue, left_queues, left_entry, left_unhandled};
 ghost use Rattle.dv_left.specs.Lists.{list_at};
 
 use crate::left::{Hang, Left, LeftDeferred, LeftLoop, LeftTask, LeftTokens, Stage};
@@ -99,7 +102,8 @@ pub fn add_deferreds(
     standings: &[Standing],
     hangs: &Lists<Hang>,
 ) -> Result<(), AllocError>
-    ensures { OnOk result (left.new ≡ left.old ++ left_deferreds (λ d. list_at d hangs.now) 0 standings.now) }
+    ensures { OnOk result
+        (left.new ≡ left.old ++ left_deferreds (λ d. list_at d hangs.now) 0 standings.now) }
 {
     for (number, standing) in standings.iter().enumerate() {
         let id = id_of(number)?;
@@ -179,7 +183,8 @@ pub fn add_loops<'s>(
     calls: &[Call],
     waits: &Lists<DeferredId>,
 ) -> Result<(), AllocError>
-    ensures { OnOk result (left.new ≡ left.old ++ left_loops (λ l. list_at l waits.now) calls.now 0 loops.now) }
+    ensures { OnOk result
+        (left.new ≡ left.old ++ left_loops (λ l. list_at l waits.now) calls.now 0 loops.now) }
 {
     for (number, turning) in loops.iter().enumerate() {
         add_loop(alloc, left, number, turning, calls, waits.at(number))?;
@@ -195,7 +200,8 @@ fn add_loop<'s>(
     calls: &[Call],
     waits: &[DeferredId],
 ) -> Result<(), AllocError>
-    ensures { OnOk result (left.new ≡ left.old ++ left_loop number calls.now waits.now turning.now) }
+    ensures { OnOk result
+        (left.new ≡ left.old ++ left_loop number calls.now waits.now turning.now) }
 {
     if !turning.running {
         return Ok(());
@@ -219,7 +225,8 @@ pub fn add_tasks<'s>(
     tasks: &[Task<'s>],
     waits: &Lists<DeferredId>,
 ) -> Result<(), AllocError>
-    ensures { OnOk result (left.new ≡ left.old ++ left_tasks (λ t. list_at t waits.now) 0 tasks.now) }
+    ensures { OnOk result
+        (left.new ≡ left.old ++ left_tasks (λ t. list_at t waits.now) 0 tasks.now) }
 {
     for (number, task) in tasks.iter().enumerate() {
         add_task(alloc, left, number, task, waits.at(number))?;

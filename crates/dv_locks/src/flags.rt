@@ -1,6 +1,8 @@
 ghost use Rattle.std.specs.Prelude.{◌≡◌};
 ghost use Rattle.std.specs.List.{list_any};
-ghost use Rattle.dv_definition.specs.Flags.{list_flags, gather_flags, fires_on_one_callback, fires_on_one_errback, consumes_errors, gather_consumes_errors};
+ghost use Rattle.dv_definition.specs.Flags.{list_flags, gather_flags, fires_on_one_callback};
+ghost use Rattle.dv_definition.specs.Flags.{fires_on_one_errback, consumes_errors};
+ghost use Rattle.dv_definition.specs.Flags.{gather_consumes_errors};
 
 use dv_prims::gather::Flags;
 use dv_script::action::{GatherFlag, ListFlag};

@@ -1,4 +1,5 @@
-//! What locks, queues and lists lead to: Deferreds that wait for a token, for a value, for their children.
+//! What locks, queues and lists lead to: Deferreds that wait for a token, for a value, for their
+//! children.
 #![tactic(auto)]
 
 mod flags;

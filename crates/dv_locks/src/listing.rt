@@ -41,7 +41,8 @@ pub fn list<'s>(
 ) -> Result<(), AllocError>
     requires bounded { Bounded turn.old.world }
     requires done { turn.old.performed ≡ Done }
-    ensures { OnOk result (turn.new ≡ after (on_all itself children.now λ ds. page.list name.now ds (list_flags flags.now)) turn.old) }
+    ensures { OnOk result (turn.new ≡ after
+        (on_all itself children.now λ ds. page.list name.now ds (list_flags flags.now)) turn.old) }
 {
     match find_all(turn.alloc, &turn.world, &itself, children.as_slice())? {
         Found::Unbound(name) => unbound(turn, name.as_str()),
@@ -52,8 +53,8 @@ pub fn list<'s>(
     }
 }
 
-/// Makes a DeferredList of children, all by their names, whose result becomes what they gave (Twisted:
-/// `gatherResults`).
+/// Makes a DeferredList of children, all by their names, whose result becomes what they gave
+/// (Twisted: `gatherResults`).
 #[tactic(auto, using(dv_frames::proofs::BoundsLemmas::records_within))]
 pub fn gather<'s>(
     turn: &mut Turn<'s>,
@@ -64,7 +65,8 @@ pub fn gather<'s>(
 ) -> Result<(), AllocError>
     requires bounded { Bounded turn.old.world }
     requires done { turn.old.performed ≡ Done }
-    ensures { OnOk result (turn.new ≡ after (on_all itself children.now λ ds. page.gather name.now ds (gather_flags flags.now)) turn.old) }
+    ensures { OnOk result (turn.new ≡ after (on_all itself children.now λ ds.
+        page.gather name.now ds (gather_flags flags.now)) turn.old) }
 {
     match find_all(turn.alloc, &turn.world, &itself, children.as_slice())? {
         Found::Unbound(name) => unbound(turn, name.as_str()),
@@ -113,7 +115,9 @@ fn begin<'s>(
 ) -> Result<(), AllocError>
     requires bounded { Bounded turn.old.world }
     requires done { turn.old.performed ≡ Done }
-    ensures { OnOk result (turn.new ≡ after (NewList (length children) flags next Make (Some name.entry) (Some (Children children)) next calls (page.add_children (length turn.old.world.objects.lists) id 0 children)) turn.old) }
+    ensures { OnOk result (turn.new ≡ after
+        (NewList (length children) flags next Make (Some name.entry) (Some (Children children)) next
+        calls (page.add_children (length turn.old.world.objects.lists) id 0 children)) turn.old) }
 {
     let list = turn.world.make_list(children.as_slice().len(), flags)?;
     add_to_children(&mut turn.stack, list, id, children.as_slice())?;
@@ -122,8 +126,8 @@ fn begin<'s>(
         .make(Some(name), Some(Canceller::Children(children)))
 }
 
-/// A pair is to be added to each child, in order, by which it reaches a DeferredList. AllocError where there are more
-/// than numbers of 32 bits.
+/// A pair is to be added to each child, in order, by which it reaches a DeferredList. AllocError
+/// where there are more than numbers of 32 bits.
 fn add_to_children<'s>(
     stack: &mut Frames<'s>,
     list: ListId,
@@ -157,7 +161,8 @@ fn fire_at_once<'s>(turn: &mut Turn<'s>, id: DeferredId, at_once: bool) -> Resul
     fire_and_settle(turn, id, Value::List(Items::new(turn.alloc)))
 }
 
-/// A child reaches its DeferredList with its value, which may fire the list; then it goes on with what the list leaves it.
+/// A child reaches its DeferredList with its value, which may fire the list; then it goes on with
+/// what the list leaves it.
 pub fn come<'s>(turn: &mut Turn<'s>, child: Child, value: Value) -> Result<(), AllocError>
     requires done { turn.old.performed ≡ Done }
     ensures { OnOk result (turn.new ≡ after (page.report child value) turn.old) }
@@ -190,7 +195,8 @@ fn fire_by_child<'s>(
     fire_and_settle(turn, id, value)
 }
 
-/// What the children of a DeferredList gave, from its result. TypeError where the value is no such result.
+/// What the children of a DeferredList gave, from its result. TypeError where the value is no such
+/// result.
 pub fn results<'s>(turn: &mut Turn<'s>, value: Value) -> Result<(), AllocError>
     requires done { turn.old.performed ≡ Done }
     ensures { OnOk result (turn.new ≡ after (page.give_gathered value) turn.old) }

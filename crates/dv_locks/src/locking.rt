@@ -18,12 +18,13 @@ use dv_value::text::Text;
 use dv_value::value::Value;
 use std::alloc::AllocError;
 
-/// Makes a Deferred that asks a lock for a token, both by their names (Twisted: `DeferredLock.acquire`,
-/// `DeferredSemaphore.acquire`).
+/// Makes a Deferred that asks a lock for a token, both by their names (Twisted:
+/// `DeferredLock.acquire`, `DeferredSemaphore.acquire`).
 pub fn acquire<'s>(turn: &mut Turn<'s>, name: TextRef<'s>, lock: &str) -> Result<(), AllocError>
     requires bounded { Bounded turn.old.world }
     requires done { turn.old.performed ≡ Done }
-    ensures { OnOk result (turn.new ≡ after (on_lock lock.now λ l. page.acquire name.entry l) turn.old) }
+    ensures { OnOk result
+        (turn.new ≡ after (on_lock lock.now λ l. page.acquire name.entry l) turn.old) }
 {
     let Some(found) = turn.find_lock(lock)? else {
         return Ok(());
@@ -31,8 +32,9 @@ pub fn acquire<'s>(turn: &mut Turn<'s>, name: TextRef<'s>, lock: &str) -> Result
     acquire_found(turn, name, found)
 }
 
-/// Performs a body with a token of a lock, and gives the token back once what the body gave is fired; the lock and the
-/// Deferred that is made are given by their names (Twisted: `DeferredLock.run`, `DeferredSemaphore.run`).
+/// Performs a body with a token of a lock, and gives the token back once what the body gave is
+/// fired; the lock and the Deferred that is made are given by their names (Twisted:
+/// `DeferredLock.run`, `DeferredSemaphore.run`).
 #[tactic(auto, using(dv_frames::proofs::BoundsLemmas::records_within))]
 pub fn run_with<'s>(
     turn: &mut Turn<'s>,
@@ -42,7 +44,8 @@ pub fn run_with<'s>(
 ) -> Result<(), AllocError>
     requires bounded { Bounded turn.old.world }
     requires done { turn.old.performed ≡ Done }
-    ensures { OnOk result (turn.new ≡ after (on_lock lock.now λ l. page.run_with name.entry l body.entry) turn.old) }
+    ensures { OnOk result
+        (turn.new ≡ after (on_lock lock.now λ l. page.run_with name.entry l body.entry) turn.old) }
 {
     let Some(found) = turn.find_lock(lock)? else {
         return Ok(());
@@ -78,7 +81,8 @@ fn ask<'s>(turn: &mut Turn<'s>, lock: LockId, id: DeferredId) -> Result<(), Allo
     grant(turn, to, name)
 }
 
-/// Gives a token back to a lock by its name (Twisted: `DeferredLock.release`, `DeferredSemaphore.release`).
+/// Gives a token back to a lock by its name (Twisted: `DeferredLock.release`,
+/// `DeferredSemaphore.release`).
 pub fn release<'s>(turn: &mut Turn<'s>, lock: &str) -> Result<(), AllocError>
     requires done { turn.old.performed ≡ Done }
     ensures { OnOk result (turn.new ≡ after (on_lock lock.now page.release) turn.old) }
@@ -89,7 +93,8 @@ pub fn release<'s>(turn: &mut Turn<'s>, lock: &str) -> Result<(), AllocError>
     give_back(turn, found)
 }
 
-/// Gives a token back to a lock, where one is given, and fires the first that waits, where one does.
+/// Gives a token back to a lock, where one is given, and fires the first that waits, where one
+/// does.
 pub fn give_back<'s>(turn: &mut Turn<'s>, lock: LockId) -> Result<(), AllocError>
     requires done { turn.old.performed ≡ Done }
     ensures { OnOk result (turn.new ≡ after (page.release lock) turn.old) }

@@ -19,7 +19,8 @@ use std::alloc::AllocError;
 /// Puts a value into a queue by its name (Twisted: `DeferredQueue.put`).
 pub fn put<'s>(turn: &mut Turn<'s>, queue: &str, given: Given<'s>) -> Result<(), AllocError>
     requires done { turn.old.performed ≡ Done }
-    ensures { OnOk result (turn.new ≡ after (on_queue queue.now λ k. page.put_in k given.entry) turn.old) }
+    ensures { OnOk result
+        (turn.new ≡ after (on_queue queue.now λ k. page.put_in k given.entry) turn.old) }
 {
     let Some(found) = turn.find_queue(queue)? else {
         drop(given);
@@ -65,11 +66,13 @@ fn hand_out<'s>(
     }
 }
 
-/// Makes a Deferred that asks a queue for a value, both by their names (Twisted: `DeferredQueue.get`).
+/// Makes a Deferred that asks a queue for a value, both by their names (Twisted:
+/// `DeferredQueue.get`).
 pub fn get<'s>(turn: &mut Turn<'s>, name: TextRef<'s>, queue: &str) -> Result<(), AllocError>
     requires bounded { Bounded turn.old.world }
     requires done { turn.old.performed ≡ Done }
-    ensures { OnOk result (turn.new ≡ after (on_queue queue.now λ k. page.get_out name.entry k) turn.old) }
+    ensures { OnOk result
+        (turn.new ≡ after (on_queue queue.now λ k. page.get_out name.entry k) turn.old) }
 {
     let Some(found) = turn.find_queue(queue)? else {
         return Ok(());

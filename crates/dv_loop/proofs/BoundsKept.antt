@@ -1,5 +1,6 @@
 -- A run makes no more than it has logged.
-use Rattle.std.proofs.Common.{◌≡◌, ℕ, ◌+◌, ◌-◌, ◌≤◌, ◌<◌, ◌^◌, true, false, [], ◌∷◌, length, slice_set, arith, length-append}
+use Rattle.std.proofs.Common.{◌≡◌, ℕ, ◌+◌, ◌-◌, ◌≤◌, ◌<◌, ◌^◌, true, false, [], ◌∷◌, length, slice_set, arith}
+use Rattle.std.proofs.Common.{length-append}
 use Rattle.std.proofs.lemmas.Bool.{leb-true}
 use Rattle.std.proofs.lemmas.List.{length-set}
 use Rattle.std.proofs.lemmas.List.Sums.{sum_by-append}
@@ -38,11 +39,13 @@ made rs = length rs + all_pauses rs
 abbrev pauses_in : Kind → ℕ
 pauses_in r = r.pauses
 
-told_fine : (e : Entry) (rs : Records) (s : Both) → fits s.1 e ≡ true → 1 ≤ weight_of e → made rs ≤ made s.0 + 1 → StaysFine s (telling_of e rs s)
+told_fine : (e : Entry) (rs : Records) (s : Both) → fits s.1 e ≡ true → 1 ≤ weight_of e → made rs ≤ made s.0 + 1
+    → StaysFine s (telling_of e rs s)
 told_fine e rs s h p q = record {
   goes_on = λ b. record {
     told = omega (arith, total_weight_push s.1.entries e, p, q, b.told);
-    within = omega (arith, total_weight_push s.1.entries e, leb-true (total_weight s.1.entries + weight_of e) s.1.limit h);
+    within =
+        omega (arith, total_weight_push s.1.entries e, leb-true (total_weight s.1.entries + weight_of e) s.1.limit h);
     limited = b.limited;
   };
 }
@@ -53,17 +56,25 @@ fine = record {
   joins = λ s t u p q. record { goes_on = λ b. q.goes_on (p.goes_on b) };
   drops = λ d r pair rest s g e. record {
     goes_on = λ b. record {
-      told = omega (arith, b.told, length-set s.0 d (record r { items = rest }), tally_set pauses_in s.0 d r (record r { items = rest }) g);
+      told = omega (
+        arith,
+        b.told,
+        length-set s.0 d (record r { items = rest }),
+        tally_set pauses_in s.0 d r (record r { items = rest }) g,
+      );
       within = b.within;
       limited = b.limited;
     };
   };
   news = λ name canceller s h.
       let more : Records = new_record name canceller ∷ [] in
-      told_fine (entry.New (length s.0) name) _ s h (omega arith) (omega (arith, length-append s.0 more, sum_by-append pauses_in s.0 more));
+      told_fine (entry.New (length s.0) name) _ s h (omega arith)
+      (omega (arith, length-append s.0 more, sum_by-append pauses_in s.0 more));
   asides = λ e s a h. told_fine e s.0 s h (weighs_one e) (omega arith);
   refuses = λ d r s h g f. told_fine (entry.Refuse d) s.0 s h (omega arith) (omega arith);
-  swallows = λ d r s h g f. let changed = firing.with_guard false r in told_fine (entry.Swallow d) _ s h (omega arith) (omega (arith, length-set s.0 d changed, tally_set pauses_in s.0 d r changed g));
+  swallows =
+      λ d r s h g f. let changed = firing.with_guard false r in told_fine (entry.Swallow d) _ s h (omega arith)
+      (omega (arith, length-set s.0 d changed, tally_set pauses_in s.0 d r changed g));
   cancels = λ d s h. told_fine (entry.Cancel d) s.0 s h (omega arith) (omega arith);
   guards = λ d r s h g f.
       let fired = firing.with_firing cancelled r in
@@ -75,9 +86,15 @@ fine = record {
         tally_changing pauses_in 0 (slice_set s.0 d fired) d (firing.with_guard true) (λ x. omega arith),
         tally_set pauses_in s.0 d r fired g,
       ));
-  fires = λ d value r s h g f. let changed = firing.with_firing value r in told_fine (entry.Fire d value) _ s h (omega arith) (omega (arith, length-set s.0 d changed, tally_set pauses_in s.0 d r changed g));
-  adds = λ d pair r s h g. let changed = with_item (item.Pair pair) r in told_fine (entry.Add d) _ s h (omega arith) (omega (arith, length-set s.0 d changed, tally_set pauses_in s.0 d r changed g));
-  runs = λ d pair r rest s h g e. let changed : Kind = record r { items = rest; running = true } in told_fine (entry.Run d) _ s h (omega arith) (omega (arith, length-set s.0 d changed, tally_set pauses_in s.0 d r changed g));
+  fires =
+      λ d value r s h g f. let changed = firing.with_firing value r in told_fine (entry.Fire d value) _ s h
+      (omega arith) (omega (arith, length-set s.0 d changed, tally_set pauses_in s.0 d r changed g));
+  adds =
+      λ d pair r s h g. let changed = with_item (item.Pair pair) r in told_fine (entry.Add d) _ s h (omega arith)
+      (omega (arith, length-set s.0 d changed, tally_set pauses_in s.0 d r changed g));
+  runs =
+      λ d pair r rest s h g e. let changed : Kind = record r { items = rest; running = true } in told_fine (entry.Run d)
+      _ s h (omega arith) (omega (arith, length-set s.0 d changed, tally_set pauses_in s.0 d r changed g));
   hands = λ d c r rest s h g e.
       let left : Kind = record r { items = rest; value = Null } in
       told_fine (entry.Hand d c r.value) _ s h (omega arith)
@@ -88,7 +105,9 @@ fine = record {
         tally_changing pauses_in 0 (slice_set s.0 d left) c (with_handed r.value) (λ x. omega arith),
         tally_set pauses_in s.0 d r left g,
       ));
-  sets = λ d value r s h g. let changed = with_result value r in told_fine (entry.Set d value) _ s h (omega arith) (omega (arith, length-set s.0 d changed, tally_set pauses_in s.0 d r changed g));
+  sets =
+      λ d value r s h g. let changed = with_result value r in told_fine (entry.Set d value) _ s h (omega arith)
+      (omega (arith, length-set s.0 d changed, tally_set pauses_in s.0 d r changed g));
   waits = λ d e r given s h g k.
       let first = changing e (with_item (item.HandOver d)) s.0 in
       told_fine (entry.Wait d e) _ s h (omega arith)
@@ -109,8 +128,12 @@ fine = record {
         tally_changing pauses_in 0 first d (with_result given.value) (λ x. omega arith),
         tally_changing pauses_in 0 s.0 e without_value (λ x. omega arith),
       ));
-  pauses = λ d r s h g. let changed = with_pauses (r.pauses + 1) r in told_fine (entry.Pause d) _ s h (omega arith) (omega (arith, length-set s.0 d changed, tally_set pauses_in s.0 d r changed g));
-  unpauses = λ d r s h g p. let changed = with_pauses (r.pauses - 1) r in told_fine (entry.Unpause d) _ s h (omega arith) (omega (arith, length-set s.0 d changed, tally_set pauses_in s.0 d r changed g));
+  pauses =
+      λ d r s h g. let changed = with_pauses (r.pauses + 1) r in told_fine (entry.Pause d) _ s h (omega arith)
+      (omega (arith, length-set s.0 d changed, tally_set pauses_in s.0 d r changed g));
+  unpauses =
+      λ d r s h g p. let changed = with_pauses (r.pauses - 1) r in told_fine (entry.Unpause d) _ s h (omega arith)
+      (omega (arith, length-set s.0 d changed, tally_set pauses_in s.0 d r changed g));
 }
 
 pub record StaysBounded (w u : World) : Type 0 where
@@ -118,7 +141,9 @@ pub record StaysBounded (w u : World) : Type 0 where
 
 bounded : (w u : World) → StaysFine (state_of w) (state_of u) → StaysBounded w u
 bounded w u h = record {
-  goes_on = λ b. let f = h.goes_on (record { told = b.told; within = b.within; limited = b.limited }) in record { told = f.told; within = f.within; limited = f.limited };
+  goes_on =
+      λ b. let f = h.goes_on (record { told = b.told; within = b.within; limited = b.limited }) in
+      record { told = f.told; within = f.within; limited = f.limited };
 }
 
 pub stays_bounded : Lasting StaysBounded

@@ -1,4 +1,5 @@
--- Each turn leads on by steps of the world, and leaves less to do, or less of each frame; and what happens in a run begins so.
+-- Each turn leads on by steps of the world, and leaves less to do, or less of each frame; and what happens in a run
+-- begins so.
 use Rattle.std.proofs.Common.{ℕ, Option, None, refl}
 use Rattle.dv_frames.specs.declared.frame.Frame.{Frame}
 use Rattle.dv_journal.specs.declared.entry.Entry.TheVariants as entry
@@ -25,7 +26,8 @@ use Rattle.dv_world.specs.World.{World}
 pub turned_fair : (f : Frame) (p : Performed) (w : World) → Fair w (rank f) (turned f p w)
 turned_fair f p w = fairly.turned_fair f p w
 
-pub begun_comes : (itself : Option ℕ) (action : Action-F Action Statement Body) (w : World) → Comes w (begun itself action w).2
+pub begun_comes : (itself : Option ℕ) (action : Action-F Action Statement Body) (w : World)
+    → Comes w (begun itself action w).2
 begun_comes itself action w = rule_comes (carry_out itself action) w
 
 pub happening_comes : (o : Occurrence) (w : World) → Comes w (happening o w).2

@@ -1,5 +1,6 @@
 -- Each rule leaves less to do, or less of each frame: what Fair proves, from the form of a rule.
-use Rattle.std.proofs.Common.{◌≡◌, ℕ, ◌+◌, ◌<◌, List, arith, ◌≤◌, [], ◌∷◌, Option, None, Some, refl, ap, subst, ◌-◌, Bool, true, false, if◌then◌else◌, ◌++◌, slice_get, length}
+use Rattle.std.proofs.Common.{◌≡◌, ℕ, ◌+◌, ◌<◌, List, arith, ◌≤◌, [], ◌∷◌, Option, None, Some, refl, ap, subst, ◌-◌}
+use Rattle.std.proofs.Common.{Bool, true, false, if◌then◌else◌, ◌++◌, slice_get, length}
 use Rattle.dv_clock.specs.Clock.{Upcoming, next_call}
 use Rattle.dv_clock.specs.Due.{coming_due}
 use Rattle.dv_clock.specs.Turns.{turn_of}
@@ -9,7 +10,8 @@ use Rattle.dv_definition.specs.Definition as page
 use Rattle.dv_definition.specs.Definition.{answer_of}
 use Rattle.dv_definition.specs.Rule.{found, Rule, Ends, By, If, Finds, Then, Asks, Fires, Unpauses, Over, run}
 use Rattle.dv_definition.specs.Scripts as scripts
-use Rattle.dv_definition.specs.Steps.{Question, stepped, asked, Cancel, PutInto, GetFrom, CameTo, CancelCall, TakeStep, EndTask, ComeToInline, EndAwait, ComeDue, Moves}
+use Rattle.dv_definition.specs.Steps.{Question, stepped, asked, Cancel, PutInto, GetFrom, CameTo, CancelCall, TakeStep}
+use Rattle.dv_definition.specs.Steps.{EndTask, ComeToInline, EndAwait, ComeDue, Moves}
 use Rattle.dv_frames.specs.Turn.{Turned, settle_next, ◌over◌}
 use Rattle.dv_frames.specs.declared.frame.Frame.TheVariants as frame
 use Rattle.dv_frames.specs.declared.frame.Frame.{Frame}
@@ -40,7 +42,9 @@ use Rattle.dv_objects.specs.declared.waiting.Waiting.{Waiting}
 use Rattle.dv_loop.proofs.Budget.{step_took, cancel_took, aside_took}
 use Rattle.dv_loop.proofs.Fair.{Fair, Falls, can, lighter, paid, pays}
 use Rattle.dv_loop.proofs.InlineSizes.{action_text, answer_text, come_text}
-use Rattle.dv_loop.proofs.Lighter.{IsSame, Known, Light, Lighter, Or, Pays, Within, actions_size, begun_fits, cancel, carry_out, end_task, notify, one_if_some, paid_by, rank, text_of, waiting_by, waiting_text}
+use Rattle.dv_loop.proofs.Lighter.{IsSame, Known, Light, Lighter, Or, Pays, Within, actions_size, begun_fits, cancel}
+use Rattle.dv_loop.proofs.Lighter.{carry_out, end_task, notify, one_if_some, paid_by, rank, text_of, waiting_by}
+use Rattle.dv_loop.proofs.Lighter.{waiting_text}
 use Rattle.dv_loop.proofs.RuleComes.{rule_comes}
 use Rattle.dv_loop.proofs.StepsCome.{by_aside, step_comes, question_comes, due_aside}
 use Rattle.dv_script.specs.declared.action.Action.{Action, out-Action}
@@ -61,17 +65,21 @@ added_same e p waits.Adding = tt
 added_same e p (waits.Came input) = refl
 added_same e p (waits.Awaiting awaited body) = tt
 
-end_same : (i e : ℕ) (p : Position) (o : Option (Waiting Position)) (inlines : Inlines) → IsSame p (end_adding_at o i e p inlines).0
+end_same : (i e : ℕ) (p : Position) (o : Option (Waiting Position)) (inlines : Inlines)
+    → IsSame p (end_adding_at o i e p inlines).0
 end_same i e p None inlines = tt
 end_same i e p (Some waiting) inlines = added_same e p waiting
 
-first_same : (p : Position) (b : Bool) (w : World) (t : Option (Position × Value) × World) → IsSame p t.0 → IsSame p (if b then (None, w) else t).0
+first_same : (p : Position) (b : Bool) (w : World) (t : Option (Position × Value) × World) → IsSame p t.0
+    → IsSame p (if b then (None, w) else t).0
 first_same p true w t h = tt
 first_same p false w t h = h
 
 end_await_same : (i e : ℕ) (p : Position) (w : World) → IsSame p (end_await i e p w).0
 unfolding end_await
-end_await_same i e p w = let t = end_adding i e p w.objects.inlines in first_same p w.stopped w (t.0, arrange (inlining (λ inlines. t.1)) w) (end_same i e p (slice_get w.objects.inlines i) w.objects.inlines)
+end_await_same i e p w =
+    let t = end_adding i e p w.objects.inlines in first_same p w.stopped w (t.0, arrange (inlining (λ inlines. t.1)) w)
+    (end_same i e p (slice_get w.objects.inlines i) w.objects.inlines)
 
 known : (question : Question) (w : World) → Known question (asked question w).0
 known (Cancel d) w = tt
@@ -86,13 +94,15 @@ known (EndAwait i e p) w = end_await_same i e p w
 known ComeDue w = tt
 known (Moves d) w = tt
 
-unless_pays : {A : Type 0} (a : A) (e : Entry) (change : Objects → Objects) (w : World) (b : Bool) → change_of e ≡ Aside → (aside e change w).stopped ≡ b → can (aside e change w) + one_if_some (if b then None else Some a) ≤ can w
+unless_pays : {A : Type 0} (a : A) (e : Entry) (change : Objects → Objects) (w : World) (b : Bool) → change_of e ≡ Aside
+    → (aside e change w).stopped ≡ b → can (aside e change w) + one_if_some (if b then None else Some a) ≤ can w
 unless_pays a e change w true h x = omega (arith, pays w (aside e change w) (by_aside e change w h))
 unless_pays a e change w false h x = omega (arith, aside_took e change w x)
 
 step_pays : (t : ℕ) (o : Option Task) (w : World) → can (step_taken t o w).1 + one_if_some (step_taken t o w).0 ≤ can w
 step_pays t None w = omega arith
-step_pays t (Some x) w = unless_pays (t, slice_get x.bodies 0) (entry.Step x.name) (cooperating (with_step t x)) w _ refl refl
+step_pays t (Some x) w =
+    unless_pays (t, slice_get x.bodies 0) (entry.Step x.name) (cooperating (with_step t x)) w _ refl refl
 
 turn_pays : (o : Option ℕ) (w : World) → can (turn_taken o w).1 + one_if_some (turn_taken o w).0 ≤ can w
 turn_pays None w = omega arith
@@ -100,12 +110,15 @@ turn_pays (Some t) w = step_pays t (slice_get w.objects.cooperator.tasks t) w
 
 due_pays : (o : Option Upcoming) (w : World) → can (come_due_found o w).1 + one_if_some (come_due_found o w).0 ≤ can w
 due_pays None w = omega arith
-due_pays (Some call) w = unless_pays call.what (coming_due call.what) (with_ended_call call.number call_state.Called) w _ (due_aside call.what) refl
+due_pays (Some call) w =
+    unless_pays call.what (coming_due call.what) (with_ended_call call.number call_state.Called) w _
+    (due_aside call.what) refl
 
 plain_pays : (question : Question) (w : World) → can (asked question w).1 + 0 ≤ can w
 plain_pays question w = omega (arith, pays w (asked question w).1 (question_comes question w))
 
-asked_pays : (question : Question) (w : World) → can (asked question w).1 + paid_by question (asked question w).0 ≤ can w
+asked_pays : (question : Question) (w : World)
+    → can (asked question w).1 + paid_by question (asked question w).0 ≤ can w
 asked_pays (Cancel d) w = cancel_took d w
 asked_pays (PutInto k v) w = plain_pays (PutInto k v) w
 asked_pays (GetFrom k d) w = plain_pays (GetFrom k d) w
@@ -141,7 +154,8 @@ either_falls : (n m : ℕ) (b : Bool) (t u : Turned) → Falls n m t → Falls n
 either_falls n m true t u h k = h
 either_falls n m false t u h k = k
 
-found_falls : {A : Type 0} (n m : ℕ) (o : Option A) (t : Turned) (f : A → Turned) → Falls n m t → ((a : A) → o ≡ Some a → Falls n m (f a)) → Falls n m (found o t f)
+found_falls : {A : Type 0} (n m : ℕ) (o : Option A) (t : Turned) (f : A → Turned) → Falls n m t
+    → ((a : A) → o ≡ Some a → Falls n m (f a)) → Falls n m (found o t f)
 found_falls n m None t f h k = h
 found_falls n m (Some a) t f h k = k a refl
 
@@ -152,9 +166,14 @@ either_pays n m t A B f g (Light b) = g b
 pub rule_falls : (m : ℕ) (rule : Rule) (w : World) → Within m rule → Falls (can w) m (run rule w)
 rule_falls m (Ends p) w h = lighter tt
 rule_falls m (By rule) w h = rule_falls m (rule w) w (h w)
-rule_falls m (If b one other) w h = either_falls (can w) m b (run one w) (run other w) (rule_falls m one w h.0) (rule_falls m other w h.1)
-rule_falls m (Finds o none some) w h = found_falls (can w) m o (run none w) (λ a. run (some a) w) (rule_falls m none w h.0) (λ a e. rule_falls m (some a) w (h.1 a e))
-rule_falls m (Then step rule) w h = let u = stepped step w in then_falls (can u) (can w) m (run rule u) (pays w u (step_comes step w)) (rule_falls m rule u h)
+rule_falls m (If b one other) w h =
+    either_falls (can w) m b (run one w) (run other w) (rule_falls m one w h.0) (rule_falls m other w h.1)
+rule_falls m (Finds o none some) w h =
+    found_falls (can w) m o (run none w) (λ a. run (some a) w) (rule_falls m none w h.0)
+    (λ a e. rule_falls m (some a) w (h.1 a e))
+rule_falls m (Then step rule) w h =
+    let u = stepped step w in
+    then_falls (can u) (can w) m (run rule u) (pays w u (step_comes step w)) (rule_falls m rule u h)
 rule_falls m (Asks question rule) w h =
     let a = asked question w in let t = run (rule a.0) a.1 in
     either_pays (can w) m t (1 ≤ paid_by question a.0) (Within m (rule a.0))
@@ -198,7 +217,8 @@ after_step m t (Gave v) q = (tt, λ failure e. end_task m t (Failed failure) q)
 after_step m t (Raised failure) q = end_task m t (Failed failure) q
 after_step m t (Awaits e) q = (tt, (q, tt))
 
-tick_taken : (m left : ℕ) (o : Option (ℕ × Option Body)) → Or (1 ≤ one_if_some o) (Within m (Finds o page.tick_ended (λ now. Over (page.perform_next now.0 now.1) (frame.Tick left ∷ []))))
+tick_taken : (m left : ℕ) (o : Option (ℕ × Option Body)) → Or (1 ≤ one_if_some o)
+    (Within m (Finds o page.tick_ended (λ now. Over (page.perform_next now.0 now.1) (frame.Tick left ∷ []))))
 tick_taken m left None = Light (tt, λ now e. absurd cc)
 tick_taken m left (Some now) = Pays (omega arith)
 
@@ -206,27 +226,37 @@ tick_taken m left (Some now) = Pays (omega arith)
 go_with : (m : ℕ) (i : Inline) (v : Value) (p : Position) → waiting_text p ≤ m → Within m (page.go_with i v p)
 go_with m i v p q = λ w. (tt, (omega (arith, answer_text w.classes v p, q), tt))
 
-same_now : (p : Position) (o : Option (Position × Value)) (now : Position × Value) → IsSame p o → o ≡ Some now → now.0 ≡ p
+same_now : (p : Position) (o : Option (Position × Value)) (now : Position × Value) → IsSame p o → o ≡ Some now
+    → now.0 ≡ p
 same_now p None now h e = absurd cc
 same_now p (Some came) now h e = let same : came ≡ now = cc in subst (λ (x : Position × Value). x.0 ≡ p) same h
 
-go_where : (i : Inline) (p : Position) (o : Option (Position × Value)) → IsSame p o → Within (waiting_text p) (page.go_where i o)
-go_where i p o h = (tt, λ now e. go_with (waiting_text p) i now.1 now.0 (omega (arith, ap waiting_text (same_now p o now h e))))
+go_where : (i : Inline) (p : Position) (o : Option (Position × Value)) → IsSame p o
+    → Within (waiting_text p) (page.go_where i o)
+go_where i p o h =
+    (tt, λ now e. go_with (waiting_text p) i now.1 now.0 (omega (arith, ap waiting_text (same_now p o now h e))))
 
 await : (m : ℕ) (i : Inline) (name : List ℕ) (p : Position) → waiting_text p < m → Within m (page.await i name p)
 await m i name p q = λ w. (go_with m i _ p (omega (arith, q)), λ e k. ((tt, (omega (arith, q), tt)), (q, tt)))
 
-perform_rest : (itself : Option ℕ) (actions : List Action) (end : End) (input : Value) → Within (1 + actions_size actions) (page.perform_rest itself actions end input)
+perform_rest : (itself : Option ℕ) (actions : List Action) (end : End) (input : Value)
+    → Within (1 + actions_size actions) (page.perform_rest itself actions end input)
 perform_rest itself [] end input = λ w. tt
-perform_rest itself (action ∷ rest) end input = (carry_out _ itself (out-Action action) (omega (arith, begun_fits action)), (omega (arith, begun_fits action), tt))
+perform_rest itself (action ∷ rest) end input =
+    (carry_out _ itself (out-Action action) (omega (arith, begun_fits action)), (omega (arith, begun_fits action), tt))
 
-do_wanted : (m : ℕ) (i : Inline) (o : Option Want) (p : Position) → want_at p ≡ o → text_of p < m → Within m (page.do_wanted i o p)
+do_wanted : (m : ℕ) (i : Inline) (o : Option Want) (p : Position) → want_at p ≡ o → text_of p < m
+    → Within m (page.do_wanted i o p)
 do_wanted m i None p h q = tt
-do_wanted m i (Some (Do action)) p h q = (carry_out m (Some i.of) (out-Action action) (omega (arith, begun_fits action, action_text p action h, q)), (omega (arith, q, ap (λ o. waiting_by o p) h), tt))
+do_wanted m i (Some (Do action)) p h q = (
+  carry_out m (Some i.of) (out-Action action) (omega (arith, begun_fits action, action_text p action h, q)),
+  (omega (arith, q, ap (λ o. waiting_by o p) h), tt),
+)
 do_wanted m i (Some (Await name)) p h q = await m i name p (omega (arith, q, ap (λ o. waiting_by o p) h))
 
 inline_goes : (x : Inlining) (o : Performed) → Within (rank (frame.Inline x)) (scripts.inline_goes x o)
-inline_goes (Goes i p) o = (do_wanted (1 + text_of p) i (want_at (come p)) (come p) refl (omega (arith, come_text p)), λ result e. omega arith)
+inline_goes (Goes i p) o =
+    (do_wanted (1 + text_of p) i (want_at (come p)) (come p) refl (omega (arith, come_text p)), λ result e. omega arith)
 inline_goes (Acted i p) o = go_with (waiting_text p) i (answer_of o) p (omega arith)
 inline_goes (Awaited i e p) o = λ a known. Light (go_where i p a known)
 

@@ -1,5 +1,6 @@
 -- Every frame halts: by what a run can still do, and then by what is left of the frame.
-use Rattle.std.proofs.Common.{◌≡◌, ℕ, zero, suc, ◌+◌, ◌<◌, ◌≤◌, List, [], ◌∷◌, ◌++◌, Some, refl, ap, ◌∙◌, arith, zero-add, suc-add}
+use Rattle.std.proofs.Common.{◌≡◌, ℕ, zero, suc, ◌+◌, ◌<◌, ◌≤◌, List, [], ◌∷◌, ◌++◌, Some, refl, ap, ◌∙◌, arith}
+use Rattle.std.proofs.Common.{zero-add, suc-add}
 use Rattle.dv_loop.specs.Turning.{turned}
 use Rattle.dv_frames.specs.Turn.{Turned, ◌over◌}
 use Rattle.dv_frames.specs.declared.frame.Frame.{Frame}
@@ -20,8 +21,11 @@ record Halts (fs : List Frame) (o : Performed) (w : World) : Type 0 where
   ends : (m : ℕ) (below : List Frame) → run (turns + m) (fs ++ below) o w ≡ run m below outcome after
 
 -- so they are where each of them is
-each_halts : (n : ℕ) (P : Frame → Type 0) → ((f : Frame) (o : Performed) (w : World) → can w < n → P f → Halts (f ∷ []) o w) → (fs : List Frame) (o : Performed) (w : World) → can w < n → Each P fs → Halts fs o w
-each_halts n P k [] o w b h = record { turns = 0; outcome = o; after = w; pays = omega arith; ends = λ m below. rw zero-add refl }
+each_halts : (n : ℕ) (P : Frame → Type 0)
+    → ((f : Frame) (o : Performed) (w : World) → can w < n → P f → Halts (f ∷ []) o w)
+    → (fs : List Frame) (o : Performed) (w : World) → can w < n → Each P fs → Halts fs o w
+each_halts n P k [] o w b h =
+    record { turns = 0; outcome = o; after = w; pays = omega arith; ends = λ m below. rw zero-add refl }
 each_halts n P k (f ∷ fs) o w b h =
     let first = k f o w b h.0 in
     let rest = each_halts n P k fs first.outcome first.after (omega (arith, first.pays, b)) h.1 in
@@ -43,12 +47,20 @@ each_at_all (f ∷ fs) = (tt, each_at_all fs)
 -- a frame halts where what its turn leaves does
 turn_halts : (f : Frame) (o : Performed) (w : World) → (let t = turned f o w in Halts t.0 t.1 t.2) → Halts (f ∷ []) o w
 unfolding run
-turn_halts f o w r = record { turns = suc r.turns; outcome = r.outcome; after = r.after; pays = omega (arith, r.pays, pays w (turned f o w).2 (turned_fair f o w).comes); ends = λ m below. rw suc-add (r.ends m below) }
+turn_halts f o w r = record {
+  turns = suc r.turns;
+  outcome = r.outcome;
+  after = r.after;
+  pays = omega (arith, r.pays, pays w (turned f o w).2 (turned_fair f o w).comes);
+  ends = λ m below. rw suc-add (r.ends m below);
+}
 
 -- it does, where less can be done, or no more and less is left of each
-left_halts : (n m : ℕ) → ((f : Frame) (o : Performed) (w : World) → can w < n → Halts (f ∷ []) o w) → ((f : Frame) (o : Performed) (w : World) → can w < suc n → rank f < m → Halts (f ∷ []) o w)
+left_halts : (n m : ℕ) → ((f : Frame) (o : Performed) (w : World) → can w < n → Halts (f ∷ []) o w)
+    → ((f : Frame) (o : Performed) (w : World) → can w < suc n → rank f < m → Halts (f ∷ []) o w)
     → (t : Turned) → can t.2 < suc n → Falls n m t → Halts t.0 t.1 t.2
-left_halts n m less same t b (paid h) = each_halts n (λ f. Unit {0}) (λ f o w k q. less f o w k) t.0 t.1 t.2 h (each_at_all t.0)
+left_halts n m less same t b (paid h) =
+    each_halts n (λ f. Unit {0}) (λ f o w k q. less f o w k) t.0 t.1 t.2 h (each_at_all t.0)
 left_halts n m less same t b (lighter h) = each_halts (suc n) (λ f. rank f < m) same t.0 t.1 t.2 b h
 
 each_lighter : (m i : ℕ) (fs : List Frame) → m ≤ i → Lighter m fs → Lighter i fs
@@ -59,11 +71,14 @@ falls_more : (n k m i : ℕ) (t : Turned) → n ≤ k → m ≤ i → Falls n m 
 falls_more n k m i t a b (paid h) = paid (omega (arith, a, h))
 falls_more n k m i t a b (lighter h) = lighter (each_lighter m i t.0 b h)
 
-halts_within : (n : ℕ) → ((f : Frame) (o : Performed) (w : World) → can w < n → Halts (f ∷ []) o w) → (m : ℕ) (f : Frame) (o : Performed) (w : World) → can w < suc n → rank f < m → Halts (f ∷ []) o w
+halts_within : (n : ℕ) → ((f : Frame) (o : Performed) (w : World) → can w < n → Halts (f ∷ []) o w)
+    → (m : ℕ) (f : Frame) (o : Performed) (w : World) → can w < suc n → rank f < m → Halts (f ∷ []) o w
 halts_within n less zero f o w b q = absurd (omega (arith, q))
 halts_within n less (suc m) f o w b q =
     turn_halts f o w
-    (left_halts n m less (halts_within n less m) (turned f o w) (omega (arith, pays w (turned f o w).2 (turned_fair f o w).comes, b)) (falls_more (can w) n (rank f) m (turned f o w) (omega (arith, b)) (omega (arith, q)) (turned_fair f o w).falls))
+    (left_halts n m less (halts_within n less m) (turned f o w)
+    (omega (arith, pays w (turned f o w).2 (turned_fair f o w).comes, b))
+    (falls_more (can w) n (rank f) m (turned f o w) (omega (arith, b)) (omega (arith, q)) (turned_fair f o w).falls))
 
 halts_below : (n : ℕ) (f : Frame) (o : Performed) (w : World) → can w < n → Halts (f ∷ []) o w
 halts_below zero f o w b = absurd (omega (arith, b))
@@ -82,13 +97,19 @@ finishes [] o w = record { turns = 0; outcome = o; after = w; ends = refl }
 finishes (f ∷ below) o w =
     let first = halts_below (suc (can w)) f o w (omega arith) in
     let rest = finishes below first.outcome first.after in
-    record { turns = first.turns + rest.turns; outcome = rest.outcome; after = rest.after; ends = first.ends rest.turns below ∙ rest.ends }
+    record {
+      turns = first.turns + rest.turns;
+      outcome = rest.outcome;
+      after = rest.after;
+      ends = first.ends rest.turns below ∙ rest.ends;
+    }
 
 -- after so many turns
 unfoldable pub turns_of : List Frame → Performed → World → ℕ
 turns_of fs o w = (finishes fs o w).turns
 
-once : (n m : ℕ) (fs : List Frame) (o : Performed) (w : World) (x y : Ended) → run n fs o w ≡ Some x → run m fs o w ≡ Some y → n ≡ m
+once : (n m : ℕ) (fs : List Frame) (o : Performed) (w : World) (x y : Ended) → run n fs o w ≡ Some x
+    → run m fs o w ≡ Some y → n ≡ m
 unfolding run
 once zero zero fs o w x y h k = refl
 once zero (suc m) [] o w x y h k = absurd cc
@@ -98,7 +119,8 @@ once (suc n) zero (f ∷ below) o w x y h k = absurd cc
 once (suc n) (suc m) [] o w x y h k = absurd cc
 once (suc n) (suc m) (f ∷ below) o w x y h k = let t = turned f o w over below in ap suc (once n m t.0 t.1 t.2 x y h k)
 
-falls_from : (n : ℕ) (f : Frame) (below : List Frame) (o : Performed) (w : World) (x y : Ended) (m : ℕ) → run n (f ∷ below) o w ≡ Some x → (let t = turned f o w over below in run m t.0 t.1 t.2 ≡ Some y) → m < n
+falls_from : (n : ℕ) (f : Frame) (below : List Frame) (o : Performed) (w : World) (x y : Ended) (m : ℕ)
+    → run n (f ∷ below) o w ≡ Some x → (let t = turned f o w over below in run m t.0 t.1 t.2 ≡ Some y) → m < n
 unfolding run
 falls_from zero f below o w x y m h k = absurd cc
 falls_from (suc n) f below o w x y m h k =
@@ -106,10 +128,12 @@ falls_from (suc n) f below o w x y m h k =
     omega (arith, once n m t.0 t.1 t.2 x y h k)
 
 -- a turn leaves fewer
-pub turns_fall : (f : Frame) (below : List Frame) (o : Performed) (w : World) → (let t = turned f o w over below in turns_of t.0 t.1 t.2 < turns_of (f ∷ below) o w)
+pub turns_fall : (f : Frame) (below : List Frame) (o : Performed) (w : World)
+    → (let t = turned f o w over below in turns_of t.0 t.1 t.2 < turns_of (f ∷ below) o w)
 unfolding turns_of
 turns_fall f below o w =
     let t = turned f o w over below in
     let before = finishes (f ∷ below) o w in
     let now = finishes t.0 t.1 t.2 in
-    falls_from before.turns f below o w (before.outcome, before.after) (now.outcome, now.after) now.turns before.ends now.ends
+    falls_from before.turns f below o w (before.outcome, before.after)
+    (now.outcome, now.after) now.turns before.ends now.ends

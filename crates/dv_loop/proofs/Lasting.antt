@@ -6,7 +6,8 @@ use Rattle.dv_journal.specs.Told.{change_of, Aside}
 use Rattle.dv_script.specs.declared.work.Work.{Work}
 use Rattle.dv_objects.specs.declared.canceller.Canceller.{Canceller}
 use Rattle.dv_objects.specs.Objects.{Objects}
-use Rattle.dv_world.specs.World.{World, step, put, put_deferred, append, make, fire, fire_guarded, cancel, pause, unpause, aside, arrange, submit}
+use Rattle.dv_world.specs.World.{World, step, put, put_deferred, append, make, fire, fire_guarded, cancel, pause}
+use Rattle.dv_world.specs.World.{unpause, aside, arrange, submit}
 use Rattle.dv_objects.specs.Pair.{Pair}
 
 -- a relation of worlds that holds of each step, and of steps in turn

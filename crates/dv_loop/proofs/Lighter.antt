@@ -1,11 +1,12 @@
--- How much is left of a text and of a frame, and that the rule of each action leaves lighter frames. An action has its two lines here, in
--- `action_within` and in `carry_out`.
+-- How much is left of a text and of a frame, and that the rule of each action leaves lighter frames. An action has its
+-- two lines here, in `action_within` and in `carry_out`.
 use Rattle.std.proofs.Common.{◌≡◌, ℕ, ◌+◌, ◌<◌, List, map, arith, ◌≤◌, [], ◌∷◌, Option, None, Some}
 use Rattle.std.specs.Option.{unwrap_or}
 use Rattle.dv_definition.specs.Definition as page
 use Rattle.dv_definition.specs.Flags.{list_flags, gather_flags}
 use Rattle.dv_definition.specs.Rule.{Rule, Ends, By, If, Finds, Then, Asks, Fires, Unpauses, Over}
-use Rattle.dv_definition.specs.Steps.{Question, Reply, Cancel, PutInto, GetFrom, CameTo, CancelCall, TakeStep, EndTask, ComeToInline, EndAwait, ComeDue, Moves}
+use Rattle.dv_definition.specs.Steps.{Question, Reply, Cancel, PutInto, GetFrom, CameTo, CancelCall, TakeStep, EndTask}
+use Rattle.dv_definition.specs.Steps.{ComeToInline, EndAwait, ComeDue, Moves}
 use Rattle.dv_definition.specs.Words as words
 use Rattle.dv_frames.specs.declared.frame.Frame.TheVariants as frame
 use Rattle.dv_frames.specs.declared.frame.Frame.{Frame}
@@ -21,7 +22,8 @@ use Rattle.dv_objects.specs.declared.task.TaskEnd.TheVariants.{Stopped}
 use Rattle.dv_objects.specs.declared.task.TaskEnd.{TaskEnd}
 use Rattle.dv_loop.proofs.Budget.{reaches}
 use Rattle.dv_prims.specs.declared.gather.Flags.{Flags}
-use Rattle.dv_script.specs.declared.action.Action.TheFolds.{fold-Action, fold-Statement, fold-Body, fold_out-Action, fold_out-Statement, fold_out-Body}
+use Rattle.dv_script.specs.declared.action.Action.TheFolds.{fold-Action, fold-Statement, fold-Body, fold_out-Action}
+use Rattle.dv_script.specs.declared.action.Action.TheFolds.{fold_out-Statement, fold_out-Body}
 use Rattle.dv_script.specs.declared.action.Action.TheOpen.{Action-F, Statement-F, Body-F}
 use Rattle.dv_script.specs.declared.action.Action.{Action, out-Action, map-Action}
 use Rattle.dv_script.specs.declared.body.Body.{Body, out-Body}
@@ -232,14 +234,17 @@ Within m (By rule) = (w : World) → Within m (rule w)
 Within m (If b one other) = Within m one × Within m other
 Within m (Finds {A} o none some) = Within m none × ((a : A) → o ≡ Some a → Within m (some a))
 Within m (Then step rule) = Within m rule
-Within m (Asks question rule) = (a : Reply question) → Known question a → Or (1 ≤ paid_by question a) (Within m (rule a))
+Within m (Asks question rule) =
+    (a : Reply question) → Known question a → Or (1 ≤ paid_by question a) (Within m (rule a))
 Within m (Fires d v) = 0 < m
 Within m (Unpauses d) = 0 < m
 Within m (Over rule frames) = Within m rule × Lighter m frames
 
--- 5. The page: each rule that an action leads to is as light as it is to be. Its names, tests and steps are one pattern.
+-- 5. The page: each rule that an action leads to is as light as it is to be. Its names, tests and steps are one
+-- pattern.
 
-bound : (m : ℕ) (o : Option ℕ) (name : List ℕ) (r : ℕ → Rule) → ((d : ℕ) → Within m (r d)) → Within m (words.with_bound o name r)
+bound : (m : ℕ) (o : Option ℕ) (name : List ℕ) (r : ℕ → Rule) → ((d : ℕ) → Within m (r d))
+    → Within m (words.with_bound o name r)
 bound m o name r h = (tt, λ d e. h d)
 
 all_bound : (m : ℕ) (o : Found) (r : List ℕ → Rule) → ((ds : List ℕ) → Within m (r ds)) → Within m (words.on_found o r)
@@ -297,7 +302,8 @@ pub end_task : (m t : ℕ) (end : TaskEnd) → 1 < m → Within m (page.end_task
 end_task m t end q = λ ds known. Light (tt, notify_all m t ds q)
 
 -- actions
-pub carry_out : (m : ℕ) (itself : Option ℕ) (action : Action-F Action Statement Body) → begun_size action < m → Within m (page.carry_out itself action)
+pub carry_out : (m : ℕ) (itself : Option ℕ) (action : Action-F Action Statement Body) → begun_size action < m
+    → Within m (page.carry_out itself action)
 carry_out m itself (Action-F.Note text) q = tt
 carry_out m itself (Action-F.Deferred name canceller) q = tt
 carry_out m itself (Action-F.Callback name value) q = λ w. (tt, λ d e. omega (arith, q))
@@ -314,14 +320,21 @@ carry_out m itself (Action-F.AddTimeout name delay) q = λ w. (tt, λ d e. add_t
 carry_out m itself (Action-F.Lock name) q = tt
 carry_out m itself (Action-F.Semaphore name tokens) q = tt
 carry_out m itself (Action-F.Acquire name lock) q = λ w. (tt, λ l e. acquire m name l (omega (arith, q)))
-carry_out m itself (Action-F.RunWith name lock body) q = λ w. (tt, λ l e. λ v. (acquire m name l (omega (arith, q, body_size_out body)), (omega (arith, q, body_size_out body), tt)))
+carry_out m itself (Action-F.RunWith name lock body) q = λ w. (
+  tt,
+  λ l e. λ v. (acquire m name l (omega (arith, q, body_size_out body)), (omega (arith, q, body_size_out body), tt)),
+)
 carry_out m itself (Action-F.Release lock) q = λ w. (tt, λ l e. release m l (omega (arith, q)))
-carry_out m itself (Action-F.Maybe name body) q = (tt, (omega (arith, q, body_size_out body), (omega (arith, q, body_size_out body), tt)))
+carry_out m itself (Action-F.Maybe name body) q =
+    (tt, (omega (arith, q, body_size_out body), (omega (arith, q, body_size_out body), tt)))
 carry_out m itself (Action-F.Queue name size backlog) q = tt
 carry_out m itself (Action-F.Put queue value) q = λ w. (tt, λ k e. put_in m k value (omega (arith, q)))
 carry_out m itself (Action-F.Get name queue) q = λ w. (tt, λ k e. get_out m name k (omega (arith, q)))
-carry_out m itself (Action-F.List name children flags) q = λ w. all_bound m (deferreds_at itself children w) _ (λ ds. list m name ds (list_flags flags) (omega (arith, q)))
-carry_out m itself (Action-F.Gather name children flags) q = λ w. all_bound m (deferreds_at itself children w) _ (λ ds. λ v. (list m name ds (gather_flags flags) (omega (arith, q)), (omega (arith, q), tt)))
+carry_out m itself (Action-F.List name children flags) q =
+    λ w. all_bound m (deferreds_at itself children w) _ (λ ds. list m name ds (list_flags flags) (omega (arith, q)))
+carry_out m itself (Action-F.Gather name children flags) q =
+    λ w. all_bound m (deferreds_at itself children w) _
+    (λ ds. λ v. (list m name ds (gather_flags flags) (omega (arith, q)), (omega (arith, q), tt)))
 carry_out m itself (Action-F.Later name delay body) q = tt
 carry_out m itself (Action-F.CancelCall name) q = λ w. (tt, λ number e. λ a known. Light tt)
 carry_out m itself (Action-F.Loop name of interval at_once body) q = λ w v. (turn m 0 body (omega (arith, q)), tt)
@@ -329,7 +342,8 @@ carry_out m itself (Action-F.StopLoop name) q = λ w. (tt, λ l e. stop_loop m l
 carry_out m itself (Action-F.Cooperate name bodies) q = tt
 carry_out m itself (Action-F.WhenDone name task) q = λ w. (tt, λ t e. λ v. notify m 0 t (omega (arith, q)))
 carry_out m itself (Action-F.PauseTask name) q = λ w. (tt, λ t e. λ v. (tt, λ x k. (tt, λ end j. tt)))
-carry_out m itself (Action-F.StopTask name) q = λ w. (tt, λ t e. λ v. (tt, λ x k. (end_task m t Stopped (omega (arith, q)), λ end j. tt)))
+carry_out m itself (Action-F.StopTask name) q =
+    λ w. (tt, λ t e. λ v. (tt, λ x k. (end_task m t Stopped (omega (arith, q)), λ end j. tt)))
 carry_out m itself (Action-F.ResumeTask name) q = λ w. (tt, λ t e. λ v. (tt, λ x k. (tt, tt)))
 carry_out m itself (Action-F.Inline name statements) q = λ w v. (tt, (omega (arith, q), tt))
 carry_out m itself (Action-F.Thread name delay work) q = λ w v. (tt, λ u. tt)

@@ -10,7 +10,8 @@ use Rattle.dv_loop.proofs.Runs.{run}
 use Rattle.dv_world.specs.World.{World}
 use Rattle.dv_objects.specs.declared.performed.Performed.{Performed}
 
-pub run_comes : (n : ℕ) (fs : List Frame) (o : Performed) (w : World) (q : Performed) (v : World) → run n fs o w ≡ Some (q, v) → Comes w v
+pub run_comes : (n : ℕ) (fs : List Frame) (o : Performed) (w : World) (q : Performed) (v : World)
+    → run n fs o w ≡ Some (q, v) → Comes w v
 unfolding run
 run_comes zero [] o w q v h =
     let x : Ended = (o, w) in

@@ -20,19 +20,23 @@ run (suc n) [] o w = None
 run (suc n) (f ∷ below) o w = let t = turned f o w over below in run n t.0 t.1 t.2
 
 -- what the stack leads to after a turn, it led to before
-pub turned_leads : (f : Frame) (o : Performed) (w : World) (below : List Frame) (q : Performed) (v : World) → (let t = turned f o w over below in Gives t.0 t.1 t.2 q v) → Gives (f ∷ below) o w q v
+pub turned_leads : (f : Frame) (o : Performed) (w : World) (below : List Frame) (q : Performed) (v : World)
+    → (let t = turned f o w over below in Gives t.0 t.1 t.2 q v) → Gives (f ∷ below) o w q v
 unfolding within
 turned_leads f o w below q v h =
     let t = turned f o w in
     let go = within h.depth in
     record {
       depth = suc h.depth;
-      ends = then_extends (through go t.0 t.1 t.2) _ (λ x. through go below x.0 x.1) _ (q, v) (λ x e. sym (frames_say go (rule_of f o) w) ∙ e)
+      ends =
+          then_extends (through go t.0 t.1 t.2) _ (λ x. through go below x.0 x.1) _ (q, v)
+          (λ x e. sym (frames_say go (rule_of f o) w) ∙ e)
           (λ x. through_extends go (within (suc h.depth)) (next_extends h.depth) below x.0 x.1 (q, v))
           (sym (through_append go t.0 below t.1 t.2) ∙ h.ends);
     }
 
-pub runs_lead : (n : ℕ) (fs : List Frame) (o : Performed) (w : World) (q : Performed) (v : World) → run n fs o w ≡ Some (q, v) → Gives fs o w q v
+pub runs_lead : (n : ℕ) (fs : List Frame) (o : Performed) (w : World) (q : Performed) (v : World)
+    → run n fs o w ≡ Some (q, v) → Gives fs o w q v
 unfolding run
 runs_lead zero [] o w q v h = record { depth = 0; ends = h }
 runs_lead zero (f ∷ below) o w q v h = absurd cc

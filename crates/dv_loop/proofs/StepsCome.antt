@@ -22,9 +22,18 @@ use Rattle.dv_loop.proofs.Lasting.{Comes}
 use Rattle.dv_prims.specs.DeferredList.{Gather, came}
 use Rattle.dv_prims.specs.Queue.{Queue, may_put, receiver, put_to}
 use Rattle.dv_prims.specs.Tokens.{Semaphore, is_unheld}
-use Rattle.dv_definition.specs.Steps.{Step, stepped, Question, asked, Make, Name, Append, FireGuarded, Pause, Note, TellTurn, TellUnhandled, NewLock, NewSemaphore, Ask, Release, Forget, NewQueue, Withdraw, NewList, StartTimer, EndTimer, CallLater, NewLoop, ScheduleTurn, StopLoop, EndLoop, NewTask, AwaitTask, PauseTask, ResumeTask, HoldTask, KeepTick, BeginTick, EndTick, AddInline, BeginAwait, Submit, DeliverLater, Advance, TellDrain, TellPost, Put, PutDeferred, ComeDue, Moves, Cancel, PutInto, GetFrom, CameTo, CancelCall, TakeStep, EndTask, ComeToInline, EndAwait}
+use Rattle.dv_definition.specs.Steps.{Step, stepped, Question, asked, Make, Name, Append, FireGuarded, Pause, Note}
+use Rattle.dv_definition.specs.Steps.{TellTurn, TellUnhandled, NewLock, NewSemaphore, Ask, Release, Forget, NewQueue}
+use Rattle.dv_definition.specs.Steps.{Withdraw, NewList, StartTimer, EndTimer, CallLater, NewLoop, ScheduleTurn}
+use Rattle.dv_definition.specs.Steps.{StopLoop, EndLoop, NewTask, AwaitTask, PauseTask, ResumeTask, HoldTask, KeepTick}
+use Rattle.dv_definition.specs.Steps.{BeginTick, EndTick, AddInline, BeginAwait, Submit, DeliverLater, Advance}
+use Rattle.dv_definition.specs.Steps.{TellDrain, TellPost, Put, PutDeferred, ComeDue, Moves, Cancel, PutInto, GetFrom}
+use Rattle.dv_definition.specs.Steps.{CameTo, CancelCall, TakeStep, EndTask, ComeToInline, EndAwait}
 use Rattle.dv_value.specs.declared.value.Value.{Value}
-use Rattle.dv_world.specs.World.{World, aside, lock_told, release_found, unless_stopped, put_into_found, get_from_found, arrange, came_to_found, came_to, come_due_found, waiting_cancelled, state_cancelled, call_cancelled, cancel_call, turn_scheduled, loop_stopped, task_told, task_ended, tick_dropped, keep_tick, step_taken, turn_taken, come_to_inline, end_await}
+use Rattle.dv_world.specs.World.{World, aside, lock_told, release_found, unless_stopped, put_into_found, get_from_found}
+use Rattle.dv_world.specs.World.{arrange, came_to_found, came_to, come_due_found, waiting_cancelled, state_cancelled}
+use Rattle.dv_world.specs.World.{call_cancelled, cancel_call, turn_scheduled, loop_stopped, task_told, task_ended}
+use Rattle.dv_world.specs.World.{tick_dropped, keep_tick, step_taken, turn_taken, come_to_inline, end_await}
 
 pub same : (w : World) → Comes w w
 same w = record { keeps = λ R l. l.stays w }
@@ -35,11 +44,13 @@ join u v w a b = record { keeps = λ R l. l.joins u v w (a.keeps R l) (b.keeps R
 pub by_aside : (e : Entry) (change : Objects → Objects) (w : World) → change_of e ≡ Aside → Comes w (aside e change w)
 by_aside e change w a = record { keeps = λ R l. l.by_aside e change w a }
 
-by_lock : (l : ℕ) (e : Semaphore → Entry) (change : Semaphore → Semaphore) (o : Option Semaphore) (w : World) → ((s : Semaphore) → change_of (e s) ≡ Aside) → Comes w (lock_told l e change o w)
+by_lock : (l : ℕ) (e : Semaphore → Entry) (change : Semaphore → Semaphore) (o : Option Semaphore) (w : World)
+    → ((s : Semaphore) → change_of (e s) ≡ Aside) → Comes w (lock_told l e change o w)
 by_lock l e change None w a = same w
 by_lock l e change (Some s) w a = by_aside (e s) _ w (a s)
 
-first_comes : {A : Type 0} (b : Bool) (t u : A × World) (w : World) → Comes w t.1 → Comes w u.1 → Comes w (if b then t else u).1
+first_comes : {A : Type 0} (b : Bool) (t u : A × World) (w : World) → Comes w t.1 → Comes w u.1
+    → Comes w (if b then t else u).1
 first_comes true t u w c d = c
 first_comes false t u w c d = d
 
@@ -57,7 +68,9 @@ came_comes l i v (Some g) w = record { keeps = λ R k. k.by_arrange (with_list l
 
 came_to_comes : (l i : ℕ) (v : Value) (w : World) → Comes w (came_to l i v w).1
 unfolding came_to
-came_to_comes l i v w = first_comes w.stopped _ (came_to_found l i v (slice_get w.objects.lists l) w) w (same w) (came_comes l i v (slice_get w.objects.lists l) w)
+came_to_comes l i v w =
+    first_comes w.stopped _ (came_to_found l i v (slice_get w.objects.lists l) w) w (same w)
+    (came_comes l i v (slice_get w.objects.lists l) w)
 
 scheduled_comes : (l : ℕ) (o : Option LoopingCall) (w : World) → Comes w (turn_scheduled l o w)
 scheduled_comes l None w = same w
@@ -67,7 +80,8 @@ loop_stopped_comes : (l : ℕ) (o : Option LoopingCall) (w : World) → Comes w 
 loop_stopped_comes l None w = same w
 loop_stopped_comes l (Some x) w = by_aside (entry.Stop x.name) _ w refl
 
-told_task_comes : (e : Task → Entry) (change : Task → Cooperator → Cooperator) (o : Option Task) (w : World) → ((x : Task) → change_of (e x) ≡ Aside) → Comes w (task_told e change o w)
+told_task_comes : (e : Task → Entry) (change : Task → Cooperator → Cooperator) (o : Option Task) (w : World)
+    → ((x : Task) → change_of (e x) ≡ Aside) → Comes w (task_told e change o w)
 told_task_comes e change None w a = same w
 told_task_comes e change (Some x) w a = by_aside (e x) _ w (a x)
 
@@ -76,7 +90,9 @@ dropped_comes None w = same w
 dropped_comes (Some number) w = record { keeps = λ R l. l.by_arrange _ w }
 
 keep_comes : (w u : World) → Comes w u → Comes w (keep_tick u)
-keep_comes w u c = join w u _ c (one_comes (wants_tick u.objects.cooperator) u _ _ (by_aside (entry.LaterTick _) _ u refl) (dropped_comes (idle_tick u.objects.cooperator) u))
+keep_comes w u c =
+    join w u _ c (one_comes (wants_tick u.objects.cooperator) u _ _ (by_aside (entry.LaterTick _) _ u refl)
+    (dropped_comes (idle_tick u.objects.cooperator) u))
 
 task_ended_comes : (t : ℕ) (end : TaskEnd) (o : Option Task) (w : World) → Comes w (task_ended t end o w).1
 task_ended_comes t end None w = same w
@@ -84,7 +100,9 @@ task_ended_comes t end (Some x) w = by_aside (entry.End x.name (result_of x.name
 
 put_comes : (k : ℕ) (value : Value) (o : Option Queue) (w : World) → Comes w (put_into_found k value o w).1
 put_comes k value None w = same w
-put_comes k value (Some q) w = first_comes (may_put q) (unless_stopped (receiver q.waiting value) (aside (entry.Put q.name value) (with_queue k (put_to q.waiting value q)) w)) (None, w) w (by_aside (entry.Put q.name value) _ w refl) (same w)
+put_comes k value (Some q) w =
+    first_comes (may_put q) (unless_stopped (receiver q.waiting value) (aside (entry.Put q.name value)
+    (with_queue k (put_to q.waiting value q)) w)) (None, w) w (by_aside (entry.Put q.name value) _ w refl) (same w)
 
 get_comes : (k d : ℕ) (o : Option Queue) (w : World) → Comes w (get_from_found k d o w).1
 get_comes k d None w = same w
@@ -109,15 +127,21 @@ call_comes number (Some call) w = state_comes number call.state w
 
 off_comes : (number : ℕ) (w : World) → Comes w (cancel_call number w).1
 unfolding cancel_call
-off_comes number w = first_comes w.stopped _ (call_cancelled number (slice_get w.objects.clock.calls number) w) w (same w) (call_comes number (slice_get w.objects.clock.calls number) w)
+off_comes number w =
+    first_comes w.stopped _ (call_cancelled number (slice_get w.objects.clock.calls number) w) w (same w)
+    (call_comes number (slice_get w.objects.clock.calls number) w)
 
 inlining_comes : (i : ℕ) (v : Value) (w : World) → Comes w (come_to_inline i v w).1
 unfolding come_to_inline
-inlining_comes i v w = let t = come_to i v w.objects.inlines in first_comes w.stopped (None, w) (t.0, arrange (inlining (λ inlines. t.1)) w) w (same w) (record { keeps = λ R k. k.by_arrange _ w })
+inlining_comes i v w =
+    let t = come_to i v w.objects.inlines in first_comes w.stopped (None, w)
+    (t.0, arrange (inlining (λ inlines. t.1)) w) w (same w) (record { keeps = λ R k. k.by_arrange _ w })
 
 end_await_comes : (i e : ℕ) (p : Position) (w : World) → Comes w (end_await i e p w).1
 unfolding end_await
-end_await_comes i e p w = let t = end_adding i e p w.objects.inlines in first_comes w.stopped (None, w) (t.0, arrange (inlining (λ inlines. t.1)) w) w (same w) (record { keeps = λ R k. k.by_arrange _ w })
+end_await_comes i e p w =
+    let t = end_adding i e p w.objects.inlines in first_comes w.stopped (None, w)
+    (t.0, arrange (inlining (λ inlines. t.1)) w) w (same w) (record { keeps = λ R k. k.by_arrange _ w })
 
 pub due_aside : (due : Due) → change_of (coming_due due) ≡ Aside
 due_aside (what.Call name key) = refl

@@ -34,7 +34,8 @@ module _ (R : World → World → Type 0) (l : Lasting R) where
       let same = gives_one (runs_lead all.turns fs o w all.outcome all.after all.ends) g in
       subst (λ x. R w x) same.1 ((run_comes all.turns fs o w all.outcome all.after all.ends).keeps R l)
 
-  pub begun_gives_keeps : (itself : Option ℕ) (action : Action) (w : World) (p : Performed) (u : World) → (let t = begun itself (out-Action action) w in Gives t.0 t.1 t.2 p u) → R w u
+  pub begun_gives_keeps : (itself : Option ℕ) (action : Action) (w : World) (p : Performed) (u : World)
+      → (let t = begun itself (out-Action action) w in Gives t.0 t.1 t.2 p u) → R w u
   begun_gives_keeps itself action w p u g =
       let t = begun itself (out-Action action) w in
       l.joins w t.2 u ((begun_comes itself (out-Action action) w).keeps R l) (gives_keeps t.0 t.1 t.2 p u g)
@@ -46,10 +47,14 @@ module _ (R : World → World → Type 0) (l : Lasting R) where
 
   pub runs_keeps : (all : List Occurrence) (w u : World) → Runs all w u → R w u
   runs_keeps [] w u h = subst (λ x. R w x) (sym h) (l.stays w)
-  runs_keeps (occurrence ∷ rest) w u h = l.joins w h.0 u (happens_keeps occurrence w h.0 h.1) (runs_keeps rest h.0 u h.2)
+  runs_keeps (occurrence ∷ rest) w u h =
+      l.joins w h.0 u (happens_keeps occurrence w h.0 h.1) (runs_keeps rest h.0 u h.2)
 
-  pub means_keeps : (script : Script) (batches : List Batch) (w : World) → Means script batches w → R (first_world script.classes script.limit script.cooperator) w
-  means_keeps script batches w h = runs_keeps (occurrences script.callers script.events batches) (first_world script.classes script.limit script.cooperator) w h
+  pub means_keeps : (script : Script) (batches : List Batch) (w : World) → Means script batches w
+      → R (first_world script.classes script.limit script.cooperator) w
+  means_keeps script batches w h =
+      runs_keeps (occurrences script.callers script.events batches)
+      (first_world script.classes script.limit script.cooperator) w h
 
 pub happens_end : (occurrence : Occurrence) (w : World) → (u : World) × Happens occurrence w u
 happens_end occurrence w =
@@ -74,7 +79,11 @@ runs_one (occurrence ∷ rest) w u v r s =
     runs_one rest s.0 u v (subst (λ x. Runs rest x u) same r.2) s.2
 
 pub every_script_ends : EveryScriptEnds
-every_script_ends script batches = runs_end (occurrences script.callers script.events batches) (first_world script.classes script.limit script.cooperator)
+every_script_ends script batches =
+    runs_end (occurrences script.callers script.events batches)
+    (first_world script.classes script.limit script.cooperator)
 
 pub each_script_has_one_meaning : EachScriptHasOneMeaning
-each_script_has_one_meaning script batches u v r s = runs_one (occurrences script.callers script.events batches) (first_world script.classes script.limit script.cooperator) u v r s
+each_script_has_one_meaning script batches u v r s =
+    runs_one (occurrences script.callers script.events batches)
+    (first_world script.classes script.limit script.cooperator) u v r s

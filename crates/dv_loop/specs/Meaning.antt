@@ -29,4 +29,6 @@ Runs (occurrence ∷ occurrences) w after = (next : World) × Happens occurrence
 
 -- a script leads, where these batches of posts are taken, from a world in which nothing is made to the world at its end
 abbrev pub Means : Script → List Batch → World → Type 0
-Means script batches after = Runs (occurrences script.callers script.events batches) (first_world script.classes script.limit script.cooperator) after
+Means script batches after =
+    Runs (occurrences script.callers script.events batches)
+    (first_world script.classes script.limit script.cooperator) after

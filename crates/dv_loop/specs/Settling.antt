@@ -1,4 +1,5 @@
--- Settling a Deferred: its items are used in turn, each on what the one before gave (Twisted: the Deferred Reference, "Callback chains" and "Chaining Deferreds"; `Deferred._runCallbacks`). The rules, run.
+-- Settling a Deferred: its items are used in turn, each on what the one before gave (Twisted: the Deferred Reference,
+-- "Callback chains" and "Chaining Deferreds"; `Deferred._runCallbacks`). The rules, run.
 use Rattle.std.specs.Prelude.{ℕ, Option}
 use Rattle.dv_frames.specs.Turn.{Turned}
 use Rattle.dv_objects.specs.Pair.{Pair}

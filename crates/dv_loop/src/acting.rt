@@ -21,9 +21,9 @@ use dv_threads::inlining::begin_inline;
 use dv_threads::threading::thread;
 use std::alloc::AllocError;
 
-/// Begins an action, and puts on the stack what is to follow. A name that isn't bound raises NameError, a further firing
-/// AlreadyCalledError unless it is swallowed, and an unpausing of what isn't paused AssertionError; each changes no
-/// Deferred.
+/// Begins an action, and puts on the stack what is to follow. A name that isn't bound raises
+/// NameError, a further firing AlreadyCalledError unless it is swallowed, and an unpausing of what
+/// isn't paused AssertionError; each changes no Deferred.
 pub fn begin<'s>(
     turn: &mut Turn<'s>,
     itself: Option<DeferredId>,

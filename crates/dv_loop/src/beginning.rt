@@ -18,8 +18,8 @@ use dv_script::event::Event;
 use dv_script::lent::BodyRef;
 use std::alloc::AllocError;
 
-/// Begins an event. Performs an action, in which `@` isn't bound, and logs a failure that leaves it; sets the time forward,
-/// and runs what is due; or logs a drain.
+/// Begins an event. Performs an action, in which `@` isn't bound, and logs a failure that leaves
+/// it; sets the time forward, and runs what is due; or logs a drain.
 pub fn begin_event<'s>(turn: &mut Turn<'s>, event: &'s Event) -> Result<(), AllocError>
     requires bounded { Bounded turn.old.world }
     requires done { turn.old.performed ≡ Done }
@@ -38,7 +38,8 @@ pub fn begin_event<'s>(turn: &mut Turn<'s>, event: &'s Event) -> Result<(), Allo
     }
 }
 
-/// Begins a post: logs it, and performs its body on null, in which `@` isn't bound; logs a failure that leaves it.
+/// Begins a post: logs it, and performs its body on null, in which `@` isn't bound; logs a failure
+/// that leaves it.
 pub fn begin_post<'s>(
     turn: &mut Turn<'s>,
     posted: &Posted,

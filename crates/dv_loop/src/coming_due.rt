@@ -16,7 +16,8 @@ use dv_objects::input::Input;
 use dv_task::looping::take_turn;
 use std::alloc::AllocError;
 
-/// What is due next is run, where something is, and then what is due after it (Twisted: `Clock.advance`).
+/// What is due next is run, where something is, and then what is due after it (Twisted:
+/// `Clock.advance`).
 #[inline(never)]
 pub fn run_due(turn: &mut Turn<'_>) -> Result<TurnEnd, AllocError>
     requires done { turn.old.performed ≡ Done }
@@ -31,7 +32,8 @@ pub fn run_due(turn: &mut Turn<'_>) -> Result<TurnEnd, AllocError>
 /// This is run, and then what is due after it.
 fn run_what(turn: &mut Turn<'_>, what: Due) -> Result<TurnEnd, AllocError>
     requires done { turn.old.performed ≡ Done }
-    ensures { IfOk result (λ end. ending end turn.new ≡ after (page.run_next (Some what)) turn.old) }
+    ensures { IfOk result
+        (λ end. ending end turn.new ≡ after (page.run_next (Some what)) turn.old) }
 {
     match what {
         Due::Call(name, key) => {

@@ -1,5 +1,5 @@
-//! The loop that runs a script: each action by its rule, settling, the turn of each frame, what is due, what an event or a post
-//! begins with; the meaning of all that, and laws of it.
+//! The loop that runs a script: each action by its rule, settling, the turn of each frame, what is
+//! due, what an event or a post begins with; the meaning of all that, and laws of it.
 #![tactic(auto)]
 
 mod acting;

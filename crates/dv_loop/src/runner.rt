@@ -24,10 +24,11 @@ use std::alloc::{AllocError, AllocGlobal};
 use std::random::RandomSource;
 use std::sync::Wait;
 
-/// Performs an event, with all that follows from it, in one loop over a stack of what is still to be done, so that what a
-/// run nests isn't on the machine's stack. What lies on that stack at first is dropped, and its room is used again.
-/// The jobs that are made are submitted, and where a job's result is due it may wait for that. In a run that has stopped
-/// nothing is done, and that is no error; the only error is out of memory.
+/// Performs an event, with all that follows from it, in one loop over a stack of what is still to
+/// be done, so that what a run nests isn't on the machine's stack. What lies on that stack at first
+/// is dropped, and its room is used again. The jobs that are made are submitted, and where a job's
+/// result is due it may wait for that. In a run that has stopped nothing is done, and that is no
+/// error; the only error is out of memory.
 #[tactic(auto, using(crate::proofs::Stopped::happens_stopped, crate::proofs::Turns::happening_bounded, crate::proofs::JobsKept::happening_goes_on))]
 pub fn happen<'s, R, J>(
     rt: &R,
@@ -68,7 +69,8 @@ where
     J: JobSource,
     requires bounded { Bounded turn.old.world }
     requires jobs { jobs.old ≡ turn.old.world.works }
-    ensures happens { OnOk result (Happens (Comes posted.now body.now) turn.old.world turn.new.world) }
+    ensures happens { OnOk result
+        (Happens (Comes posted.now body.now) turn.old.world turn.new.world) }
     ensures jobs { OnOk result (jobs.new ≡ turn.new.world.works) }
 {
     if turn.world.is_stopped() {
@@ -89,7 +91,8 @@ fn begin_anew(turn: &mut Turn<'_>)
     clear(&mut turn.performed);
 }
 
-/// Goes on until the stack is empty, or the run has stopped: then what is left on the stack would change nothing.
+/// Goes on until the stack is empty, or the run has stopped: then what is left on the stack would
+/// change nothing.
 #[tactic(auto, using(crate::proofs::Stopped::loop_stopped))]
 fn run<'s, R, J>(
     rt: &R,
@@ -102,7 +105,8 @@ where
     J: JobSource,
     requires bounded { Bounded turn.old.world }
     requires jobs { jobs.old ≡ turn.old.world.works }
-    ensures ends { OnOk result (Ends turn.old.stack turn.old.performed turn.old.world turn.new.world) }
+    ensures ends { OnOk result
+        (Ends turn.old.stack turn.old.performed turn.old.world turn.new.world) }
     ensures jobs { OnOk result (jobs.new ≡ turn.new.world.works) }
 {
     'turns: while !turn.world.is_stopped() {
@@ -128,7 +132,8 @@ where
     J: JobSource,
     requires bounded { Bounded turn.old.world }
     requires jobs { jobs.old ≡ turn.old.world.works }
-    ensures turned { OnOk result (turn.new ≡ after (rule_of frame.entry turn.old.performed) turn.old) }
+    ensures turned { OnOk result
+        (turn.new ≡ after (rule_of frame.entry turn.old.performed) turn.old) }
     ensures jobs { OnOk result (jobs.new ≡ turn.new.world.works) }
 {
     let end = perform_frame(poller, turn, frame)?;
@@ -136,7 +141,8 @@ where
     finish_turn(rt, jobs, turn, end)
 }
 
-/// Ends a turn: where a job's result is due, waits for the job if it has to, and fires its Deferred.
+/// Ends a turn: where a job's result is due, waits for the job if it has to, and fires its
+/// Deferred.
 fn finish_turn<'s, R, J>(
     rt: &R,
     jobs: &mut Submissions<'s, J>,

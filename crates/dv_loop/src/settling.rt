@@ -71,7 +71,8 @@ fn begin_side<'s>(
     input: Value,
 ) -> Result<(), AllocError>
     requires done { turn.old.performed ≡ Done }
-    ensures { OnOk result (turn.new ≡ after (page.run_side id (side_for pair.entry (is_fault input)) input) turn.old) }
+    ensures { OnOk result (turn.new
+        ≡ after (page.run_side id (side_for pair.entry (is_fault input)) input) turn.old) }
 {
     match pair.into_side(input.is_fault()) {
         None => {

@@ -36,7 +36,8 @@ pub fn perform_frame<'s>(
     frame: Frame<'s>,
 ) -> Result<TurnEnd, AllocError>
     requires bounded { Bounded turn.old.world }
-    ensures { IfOk result (λ end. ending end turn.new ≡ after (rule_of frame.entry turn.old.performed) turn.old) }
+    ensures { IfOk result
+        (λ end. ending end turn.new ≡ after (rule_of frame.entry turn.old.performed) turn.old) }
 {
     match frame {
         Frame::Settle(id) => {
@@ -99,7 +100,8 @@ fn go_on_cancelling<'s>(turn: &mut Turn<'s>, id: DeferredId) -> Result<(), Alloc
 #[inline(never)]
 fn make_deferred<'s>(turn: &mut Turn<'s>, purpose: Purpose<'s>) -> Result<(), AllocError>
     requires bounded { Bounded turn.old.world }
-    ensures { OnOk result (turn.new ≡ after (page.deferred_of purpose.entry turn.old.performed) turn.old) }
+    ensures { OnOk result
+        (turn.new ≡ after (page.deferred_of purpose.entry turn.old.performed) turn.old) }
 {
     let came_to = taken(&mut turn.performed);
     end_maybe(turn, purpose, came_to)
@@ -127,7 +129,8 @@ fn tell<'s>(turn: &mut Turn<'s>) -> Result<(), AllocError>
 #[inline(never)]
 fn go_on_unless_raised<'s>(turn: &mut Turn<'s>, rest: Rest<'s>) -> Result<(), AllocError>
     requires bounded { Bounded turn.old.world }
-    ensures { OnOk result (turn.new ≡ after (unless_raised turn.old.performed (page.perform_rest rest.entry.itself rest.entry.actions rest.entry.end rest.entry.input)) turn.old) }
+    ensures { OnOk result (turn.new ≡ after (unless_raised turn.old.performed (page.perform_rest
+        rest.entry.itself rest.entry.actions rest.entry.end rest.entry.input)) turn.old) }
 {
     match &turn.performed {
         Performed::Raised(_) => {
@@ -145,7 +148,8 @@ fn go_on_unless_raised<'s>(turn: &mut Turn<'s>, rest: Rest<'s>) -> Result<(), Al
 fn go_on<'s>(turn: &mut Turn<'s>, rest: Rest<'s>) -> Result<(), AllocError>
     requires bounded { Bounded turn.old.world }
     requires done { turn.old.performed ≡ Done }
-    ensures { OnOk result (turn.new ≡ after (page.perform_rest rest.entry.itself rest.entry.actions rest.entry.end rest.entry.input) turn.old) }
+    ensures { OnOk result (turn.new ≡ after (page.perform_rest rest.entry.itself rest.entry.actions
+        rest.entry.end rest.entry.input) turn.old) }
 {
     let Rest {
         itself,

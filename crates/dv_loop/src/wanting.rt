@@ -28,7 +28,8 @@ pub fn go_on<'s>(
     inlining: Inlining<'s>,
 ) -> Result<(), AllocError>
     requires bounded { Bounded turn.old.world }
-    ensures { OnOk result (turn.new ≡ after (inline_goes inlining.entry turn.old.performed) turn.old) }
+    ensures { OnOk result
+        (turn.new ≡ after (inline_goes inlining.entry turn.old.performed) turn.old) }
 {
     match inlining {
         Inlining::Goes(inline, body) => {
@@ -68,7 +69,8 @@ fn poll<'s>(
 fn want<'s>(turn: &mut Turn<'s>, inline: Inline, body: InlineBody<'s>) -> Result<(), AllocError>
     requires bounded { Bounded turn.old.world }
     requires done { turn.old.performed ≡ Done }
-    ensures { OnOk result (turn.new ≡ after (page.do_wanted inline (want_at body.entry) body.entry) turn.old) }
+    ensures { OnOk result
+        (turn.new ≡ after (page.do_wanted inline (want_at body.entry) body.entry) turn.old) }
 {
     match body.want() {
         None => {

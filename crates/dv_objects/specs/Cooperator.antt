@@ -1,5 +1,7 @@
 -- The Cooperator and its tasks (Twisted: `Cooperator`, `CooperativeTask`).
-use Rattle.std.specs.Prelude.{ℕ, ◌+◌, ◌-◌, max, min, Bool, false, not, ◌&&◌, ◌||◌, is_none, is_some, nat_eq, if◌then◌else◌, List, [], ◌∷◌, ◌++◌, length, drop, Option, None, Some, slice_get, slice_set}
+use Rattle.std.specs.Prelude.{ℕ, ◌+◌, ◌-◌, max, min, Bool, false, not, ◌&&◌, ◌||◌, is_none, is_some, nat_eq}
+use Rattle.std.specs.Prelude.{if◌then◌else◌, List, [], ◌∷◌, ◌++◌, length, drop, Option, None, Some, slice_get}
+use Rattle.std.specs.Prelude.{slice_set}
 use Rattle.dv_clock.specs.Turns.{Turns, new_turns, joined, left, gone_on}
 use Rattle.dv_clock.specs.declared.limits.TheConstants.{MOST_DELAY}
 use Rattle.dv_script.specs.declared.body.Body.{Body}
@@ -12,7 +14,8 @@ use Rattle.dv_objects.specs.declared.task.Task.{Task}
 use Rattle.dv_objects.specs.declared.task.TaskEnd.{TaskEnd}
 use Rattle.dv_objects.specs.declared.task.TaskEnd.TheVariants.{Finished, Stopped, Failed}
 
--- tasks with their names, and those that take turns; how many steps a tick has and how long it is to the next, which one is scheduled, and whether one is under way
+-- tasks with their names, and those that take turns; how many steps a tick has and how long it is to the next, which
+-- one is scheduled, and whether one is under way
 pub record Cooperator : Type 0 where
   pub task_names : Names ℕ
   pub tasks : List Task
@@ -24,7 +27,15 @@ pub record Cooperator : Type 0 where
 
 -- there are no tasks at first
 abbrev pub new_cooperator : ℕ → ℕ → Cooperator
-new_cooperator units delay = record { task_names = []; tasks = []; turns = new_turns; units = units; delay = max 1 (min delay MOST_DELAY); tick = None; ticking = false }
+new_cooperator units delay = record {
+  task_names = [];
+  tasks = [];
+  turns = new_turns;
+  units = units;
+  delay = max 1 (min delay MOST_DELAY);
+  tick = None;
+  ticking = false;
+}
 
 -- the result of a task, for whoever waits for its end
 abbrev pub result_of : List ℕ → TaskEnd → Value
@@ -45,7 +56,11 @@ new_task name bodies = record { name = name; bodies = bodies; pauses = 0; end = 
 -- it takes turns from now on, last
 abbrev pub with_new_task : List ℕ → List Body → Cooperator → Cooperator
 with_new_task name bodies c =
-    record c { task_names = with_name name (length c.tasks) c.task_names; tasks = c.tasks ++ new_task name bodies ∷ []; turns = joined (length c.tasks) c.turns }
+    record c {
+      task_names = with_name name (length c.tasks) c.task_names;
+      tasks = c.tasks ++ new_task name bodies ∷ [];
+      turns = joined (length c.tasks) c.turns;
+    }
 
 -- a task, unless it has ended
 abbrev pub unended : Option Task → Option Task
@@ -58,7 +73,8 @@ with_task t x c = record c { tasks = slice_set c.tasks t x }
 
 -- the task whose turn it is takes it, and begins its next body
 abbrev pub with_step : ℕ → Task → Cooperator → Cooperator
-with_step t x c = record c { tasks = slice_set c.tasks t (record x { bodies = drop 1 x.bodies }); turns = gone_on c.turns }
+with_step t x c =
+    record c { tasks = slice_set c.tasks t (record x { bodies = drop 1 x.bodies }); turns = gone_on c.turns }
 
 -- a task is paused once more, and takes no turns
 abbrev pub with_pause : ℕ → Task → Cooperator → Cooperator
@@ -67,11 +83,15 @@ with_pause t x c = record c { tasks = slice_set c.tasks t (record x { pauses = x
 -- a task is paused once less; where it isn't paused any more and hasn't ended, it takes turns again, last
 abbrev pub with_resume : ℕ → Task → Cooperator → Cooperator
 with_resume t x c =
-    record c { tasks = slice_set c.tasks t (record x { pauses = x.pauses - 1 }); turns = if nat_eq x.pauses 1 && is_none x.end then joined t c.turns else c.turns }
+    record c {
+      tasks = slice_set c.tasks t (record x { pauses = x.pauses - 1 });
+      turns = if nat_eq x.pauses 1 && is_none x.end then joined t c.turns else c.turns;
+    }
 
 -- a task has ended, and takes no turns any more
 abbrev pub with_end : ℕ → TaskEnd → Task → Cooperator → Cooperator
-with_end t end x c = record c { tasks = slice_set c.tasks t (record x { end = Some end; waiting = [] }); turns = left t c.turns }
+with_end t end x c =
+    record c { tasks = slice_set c.tasks t (record x { end = Some end; waiting = [] }); turns = left t c.turns }
 
 -- d waits for the end of a task, unless it has ended
 abbrev pub with_waiting : ℕ → ℕ → Task → Cooperator → Cooperator

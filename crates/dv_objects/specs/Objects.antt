@@ -1,4 +1,5 @@
--- What stands beside the Deferreds: names, locks and semaphores, queues, what DeferredLists have of their children, the clock with its delayed calls, loops, the Cooperator, and what inline bodies wait for.
+-- What stands beside the Deferreds: names, locks and semaphores, queues, what DeferredLists have of their children, the
+-- clock with its delayed calls, loops, the Cooperator, and what inline bodies wait for.
 use Rattle.std.specs.Prelude.{ℕ, List, [], ◌∷◌, ◌++◌, length, Option, None, Some, slice_set}
 use Rattle.dv_clock.specs.Clock.{Clock, new_clock, with_call, ended}
 use Rattle.dv_clock.specs.declared.call.CallState.{CallState}
@@ -16,7 +17,9 @@ use Rattle.dv_objects.specs.Names.{Names, with_name}
 use Rattle.dv_objects.specs.declared.waiting.Waiting.TheVariants.{Nothing}
 use Rattle.dv_objects.specs.declared.looping_call.LoopingCall.{LoopingCall}
 
--- what stands beside the Deferreds: their names, locks and semaphores with theirs, queues with theirs, and the lists; the clock, delayed calls with their names, and their bodies; loops with theirs, the Cooperator with its tasks, and what inline bodies wait for
+-- what stands beside the Deferreds: their names, locks and semaphores with theirs, queues with theirs, and the lists;
+-- the clock, delayed calls with their names, and their bodies; loops with theirs, the Cooperator with its tasks, and
+-- what inline bodies wait for
 pub record Objects : Type 0 where
   pub names : Names ℕ
   pub locks : Names ℕ
@@ -34,7 +37,21 @@ pub record Objects : Type 0 where
 
 -- nothing stands there at first but a Cooperator without tasks
 abbrev pub no_objects : Settings → Objects
-no_objects settings = record { names = []; locks = []; semaphores = []; queue_names = []; queues = []; lists = []; clock = new_clock; call_names = []; bodies = []; loop_names = []; loops = []; cooperator = new_cooperator settings.units settings.delay; inlines = [] }
+no_objects settings = record {
+  names = [];
+  locks = [];
+  semaphores = [];
+  queue_names = [];
+  queues = [];
+  lists = [];
+  clock = new_clock;
+  call_names = [];
+  bodies = [];
+  loop_names = [];
+  loops = [];
+  cooperator = new_cooperator settings.units settings.delay;
+  inlines = [];
+}
 
 -- a name of a Deferred is bound
 abbrev pub naming : List ℕ → ℕ → Objects → Objects
@@ -47,7 +64,10 @@ naming_where (Some name) d objects = naming name d objects
 
 -- a lock is added, and its name is bound to it
 abbrev pub with_added_lock : List ℕ → Semaphore → Objects → Objects
-with_added_lock name s objects = record objects { locks = with_name name (length objects.semaphores) objects.locks; semaphores = objects.semaphores ++ s ∷ [] }
+with_added_lock name s objects = record objects {
+  locks = with_name name (length objects.semaphores) objects.locks;
+  semaphores = objects.semaphores ++ s ∷ [];
+}
 
 -- a lock is made, of which no token is held
 abbrev pub with_new_lock : List ℕ → ℕ → Objects → Objects
@@ -64,7 +84,10 @@ lock_changed l change (Some s) objects = with_lock l (change s) objects
 
 -- a queue is added, and its name is bound to it
 abbrev pub with_added_queue : List ℕ → Queue → Objects → Objects
-with_added_queue name q objects = record objects { queue_names = with_name name (length objects.queues) objects.queue_names; queues = objects.queues ++ q ∷ [] }
+with_added_queue name q objects = record objects {
+  queue_names = with_name name (length objects.queues) objects.queue_names;
+  queues = objects.queues ++ q ∷ [];
+}
 
 -- a queue is made, in which nothing is stored
 abbrev pub with_new_queue : List ℕ → Option ℕ → Option ℕ → Objects → Objects
@@ -90,7 +113,11 @@ with_list l g objects = record objects { lists = slice_set objects.lists l g }
 -- a delayed call of this body is added, which is due at this time, and its name is bound to it
 abbrev pub with_new_call : List ℕ → ℕ → Body → Objects → Objects
 with_new_call name due body objects =
-    record objects { clock = with_call due (Call name (length objects.bodies)) objects.clock; call_names = with_name name (length objects.clock.calls) objects.call_names; bodies = objects.bodies ++ body ∷ [] }
+    record objects {
+      clock = with_call due (Call name (length objects.bodies)) objects.clock;
+      call_names = with_name name (length objects.clock.calls) objects.call_names;
+      bodies = objects.bodies ++ body ∷ [];
+    }
 
 -- the delivery of a job's result to d is added, which is due at this time
 abbrev pub with_delivery : ℕ → ℕ → ℕ → Objects → Objects
@@ -114,11 +141,17 @@ cooperating change objects = record objects { cooperator = change objects.cooper
 
 -- a tick is scheduled, which is due at this time
 abbrev pub with_tick : ℕ → Objects → Objects
-with_tick due objects = record objects { clock = with_call due Tick objects.clock; cooperator = record objects.cooperator { tick = Some (length objects.clock.calls) } }
+with_tick due objects = record objects {
+  clock = with_call due Tick objects.clock;
+  cooperator = record objects.cooperator { tick = Some (length objects.clock.calls) };
+}
 
 -- the tick that is scheduled is dropped
 abbrev pub without_tick : ℕ → Objects → Objects
-without_tick number objects = record objects { clock = ended number Dropped objects.clock; cooperator = record objects.cooperator { tick = None } }
+without_tick number objects = record objects {
+  clock = ended number Dropped objects.clock;
+  cooperator = record objects.cooperator { tick = None };
+}
 
 -- what inline bodies wait for changes
 abbrev pub inlining : (Inlines → Inlines) → Objects → Objects

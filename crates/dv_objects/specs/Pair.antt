@@ -1,4 +1,5 @@
--- The pairs of a Deferred: what runs on its value (Twisted: `Deferred.addCallbacks`, `Deferred.chainDeferred`, `Deferred.addTimeout`, `DeferredList`, `gatherResults`, `DeferredLock.run`, `LoopingCall`, `CooperativeTask`).
+-- The pairs of a Deferred: what runs on its value (Twisted: `Deferred.addCallbacks`, `Deferred.chainDeferred`,
+-- `Deferred.addTimeout`, `DeferredList`, `gatherResults`, `DeferredLock.run`, `LoopingCall`, `CooperativeTask`).
 use Rattle.std.specs.Prelude.{ℕ, Bool, Option, Some, None, is_none, if◌then◌else◌}
 use Rattle.dv_script.specs.declared.body.Body.{Body}
 use Rattle.dv_objects.specs.declared.inline_id.Inline.{Inline}

@@ -7,7 +7,8 @@ use Rattle.dv_objects.specs.Pair.{Pair}
 use Rattle.dv_objects.specs.declared.reached.Reached.{Reached}
 use Rattle.dv_objects.specs.declared.reached.Reached.TheVariants as reached
 
--- an unfired Deferred is to be fired, after its canceller has run, or after it was taken out of where it waits; of a list the children are to be cancelled, and of an inline body what it awaits
+-- an unfired Deferred is to be fired, after its canceller has run, or after it was taken out of where it waits; of a
+-- list the children are to be cancelled, and of an inline body what it awaits
 abbrev pub reached_unfired : ℕ → Option Canceller → Reached
 reached_unfired d None = reached.Fire d
 reached_unfired d (Some (canceller.Body body)) = reached.Run d body

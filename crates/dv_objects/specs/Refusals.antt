@@ -1,6 +1,7 @@
 -- What is raised where something is refused.
 use Rattle.std.specs.Prelude.{ℕ, List, [], codes}
-use Rattle.dv_value.specs.Builtin.{name_error, assertion_error, already_called_error, cancelled_error, type_error, queue_overflow, queue_underflow}
+use Rattle.dv_value.specs.Builtin.{name_error, assertion_error, already_called_error, cancelled_error, type_error}
+use Rattle.dv_value.specs.Builtin.{queue_overflow, queue_underflow}
 use Rattle.dv_value.specs.Failure.{plain_failure}
 use Rattle.dv_value.specs.declared.failure.Failure.{Failure}
 use Rattle.dv_value.specs.declared.value.Value.{Value, Fault}

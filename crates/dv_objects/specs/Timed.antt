@@ -9,7 +9,8 @@ use Rattle.dv_value.specs.declared.value.Value.{Value}
 
 -- whether a value is a failure of CancelledError, or of a class below it
 abbrev pub is_cancellation : List Class → Value → Bool
-is_cancellation table value = option_map_or (λ failure. descends table (class_of failure) cancelled_error) (failure_in value) false
+is_cancellation table value =
+    option_map_or (λ failure. descends table (class_of failure) cancelled_error) (failure_in value) false
 
 -- TimeoutError in place of a cancellation, where the time is over; else the value itself
 abbrev pub timed : List Class → Bool → Value → Value

@@ -26,7 +26,8 @@ module _ {B : Type 0} where
   is_adding (Came input) = false
   is_adding (Awaiting awaited body) = false
 
-  -- what comes reaches a body that awaits it, which goes on with it; one whose pair is being added has it from then on; else nothing changes
+  -- what comes reaches a body that awaits it, which goes on with it; one whose pair is being added has it from then on;
+  -- else nothing changes
   abbrev pub come : Value → Waiting B → Option (B × Value) × Waiting B
   come input Nothing = (None, Nothing)
   come input Adding = (None, Came input)
@@ -40,7 +41,8 @@ module _ {B : Type 0} where
   taken (Came input) = (Some input, Nothing)
   taken (Awaiting awaited body) = (None, Awaiting awaited body)
 
-  -- its pair has been added: the body goes on with what came meanwhile, and awaits where nothing did; where it wasn't being added, nothing changes
+  -- its pair has been added: the body goes on with what came meanwhile, and awaits where nothing did; where it wasn't
+  -- being added, nothing changes
   abbrev pub added : ℕ → B → Waiting B → Option (B × Value) × Waiting B
   added awaited body Nothing = (None, Nothing)
   added awaited body Adding = (None, Awaiting awaited body)

@@ -14,8 +14,8 @@ use std::hash::RandomState;
 use std::marker::Model;
 use std::mem;
 
-/// The Cooperator: its tasks, whose turn it is, and its ticks, in each of which so many steps are taken (Twisted:
-/// `Cooperator`). Its changes aren't logged here; the world logs them.
+/// The Cooperator: its tasks, whose turn it is, and its ticks, in each of which so many steps are
+/// taken (Twisted: `Cooperator`). Its changes aren't logged here; the world logs them.
 #[derive(Drop)]
 pub struct Cooperator<'s> {
     alloc: Global,
@@ -36,19 +36,35 @@ impl<'s> Model for Cooperator<'s> {
 
     ghost Value = { Seen };
 
-    ghost coded = { Prim.hlevel (codes, body_contract.the_row.coded, failure_contract.the_row.coded) };
+    ghost coded = { Prim.hlevel (
+      codes,
+      body_contract.the_row.coded,
+      failure_contract.the_row.coded,
+    ) };
 
-    ghost view = { λ c. record { task_names = c.names; tasks = c.tasks.items; turns = c.turns; units = c.units; delay = c.delay; tick = c.tick; ticking = c.ticking } };
+    ghost view = { λ c. record {
+      task_names = c.names;
+      tasks = c.tasks.items;
+      turns = c.turns;
+      units = c.units;
+      delay = c.delay;
+      tick = c.tick;
+      ticking = c.ticking;
+    } };
 }
 
 impl<'s> Cooperator<'s> {
     ghost use Rattle.std.specs.Option.{option_copied};
     ghost use Rattle.dv_clock.specs.Turns.{turn_of};
-    ghost use Rattle.dv_objects.specs.Cooperator.{new_cooperator, with_new_task, with_step, with_pause, with_resume, with_end, with_waiting, changing, unended, next_body, waiting_for, wants_tick, idle_tick};
+    ghost use Rattle.dv_objects.specs.Cooperator.{new_cooperator, with_new_task, with_step};
+    ghost use Rattle.dv_objects.specs.Cooperator.{with_pause, with_resume, with_end, with_waiting};
+    ghost use Rattle.dv_objects.specs.Cooperator.{changing, unended, next_body, waiting_for};
+    ghost use Rattle.dv_objects.specs.Cooperator.{wants_tick, idle_tick};
     ghost use Rattle.dv_objects.specs.Names.{number_of};
 
-    /// A Cooperator without tasks, which takes so many steps in a tick, and from tick to tick of which it is so many ticks of
-    /// the clock, or the nearest number that an interval may have. Names of tasks are hashed with these keys.
+    /// A Cooperator without tasks, which takes so many steps in a tick, and from tick to tick of
+    /// which it is so many ticks of the clock, or the nearest number that an interval may have.
+    /// Names of tasks are hashed with these keys.
     pub fn new(alloc: Global, keys: RandomState, units: u32, delay: u64) -> Cooperator<'s>
         ensures { result ≡ new_cooperator units delay }
     {
@@ -89,8 +105,8 @@ impl<'s> Cooperator<'s> {
         Some(task)
     }
 
-    /// A task is made of bodies, and its name is bound to it, also where that was bound to another; it takes turns, last.
-    /// AllocError where there are more tasks than numbers of 32 bits.
+    /// A task is made of bodies, and its name is bound to it, also where that was bound to another;
+    /// it takes turns, last. AllocError where there are more tasks than numbers of 32 bits.
     pub fn make(&mut self, name: TextRef<'s>, bodies: BodiesRef<'s>) -> Result<(), AllocError>
         ensures { OnOk result (self.new ≡ with_new_task name.entry bodies.entry self.old) }
     {
@@ -129,7 +145,8 @@ impl<'s> Cooperator<'s> {
 
     /// A task is paused once more, and takes no turns.
     pub fn pause(&mut self, id: TaskId) -> Result<(), AllocError>
-        ensures { OnOk result (self.new ≡ changing (with_pause id) (slice_get self.old.tasks id) self.old) }
+        ensures { OnOk result (self.new ≡ changing (with_pause id)
+            (slice_get self.old.tasks id) self.old) }
     {
         let Some(task) = self.tasks.get_mut(id.number() as usize) else {
             return Ok(());
@@ -142,9 +159,11 @@ impl<'s> Cooperator<'s> {
         Ok(())
     }
 
-    /// A task is paused once less; where it isn't paused any more and hasn't ended, it takes turns again, last.
+    /// A task is paused once less; where it isn't paused any more and hasn't ended, it takes turns
+    /// again, last.
     pub fn resume(&mut self, id: TaskId) -> Result<(), AllocError>
-        ensures { OnOk result (self.new ≡ changing (with_resume id) (slice_get self.old.tasks id) self.old) }
+        ensures { OnOk result (self.new ≡ changing (with_resume id)
+            (slice_get self.old.tasks id) self.old) }
     {
         let Some(task) = self.tasks.get_mut(id.number() as usize) else {
             return Ok(());
@@ -157,10 +176,12 @@ impl<'s> Cooperator<'s> {
         Ok(())
     }
 
-    /// A task has ended, and takes no turns any more; the Deferreds that wait for its end come back.
+    /// A task has ended, and takes no turns any more; the Deferreds that wait for its end come
+    /// back.
     pub fn end(&mut self, id: TaskId, end: TaskEnd) -> Items<DeferredId>
         ensures waiting { result ≡ waiting_for (slice_get self.old.tasks id) }
-        ensures rest { self.new ≡ changing (with_end id end) (slice_get self.old.tasks id) self.old }
+        ensures rest { self.new ≡ changing (with_end id end)
+            (slice_get self.old.tasks id) self.old }
     {
         let Some(task) = self.tasks.get_mut(id.number() as usize) else {
             drop(end);
@@ -173,7 +194,8 @@ impl<'s> Cooperator<'s> {
 
     /// A Deferred waits for the end of a task, unless it has ended.
     pub fn wait(&mut self, id: TaskId, waiting: DeferredId) -> Result<(), AllocError>
-        ensures { OnOk result (self.new ≡ changing (with_waiting id waiting) (slice_get self.old.tasks id) self.old) }
+        ensures { OnOk result (self.new ≡ changing (with_waiting id waiting)
+            (slice_get self.old.tasks id) self.old) }
     {
         let Some(task) = self.tasks.get_mut(id.number() as usize) else {
             return Ok(());
@@ -191,7 +213,8 @@ impl<'s> Cooperator<'s> {
         self.tasks
     }
 
-    /// Whether a tick is to be scheduled: somebody takes turns, and no tick is scheduled or under way.
+    /// Whether a tick is to be scheduled: somebody takes turns, and no tick is scheduled or under
+    /// way.
     pub fn wants_tick(&self) -> bool
         ensures { result ≡ wants_tick self.now }
     {

@@ -23,7 +23,8 @@ enum Held<'s> {
     Failed(ClassId, TextRef<'s>),
 }
 
-/// A value that is made only where it is kept, so that one that nobody keeps costs nothing. Contracts see it as the value.
+/// A value that is made only where it is kept, so that one that nobody keeps costs nothing.
+/// Contracts see it as the value.
 #[derive(Drop)]
 pub struct Given<'s> {
     held: Held<'s>,
@@ -79,8 +80,8 @@ impl<'s> Given<'s> {
         made(alloc, self.held)
     }
 
-    /// Returns the failure, where the value is one. AllocError where it isn't made yet and the allocation fails; a
-    /// value that is no failure takes no memory.
+    /// Returns the failure, where the value is one. AllocError where it isn't made yet and the
+    /// allocation fails; a value that is no failure takes no memory.
     pub fn into_failure(self, alloc: Global) -> Result<Option<Boxed<Failure>>, AllocError>
         ensures { IfOk result (λ f. f ≡ failure_in self.entry) }
     {

@@ -37,6 +37,7 @@ impl InlineId {
 #[derive(Clone, Copy, Debug, PartialEq, Eq)]
 pub struct Inline {
     pub id: InlineId,
-    /// The Deferred that is fired with the body's result (Twisted: what the function under `inlineCallbacks` answers).
+    /// The Deferred that is fired with the body's result (Twisted: what the function under
+    /// `inlineCallbacks` answers).
     pub of: DeferredId,
 }

@@ -8,8 +8,8 @@ use dv_value::value::Value;
 use std::alloc::{AllocError, Global};
 use std::marker::Model;
 
-/// What each inline body waits for, by its number (Twisted: `inlineCallbacks`). A body is kept here while it awaits a
-/// Deferred.
+/// What each inline body waits for, by its number (Twisted: `inlineCallbacks`). A body is kept here
+/// while it awaits a Deferred.
 #[derive(Drop)]
 pub struct Inlines<'s> {
     kept: Vec<Waiting<usize>>,
@@ -24,7 +24,11 @@ impl<'s> Model for Inlines<'s> {
 
     ghost Value = { Seen };
 
-    ghost coded = { Prim.hlevel (codes, statement_contract.the_row.coded, value_contract.the_row.coded) };
+    ghost coded = { Prim.hlevel (
+      codes,
+      statement_contract.the_row.coded,
+      value_contract.the_row.coded,
+    ) };
 
     ghost view = { λ i. seen_all i.parked i.kept.items };
 
@@ -60,7 +64,8 @@ impl<'s> Inlines<'s> {
         Ok(())
     }
 
-    /// The pair of an inline body is being added to the Deferred that it is going to await. What it waited for before is dropped.
+    /// The pair of an inline body is being added to the Deferred that it is going to await. What it
+    /// waited for before is dropped.
     pub fn begin(&mut self, place: usize)
         ensures { self.new ≡ now_waiting place Waiting.Adding self.old }
     {
@@ -72,8 +77,8 @@ impl<'s> Inlines<'s> {
         }
     }
 
-    /// What an inline body awaits comes. Where it awaits, its body comes back with that, to go on; where its pair is being added
-    /// still, that is kept for the end of that; else it is dropped.
+    /// What an inline body awaits comes. Where it awaits, its body comes back with that, to go on;
+    /// where its pair is being added still, that is kept for the end of that; else it is dropped.
     pub fn come(&mut self, place: usize, input: Value) -> Option<(InlineBody<'s>, Value)>
         ensures { (result, self.new) ≡ come_to place input self.old }
     {
@@ -89,15 +94,17 @@ impl<'s> Inlines<'s> {
         Some((body, input))
     }
 
-    /// The pair of an inline body has been added to a Deferred. Where that came meanwhile, the body comes back with it, to go on; else
-    /// it awaits the Deferred. Where it wasn't being added, nothing changes, and the body is dropped.
+    /// The pair of an inline body has been added to a Deferred. Where that came meanwhile, the body
+    /// comes back with it, to go on; else it awaits the Deferred. Where it wasn't being added,
+    /// nothing changes, and the body is dropped.
     pub fn end(
         &mut self,
         place: usize,
         awaited: DeferredId,
         body: InlineBody<'s>,
     ) -> Result<Option<(InlineBody<'s>, Value)>, AllocError>
-        ensures ok { IfOk result (λ gone_on. (gone_on, self.new) ≡ end_adding place awaited body.entry self.old) }
+        ensures ok { IfOk result
+            (λ gone_on. (gone_on, self.new) ≡ end_adding place awaited body.entry self.old) }
         ensures err { OnErr result (self.new ≡ self.old) }
     {
         let Some(waiting) = self.kept.get_mut(place) else {

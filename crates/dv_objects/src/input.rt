@@ -17,8 +17,8 @@ enum Kept {
     Other(Boxed<Value>),
 }
 
-/// What a body is performed on. It takes little room, since as many wait to be performed as bodies lie in each other. Contracts see
-/// it as the value.
+/// What a body is performed on. It takes little room, since as many wait to be performed as bodies
+/// lie in each other. Contracts see it as the value.
 #[derive(Drop)]
 pub struct Input {
     kept: Kept,

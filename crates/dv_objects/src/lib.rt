@@ -1,4 +1,5 @@
-//! The objects beside the Deferreds of a run: pairs, cancellers, names, tasks, loops, inline bodies and works.
+//! The objects beside the Deferreds of a run: pairs, cancellers, names, tasks, loops, inline bodies
+//! and works.
 #![tactic(auto)]
 
 pub mod canceller;

@@ -29,36 +29,41 @@ pub struct Child {
 pub enum Side<'s> {
     /// A body of the script, whose input is the value.
     Body(BodyRef<'s>),
-    /// This Deferred is fired with the value, and the side returns null (Twisted: what `Deferred.chainDeferred` adds).
+    /// This Deferred is fired with the value, and the side returns null (Twisted: what
+    /// `Deferred.chainDeferred` adds).
     Fire(DeferredId),
-    /// The value is passed on, but TimeoutError in place of a cancellation where the time of this timer has come
-    /// (Twisted: the first of the two that `Deferred.addTimeout` adds).
+    /// The value is passed on, but TimeoutError in place of a cancellation where the time of this
+    /// timer has come (Twisted: the first of the two that `Deferred.addTimeout` adds).
     Timed(CallId),
-    /// This timer ends, where its time hasn't come, and the value is passed on (Twisted: the second of the two).
+    /// This timer ends, where its time hasn't come, and the value is passed on (Twisted: the second
+    /// of the two).
     EndTimer(CallId),
     /// It reaches a DeferredList as this child (Twisted: what `DeferredList` adds to each child).
     Come(Child),
-    /// What the children of a DeferredList gave is taken out of its result (Twisted: what `gatherResults` adds).
+    /// What the children of a DeferredList gave is taken out of its result (Twisted: what
+    /// `gatherResults` adds).
     Results,
-    /// A body is performed with a token of this lock, which is released afterwards (Twisted: what `DeferredLock.run`
-    /// and `DeferredSemaphore.run` do once they have a token).
+    /// A body is performed with a token of this lock, which is released afterwards (Twisted: what
+    /// `DeferredLock.run` and `DeferredSemaphore.run` do once they have a token).
     Hold(LockId, BodyRef<'s>),
-    /// A token of this lock is released (Twisted: what `DeferredLock.run` and `DeferredSemaphore.run` do at last).
+    /// A token of this lock is released (Twisted: what `DeferredLock.run` and
+    /// `DeferredSemaphore.run` do at last).
     Release(LockId),
-    /// The next turn of this loop is scheduled, where it runs; else its Deferred is fired with its name. The side
-    /// returns null (Twisted: the callback that `LoopingCall` adds to what a turn gave).
+    /// The next turn of this loop is scheduled, where it runs; else its Deferred is fired with its
+    /// name. The side returns null (Twisted: the callback that `LoopingCall` adds to what a turn
+    /// gave).
     NextTurn(LoopId),
-    /// This loop runs no more, and its Deferred is fired with the value, a failure; the side returns null (Twisted:
-    /// the errback that `LoopingCall` adds).
+    /// This loop runs no more, and its Deferred is fired with the value, a failure; the side
+    /// returns null (Twisted: the errback that `LoopingCall` adds).
     EndLoop(LoopId),
-    /// This task is paused once less, unless it has ended; the side returns null (Twisted: the callback
-    /// that `CooperativeTask` adds to what a step gave).
+    /// This task is paused once less, unless it has ended; the side returns null (Twisted: the
+    /// callback that `CooperativeTask` adds to what a step gave).
     ResumeTask(TaskId),
-    /// This task ends with the value, a failure, unless it has ended; the side returns null (Twisted: the errback
-    /// that `CooperativeTask` adds).
+    /// This task ends with the value, a failure, unless it has ended; the side returns null
+    /// (Twisted: the errback that `CooperativeTask` adds).
     FailTask(TaskId),
-    /// What this inline body awaits has come: the body goes on with the value, a failure of which is thrown. The side
-    /// returns null (Twisted: what `inlineCallbacks` adds to what is awaited).
+    /// What this inline body awaits has come: the body goes on with the value, a failure of which
+    /// is thrown. The side returns null (Twisted: what `inlineCallbacks` adds to what is awaited).
     Resume(Inline),
 }
 
@@ -83,8 +88,8 @@ enum Kind<'s> {
     Continuing(Inline),
 }
 
-/// A callback and an errback, either of which may be missing (Twisted: `Deferred.addCallbacks`). It says which two these are, in
-/// less room than they take. Contracts see it as the two.
+/// A callback and an errback, either of which may be missing (Twisted: `Deferred.addCallbacks`). It
+/// says which two these are, in less room than they take. Contracts see it as the two.
 #[derive(Drop)]
 pub struct Pair<'s> {
     kind: Kind<'s>,
@@ -101,13 +106,22 @@ impl<'s> Model for Pair<'s> {
 
     ghost Value = { Seen };
 
-    ghost coded = { Prim.hlevel (codes, action_contract.the_row.coded, body_contract.the_row.coded, statement_contract.the_row.coded, failure_contract.the_row.coded, value_contract.the_row.coded) };
+    ghost coded = { Prim.hlevel (
+      codes,
+      action_contract.the_row.coded,
+      body_contract.the_row.coded,
+      statement_contract.the_row.coded,
+      failure_contract.the_row.coded,
+      value_contract.the_row.coded,
+    ) };
 
     ghost view = { λ p. pair_of p.kind };
 }
 
 impl<'s> Pair<'s> {
-    ghost use Rattle.dv_objects.specs.Pair.{callback, errback, both, chain, timing, ending, coming, results, holding, releasing, turning, resuming, continuing, side_for};
+    ghost use Rattle.dv_objects.specs.Pair.{callback, errback, both, chain, timing, ending, coming};
+    ghost use Rattle.dv_objects.specs.Pair.{results, holding, releasing, turning, resuming};
+    ghost use Rattle.dv_objects.specs.Pair.{continuing, side_for};
 
     /// A callback alone (Twisted: `Deferred.addCallback`).
     pub fn callback(body: &'s Body) -> Pair<'s>
@@ -145,7 +159,8 @@ impl<'s> Pair<'s> {
         }
     }
 
-    /// Both turn a cancellation into TimeoutError where the time of a timer has come (Twisted: `Deferred.addTimeout`).
+    /// Both turn a cancellation into TimeoutError where the time of a timer has come (Twisted:
+    /// `Deferred.addTimeout`).
     pub fn timing(timer: CallId) -> Pair<'s>
         ensures { result ≡ timing timer }
     {
@@ -172,7 +187,8 @@ impl<'s> Pair<'s> {
         }
     }
 
-    /// A callback that takes what the children gave out of the result of a DeferredList (Twisted: `gatherResults`).
+    /// A callback that takes what the children gave out of the result of a DeferredList (Twisted:
+    /// `gatherResults`).
     pub fn results() -> Pair<'s>
         ensures { result ≡ results }
     {
@@ -181,7 +197,8 @@ impl<'s> Pair<'s> {
         }
     }
 
-    /// A callback that performs a body with a token of a lock (Twisted: `DeferredLock.run`, `DeferredSemaphore.run`).
+    /// A callback that performs a body with a token of a lock (Twisted: `DeferredLock.run`,
+    /// `DeferredSemaphore.run`).
     pub fn holding(lock: LockId, body: BodyRef<'s>) -> Pair<'s>
         ensures { result ≡ holding lock body.entry }
     {

@@ -22,8 +22,8 @@ pub enum Performed<'s> {
 impl<'s> Performed<'s> {
     ghost use Rattle.dv_objects.specs.Performed.{failed_with};
 
-    /// Returns the failure that it resulted in, where it raised or returned one. AllocError where it returned one that
-    /// isn't made yet and the allocation fails.
+    /// Returns the failure that it resulted in, where it raised or returned one. AllocError where
+    /// it returned one that isn't made yet and the allocation fails.
     pub fn into_failure(self, alloc: Global) -> Result<Option<Boxed<Failure>>, AllocError>
         ensures { IfOk result (λ f. f ≡ failed_with self.entry) }
     {

@@ -1,6 +1,7 @@
 //! What is raised where something is refused.
 ghost use Rattle.std.specs.Prelude.{◌≡◌, IfOk};
-ghost use Rattle.dv_objects.specs.Refusals.{cancelled, refused_firing, refused_unpausing, unbound, not_held, not_gathered, overflow, underflow};
+ghost use Rattle.dv_objects.specs.Refusals.{cancelled, refused_firing, refused_unpausing, unbound};
+ghost use Rattle.dv_objects.specs.Refusals.{not_held, not_gathered, overflow, underflow};
 ghost use Rattle.dv_objects.specs.declared.performed.Performed.TheVariants.{Raised};
 ghost use Rattle.dv_objects.specs.declared.follow.Follow.TheVariants.{Raise};
 

@@ -8,8 +8,8 @@ use dv_value::fault::fault;
 use dv_value::value::Value;
 use std::alloc::{AllocError, Global};
 
-/// What becomes of a value that a timer watches: TimeoutError in place of a cancellation, where the time is over (Twisted:
-/// `Deferred.addTimeout`).
+/// What becomes of a value that a timer watches: TimeoutError in place of a cancellation, where the
+/// time is over (Twisted: `Deferred.addTimeout`).
 pub fn timed<'s>(
     alloc: Global,
     classes: &Classes,

@@ -10,8 +10,8 @@ use dv_value::fault::fault;
 use dv_value::value::Value;
 use std::alloc::{AllocError, Global};
 
-/// The value, where the input is a failure of one of the classes; else the input (Twisted: `Failure.trap`). TypeError
-/// where the input is no failure.
+/// The value, where the input is a failure of one of the classes; else the input (Twisted:
+/// `Failure.trap`). TypeError where the input is no failure.
 pub fn trap<'s>(
     alloc: Global,
     classes: &Classes,
@@ -19,7 +19,8 @@ pub fn trap<'s>(
     value: &'s Value,
     input: Value,
 ) -> Result<Given<'s>, AllocError>
-    ensures { IfOk result (λ given. given ≡ trap_of classes.now listed.now value.now input (out-Value input)) }
+    ensures { IfOk result
+        (λ given. given ≡ trap_of classes.now listed.now value.now input (out-Value input)) }
 {
     match &input {
         Value::Fault(failure) => {

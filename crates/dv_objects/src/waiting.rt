@@ -5,8 +5,8 @@ use dv_journal::deferred_id::DeferredId;
 use dv_value::value::Value;
 use std::mem;
 
-/// What an inline body waits for. `B` is the body where contracts see it, and the key under which it is parked where it is
-/// kept.
+/// What an inline body waits for. `B` is the body where contracts see it, and the key under which
+/// it is parked where it is kept.
 #[derive(Drop)]
 pub enum Waiting<B> {
     /// It doesn't wait: it hasn't begun to, or what it waited for has reached it.
@@ -53,8 +53,8 @@ impl<B: Drop> Waiting<B> {
         }
     }
 
-    /// What is awaited comes. Where a body awaits, it comes back with that, to go on; where its pair is being added still, that is
-    /// kept for the end of it; else it is dropped.
+    /// What is awaited comes. Where a body awaits, it comes back with that, to go on; where its
+    /// pair is being added still, that is kept for the end of it; else it is dropped.
     pub fn come(&mut self, input: Value) -> Option<(B, Value)>
         ensures { (result, self.new) ≡ come input self.old }
     {

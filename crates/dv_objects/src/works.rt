@@ -5,9 +5,9 @@ use dv_script::work::MOST_JOBS;
 use std::alloc::{AllocError, Global};
 use std::marker::Model;
 
-/// The works that were submitted as jobs, in order: the number of a job is the place of its work (Twisted: the functions
-/// that are given to `deferToThread`). There are 4,096 at most. Beside each is the name of its pool, where that isn't the default
-/// one.
+/// The works that were submitted as jobs, in order: the number of a job is the place of its work
+/// (Twisted: the functions that are given to `deferToThread`). There are 4,096 at most. Beside each
+/// is the name of its pool, where that isn't the default one.
 #[derive(Drop)]
 pub struct Works<'s> {
     works: Vec<WorkRef<'s>>,
@@ -27,7 +27,8 @@ impl<'s> Model for Works<'s> {
 
     ghost view = { λ w. record { works = w.works.items; pools = w.pools.items } };
 
-    ghost invariant = { λ w. (length w.works.items ≤ MOST_JOBS) × (length w.pools.items ≡ length w.works.items) };
+    ghost invariant = { λ w. (length w.works.items ≤ MOST_JOBS)
+        × (length w.pools.items ≡ length w.works.items) };
 }
 
 impl<'s> Works<'s> {

@@ -17,13 +17,17 @@ last_state n state = refl
 pub this_state : (n others state : ℕ) → number_of state < number_used n → state_used n others state ≡ state
 unfolding state_used
 this_state n zero state used = refl
-this_state n (suc others) state used = ap (λ (b : Bool). cond b state (state_used n others (next_state state))) (is_less (number_of state) (number_used n) used)
+this_state n (suc others) state used =
+    ap (λ (b : Bool). cond b state (state_used n others (next_state state)))
+    (is_less (number_of state) (number_used n) used)
 
 -- where it isn't, the next one is
-pub next_one : (n others state : ℕ) → 0 < others → number_used n ≤ number_of state → state_used n others state ≡ state_used n (others - 1) (next_state state)
+pub next_one : (n others state : ℕ) → 0 < others → number_used n ≤ number_of state
+    → state_used n others state ≡ state_used n (others - 1) (next_state state)
 unfolding state_used
 next_one n zero state some past = absurd (omega (arith, some))
 next_one n (suc others) state some past =
     let e : others ≡ suc others - 1 = omega arith in
-    ap (λ (b : Bool). cond b state (state_used n others (next_state state))) (not_less (number_of state) (number_used n) past)
+    ap (λ (b : Bool). cond b state (state_used n others (next_state state)))
+    (not_less (number_of state) (number_used n) past)
     ∙ ap (λ k. state_used n k (next_state state)) e

@@ -34,7 +34,8 @@ abbrev pub TwoCallersHaveEighteenOrders : Type 0
 TwoCallersHaveEighteenOrders =
     (body : Body) (lock note : Action)
     → orders_of ((body ∷ body ∷ []) ∷ (body ∷ body ∷ []) ∷ []) (Act lock ∷ Drain 2 ∷ Act note ∷ [])
-    ≡ drained a0 a1 b0 b1 ++ (drained a0 b0 a1 b1 ++ (drained a0 b0 b1 a1 ++ (drained b0 a0 a1 b1 ++ (drained b0 a0 b1 a1 ++ drained b0 b1 a0 a1))))
+    ≡ drained a0 a1 b0 b1 ++ (drained a0 b0 a1 b1
+    ++ (drained a0 b0 b1 a1 ++ (drained b0 a0 a1 b1 ++ (drained b0 a0 b1 a1 ++ drained b0 b1 a0 a1))))
 
 -- one post, and two drains of one at most: it is taken at the end, at the second drain, or at the first
 abbrev pub TwoDrainsHaveThreeOrders : Type 0

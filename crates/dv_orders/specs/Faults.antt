@@ -1,5 +1,6 @@
 -- Why batches are no order of a script, and where.
-use Rattle.std.specs.Prelude.{◌≡◌, ◌+◌, ◌<◌, ◌≤◌, ◌==◌, ◌&&◌, nat_lt, Bool, ℕ, suc, List, [], ◌++◌, Option, None, Some, length, take, slice_get, slice_index_or, filter_map}
+use Rattle.std.specs.Prelude.{◌≡◌, ◌+◌, ◌<◌, ◌≤◌, ◌==◌, ◌&&◌, nat_lt, Bool, ℕ, suc, List, [], ◌++◌, Option, None, Some}
+use Rattle.std.specs.Prelude.{length, take, slice_get, slice_index_or, filter_map}
 use Rattle.dv_orders.specs.Listed.{AreOrder}
 use Rattle.dv_orders.specs.declared.fault.OrderFault.{OrderFault}
 use Rattle.dv_orders.specs.declared.fault.OrderFault.TheVariants.{Missing, Needless, TooLong, NotNext, Untaken}
@@ -36,9 +37,12 @@ pub record IsStrange (callers : Callers) (batches : List Batch) (number place : 
 abbrev pub Refuses : OrderFault → Script → List Batch → Type 0
 Refuses (Missing number) script batches = (length batches ≡ number) × (number ≤ length (drains_of script.events))
 Refuses (Needless number) script batches = (number ≡ length (drains_of script.events) + 1) × (number < length batches)
-Refuses (TooLong number most) script batches = (slice_get (drains_of script.events) number ≡ Some most) × (number < length batches) × (most < length (slice_index_or batches number []))
+Refuses (TooLong number most) script batches =
+    (slice_get (drains_of script.events) number ≡ Some most) × (number < length batches)
+    × (most < length (slice_index_or batches number []))
 Refuses (NotNext number place) script batches = IsStrange script.callers batches number place
-Refuses (Untaken caller index) script batches = (index < length (bodies_of script.callers caller)) × (of caller (joined batches) ≡ first_posts caller index)
+Refuses (Untaken caller index) script batches =
+    (index < length (bodies_of script.callers caller)) × (of caller (joined batches) ≡ first_posts caller index)
 
 -- what a check answers: none for an order, and otherwise a fault that holds
 abbrev pub Checks : Option OrderFault → Script → List Batch → Type 0
@@ -47,7 +51,9 @@ Checks (Some fault) script batches = Refuses fault script batches
 
 -- none of these faults holds of an order
 abbrev pub FaultsAreOfNoOrder : Type 0
-FaultsAreOfNoOrder = (fault : OrderFault) (script : Script) (batches : List Batch) → Refuses fault script batches → AreOrder script batches → ⊥
+FaultsAreOfNoOrder =
+    (fault : OrderFault) (script : Script) (batches : List Batch) → Refuses fault script batches
+    → AreOrder script batches → ⊥
 
 -- a batch for each drain, of no more posts than this takes, and one more
 pub record AreFitting (drains : List ℕ) (batches : List Batch) : Type 0 where
@@ -59,7 +65,9 @@ abbrev pub ChecksShape : Option OrderFault → List ℕ → List Batch → Type 
 ChecksShape None drains batches = AreFitting drains batches
 ChecksShape (Some (Missing number)) drains batches = (length batches ≡ number) × (number ≤ length drains)
 ChecksShape (Some (Needless number)) drains batches = (number ≡ length drains + 1) × (number < length batches)
-ChecksShape (Some (TooLong number most)) drains batches = (slice_get drains number ≡ Some most) × (number < length batches) × (most < length (slice_index_or batches number []))
+ChecksShape (Some (TooLong number most)) drains batches =
+    (slice_get drains number ≡ Some most) × (number < length batches)
+    × (most < length (slice_index_or batches number []))
 ChecksShape (Some (NotNext number place)) drains batches = ⊥
 ChecksShape (Some (Untaken caller index)) drains batches = ⊥
 
@@ -79,11 +87,14 @@ ChecksEnd (Some (Missing number)) callers counts = ⊥
 ChecksEnd (Some (Needless number)) callers counts = ⊥
 ChecksEnd (Some (TooLong number most)) callers counts = ⊥
 ChecksEnd (Some (NotNext number place)) callers counts = ⊥
-ChecksEnd (Some (Untaken caller index)) callers counts = (index < length (bodies_of callers caller)) × (index ≡ slice_index_or counts caller 0)
+ChecksEnd (Some (Untaken caller index)) callers counts =
+    (index < length (bodies_of callers caller)) × (index ≡ slice_index_or counts caller 0)
 
 -- whether the post is the next one of its caller, of which so many were counted
 abbrev pub is_next : Callers → List ℕ → Posted → Bool
-is_next callers counts posted = nat_lt posted.index (length (bodies_of callers posted.caller)) && (posted.index == slice_index_or counts posted.caller 0)
+is_next callers counts posted =
+    nat_lt posted.index (length (bodies_of callers posted.caller))
+    && (posted.index == slice_index_or counts posted.caller 0)
 
 -- where the first post stands that isn't the next one of its caller, whatever was counted before
 pub record StrangeAt (callers : Callers) (counts : List ℕ) (batch before : Batch) (place : ℕ) : Type 0 where
@@ -92,5 +103,7 @@ pub record StrangeAt (callers : Callers) (counts : List ℕ) (batch before : Bat
 
 -- what the count of a batch answers
 abbrev pub FirstStrange : Option ℕ → Callers → List ℕ → List ℕ → Batch → Type 0
-FirstStrange None callers old new batch = (before : Batch) → Counted callers old before → Counted callers new (before ++ batch)
-FirstStrange (Some place) callers old new batch = (place < length batch) × ((before : Batch) → Counted callers old before → StrangeAt callers old batch before place)
+FirstStrange None callers old new batch =
+    (before : Batch) → Counted callers old before → Counted callers new (before ++ batch)
+FirstStrange (Some place) callers old new batch =
+    (place < length batch) × ((before : Batch) → Counted callers old before → StrangeAt callers old batch before place)

@@ -12,7 +12,8 @@ pub record AreOrder (script : Script) (batches : List Batch) : Type 0 where
 
 -- no order is left out, and nothing else is listed
 abbrev pub EveryOrderIsListed : Type 0
-EveryOrderIsListed = (script : Script) (batches : List Batch) → AreOrder script batches ↔ Contains (orders script) batches
+EveryOrderIsListed =
+    (script : Script) (batches : List Batch) → AreOrder script batches ↔ Contains (orders script) batches
 
 -- no order is listed twice
 abbrev pub NoOrderIsListedTwice : Type 0
@@ -28,4 +29,5 @@ ThereIsAnOrder = (script : Script) → 0 < length (orders script)
 
 -- where nobody posts, there is one order, whose batches are empty
 abbrev pub OneOrderWithoutPosts : Type 0
-OneOrderWithoutPosts = (script : Script) → total (counts_of script.callers) ≡ 0 → orders script ≡ empty_batches script.events ∷ []
+OneOrderWithoutPosts =
+    (script : Script) → total (counts_of script.callers) ≡ 0 → orders script ≡ empty_batches script.events ∷ []

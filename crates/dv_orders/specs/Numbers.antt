@@ -35,4 +35,5 @@ number_of_cuts (event.Drain most ∷ events) count = sum_over_splits (number_of_
 
 -- how many orders a script has
 abbrev pub number_of_orders : Script → ℕ
-number_of_orders script = let counts = counts_of script.callers in number_of_sequences counts * number_of_cuts script.events (total counts)
+number_of_orders script =
+    let counts = counts_of script.callers in number_of_sequences counts * number_of_cuts script.events (total counts)

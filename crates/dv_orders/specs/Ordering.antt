@@ -13,11 +13,14 @@ batches_of order = cut_by order.cut.lengths.items order.sequence.posts.items
 abbrev pub all_cuts : List ℕ → Batch → List (List Batch)
 all_cuts drains posts = map (λ lengths. cut_by lengths posts) (lengths_of drains (length posts))
 
--- the orders that are listed after this one: its sequence is cut in the ways after its own, and each sequence after it in every way
+-- the orders that are listed after this one: its sequence is cut in the ways after its own, and each sequence after it
+-- in every way
 abbrev pub later_orders : Order → List (List Batch)
 later_orders order =
-    map (λ lengths. cut_by lengths order.sequence.posts.items) (later_lengths order.drains.items order.cut.left order.cut.lengths.items)
-    ++ flat_map (all_cuts order.drains.items) (later_sequences order.sequence.counts.items order.sequence.taken.items order.sequence.posts.items)
+    map (λ lengths. cut_by lengths order.sequence.posts.items)
+    (later_lengths order.drains.items order.cut.left order.cut.lengths.items)
+    ++ flat_map (all_cuts order.drains.items)
+    (later_sequences order.sequence.counts.items order.sequence.taken.items order.sequence.posts.items)
 
 -- its sequence has all posts, and its batches have those of the sequence
 pub record IsWhole (order : Order) : Type 0 where

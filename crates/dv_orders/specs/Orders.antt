@@ -19,12 +19,14 @@ beside posts choice = record { posted = choice.posted; left = posts ∷ choice.l
 abbrev pub choices : List Batch → List Choice
 choices [] = []
 choices ([] ∷ callers) = map (beside []) (choices callers)
-choices ((posted ∷ posts) ∷ callers) = record { posted = posted; left = posts ∷ callers } ∷ map (beside (posted ∷ posts)) (choices callers)
+choices ((posted ∷ posts) ∷ callers) =
+    record { posted = posted; left = posts ∷ callers } ∷ map (beside (posted ∷ posts)) (choices callers)
 
 -- every sequence in which so many posts may be taken: one that may be taken next, and then the others
 abbrev pub sequences : ℕ → List Batch → List Batch
 sequences zero left = [] ∷ []
-sequences (suc count) left = flat_map (λ choice. map (λ sequence. choice.posted ∷ sequence) (sequences count choice.left)) (choices left)
+sequences (suc count) left =
+    flat_map (λ choice. map (λ sequence. choice.posted ∷ sequence) (sequences count choice.left)) (choices left)
 
 -- the first posts of a sequence, and those that follow
 pub record Split : Type 0 where
@@ -39,14 +41,17 @@ after_post posted split = record { taken = posted ∷ split.taken; left = split.
 abbrev pub splits : ℕ → Batch → List Split
 splits zero sequence = record { taken = []; left = sequence } ∷ []
 splits (suc most) [] = record { taken = []; left = [] } ∷ []
-splits (suc most) (posted ∷ sequence) = record { taken = []; left = posted ∷ sequence } ∷ map (after_post posted) (splits most sequence)
+splits (suc most) (posted ∷ sequence) =
+    record { taken = []; left = posted ∷ sequence } ∷ map (after_post posted) (splits most sequence)
 
--- every way to cut a sequence into batches: first posts of it at each drain, no more than the drain takes, and at the end what is left
+-- every way to cut a sequence into batches: first posts of it at each drain, no more than the drain takes, and at the
+-- end what is left
 abbrev pub cuts : List Event → Batch → List (List Batch)
 cuts [] sequence = (sequence ∷ []) ∷ []
 cuts (event.Action action ∷ events) sequence = cuts events sequence
 cuts (event.Advance ticks ∷ events) sequence = cuts events sequence
-cuts (event.Drain most ∷ events) sequence = flat_map (λ split. map (λ batches. split.taken ∷ batches) (cuts events split.left)) (splits most sequence)
+cuts (event.Drain most ∷ events) sequence =
+    flat_map (λ split. map (λ batches. split.taken ∷ batches) (cuts events split.left)) (splits most sequence)
 
 -- the posts of these callers, the first of whom has this number
 abbrev pub posts_from : ℕ → Callers → List Batch

@@ -14,7 +14,9 @@ count_at d = number_at 0 (2 ^ 32 - 1) d
 
 -- a post: its caller, and its index
 abbrev pub posted_at : Data → Option Posted
-posted_at d = option_and_then (λ p. option_and_then (λ caller. option_map (post caller) (count_at p.1)) (count_at p.0)) (option_and_then two (as_array d))
+posted_at d =
+    option_and_then (λ p. option_and_then (λ caller. option_map (post caller) (count_at p.1)) (count_at p.0))
+    (option_and_then two (as_array d))
 
 -- a batch: its posts
 abbrev pub batch_at : Data → Option Batch

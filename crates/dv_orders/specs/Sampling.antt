@@ -20,7 +20,8 @@ number_used n = 2 ^ 64 / n * n
 -- the first state from here on whose number is used, or the last of so many after this one
 unfoldable pub state_used : ℕ → ℕ → ℕ → ℕ
 state_used n zero state = state
-state_used n (suc others) state = if nat_lt (number_of state) (number_used n) then state else state_used n others (next_state state)
+state_used n (suc others) state =
+    if nat_lt (number_of state) (number_used n) then state else state_used n others (next_state state)
 
 -- the first numbers of a seed, as published with other implementations
 abbrev pub FirstNumbersArePublished : Type 0
@@ -28,4 +29,5 @@ FirstNumbersArePublished =
     let first = next_state 1234567 in
     let second = next_state first in
     let third = next_state second in
-    number_of first ∷ number_of second ∷ number_of third ∷ [] ≡ 6457827717110365317 ∷ 3203168211198807973 ∷ 9817491932198370423 ∷ []
+    number_of first ∷ number_of second ∷ number_of third ∷ []
+    ≡ 6457827717110365317 ∷ 3203168211198807973 ∷ 9817491932198370423 ∷ []

@@ -1,6 +1,7 @@
 //! The ways in which a sequence is cut into batches, from one to the next.
 
-ghost use Rattle.std.specs.Prelude.{◌≡◌, ◌+◌, ◌<◌, ◌≤◌, ◌^◌, ◌∷◌, [], length, replicate, sum, false, IfOk, MatchBool};
+ghost use Rattle.std.specs.Prelude.{◌≡◌, ◌+◌, ◌<◌, ◌≤◌, ◌^◌, ◌∷◌, [], length, replicate, sum};
+ghost use Rattle.std.specs.Prelude.{false, IfOk, MatchBool};
 ghost use Rattle.dv_orders.specs.Batching.{cut_by, later_lengths, lengths_of};
 
 use dv_posts::posted::Posted;
@@ -33,9 +34,12 @@ impl Cut {
         requires len { length self.old.lengths.items ≡ length drains.now }
         requires fits { sum self.old.lengths.items + self.old.left < 2 ^ 64 }
         ensures len { length self.new.lengths.items ≡ length drains.now }
-        ensures same { sum self.new.lengths.items + self.new.left ≡ sum self.old.lengths.items + self.old.left }
+        ensures same { sum self.new.lengths.items + self.new.left
+            ≡ sum self.old.lengths.items + self.old.left }
         ensures again { result ≡ false → self.new.lengths.items ≡ replicate (length drains.now) 0 }
-        ensures next { let later = later_lengths drains.now self.old.left self.old.lengths.items in MatchBool result (later ≡ self.new.lengths.items ∷ later_lengths drains.now self.new.left self.new.lengths.items) (later ≡ []) }
+        ensures next { let later = later_lengths drains.now self.old.left self.old.lengths.items in
+            MatchBool result (later ≡ self.new.lengths.items
+            ∷ later_lengths drains.now self.new.left self.new.lengths.items) (later ≡ []) }
     {
         let mut place = drains.len();
         while place > 0 {

@@ -1,7 +1,8 @@
 //! Checks that batches are an order of a script.
 
 ghost use Rattle.std.specs.Prelude.{◌≡◌, ◌+◌, if◌then◌else◌, length, replicate, slice_set, IfOk};
-ghost use Rattle.dv_orders.specs.Faults.{AreFitting, Checks, ChecksEnd, ChecksPosts, ChecksShape, FirstStrange, drains_of, is_next};
+ghost use Rattle.dv_orders.specs.Faults.{AreFitting, Checks, ChecksEnd, ChecksPosts, ChecksShape};
+ghost use Rattle.dv_orders.specs.Faults.{FirstStrange, drains_of, is_next};
 
 use crate::fault::OrderFault;
 use dv_posts::posted::Posted;
@@ -11,7 +12,8 @@ use dv_script::script::Script;
 use dv_value::items::Items;
 use std::alloc::{AllocError, Global};
 
-/// Returns why batches aren't an order of a script: a reason that holds, and where. None where they are one.
+/// Returns why batches aren't an order of a script: a reason that holds, and where. None where they
+/// are one.
 pub fn fault_of(
     alloc: Global,
     script: &Script,
@@ -105,7 +107,8 @@ fn posts_fault(
     None
 }
 
-/// Counts the posts of a batch, as far as each is the next one of its caller. Returns the place of the first that isn't.
+/// Counts the posts of a batch, as far as each is the next one of its caller. Returns the place of
+/// the first that isn't.
 fn first_strange(
     callers: &[Items<Body>],
     counts: &mut Vec<usize>,
@@ -127,7 +130,9 @@ fn first_strange(
 fn count_one(callers: &[Items<Body>], counts: &mut Vec<usize>, posted: &Posted) -> bool
     requires { length counts.old.items ≡ length callers.now }
     ensures next { result ≡ is_next callers.now counts.old.items posted.now }
-    ensures counted { counts.new.items ≡ (if result then slice_set counts.old.items posted.now.caller (posted.now.index + 1) else counts.old.items) }
+    ensures counted { counts.new.items
+        ≡ (if result then slice_set counts.old.items posted.now.caller (posted.now.index + 1)
+        else counts.old.items) }
 {
     let caller = posted.caller as usize;
     if caller >= callers.len() {

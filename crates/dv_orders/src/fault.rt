@@ -1,6 +1,7 @@
 use thiserror::Error;
 
-/// Why batches aren't an order of a script, and where. Batches, the posts of a batch, callers and the posts of a caller are counted from 0.
+/// Why batches aren't an order of a script, and where. Batches, the posts of a batch, callers and
+/// the posts of a caller are counted from 0.
 #[derive(Clone, Copy, Debug, PartialEq, Eq, Drop, Error)]
 pub enum OrderFault {
     /// There are only so many batches, and a drain or the end has none.

@@ -1,13 +1,15 @@
 //! Laws of the list of orders, each a function with an empty body whose clauses are the law.
 
-ghost use Rattle.dv_orders.specs.Cases.{TwoCallersHaveEighteenOrders, TwoDrainsHaveThreeOrders, DrainsTakeFewPosts, NobodyPosts, PostsAtTheEndTakeTurns};
+ghost use Rattle.dv_orders.specs.Cases.{TwoCallersHaveEighteenOrders, TwoDrainsHaveThreeOrders};
+ghost use Rattle.dv_orders.specs.Cases.{DrainsTakeFewPosts, NobodyPosts, PostsAtTheEndTakeTurns};
 ghost use Rattle.dv_orders.specs.Faults.{FaultsAreOfNoOrder};
-ghost use Rattle.dv_orders.specs.Listed.{EveryOrderIsListed, NoOrderIsListedTwice, OneOrderWithoutPosts, OrdersAreCounted, ThereIsAnOrder};
+ghost use Rattle.dv_orders.specs.Listed.{EveryOrderIsListed, NoOrderIsListedTwice};
+ghost use Rattle.dv_orders.specs.Listed.{OneOrderWithoutPosts, OrdersAreCounted, ThereIsAnOrder};
 ghost use Rattle.dv_orders.specs.Sampled.{SamplesAreOrders};
 ghost use Rattle.dv_orders.specs.Sampling.{FirstNumbersArePublished};
 
-/// The list holds each order in which the posts of a script may be taken, once, and nothing else. Its length is the number of orders, which
-/// is one at least. A script without posts has one order.
+/// The list holds each order in which the posts of a script may be taken, once, and nothing else.
+/// Its length is the number of orders, which is one at least. A script without posts has one order.
 pub fn every_order_is_listed()
     ensures all { EveryOrderIsListed }
     ensures once { NoOrderIsListedTwice }

@@ -1,4 +1,5 @@
-//! Orders: the batches in which all posts of a script may be taken, how many they are, a visit of each, why other batches are refused, and how batches are read.
+//! Orders: the batches in which all posts of a script may be taken, how many they are, a visit of
+//! each, why other batches are refused, and how batches are read.
 #![tactic(auto)]
 
 mod batching;

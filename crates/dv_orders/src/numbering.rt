@@ -2,7 +2,8 @@
 
 ghost use Rattle.std.specs.Prelude.{ℕ, ◌≡◌, ◌+◌, ◌*◌, ◌<◌, ◌≤◌, ◌^◌, min, length, IfOk};
 ghost use Rattle.dv_orders.specs.Counted.{Counts, CountsUpTo, IsLine, StartsWith};
-ghost use Rattle.dv_orders.specs.Numbers.{next_line, number_of_cuts, number_of_sequences, sum_over_splits, ways};
+ghost use Rattle.dv_orders.specs.Numbers.{next_line, number_of_cuts, number_of_sequences};
+ghost use Rattle.dv_orders.specs.Numbers.{sum_over_splits, ways};
 ghost use Rattle.dv_orders.specs.Orders.{counts_of, total};
 
 use crate::number::Number;
@@ -13,8 +14,8 @@ use dv_script::script::Script;
 use dv_value::items::Items;
 use std::alloc::{AllocError, Global};
 
-/// Returns how many orders a script has: Exactly so many, up to `most` and 2^64 - 2, or More. It takes time by the posts and
-/// the drains, and not by the orders.
+/// Returns how many orders a script has: Exactly so many, up to `most` and 2^64 - 2, or More. It
+/// takes time by the posts and the drains, and not by the orders.
 pub fn number_of_orders(alloc: Global, script: &Script, most: u64) -> Result<Number, AllocError>
     ensures { IfOk result (λ number. Counts number script.now most) }
 {
@@ -62,9 +63,11 @@ fn capped_product(one: u64, other: u64, cap: u64) -> u64
     }
 }
 
-/// How many posts all callers have. AllocError where they are more than 2^64 - 2, for which there is no table.
+/// How many posts all callers have. AllocError where they are more than 2^64 - 2, for which there
+/// is no table.
 pub(crate) fn number_of_posts(callers: &[Items<Body>]) -> Result<usize, AllocError>
-    ensures { IfOk result (λ posts. (posts ≡ total (counts_of callers.now)) × (posts + 1 < 2 ^ 64)) }
+    ensures { IfOk result (λ posts. (posts ≡ total (counts_of callers.now))
+        × (posts + 1 < 2 ^ 64)) }
 {
     let mut posts = 0;
     for caller in callers {
@@ -119,7 +122,8 @@ fn ways(alloc: Global, own: usize, others: usize, cap: u64) -> Result<u64, Alloc
 /// Goes on to the next line of Pascal's triangle, up to the cap.
 fn next_line(line: &mut Vec<u64>, cap: u64)
     ensures len { length line.new.items ≡ length line.old.items }
-    ensures next { (above : ℕ → ℕ) → IsLine above cap line.old.items → IsLine (next_line above) cap line.new.items }
+    ensures next { (above : ℕ → ℕ) → IsLine above cap line.old.items
+        → IsLine (next_line above) cap line.new.items }
 {
     for place in 1..line.len() {
         let number = capped_sum(line[place], line[place - 1], cap);
@@ -142,7 +146,8 @@ pub(crate) fn number_of_cuts(
     Ok(line[posts])
 }
 
-/// In how many ways sequences of none, one and more posts are cut, up to so many posts, each up to the cap.
+/// In how many ways sequences of none, one and more posts are cut, up to so many posts, each up to
+/// the cap.
 pub(crate) fn line_of_cuts(
     alloc: Global,
     events: &[Event],
@@ -169,7 +174,8 @@ pub(crate) fn line_of_cuts(
 /// Goes on from the numbers of cuts at the events after a drain to those with it, up to the cap.
 fn add_drain(line: &mut Vec<u64>, most: usize, cap: u64)
     ensures len { length line.new.items ≡ length line.old.items }
-    ensures next { (number : ℕ → ℕ) → IsLine number cap line.old.items → IsLine (sum_over_splits number most) cap line.new.items }
+    ensures next { (number : ℕ → ℕ) → IsLine number cap line.old.items
+        → IsLine (sum_over_splits number most) cap line.new.items }
 {
     let mut place = line.len();
     while place > 0 {
@@ -179,10 +185,12 @@ fn add_drain(line: &mut Vec<u64>, most: usize, cap: u64)
     }
 }
 
-/// The sum over what is left of so many, where first ones are taken, so many at most, up to the cap.
+/// The sum over what is left of so many, where first ones are taken, so many at most, up to the
+/// cap.
 fn sum_over_splits(line: &[u64], mut most: usize, count: usize, cap: u64) -> u64
     requires { count < length line.now }
-    ensures { (number : ℕ → ℕ) → StartsWith number cap line.now (count + 1) → result ≡ min (sum_over_splits number most count) cap }
+    ensures { (number : ℕ → ℕ) → StartsWith number cap line.now (count + 1)
+        → result ≡ min (sum_over_splits number most count) cap }
 {
     let mut left = count;
     let mut total = line[left];

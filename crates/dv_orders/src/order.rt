@@ -25,7 +25,8 @@ impl Order {
     /// The first order of a script.
     pub(crate) fn first(alloc: Global, script: &Script) -> Result<Order, AllocError>
         ensures whole { IfOk result IsWhole }
-        ensures first { IfOk result (λ order. orders script.now ≡ batches_of order ∷ later_orders order) }
+        ensures first { IfOk result
+            (λ order. orders script.now ≡ batches_of order ∷ later_orders order) }
     {
         let drains = drains_of(alloc, script.events.as_slice())?;
         let sequence = Sequence::first(alloc, script.callers.as_slice())?;
@@ -41,7 +42,8 @@ impl Order {
     pub(crate) fn advance(&mut self) -> Result<bool, AllocError>
         requires { IsWhole self.old }
         ensures whole { IfOk result (λ more. more ≡ true → IsWhole self.new) }
-        ensures next { IfOk result (λ more. MatchBool more (later_orders self.old ≡ batches_of self.new ∷ later_orders self.new) (later_orders self.old ≡ [])) }
+        ensures next { IfOk result (λ more. MatchBool more (later_orders self.old
+            ≡ batches_of self.new ∷ later_orders self.new) (later_orders self.old ≡ [])) }
     {
         if self.cut.advance(self.drains.as_slice()) {
             return Ok(true);

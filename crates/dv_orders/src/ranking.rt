@@ -1,6 +1,7 @@
 //! Finds the order of a number, without a list of the orders.
 
-ghost use Rattle.std.specs.Prelude.{◌≡◌, ℕ, ◌+◌, ◌-◌, ◌<◌, ◌≤◌, ◌^◌, suc, min, length, option_map, slice_get, slice_index, IfOk, IfSome};
+ghost use Rattle.std.specs.Prelude.{◌≡◌, ℕ, ◌+◌, ◌-◌, ◌<◌, ◌≤◌, ◌^◌, suc, min, length, option_map};
+ghost use Rattle.std.specs.Prelude.{slice_get, slice_index, IfOk, IfSome};
 ghost use Rattle.dv_orders.specs.Numbers.{number_of_cuts};
 ghost use Rattle.dv_orders.specs.Orders.{counts_of, cuts, orders, posts_from, sequences, total};
 ghost use Rattle.dv_orders.specs.Ranking.{FallsIn, left_counts, number_by};
@@ -24,8 +25,9 @@ pub(crate) struct Place {
     pub(crate) number: u64,
 }
 
-/// Returns the batches of the order at this place in the list of orders, from 0 up to 2^64 - 2. Returns None where the list
-/// isn't that long. It takes time by the posts and the drains, and not by the orders.
+/// Returns the batches of the order at this place in the list of orders, from 0 up to 2^64 - 2.
+/// Returns None where the list isn't that long. It takes time by the posts and the drains, and not
+/// by the orders.
 pub fn order_of(
     alloc: Global,
     script: &Script,
@@ -51,7 +53,8 @@ fn sequence_of(
     mut number: u64,
 ) -> Result<Option<Vec<Posted>>, AllocError>
     requires { number + 1 < 2 ^ 64 }
-    ensures { IfOk result (λ sequence. option_map (λ posts. posts.items) sequence ≡ slice_get (sequences (total (counts_of callers.now)) (posts_from 0 callers.now)) number) }
+    ensures { IfOk result (λ sequence. option_map (λ posts. posts.items) sequence
+        ≡ slice_get (sequences (total (counts_of callers.now)) (posts_from 0 callers.now)) number) }
 {
     let posts = number_of_posts(callers)?;
     let mut sequence = Sequence::empty(alloc, callers)?;
@@ -70,16 +73,21 @@ fn sequence_of(
     Ok(Some(sequence.posts))
 }
 
-/// The caller with whose next post the sequence of this number goes on, and its number among those that do.
+/// The caller with whose next post the sequence of this number goes on, and its number among those
+/// that do.
 fn caller_of(
     alloc: Global,
     sequence: &Sequence,
     mut number: u64,
 ) -> Result<Option<Place>, AllocError>
-    requires path { IsPath sequence.now.counts.items sequence.now.taken.items sequence.now.posts.items }
+    requires path { IsPath sequence.now.counts.items sequence.now.taken.items
+        sequence.now.posts.items }
     requires small { number + 1 < 2 ^ 64 }
-    ensures falls { IfOk result (λ place. FallsIn place (number_by sequence.now.counts.items sequence.now.taken.items) (length sequence.now.counts.items) number) }
-    ensures small { IfOk result (λ place. IfSome place (λ place. slice_index sequence.now.taken.items place.piece + 1 < 2 ^ 32)) }
+    ensures falls { IfOk result
+        (λ place. FallsIn place (number_by sequence.now.counts.items sequence.now.taken.items)
+        (length sequence.now.counts.items) number) }
+    ensures small { IfOk result (λ place.
+        IfSome place (λ place. slice_index sequence.now.taken.items place.piece + 1 < 2 ^ 32)) }
 {
     for caller in 0..sequence.counts.len() {
         let sequences = number_by(alloc, sequence, caller)?;
@@ -96,10 +104,13 @@ fn caller_of(
 
 /// How many sequences go on with the next post of this caller, up to 2^64 - 1.
 fn number_by(alloc: Global, sequence: &Sequence, caller: usize) -> Result<u64, AllocError>
-    requires path { IsPath sequence.now.counts.items sequence.now.taken.items sequence.now.posts.items }
+    requires path { IsPath sequence.now.counts.items sequence.now.taken.items
+        sequence.now.posts.items }
     requires within { caller < length sequence.now.counts.items }
-    ensures number { IfOk result (λ number. number ≡ min (number_by sequence.now.counts.items sequence.now.taken.items caller) (2 ^ 64 - 1)) }
-    ensures small { IfOk result (λ number. 0 < number → slice_index sequence.now.taken.items caller + 1 < 2 ^ 32) }
+    ensures number { IfOk result (λ number. number
+        ≡ min (number_by sequence.now.counts.items sequence.now.taken.items caller) (2 ^ 64 - 1)) }
+    ensures small { IfOk result (λ number. 0 < number
+        → slice_index sequence.now.taken.items caller + 1 < 2 ^ 32) }
 {
     if sequence.taken[caller] >= sequence.counts[caller] {
         return Ok(0);
@@ -159,8 +170,8 @@ fn cut_of(
     Ok(Some(batches))
 }
 
-/// How many of these posts a drain takes in the cut of this number, and its number among those in which it takes so many. The
-/// events are those after the drain.
+/// How many of these posts a drain takes in the cut of this number, and its number among those in
+/// which it takes so many. The events are those after the drain.
 fn taken_of(
     alloc: Global,
     events: &[Event],
@@ -170,7 +181,8 @@ fn taken_of(
 ) -> Result<Option<Place>, AllocError>
     requires fits { posts + 1 < 2 ^ 64 }
     requires small { number + 1 < 2 ^ 64 }
-    ensures { IfOk result (λ place. FallsIn place (λ taken. number_of_cuts events.now (posts - taken)) (suc (min most posts)) number) }
+    ensures { IfOk result (λ place. FallsIn place
+        (λ taken. number_of_cuts events.now (posts - taken)) (suc (min most posts)) number) }
 {
     let line = line_of_cuts(alloc, events, posts, u64::MAX)?;
     for taken in 0..most.min(posts) + 1 {

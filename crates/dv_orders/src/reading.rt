@@ -1,4 +1,5 @@
-//! Reads batches as `./conform` hands them over: JSON, an array for each batch, whose posts are `[CALLER,POST]`.
+//! Reads batches as `./conform` hands them over: JSON, an array for each batch, whose posts are
+//! `[CALLER,POST]`.
 
 ghost use Rattle.serde_json.specs.View.{view};
 ghost use Rattle.dv_forms.specs.Answer.{Reads};

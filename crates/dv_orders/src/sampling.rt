@@ -38,8 +38,9 @@ impl Generator {
         twice ^ (twice >> 31)
     }
 
-    /// Draws a number below n, the remainder of one of 64 bits. Numbers past the last multiple of n are drawn again, so that no
-    /// remainder is favoured. After 63 more the last one is used in any case: that a draw favours no number is not proved.
+    /// Draws a number below n, the remainder of one of 64 bits. Numbers past the last multiple of n
+    /// are drawn again, so that no remainder is favoured. After 63 more the last one is used in any
+    /// case: that a draw favours no number is not proved.
     pub fn below(&mut self, n: u64) -> u64
         requires { 0 < n }
         ensures below { result < n }

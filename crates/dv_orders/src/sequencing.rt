@@ -1,8 +1,11 @@
 //! The sequences in which the posts of a script's callers are taken, from one to the next.
 
-ghost use Rattle.std.specs.Prelude.{◌≡◌, ◌+◌, ◌<◌, ◌≤◌, ◌^◌, ◌∷◌, ◌++◌, [], length, map, replicate, slice_index, sum, true, false, if◌then◌else◌, IfOk, IfSome, MatchBool, OnOk};
+ghost use Rattle.std.specs.Prelude.{◌≡◌, ◌+◌, ◌<◌, ◌≤◌, ◌^◌, ◌∷◌, ◌++◌, [], length, map, replicate};
+ghost use Rattle.std.specs.Prelude.{slice_index, sum, true, false, if◌then◌else◌, IfOk, IfSome};
+ghost use Rattle.std.specs.Prelude.{MatchBool, OnOk};
 ghost use Rattle.dv_orders.specs.Orders.{counts_of};
-ghost use Rattle.dv_orders.specs.Sequencing.{FindsCaller, IsPath, later_sequences, listed_sequences, sequences_through, with_taken};
+ghost use Rattle.dv_orders.specs.Sequencing.{FindsCaller, IsPath, later_sequences};
+ghost use Rattle.dv_orders.specs.Sequencing.{listed_sequences, sequences_through, with_taken};
 ghost use Rattle.dv_posts.specs.Posts.{post};
 
 use dv_posts::posted::Posted;
@@ -40,7 +43,9 @@ impl Sequence {
         ensures counts { IfOk result (λ s. s.counts.items ≡ counts_of callers.now) }
         ensures path { IfOk result (λ s. IsPath s.counts.items s.taken.items s.posts.items) }
         ensures full { IfOk result (λ s. length s.posts.items ≡ sum s.counts.items) }
-        ensures first { IfOk result (λ s. listed_sequences s.counts.items (replicate (length callers.now) 0) [] ≡ s.posts.items ∷ later_sequences s.counts.items s.taken.items s.posts.items) }
+        ensures first { IfOk result
+            (λ s. listed_sequences s.counts.items (replicate (length callers.now) 0) []
+            ≡ s.posts.items ∷ later_sequences s.counts.items s.taken.items s.posts.items) }
     {
         let mut sequence = Sequence::empty(alloc, callers)?;
         sequence.complete()?;
@@ -51,9 +56,14 @@ impl Sequence {
     pub(crate) fn advance(&mut self) -> Result<bool, AllocError>
         requires { IsPath self.old.counts.items self.old.taken.items self.old.posts.items }
         ensures counts { self.new.counts.items ≡ self.old.counts.items }
-        ensures path { OnOk result (IsPath self.new.counts.items self.new.taken.items self.new.posts.items) }
-        ensures full { IfOk result (λ more. more ≡ true → length self.new.posts.items ≡ sum self.new.counts.items) }
-        ensures next { IfOk result (λ more. let later = later_sequences self.old.counts.items self.old.taken.items self.old.posts.items in MatchBool more (later ≡ self.new.posts.items ∷ later_sequences self.new.counts.items self.new.taken.items self.new.posts.items) (later ≡ [])) }
+        ensures path { OnOk result
+            (IsPath self.new.counts.items self.new.taken.items self.new.posts.items) }
+        ensures full { IfOk result (λ more. more ≡ true
+            → length self.new.posts.items ≡ sum self.new.counts.items) }
+        ensures next { IfOk result (λ more. let later =
+            later_sequences self.old.counts.items self.old.taken.items self.old.posts.items in
+            MatchBool more (later ≡ self.new.posts.items ∷ later_sequences self.new.counts.items
+            self.new.taken.items self.new.posts.items) (later ≡ [])) }
     {
         while let Some(posted) = self.posts.pop() {
             self.taken[posted.caller as usize] = posted.index;
@@ -69,23 +79,33 @@ impl Sequence {
     fn complete(&mut self) -> Result<(), AllocError>
         requires { IsPath self.old.counts.items self.old.taken.items self.old.posts.items }
         ensures counts { self.new.counts.items ≡ self.old.counts.items }
-        ensures path { OnOk result (IsPath self.new.counts.items self.new.taken.items self.new.posts.items) }
+        ensures path { OnOk result
+            (IsPath self.new.counts.items self.new.taken.items self.new.posts.items) }
         ensures full { OnOk result (length self.new.posts.items ≡ sum self.new.counts.items) }
-        ensures first { OnOk result (listed_sequences self.old.counts.items self.old.taken.items self.old.posts.items ≡ self.new.posts.items ∷ later_sequences self.new.counts.items self.new.taken.items self.new.posts.items) }
+        ensures first { OnOk result (listed_sequences self.old.counts.items self.old.taken.items
+            self.old.posts.items ≡ self.new.posts.items
+            ∷ later_sequences self.new.counts.items self.new.taken.items self.new.posts.items) }
     {
         while self.take_from(0)? {}
         Ok(())
     }
 
-    /// Adds the next post of the first caller that has one left, from this one on. Returns false where there is none.
+    /// Adds the next post of the first caller that has one left, from this one on. Returns false
+    /// where there is none.
     fn take_from(&mut self, from: u32) -> Result<bool, AllocError>
         requires { IsPath self.old.counts.items self.old.taken.items self.old.posts.items }
         ensures counts { self.new.counts.items ≡ self.old.counts.items }
-        ensures path { OnOk result (IsPath self.new.counts.items self.new.taken.items self.new.posts.items) }
-        ensures one { IfOk result (λ more. sum self.new.taken.items ≡ (if more then sum self.old.taken.items + 1 else sum self.old.taken.items)) }
+        ensures path { OnOk result
+            (IsPath self.new.counts.items self.new.taken.items self.new.posts.items) }
+        ensures one { IfOk result (λ more. sum self.new.taken.items
+            ≡ (if more then sum self.old.taken.items + 1 else sum self.old.taken.items)) }
         ensures none { IfOk result (λ more. more ≡ false → self.new ≡ self.old) }
-        ensures all { IfOk result (λ more. more ≡ false → from ≡ 0 → sum self.old.counts.items ≤ sum self.old.taken.items) }
-        ensures next { IfOk result (λ more. sequences_through self.old.counts.items self.old.taken.items self.old.posts.items from ≡ (if more then listed_sequences self.new.counts.items self.new.taken.items self.new.posts.items else later_sequences self.old.counts.items self.old.taken.items self.old.posts.items)) }
+        ensures all { IfOk result (λ more. more ≡ false → from ≡ 0
+            → sum self.old.counts.items ≤ sum self.old.taken.items) }
+        ensures next { IfOk result (λ more. sequences_through self.old.counts.items
+            self.old.taken.items self.old.posts.items from ≡ (if more
+            then listed_sequences self.new.counts.items self.new.taken.items self.new.posts.items
+            else later_sequences self.old.counts.items self.old.taken.items self.old.posts.items)) }
     {
         match caller_from(self.counts.as_slice(), self.taken.as_slice(), from) {
             Some(caller) => {
@@ -101,8 +121,10 @@ impl Sequence {
         requires within { caller < length self.old.taken.items }
         requires small { slice_index self.old.taken.items caller + 1 < 2 ^ 32 }
         ensures counts { self.new.counts.items ≡ self.old.counts.items }
-        ensures taken { OnOk result (self.new.taken.items ≡ with_taken self.old.taken.items caller) }
-        ensures posts { OnOk result (self.new.posts.items ≡ self.old.posts.items ++ post caller (slice_index self.old.taken.items caller) ∷ []) }
+        ensures taken { OnOk result
+            (self.new.taken.items ≡ with_taken self.old.taken.items caller) }
+        ensures posts { OnOk result (self.new.posts.items
+            ≡ self.old.posts.items ++ post caller (slice_index self.old.taken.items caller) ∷ []) }
     {
         let index = self.taken[caller as usize];
         self.posts.push(Posted { caller, index })?;
@@ -126,7 +148,8 @@ fn caller_from(counts: &[u32], taken: &[u32], from: u32) -> Option<u32>
     None
 }
 
-/// How many posts each caller has. AllocError where the callers or the posts of one are more than 2^32 - 1.
+/// How many posts each caller has. AllocError where the callers or the posts of one are more than
+/// 2^32 - 1.
 pub(crate) fn counts_of(alloc: Global, callers: &[Items<Body>]) -> Result<Vec<u32>, AllocError>
     ensures counts { IfOk result (λ counts. counts.items ≡ counts_of callers.now) }
     ensures few { IfOk result (λ counts. length counts.items < 2 ^ 32) }

@@ -50,8 +50,8 @@ pub trait Visitor {
     /// The script whose orders it visits.
     ghost script_of: { Self → Script };
 
-    /// Whether these are the orders that it has visited so far, as far as it says. The mark stands for
-    /// what it was made for, and stays.
+    /// Whether these are the orders that it has visited so far, as far as it says. The mark stands
+    /// for what it was made for, and stays.
     ghost has_seen: { Self → List ℕ → List (List Batch) → Type 0 };
 
     /// Visits an order: the batches in which all posts of the script are taken.
@@ -62,8 +62,8 @@ pub trait Visitor {
         ensures ok { OnOk result (SeesMore has_seen self.old self.new (batches.now ∷ [])) };
 }
 
-/// Has the visitor visit every order of its script, each once, in the order of the list. It keeps one of them at a time in
-/// memory. Returns early where a visit fails, and when out of memory.
+/// Has the visitor visit every order of its script, each once, in the order of the list. It keeps
+/// one of them at a time in memory. Returns early where a visit fails, and when out of memory.
 pub fn each_order<V: Visitor>(
     alloc: Global,
     script: &Script,
@@ -93,7 +93,8 @@ fn visit<V: Visitor>(
     requires whole { IsWhole order.now }
     requires order { AreOrder script.now (batches_of order.now) }
     ensures same { V.script_of visitor.new ≡ V.script_of visitor.old }
-    ensures ok { OnOk result (SeesMore V.has_seen visitor.old visitor.new (batches_of order.now ∷ [])) }
+    ensures ok { OnOk result
+        (SeesMore V.has_seen visitor.old visitor.new (batches_of order.now ∷ [])) }
 {
     let batches = order.batches(alloc)?;
     match visitor.visit(script, batches.as_slice()) {
@@ -102,9 +103,9 @@ fn visit<V: Visitor>(
     }
 }
 
-/// Has the visitor visit so many orders of its script, of which there are `count`. Each is drawn from all of them, so one may come
-/// again; the same seed draws the same ones. It keeps one of them at a time in memory. Returns early where a visit fails, and when
-/// out of memory.
+/// Has the visitor visit so many orders of its script, of which there are `count`. Each is drawn
+/// from all of them, so one may come again; the same seed draws the same ones. It keeps one of them
+/// at a time in memory. Returns early where a visit fails, and when out of memory.
 pub fn each_sampled<V: Visitor>(
     alloc: Global,
     script: &Script,
@@ -117,7 +118,8 @@ pub fn each_sampled<V: Visitor>(
     requires number { count ≡ length (orders script.now) }
     requires fits { count + 1 < 2 ^ 64 }
     ensures same { V.script_of visitor.new ≡ V.script_of visitor.old }
-    ensures ok { OnOk result (SeesMore V.has_seen visitor.old visitor.new (sampled script.now size seed)) }
+    ensures ok { OnOk result
+        (SeesMore V.has_seen visitor.old visitor.new (sampled script.now size seed)) }
 {
     let mut generator = Generator::new(seed);
     let mut left = size;
@@ -141,7 +143,8 @@ fn visit_drawn<V: Visitor>(
     requires fits { count + 1 < 2 ^ 64 }
     ensures state { generator.new ≡ state_used count 63 (next_state generator.old) }
     ensures same { V.script_of visitor.new ≡ V.script_of visitor.old }
-    ensures ok { OnOk result (SeesMore V.has_seen visitor.old visitor.new (drawn_at script.now generator.new ∷ [])) }
+    ensures ok { OnOk result
+        (SeesMore V.has_seen visitor.old visitor.new (drawn_at script.now generator.new ∷ [])) }
 {
     let batches = match drawn(alloc, script, count, generator) {
         Ok(batches) => batches,

@@ -38,7 +38,16 @@ use Rattle.dv_jobs.specs.contracts.job.Done as done
 use Rattle.dv_pool.specs.contracts.worker.End as end
 use Rattle.dv_pool.specs.contracts.worker.Shared as shared
 
-ruleset values_cross = (sendable, crosses, boxed.the_send, items.the_send, text.the_send, class_id.the_send, failures.crosses, values.crosses)
+ruleset values_cross = (
+  sendable,
+  crosses,
+  boxed.the_send,
+  items.the_send,
+  text.the_send,
+  class_id.the_send,
+  failures.crosses,
+  values.crosses,
+)
 
 Job-send : IsSend job.the_row
 Job-send = search values_cross depth 20
@@ -46,7 +55,18 @@ Job-send = search values_cross depth 20
 Done-send : IsSend done.the_row
 Done-send = search values_cross depth 20
 
-ruleset tokens_cross = (Job-send, Done-send, sendable, crosses, link.the_send, deque_seat.the_send, queue_seat.the_send, queue_doing.the_send, stage.the_send, hand.the_send)
+ruleset tokens_cross = (
+  Job-send,
+  Done-send,
+  sendable,
+  crosses,
+  link.the_send,
+  deque_seat.the_send,
+  queue_seat.the_send,
+  queue_doing.the_send,
+  stage.the_send,
+  hand.the_send,
+)
 
 pub End-send : IsSend end.the_row
 End-send = declared_send end.the_type (search tokens_cross depth 20, (search tokens_cross depth 20, tt))
@@ -91,19 +111,34 @@ ruleset queues_cross = (
 )
 
 pub Shared-send : IsSend shared.the_row
-Shared-send = declared_send shared.the_type (search queues_cross depth 20, (search queues_cross depth 20, (search queues_cross depth 20, tt)))
+Shared-send = declared_send shared.the_type (
+  search queues_cross depth 20,
+  (search queues_cross depth 20, (search queues_cross depth 20, tt)),
+)
 
 pub Shared-sync : IsSync shared.the_row
-Shared-sync = declared_sync shared.the_type (search queues_cross depth 20, (search queues_cross depth 20, (search queues_cross depth 20, tt)))
+Shared-sync = declared_sync shared.the_type (
+  search queues_cross depth 20,
+  (search queues_cross depth 20, (search queues_cross depth 20, tt)),
+)
 
 pub Arc-of_shared-send : IsSend (arc.the_row shared.the_row heap.the_row ghosts)
 Arc-of_shared-send = Arc-send shared.the_row Shared-send Shared-sync
 
 -- six captures may go where each may
-pub six-send : (name : List ℕ) (A B C D E F : RattleType) → IsSend A → IsSend B → IsSend C → IsSend D → IsSend E → IsSend F → IsSend (TupleAt name (A ∷ B ∷ C ∷ D ∷ E ∷ F ∷ []))
+pub six-send : (name : List ℕ) (A B C D E F : RattleType) → IsSend A → IsSend B → IsSend C → IsSend D → IsSend E
+    → IsSend F → IsSend (TupleAt name (A ∷ B ∷ C ∷ D ∷ E ∷ F ∷ []))
 six-send name A B C D E F a b c d e f =
-    declared_send (type_at name (A ∷ B ∷ C ∷ D ∷ E ∷ F ∷ []))
-    (as_row_send (row_field A) a, (as_row_send (row_field B) b, (as_row_send (row_field C) c, (as_row_send (row_field D) d, (as_row_send (row_field E) e, (as_row_send (row_field F) f, tt))))))
+    declared_send (type_at name (A ∷ B ∷ C ∷ D ∷ E ∷ F ∷ [])) (
+      as_row_send (row_field A) a,
+      (
+        as_row_send (row_field B) b,
+        (
+          as_row_send (row_field C) c,
+          (as_row_send (row_field D) d, (as_row_send (row_field E) e, (as_row_send (row_field F) f, tt))),
+        ),
+      ),
+    )
 
 pub number-send : IsSend u32-field.row
 number-send = search sendable

@@ -1,5 +1,6 @@
 -- Where all was taken, each job has its own place.
-use Rattle.std.proofs.Common.{◌≡◌, inl, inr, ℕ, ◌+◌, ◌<◌, ◌≤◌, ◌==◌, ◌&&◌, Bool, true, false, true≢false, Option, Some, None, Ok, List, [], ◌∷◌, ◌++◌, length, map, refl, ap, sym, ◌∙◌, arith}
+use Rattle.std.proofs.Common.{◌≡◌, inl, inr, ℕ, ◌+◌, ◌<◌, ◌≤◌, ◌==◌, ◌&&◌, Bool, true, false, true≢false, Option, Some}
+use Rattle.std.proofs.Common.{None, Ok, List, [], ◌∷◌, ◌++◌, length, map, refl, ap, sym, ◌∙◌, arith}
 use base.Stored.{Gv, gnil, gnum, gcons}
 use Rattle.crossbeam_deque.specs.Handles.{worker_view}
 use Rattle.crossbeam_queue.specs.Passes.{view}
@@ -79,16 +80,19 @@ low_jobs : (k n : ℕ) (test : Work → Bool) (ws : List (Option Work)) → k < 
 low_jobs k n test [] low = refl
 low_jobs k n test (None ∷ ws) low = low_jobs k (n + 1) test ws (omega (arith, low))
 low_jobs k n test (Some w ∷ ws) low =
-    let z = passes-other k test (numbered n w) (omega (arith, low)) in omega (arith, z, low_jobs k (n + 1) test ws (omega (arith, low)))
+    let z = passes-other k test (numbered n w) (omega (arith, low)) in
+    omega (arith, z, low_jobs k (n + 1) test ws (omega (arith, low)))
 
 -- where just the jobs were seen, their places have them, and no other place has an answer
-all_placed : (S before : (Job → ℕ) → ℕ) (n : ℕ) (ws : List (Option Work)) (ps : List (Option Answer)) → ((h : Job → ℕ) → S h ≡ before h + weigh h (jobs_in n ws))
+all_placed : (S before : (Job → ℕ) → ℕ) (n : ℕ) (ws : List (Option Work)) (ps : List (Option Answer))
+    → ((h : Job → ℕ) → S h ≡ before h + weigh h (jobs_in n ws))
     → ((k : ℕ) (test : Work → Bool) → n ≤ k → before (passes k test) ≡ 0)
     → ArePlaced S n ws ps → placed_jobs ps ≡ jobs_in n ws
 all_placed S before n [] [] all clean h = refl
 all_placed S before n [] (p ∷ ps) all clean h = absurd h
 all_placed S before n (w ∷ ws) [] all clean h = absurd h
-all_placed S before n (None ∷ ws) (None ∷ ps) all clean h = all_placed S before (n + 1) ws ps all (λ k test low. clean k test (omega (arith, low))) h.1
+all_placed S before n (None ∷ ws) (None ∷ ps) all clean h =
+    all_placed S before (n + 1) ws ps all (λ k test low. clean k test (omega (arith, low))) h.1
 all_placed S before n (None ∷ ws) (Some a ∷ ps) all clean h =
     let e = all (passes n any) in
     let z = clean n any (omega arith) in
@@ -110,9 +114,11 @@ all_placed S before n (Some w ∷ ws) (None ∷ ps) all clean h =
       | inr two ↦ absurd (omega arith)
     ]
 all_placed S before n (Some w ∷ ws) (Some a ∷ ps) all clean h =
-    let all' : (f : Job → ℕ) → S f ≡ (before f + f (numbered n w)) + weigh f (jobs_in (n + 1) ws) = λ f. let e = all f in omega arith in
+    let all' : (f : Job → ℕ) → S f ≡ (before f + f (numbered n w)) + weigh f (jobs_in (n + 1) ws) = λ f. let e =
+    all f in omega arith in
     let clean' : (k : ℕ) (test : Work → Bool) → n + 1 ≤ k → before (passes k test) + passes k test (numbered n w) ≡ 0 =
-    λ k test low. let a = clean k test (omega arith) in let b = passes-other k test (numbered n w) (omega arith) in omega arith in
+    λ k test low. let a = clean k test (omega arith) in let b = passes-other k test (numbered n w) (omega arith) in
+    omega arith in
     let rest = all_placed S (λ f. before f + f (numbered n w)) (n + 1) ws ps all' clean' h.1 in
     λ i. h.0 i ∷ rest i
 
@@ -121,7 +127,8 @@ weigh_map h [] = refl
 weigh_map h (x ∷ xs) = omega (arith, weigh_map h xs)
 
 -- the places have just the jobs, where all was taken out of both queues
-pub all_gathered : (ws : List (Option Work)) (p : Parts) → HasPlaced ws p → HasSubmitted ws p → IsEmptied (worker_view p.jobs) → IsEmptied (view p.answers) → placed_jobs p.places.items ≡ jobs_in 0 ws
+pub all_gathered : (ws : List (Option Work)) (p : Parts) → HasPlaced ws p → HasSubmitted ws p
+    → IsEmptied (worker_view p.jobs) → IsEmptied (view p.answers) → placed_jobs p.places.items ≡ jobs_in 0 ws
 all_gathered ws p o submitted jobs answers =
     all_placed (seen_by (view p.answers).taken o.helped) (λ h. 0) 0 ws p.places.items
     (λ h.
@@ -138,7 +145,8 @@ jobs-snoc : (old : List Done) (d : Done) (js : List Job) → jobs_of (old ++ d �
 jobs-snoc [] d js = refl
 jobs-snoc (x ∷ xs) d js = ap (λ l. x.job ∷ l) (jobs-snoc xs d js)
 
-pub one_more_done : (new old : List Done) (d : Done) (js : List Job) → new ≡ old ++ d ∷ [] → jobs_of new ++ js ≡ jobs_of old ++ d.job ∷ js
+pub one_more_done : (new old : List Done) (d : Done) (js : List Job) → new ≡ old ++ d ∷ []
+    → jobs_of new ++ js ≡ jobs_of old ++ d.job ∷ js
 one_more_done new old d js e = ap (λ l. jobs_of l ++ js) e ∙ jobs-snoc old d js
 
 pub none_left : (ps : List (Option Answer)) → length ps ≡ 0 → placed_jobs ps ≡ []
@@ -146,11 +154,15 @@ none_left [] e = refl
 none_left (p ∷ ps) e = absurd (omega (arith, e))
 
 -- the next place has no answer
-pub skipped : (dones : List Done) (old rest : List (Option Answer)) (p : Option Answer) (js : List Job) → old ≡ p ∷ rest → p ≡ None → jobs_of dones ++ placed_jobs old ≡ js → jobs_of dones ++ placed_jobs rest ≡ js
-skipped dones old rest p js steps none is = ap (λ l. jobs_of dones ++ placed_jobs l) (sym (steps ∙ ap (λ o. o ∷ rest) none)) ∙ is
+pub skipped : (dones : List Done) (old rest : List (Option Answer)) (p : Option Answer) (js : List Job) → old ≡ p ∷ rest
+    → p ≡ None → jobs_of dones ++ placed_jobs old ≡ js → jobs_of dones ++ placed_jobs rest ≡ js
+skipped dones old rest p js steps none is =
+    ap (λ l. jobs_of dones ++ placed_jobs l) (sym (steps ∙ ap (λ o. o ∷ rest) none)) ∙ is
 
 -- the next place has an answer with a value
-pub counted : (dones new : List Done) (d : Done) (old rest : List (Option Answer)) (p : Option Answer) (js : List Job) → old ≡ p ∷ rest → p ≡ Some (Ok d) → new ≡ dones ++ d ∷ []
+pub counted : (dones new : List Done) (d : Done) (old rest : List (Option Answer)) (p : Option Answer) (js : List Job)
+    → old ≡ p ∷ rest → p ≡ Some (Ok d) → new ≡ dones ++ d ∷ []
     → jobs_of dones ++ placed_jobs old ≡ js → jobs_of new ++ placed_jobs rest ≡ js
 counted dones new d old rest p js steps some more is =
-    one_more_done new dones d (placed_jobs rest) more ∙ ap (λ l. jobs_of dones ++ placed_jobs l) (sym (steps ∙ ap (λ o. o ∷ rest) some)) ∙ is
+    one_more_done new dones d (placed_jobs rest) more
+    ∙ ap (λ l. jobs_of dones ++ placed_jobs l) (sym (steps ∙ ap (λ o. o ∷ rest) some)) ∙ is

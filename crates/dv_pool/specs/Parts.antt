@@ -1,7 +1,9 @@
 -- What the owner of a pool knows.
-use Rattle.std.specs.Prelude.{set, ◌≡◌, ◌⊎◌, ℕ, ◌+◌, ◌<◌, ◌≤◌, ◌==◌, ◌&&◌, Bool, true, List, [], ◌∷◌, length, map, cond, slice_get, Option, Some, None}
+use Rattle.std.specs.Prelude.{set, ◌≡◌, ◌⊎◌, ℕ, ◌+◌, ◌<◌, ◌≤◌, ◌==◌, ◌&&◌, Bool, true, List, [], ◌∷◌, length, map, cond}
+use Rattle.std.specs.Prelude.{slice_get, Option, Some, None}
 use Rattle.std.specs.Arc.{arc_value}
-use Rattle.crossbeam_deque.specs.Handles.{worker_deque, worker_flavor, worker_capacity, worker_index, worker_view, stealer_deque}
+use Rattle.crossbeam_deque.specs.Handles.{worker_deque, worker_flavor, worker_capacity, worker_index, worker_view}
+use Rattle.crossbeam_deque.specs.Handles.{stealer_deque}
 use Rattle.crossbeam_queue.specs.Passes.{view, IsPassOf}
 use Rattle.dv_script.specs.declared.work.Work.{Work}
 use Rattle.dv_jobs.specs.declared.job.Job.{Job}
@@ -53,9 +55,11 @@ MayStay (Some a) work = (job_of a).work ≡ work
 abbrev pub IsPlaced : ((Job → ℕ) → ℕ) → ℕ → Option Work → Option Answer → Type 0
 IsPlaced seen n None None = (test : Work → Bool) → seen (passes n test) ≡ 0
 IsPlaced seen n None (Some a) =
-    ((job_of a).number ≡ n) × (0 < seen (passes n any)) × ((test : Work → Bool) → seen (passes n test) + 1 ≤ passes n test (job_of a) + seen (passes n any))
+    ((job_of a).number ≡ n) × (0 < seen (passes n any))
+    × ((test : Work → Bool) → seen (passes n test) + 1 ≤ passes n test (job_of a) + seen (passes n any))
 IsPlaced seen n (Some work) None =
-    (test : Work → Bool) → ((other : Work) → test other ≡ true → other ≡ work) → (seen (passes n test) ≡ 0) ⊎ (1 < seen (passes n any))
+    (test : Work → Bool) → ((other : Work) → test other ≡ true → other ≡ work)
+    → (seen (passes n test) ≡ 0) ⊎ (1 < seen (passes n any))
 IsPlaced seen n (Some work) (Some a) = job_of a ≡ numbered n work
 
 -- the places of these works, from number n on
@@ -68,12 +72,14 @@ ArePlaced seen n (w ∷ ws) (p ∷ ps) = IsPlaced seen n w p × ArePlaced seen (
 -- one more answer comes, whatever was seen before
 abbrev pub TakesIn : List (Option Work) → List (Option Answer) → Answer → List (Option Answer) → Type 0
 TakesIn works old a new =
-    (seen more : (Job → ℕ) → ℕ) → ((h : Job → ℕ) → more h ≡ seen h + h (job_of a)) → ArePlaced seen 0 works old → ArePlaced more 0 works new
+    (seen more : (Job → ℕ) → ℕ) → ((h : Job → ℕ) → more h ≡ seen h + h (job_of a)) → ArePlaced seen 0 works old
+    → ArePlaced more 0 works new
 
 -- a number without a job gets that of this work, whatever was seen before
 abbrev pub Awaits : List (Option Answer) → ℕ → Work → List (Option Answer) → Type 0
 Awaits old number work new =
-    (seen : (Job → ℕ) → ℕ) (works : List (Option Work)) → slice_get works number ≡ Some no_work → ArePlaced seen 0 works old → ArePlaced seen 0 (set works number (Some work)) new
+    (seen : (Job → ℕ) → ℕ) (works : List (Option Work)) → slice_get works number ≡ Some no_work
+    → ArePlaced seen 0 works old → ArePlaced seen 0 (set works number (Some work)) new
 
 -- the answers that were taken from the queue and the jobs that the owner answered, weighed
 abbrev pub seen_by : List Answer → List Job → (Job → ℕ) → ℕ
@@ -92,7 +98,8 @@ pub record IsOrderly (p : Parts) : Type 0 where
 pub record HasPlaced (works : List (Option Work)) (p : Parts) : Type 0 where
   -- what the owner answered itself
   pub helped : List Job
-  pub tied : (h : Job → ℕ) → weigh h (worker_view p.jobs).taken ≡ weigh h helped + weigh h (map job_of (view p.answers).put)
+  pub tied : (h : Job → ℕ)
+      → weigh h (worker_view p.jobs).taken ≡ weigh h helped + weigh h (map job_of (view p.answers).put)
   pub placed : ArePlaced (seen_by (view p.answers).taken helped) 0 works p.places.items
 
 -- whichever works the places were those of, they still are

@@ -33,4 +33,5 @@ IsWholeIfThere works crew (Some p) = IsWhole works crew p
 -- a place for each number that a run may have, so many jobs, and workers and parts of one pool
 abbrev pub IsSound : List (Option Work) → ℕ → Crew → Option Parts → Type 0
 IsSound works count crew parts =
-    (length works ≡ MOST_JOBS) × (count ≡ length (jobs_in 0 works)) × AreOf (arc_value crew.shared) crew.handles.items × IsWholeIfThere works crew parts
+    (length works ≡ MOST_JOBS) × (count ≡ length (jobs_in 0 works)) × AreOf (arc_value crew.shared) crew.handles.items
+    × IsWholeIfThere works crew parts

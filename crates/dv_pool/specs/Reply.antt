@@ -15,4 +15,5 @@ MayPoll (Some p) works number = IsOrderly p × HasPlaced works p × IsSubmitted 
 -- the parts, from which nothing was lost, with the value of the work
 abbrev pub MayGive : Option Parts → List (Option Work) → ℕ → Parts × Result Value AllocError → Type 0
 MayGive None works number out = ⊥
-MayGive (Some p) works number out = IsOrderly out.0 × HasPlaced works out.0 × Keeps p out.0 × IfOk out.1 (IsValueUnder number (jobs_in 0 works))
+MayGive (Some p) works number out =
+    IsOrderly out.0 × HasPlaced works out.0 × Keeps p out.0 × IfOk out.1 (IsValueUnder number (jobs_in 0 works))

@@ -37,7 +37,9 @@ pub record AreRouted (named : ℕ) (routes : List ℕ) (works : List Work) (pool
 abbrev pub has_failed : List Source → Bool
 has_failed pools = list_any (λ pool. pool.failed) pools
 
--- each pool, of which the first is p, has done just the jobs that are routed to it, where the first work that is left has the number n
+-- each pool, of which the first is p, has done just the jobs that are routed to it, where the first work that is left
+-- has the number n
 abbrev pub AreDone : ℕ → ℕ → List ℕ → List Work → List (List Done) → Type 0
 AreDone p n routes works [] = Unit {0}
-AreDone p n routes works (dones ∷ rest) = (jobs_of dones ≡ routed p n routes works) × AreDone (p + 1) n routes works rest
+AreDone p n routes works (dones ∷ rest) =
+    (jobs_of dones ≡ routed p n routes works) × AreDone (p + 1) n routes works rest

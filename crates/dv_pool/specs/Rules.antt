@@ -25,7 +25,8 @@ module _ {T : Type 0} where
 
   -- a hand with no part has put and taken nothing
   abbrev pub IdleIsEmpty : List (Hand T) → Type 0
-  IdleIsEmpty hands = (port : ℕ) (v : Hand T) → get_elem? hands port ≡ some v → v.parts ≡ 0 → (v.put ≡ []) × (v.taken ≡ [])
+  IdleIsEmpty hands =
+      (port : ℕ) (v : Hand T) → get_elem? hands port ≡ some v → v.parts ≡ 0 → (v.put ≡ []) × (v.taken ≡ [])
 
   -- all parts are in some hand, and what the hands have put weighs what they have taken and what the queue holds
   abbrev pub Balanced : List T → List (Hand T) → Type 0

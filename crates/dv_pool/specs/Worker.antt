@@ -19,7 +19,8 @@ answer_hand end = queue.view end.answers
 
 -- the tokens are for this deque and this queue
 abbrev pub IsEndOf : Shared → End → Type 0
-IsEndOf shared end = deque.IsPassOf (deque.stealer_deque shared.thief) end.jobs × queue.IsPassOf shared.answers end.answers
+IsEndOf shared end =
+    deque.IsPassOf (deque.stealer_deque shared.thief) end.jobs × queue.IsPassOf shared.answers end.answers
 
 -- it has one part of each right, and has done nothing yet
 abbrev pub IsFresh : End → Type 0

@@ -68,7 +68,8 @@ pub fn put<R: Wait>(rt: &R, answers: &Answers, token: &mut AnswerToken, answer: 
     requires token { IsPassOf answers.now token.old }
     requires part { 0 < (view token.old).parts }
     ensures token { IsPassOf answers.now token.new }
-    ensures put { view token.new ≡ hand (view token.old).parts ((view token.old).put ++ answer ∷ []) (view token.old).taken }
+    ensures put { view token.new ≡ hand (view token.old).parts ((view token.old).put ++ answer ∷ [])
+        (view token.old).taken }
 {
     let mut answer = answer;
     for _ in rt.forever() {
@@ -86,7 +87,8 @@ pub fn take(answers: &Answers, token: &mut AnswerToken) -> Option<Answer>
     requires token { IsPassOf answers.now token.old }
     requires part { 0 < (view token.old).parts }
     ensures token { IsPassOf answers.now token.new }
-    ensures taken { IfSome result (λ answer. view token.new ≡ hand (view token.old).parts (view token.old).put ((view token.old).taken ++ answer ∷ [])) }
+    ensures taken { IfSome result (λ answer. view token.new ≡ hand (view token.old).parts
+        (view token.old).put ((view token.old).taken ++ answer ∷ [])) }
     ensures none { IfNone result (view token.new ≡ view token.old) }
 {
     answers.try_pop_as::<Takes>(token)
@@ -97,8 +99,10 @@ pub fn take_last<R: Wait>(rt: &R, answers: &Answers, token: &mut AnswerToken) ->
     requires token { IsPassOf answers.now token.old }
     requires part { 0 < (view token.old).parts }
     ensures token { IsPassOf answers.now token.new }
-    ensures taken { IfSome result (λ answer. view token.new ≡ hand (view token.old).parts (view token.old).put ((view token.old).taken ++ answer ∷ [])) }
-    ensures none { IfNone result ((view token.new ≡ view token.old) × FindsEmptied (view token.old)) }
+    ensures taken { IfSome result (λ answer. view token.new ≡ hand (view token.old).parts
+        (view token.old).put ((view token.old).taken ++ answer ∷ [])) }
+    ensures none { IfNone result ((view token.new ≡ view token.old)
+        × FindsEmptied (view token.old)) }
 {
     answers.pop_as::<Takes, R>(rt, token)
 }
@@ -108,7 +112,8 @@ pub fn split(answers: &Answers, token: &mut AnswerToken) -> AnswerToken
     requires token { IsPassOf answers.now token.old }
     requires part { 1 < (view token.old).parts }
     ensures token { IsPassOf answers.now token.new }
-    ensures left { view token.new ≡ hand ((view token.old).parts - 1) (view token.old).put (view token.old).taken }
+    ensures left { view token.new ≡ hand ((view token.old).parts - 1)
+        (view token.old).put (view token.old).taken }
     ensures other { IsPassOf answers.now result }
     ensures fresh { view result ≡ hand 1 [] [] }
 {
@@ -121,7 +126,8 @@ pub fn absorb(answers: &Answers, token: &mut AnswerToken, other: AnswerToken)
     requires part { 0 < (view token.old).parts }
     requires other { IsPassOf answers.now other }
     ensures token { IsPassOf answers.now token.new }
-    ensures both { view token.new ≡ hand ((view token.old).parts + (view other).parts) ((view token.old).put ++ (view other).put) ((view token.old).taken ++ (view other).taken) }
+    ensures both { view token.new ≡ hand ((view token.old).parts + (view other).parts)
+        ((view token.old).put ++ (view other).put) ((view token.old).taken ++ (view other).taken) }
 {
     answers.absorb::<Cut>(token, other);
 }

@@ -1,4 +1,5 @@
-//! Jobs on worker threads: what the workers of a pool share, what each does, and the pools of a script.
+//! Jobs on worker threads: what the workers of a pool share, what each does, and the pools of a
+//! script.
 #![tactic(auto)]
 
 pub mod answer_queue;

@@ -1,4 +1,5 @@
-ghost use Rattle.std.specs.Prelude.{◌≡◌, ◌<◌, ◌≤◌, ◌+◌, ◌^◌, ◌++◌, ◌∷◌, [], false, length, IfOk, IfErr, OnOk, OnErr};
+ghost use Rattle.std.specs.Prelude.{◌≡◌, ◌<◌, ◌≤◌, ◌+◌, ◌^◌, ◌++◌, ◌∷◌, [], false, length, IfOk};
+ghost use Rattle.std.specs.Prelude.{IfErr, OnOk, OnErr};
 ghost use Rattle.std.specs.Arc.{arc_value};
 ghost use Rattle.crossbeam_deque.specs.Handles.{worker_view};
 ghost use Rattle.dv_jobs.specs.Jobs.{numbered};
@@ -29,8 +30,9 @@ mod parts;
 mod reply;
 mod threads;
 
-/// Workers on threads of a scope, which answer jobs at a gate (Twisted: `ThreadPool`). The owner helps where it waits.
-/// Dropped, it has its workers leave. It does so, too, where the executor of an `outcome` fails, and then it has failed.
+/// Workers on threads of a scope, which answer jobs at a gate (Twisted: `ThreadPool`). The owner
+/// helps where it waits. Dropped, it has its workers leave. It does so, too, where the executor of
+/// an `outcome` fails, and then it has failed.
 #[derive(Drop)]
 pub struct Pool<'g, G> {
     /// The work of each number, of which a copy is kept.
@@ -55,14 +57,19 @@ impl<'g, G> Model for Pool<'g, G> {
 
     ghost coded = { Prim.hlevel (codes, job_contract.the_row.coded) };
 
-    ghost view = { λ p. record { pools = 0; jobs = jobs_in 0 p.works.items; failed = not (is_some p.parts) } };
+    ghost view = { λ p. record {
+      pools = 0;
+      jobs = jobs_in 0 p.works.items;
+      failed = not (is_some p.parts);
+    } };
 
     ghost invariant = { λ p. IsSound p.works.items p.count p.crew p.parts };
 }
 
 impl<'g, G: Gate + Sync> Pool<'g, G> {
-    /// A pool of so many workers, 0 to `MOST_WORKERS`, in a scope that outlives it, which are numbered from the first number on. A worker whose
-    /// thread can't be started is left out; with none at all the owner answers each job. AllocError when out of memory.
+    /// A pool of so many workers, 0 to `MOST_WORKERS`, in a scope that outlives it, which are
+    /// numbered from the first number on. A worker whose thread can't be started is left out; with
+    /// none at all the owner answers each job. AllocError when out of memory.
     pub fn open<E, R: Wait + Sync>(
         rt: &'g R,
         alloc: Global,
@@ -112,7 +119,8 @@ fn put(
     ensures count { count.new ≡ length (jobs_in 0 works.new.items) }
     ensures shared { arc_value parts.new.shared ≡ arc_value parts.old.shared }
     ensures parts { (worker_view parts.new.jobs).parts ≡ (worker_view parts.old.jobs).parts }
-    ensures jobs { jobs_in 0 works.new.items ≡ jobs_in 0 works.old.items ++ numbered number work ∷ [] }
+    ensures jobs { jobs_in 0 works.new.items
+        ≡ jobs_in 0 works.old.items ++ numbered number work ∷ [] }
 {
     await_work(&mut parts.places, number as usize, &copy);
     parts.put(Job::new(number, work));
@@ -133,8 +141,8 @@ impl<'g, G: Gate> Pool<'g, G> {
         self.crew.dismiss();
     }
 
-    /// Submits a work under a number of the run, above all earlier ones. It never waits. OutOfMemory, and nothing else, where memory
-    /// is refused, or the pool has failed.
+    /// Submits a work under a number of the run, above all earlier ones. It never waits.
+    /// OutOfMemory, and nothing else, where memory is refused, or the pool has failed.
     pub fn submit_numbered(
         &mut self,
         alloc: Global,

@@ -20,9 +20,10 @@ use std::random::RandomSource;
 use std::sync::Wait;
 use std::thread::{Scope, Threads};
 
-/// The pools of a run: the default one, and then those that are named, in order (Twisted: `deferToThread`, `deferToThreadPool`). One
-/// sequence of numbers goes over all of them. The owner helps in the pool of the job that it waits for alone. Where one has failed
-/// they all have, and tell their workers to leave.
+/// The pools of a run: the default one, and then those that are named, in order (Twisted:
+/// `deferToThread`, `deferToThreadPool`). One sequence of numbers goes over all of them. The owner
+/// helps in the pool of the job that it waits for alone. Where one has failed they all have, and
+/// tell their workers to leave.
 #[derive(Drop)]
 pub struct Pools<'g, G> {
     named: u32,
@@ -43,14 +44,19 @@ impl<'g, G> Model for Pools<'g, G> {
 
     ghost coded = { Prim.hlevel (codes, job_contract.the_row.coded) };
 
-    ghost view = { λ p. record { pools = p.named; jobs = jobs_from 0 p.works.items; failed = has_failed p.pools.items } };
+    ghost view = { λ p. record {
+      pools = p.named;
+      jobs = jobs_from 0 p.works.items;
+      failed = has_failed p.pools.items;
+    } };
 
     ghost invariant = { λ p. AreRouted p.named p.routes.items p.works.items p.pools.items };
 }
 
 impl<'g, G: Gate + Sync> Pools<'g, G> {
-    /// The default pool of so many workers, and a pool of so many for each number that is named, in order: each of 0 to `MOST_WORKERS`, in a scope
-    /// that outlives them. Workers are numbered from 1 on over all pools. AllocError when out of memory.
+    /// The default pool of so many workers, and a pool of so many for each number that is named, in
+    /// order: each of 0 to `MOST_WORKERS`, in a scope that outlives them. Workers are numbered from
+    /// 1 on over all pools. AllocError when out of memory.
     pub fn open<E, R: Wait + Sync>(
         rt: &'g R,
         alloc: Global,
@@ -61,7 +67,8 @@ impl<'g, G: Gate + Sync> Pools<'g, G> {
     ) -> Result<Pools<'g, G>, AllocError>
         requires few { workers ≤ MOST_WORKERS }
         requires named { (length named.now ≤ MOST_POOLS) × All (λ n. n ≤ MOST_WORKERS) named.now }
-        ensures { IfOk result (λ pools. pools ≡ record { pools = length named.now; jobs = []; failed = false }) }
+        ensures { IfOk result
+            (λ pools. pools ≡ record { pools = length named.now; jobs = []; failed = false }) }
     {
         let mut pools = Vec::with_capacity(alloc, named.len() + 1)?;
         pools.push_reserved(Pool::open(rt, alloc, scope, 1, workers, gate)?);
@@ -104,7 +111,8 @@ fn close_all<R: Threads + Wait, G: Gate>(
     alloc: Global,
     pools: Vec<Pool<'_, G>>,
 ) -> Result<Vec<Deque<Done>>, AllocError>
-    ensures { IfOk result (λ dones. map jobs_of dones.items ≡ map (λ pool. pool.jobs) pools.entry.items) }
+    ensures { IfOk result
+        (λ dones. map jobs_of dones.items ≡ map (λ pool. pool.jobs) pools.entry.items) }
 {
     let mut dones = Vec::with_capacity(alloc, pools.len())?;
     for pool in pools {

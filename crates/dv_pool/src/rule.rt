@@ -1,7 +1,8 @@
 use atomic_table::{Join, Split};
 use std::collections::LinkedList;
 
-/// What a token's owner has put into a queue and taken from it, and its parts of the right to know the whole. No value of it is made.
+/// What a token's owner has put into a queue and taken from it, and its parts of the right to know
+/// the whole. No value of it is made.
 pub struct Hand<T> {
     pub parts: u64,
     pub put: LinkedList<T>,

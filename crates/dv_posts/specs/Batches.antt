@@ -1,5 +1,6 @@
 -- Posts: what callers on threads of their own have a run perform, in batches (Twisted: `reactor.callFromThread`).
-use Rattle.std.specs.Prelude.{ℕ, zero, suc, ◌≡◌, ◌≤◌, List, [], ◌∷◌, ◌++◌, Option, length, map, slice_get, slice_index_or}
+use Rattle.std.specs.Prelude.{ℕ, zero, suc, ◌≡◌, ◌≤◌, List, [], ◌∷◌, ◌++◌, Option, length, map, slice_get}
+use Rattle.std.specs.Prelude.{slice_index_or}
 use Rattle.dv_script.specs.declared.body.Body.{Body}
 use Rattle.dv_script.specs.declared.event.Event.{Event}
 use Rattle.dv_script.specs.declared.event.Event.TheVariants as event

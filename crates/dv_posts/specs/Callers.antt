@@ -26,14 +26,17 @@ pub record HasAll (ring : Ring) (c count : ℕ) (p : inbox.Poster) : Type 0 wher
 
 -- a caller of this ring, which has promised so many posts or made them
 abbrev pub Serves : Ring → ℕ → ℕ → Caller → Type 0
-Serves ring c count (Running handle) = (handle.promise.poster.value.caller ≡ c) × (handle.promise.poster.value.ring ≡ ring) × (handle.promise.count ≡ count)
+Serves ring c count (Running handle) =
+    (handle.promise.poster.value.caller ≡ c) × (handle.promise.poster.value.ring ≡ ring)
+    × (handle.promise.count ≡ count)
 Serves ring c count (Here poster) = HasAll ring c count poster
 
 -- each caller of these bodies serves a ring of the inbox
 pub record AllServe (bodies : Callers) (box : inbox.Inbox) (callers : List Caller) : Type 0 where
   pub len : length callers ≡ length (inbox.rings_of box)
   pub count : length (inbox.rings_of box) ≡ length bodies
-  pub each : (c : ℕ) (ring : Ring) (caller : Caller) → slice_get (inbox.rings_of box) c ≡ Some ring → slice_get callers c ≡ Some caller → Serves ring c (length (bodies_of bodies c)) caller
+  pub each : (c : ℕ) (ring : Ring) (caller : Caller) → slice_get (inbox.rings_of box) c ≡ Some ring
+      → slice_get callers c ≡ Some caller → Serves ring c (length (bodies_of bodies c)) caller
 
 -- the posters of these bodies have posted all
 abbrev pub HavePosted : Callers → List inbox.Poster → Type 0

@@ -1,5 +1,6 @@
 -- Posts from callers, each over a ring of its own, and the inbox that takes them.
-use Rattle.std.specs.Prelude.{◌≡◌, ◌≢◌, ◌⊎◌, ℕ, ◌+◌, ◌^◌, ◌-◌, ◌<◌, ◌≤◌, ◌==◌, min, List, [], ◌∷◌, ◌++◌, length, map, slice_index_or, slice_get, Some}
+use Rattle.std.specs.Prelude.{◌≡◌, ◌≢◌, ◌⊎◌, ℕ, ◌+◌, ◌^◌, ◌-◌, ◌<◌, ◌≤◌, ◌==◌, min, List, [], ◌∷◌, ◌++◌, length, map}
+use Rattle.std.specs.Prelude.{slice_index_or, slice_get, Some}
 use Rattle.std.specs.List.{filter}
 use mathlib.Core.List.{IsPrefix}
 use Rattle.dv_posts.specs.Ring.{Ring}
@@ -40,7 +41,8 @@ SamePoster old new = (new.caller ≡ old.caller) × (new.ring ≡ old.ring) × (
 abbrev pub IsFresh : ℕ → Poster → Type 0
 IsFresh capacity p = (posted_by p ≡ []) × (capacity_of p ≡ capacity)
 
--- where a caller's posts are taken: its ring, and the indices of the posts that were taken, and of those that were seen since, in order
+-- where a caller's posts are taken: its ring, and the indices of the posts that were taken, and of those that were seen
+-- since, in order
 pub record Receiver : Type 0 where
   pub ring : Ring
   pub taken : List ℕ
@@ -97,7 +99,8 @@ IsOf inbox p = slice_get (rings_of inbox) p.caller ≡ Some p.ring
 -- each poster is of the caller at its place, and of that caller's ring
 pub record ArePosters (rings : List Ring) (posters : List Poster) : Type 0 where
   pub count : length posters ≡ length rings
-  pub each : (k : ℕ) (p : Poster) → slice_get posters k ≡ Some p → (p.caller ≡ k) × (slice_get rings p.caller ≡ Some p.ring)
+  pub each : (k : ℕ) (p : Poster) → slice_get posters k ≡ Some p
+      → (p.caller ≡ k) × (slice_get rings p.caller ≡ Some p.ring)
 
 -- these are all posters of this inbox, in the order of the callers
 abbrev pub AreOf : Inbox → List Poster → Type 0
@@ -107,15 +110,17 @@ AreOf inbox posters = ArePosters (rings_of inbox) posters
 abbrev pub IsPassed : ℕ → ℕ → ℕ → Type 0
 IsPassed next to caller = ((next ≤ caller) × (caller < to)) ⊎ ((to < next) × ((next ≤ caller) ⊎ (caller < to)))
 
--- a post is taken: the next one of its caller, of which more may be known than before. Nothing changes of the other callers.
--- All that was known of those that were passed had been taken, and the next time the caller after this one is looked at first
+-- a post is taken: the next one of its caller, of which more may be known than before. Nothing changes of the other
+-- callers. All that was known of those that were passed had been taken, and the next time the caller after this one is
+-- looked at first
 pub record Takes (old new : Inbox) (posted : Posted) : Type 0 where
   pub within : posted.caller < callers_of old
   pub passed : (caller : ℕ) → IsPassed old.next posted.caller caller → IsTaken old caller
   pub turn : new.next ≡ posted.caller + 1
   pub next : taken_of new posted.caller ≡ taken_of old posted.caller ++ posted ∷ []
   pub more : IsPrefix (known_of old posted.caller) (known_of new posted.caller)
-  pub others : (caller : ℕ) → caller ≢ posted.caller → (taken_of new caller ≡ taken_of old caller) × (known_of new caller ≡ known_of old caller)
+  pub others : (caller : ℕ) → caller ≢ posted.caller
+      → (taken_of new caller ≡ taken_of old caller) × (known_of new caller ≡ known_of old caller)
 
 -- all that this poster posted is known, nothing is taken, and nothing changes of the other callers
 pub record Learns (old : Inbox) (p : Poster) (new : Inbox) : Type 0 where

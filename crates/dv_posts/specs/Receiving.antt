@@ -25,7 +25,8 @@ AreRead from to receivers = (k : ℕ) (d : Receiver) → from ≤ k → k < to �
 
 -- all that was seen of the callers that are passed was taken
 abbrev pub ArePassed : ℕ → ℕ → List Receiver → Type 0
-ArePassed next to receivers = (k : ℕ) (d : Receiver) → k < length receivers → IsPassed next to k → (slice_index_or receivers k d).seen ≡ []
+ArePassed next to receivers =
+    (k : ℕ) (d : Receiver) → k < length receivers → IsPassed next to k → (slice_index_or receivers k d).seen ≡ []
 
 -- these receivers, with the first looked at first
 abbrev pub inbox_of : List Receiver → Inbox

@@ -19,7 +19,8 @@ with_batch batch t = record t { batches = t.batches ++ batch ∷ [] }
 
 -- the post is the next one of its caller, of which so many were counted
 abbrev pub IsNext : Callers → List ℕ → Posted → Type 0
-IsNext callers counts posted = (posted.index < length (bodies_of callers posted.caller)) × (posted.index ≡ slice_index_or counts posted.caller 0)
+IsNext callers counts posted =
+    (posted.index < length (bodies_of callers posted.caller)) × (posted.index ≡ slice_index_or counts posted.caller 0)
 
 -- these hold so many first posts of a caller
 abbrev pub AreCounted : Callers → ℕ → Batch → ℕ → Type 0

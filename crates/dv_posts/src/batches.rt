@@ -1,4 +1,5 @@
-ghost use Rattle.std.specs.Prelude.{List, ◌≡◌, ◌+◌, ◌++◌, length, replicate, slice_set, IfOk, IsFalse, IsTrue, OnOk};
+ghost use Rattle.std.specs.Prelude.{List, ◌≡◌, ◌+◌, ◌++◌, length, replicate, slice_set, IfOk};
+ghost use Rattle.std.specs.Prelude.{IsFalse, IsTrue, OnOk};
 ghost use Rattle.dv_posts.specs.Batches.{AreNext, joined};
 ghost use Rattle.dv_posts.specs.Taking.{Counted, IsNext, untaken, with_batch};
 ghost use Rattle.dv_posts.specs.declared.posted.Posted.{Posted as SpecPosted};
@@ -9,7 +10,8 @@ use dv_value::items::Items;
 use std::alloc::{AllocError, Global};
 use std::marker::Model;
 
-/// The batches that were taken of the callers' posts. Contracts see them, and the bodies of the callers.
+/// The batches that were taken of the callers' posts. Contracts see them, and the bodies of the
+/// callers.
 #[derive(Drop)]
 pub struct Batches<'s> {
     callers: &'s [Items<Body>],
@@ -32,7 +34,9 @@ impl<'s> Model for Batches<'s> {
 
     ghost view = { λ b. record { callers = b.callers.now; batches = b.batches } };
 
-    ghost invariant = { λ b. CountsAll (record { callers = b.callers.now; batches = b.batches }) b.counts.items × (length b.more.items ≡ length b.callers.now) };
+    ghost invariant = { λ b.
+        CountsAll (record { callers = b.callers.now; batches = b.batches }) b.counts.items
+        × (length b.more.items ≡ length b.callers.now) };
 }
 
 impl<'s> Batches<'s> {
@@ -58,8 +62,10 @@ impl<'s> Batches<'s> {
 
     /// Whether each post of a batch is the next one of its caller.
     pub fn are_next(&mut self, batch: &[Posted]) -> bool
-        ensures yes { IsTrue result → AreNext self.old.callers (joined self.old.batches ++ batch.now) }
-        ensures no { IsFalse result → AreNext self.old.callers (joined self.old.batches ++ batch.now) → ⊥ }
+        ensures yes { IsTrue result
+            → AreNext self.old.callers (joined self.old.batches ++ batch.now) }
+        ensures no { IsFalse result
+            → AreNext self.old.callers (joined self.old.batches ++ batch.now) → ⊥ }
         ensures same { self.new ≡ self.old }
     {
         count_with(self.callers, self.counts.as_slice(), &mut self.more, batch)
@@ -105,7 +111,8 @@ fn zeros(alloc: Global, len: usize) -> Result<Vec<usize>, AllocError>
     Ok(zeros)
 }
 
-/// Counts the posts of a batch more, as far as each is the next one of its caller, and answers whether all are.
+/// Counts the posts of a batch more, as far as each is the next one of its caller, and answers
+/// whether all are.
 fn count_with(
     callers: &[Items<Body>],
     counts: &[usize],
@@ -115,8 +122,10 @@ fn count_with(
     requires counts { length counts.now ≡ length callers.now }
     requires more { length more.old.items ≡ length callers.now }
     ensures len { length more.new.items ≡ length callers.now }
-    ensures yes { IsTrue result → (before : List SpecPosted) → Counted callers.now counts.now before → Counted callers.now more.new.items (before ++ batch.now) }
-    ensures no { IsFalse result → (before : List SpecPosted) → Counted callers.now counts.now before → AreNext callers.now (before ++ batch.now) → ⊥ }
+    ensures yes { IsTrue result → (before : List SpecPosted) → Counted callers.now counts.now before
+        → Counted callers.now more.new.items (before ++ batch.now) }
+    ensures no { IsFalse result → (before : List SpecPosted) → Counted callers.now counts.now before
+        → AreNext callers.now (before ++ batch.now) → ⊥ }
 {
     more.copy_from_slice(counts);
     count_all(callers, more, batch)
@@ -126,8 +135,12 @@ fn count_with(
 fn count_all(callers: &[Items<Body>], counts: &mut Vec<usize>, batch: &[Posted]) -> bool
     requires { length counts.old.items ≡ length callers.now }
     ensures len { length counts.new.items ≡ length callers.now }
-    ensures yes { IsTrue result → (before : List SpecPosted) → Counted callers.now counts.old.items before → Counted callers.now counts.new.items (before ++ batch.now) }
-    ensures no { IsFalse result → (before : List SpecPosted) → Counted callers.now counts.old.items before → AreNext callers.now (before ++ batch.now) → ⊥ }
+    ensures yes { IsTrue result → (before : List SpecPosted)
+        → Counted callers.now counts.old.items before
+        → Counted callers.now counts.new.items (before ++ batch.now) }
+    ensures no { IsFalse result → (before : List SpecPosted)
+        → Counted callers.now counts.old.items before → AreNext callers.now (before ++ batch.now)
+        → ⊥ }
 {
     for posted in batch {
         if !count_one(callers, counts, posted) {
@@ -141,7 +154,8 @@ fn count_all(callers: &[Items<Body>], counts: &mut Vec<usize>, batch: &[Posted])
 fn count_one(callers: &[Items<Body>], counts: &mut Vec<usize>, posted: &Posted) -> bool
     requires { length counts.old.items ≡ length callers.now }
     ensures next { IsTrue result → IsNext callers.now counts.old.items posted.now }
-    ensures counted { IsTrue result → counts.new.items ≡ slice_set counts.old.items posted.now.caller (posted.now.index + 1) }
+    ensures counted { IsTrue result
+        → counts.new.items ≡ slice_set counts.old.items posted.now.caller (posted.now.index + 1) }
     ensures strange { IsFalse result → IsNext callers.now counts.old.items posted.now → ⊥ }
     ensures kept { IsFalse result → counts.new ≡ counts.old }
 {

@@ -1,6 +1,7 @@
 ghost use Rattle.std.specs.Prelude.{◌≡◌, ◌<◌, ◌≤◌, ◌++◌, All, ℕ, length, IfOk};
 ghost use Rattle.dv_posts.specs.Batches.{AreNext, Batch, posts_of};
-ghost use Rattle.dv_posts.specs.Callers.{AllServe, AreFew, HasAll, HasPosted, HavePosted, Serves, TookBatches};
+ghost use Rattle.dv_posts.specs.Callers.{AllServe, AreFew, HasAll, HasPosted, HavePosted, Serves};
+ghost use Rattle.dv_posts.specs.Callers.{TookBatches};
 ghost use Rattle.dv_posts.specs.Posts.{AreOf, IsFresh, SameInbox, of};
 ghost use Rattle.dv_posts.specs.Ring.{Ring};
 ghost use Rattle.dv_script.specs.declared.limits.TheConstants.{MOST_POSTS};
@@ -77,7 +78,8 @@ pub fn start_all<'s, E>(
     requires few { AreFew bodies.now }
     requires len { length posters.items ≡ length bodies.now }
     requires fresh { All (IsFresh MOST_POSTS) posters.items }
-    ensures { IfOk result (λ callers. (box : _) → AreOf box posters.items → AllServe bodies.now box callers.items) }
+    ensures { IfOk result (λ callers. (box : _) → AreOf box posters.items
+        → AllServe bodies.now box callers.items) }
 {
     let mut callers = Vec::with_capacity(alloc, posters.len())?;
     for poster in posters {
@@ -89,7 +91,8 @@ pub fn start_all<'s, E>(
 
 /// The poster of a caller, which has posted; it may wait for its thread.
 fn finish<R: Threads>(rt: &R, caller: Caller) -> Poster
-    ensures { (ring : Ring) (c count : ℕ) → Serves ring c count caller → HasAll ring c count result }
+    ensures { (ring : Ring) (c count : ℕ) → Serves ring c count caller
+        → HasAll ring c count result }
 {
     match caller {
         Caller::Running(handle) => handle.join(rt),
@@ -104,7 +107,8 @@ fn join_all<R: Threads>(
     alloc: Global,
     callers: Vec<Caller>,
 ) -> Result<Vec<Poster>, AllocError>
-    ensures { IfOk result (λ posters. (bodies box : _) → AllServe bodies box callers.items → AreOf box posters.items × HavePosted bodies posters.items) }
+    ensures { IfOk result (λ posters. (bodies box : _) → AllServe bodies box callers.items
+        → AreOf box posters.items × HavePosted bodies posters.items) }
 {
     let mut posters = Vec::with_capacity(alloc, callers.len())?;
     for caller in callers {
@@ -118,7 +122,8 @@ fn join_all<R: Threads>(
 pub fn take_up_to(alloc: Global, inbox: &mut Inbox, most: u32) -> Result<Items<Posted>, AllocError>
     ensures same { SameInbox inbox.old inbox.new }
     ensures few { IfOk result (λ batch. length batch ≤ most) }
-    ensures taken { IfOk result (λ batch. (before : Batch) → TookBatches inbox.old before → TookBatches inbox.new (before ++ batch)) }
+    ensures taken { IfOk result (λ batch. (before : Batch) → TookBatches inbox.old before
+        → TookBatches inbox.new (before ++ batch)) }
 {
     let mut batch = Items::new(alloc);
     for _ in 0..most {
@@ -130,7 +135,8 @@ pub fn take_up_to(alloc: Global, inbox: &mut Inbox, most: u32) -> Result<Items<P
     Ok(batch)
 }
 
-/// The posts that are left, once the callers have ended. With them all posts were taken, each once and each caller's in order.
+/// The posts that are left, once the callers have ended. With them all posts were taken, each once
+/// and each caller's in order.
 #[tactic(auto, using(crate::proofs::CallerLemmas::all_posts, crate::proofs::CallerLemmas::next_posts))]
 pub fn end<R: Threads>(
     rt: &R,
@@ -140,8 +146,10 @@ pub fn end<R: Threads>(
     callers: Vec<Caller>,
 ) -> Result<Items<Posted>, AllocError>
     requires { AllServe bodies.now inbox callers.items }
-    ensures next { IfOk result (λ rest. (before : Batch) → TookBatches inbox before → AreNext bodies.now before) }
-    ensures all { IfOk result (λ rest. (before : Batch) → TookBatches inbox before → (c : ℕ) → of c (before ++ rest) ≡ posts_of bodies.now c) }
+    ensures next { IfOk result (λ rest. (before : Batch) → TookBatches inbox before
+        → AreNext bodies.now before) }
+    ensures all { IfOk result (λ rest. (before : Batch) → TookBatches inbox before → (c : ℕ)
+        → of c (before ++ rest) ≡ posts_of bodies.now c) }
 {
     let _ = bodies;
     let posters = join_all(rt, alloc, callers)?;

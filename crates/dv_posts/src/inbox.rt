@@ -11,8 +11,8 @@ use rtrb::RingBuffer;
 use std::alloc::{AllocError, Global};
 use std::marker::Model;
 
-/// Where the posts of up to `MOST_CALLERS` callers are taken, each posting over a ring of its own (Twisted: the reactor's
-/// queue of what `callFromThread` is called with).
+/// Where the posts of up to `MOST_CALLERS` callers are taken, each posting over a ring of its own
+/// (Twisted: the reactor's queue of what `callFromThread` is called with).
 #[derive(Drop)]
 pub struct Inbox {
     receivers: Vec<Receiver>,
@@ -31,14 +31,16 @@ impl Model for Inbox {
 
     ghost view = { λ i. record { receivers = i.receivers.items; next = i.next } };
 
-    ghost invariant = { λ i. (i.next ≤ length i.receivers.items) × (length i.receivers.items ≤ MOST_CALLERS) };
+    ghost invariant = { λ i. (i.next ≤ length i.receivers.items)
+        × (length i.receivers.items ≤ MOST_CALLERS) };
 }
 
 impl Inbox {
-    ghost use Rattle.dv_posts.specs.Posts.{AllTaken, AreOf, IsFresh, IsNew, IsOf, IsRest, Learns, SameInbox, Takes, counts_of};
+    ghost use Rattle.dv_posts.specs.Posts.{AllTaken, AreOf, IsFresh, IsNew, IsOf, IsRest, Learns};
+    ghost use Rattle.dv_posts.specs.Posts.{SameInbox, Takes, counts_of};
 
-    /// Opens an inbox for so many callers, and a poster for each of them, in order, with room for `capacity` posts of each
-    /// that weren't yet taken. AllocError on allocation failure.
+    /// Opens an inbox for so many callers, and a poster for each of them, in order, with room for
+    /// `capacity` posts of each that weren't yet taken. AllocError on allocation failure.
     pub fn open(
         alloc: Global,
         callers: u32,
@@ -61,8 +63,8 @@ impl Inbox {
         Ok((inbox, posters))
     }
 
-    /// Takes the next post of a caller, without waiting. It goes round the callers, from the one after the last that gave a
-    /// post. None where no ring had one when it was looked at.
+    /// Takes the next post of a caller, without waiting. It goes round the callers, from the one
+    /// after the last that gave a post. None where no ring had one when it was looked at.
     pub fn take(&mut self) -> Option<Posted>
         ensures same { SameInbox self.old self.new }
         ensures some { IfSome result (Takes self.old self.new) }
@@ -74,7 +76,8 @@ impl Inbox {
         Some(posted)
     }
 
-    /// From now on all that this poster posted so far is known: `take` gives None only once all of it is taken.
+    /// From now on all that this poster posted so far is known: `take` gives None only once all of
+    /// it is taken.
     pub fn learn(&mut self, poster: &mut Poster)
         requires of { IsOf self.old poster.old }
         ensures same { SameInbox self.old self.new }
@@ -86,8 +89,8 @@ impl Inbox {
         let _ = receiver.learn(poster);
     }
 
-    /// Takes all that is left, now that all posters are here and nothing more is posted. On allocation failure, what
-    /// was left is lost.
+    /// Takes all that is left, now that all posters are here and nothing more is posted. On
+    /// allocation failure, what was left is lost.
     pub fn gather(self, alloc: Global, posters: Vec<Poster>) -> Result<Taken, AllocError>
         requires of { AreOf self posters.items }
         ensures rest { IfOk result (λ taken. IsRest self posters.items taken.rest) }

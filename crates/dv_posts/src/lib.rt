@@ -1,4 +1,5 @@
-//! Posts of callers: their threads, the rings between these and the inbox, and the batches in which posts are performed.
+//! Posts of callers: their threads, the rings between these and the inbox, and the batches in which
+//! posts are performed.
 #![tactic(auto)]
 
 pub mod batches;

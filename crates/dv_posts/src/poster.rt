@@ -23,7 +23,12 @@ impl Model for Poster {
 
     ghost coded = { Prim.hlevel codes };
 
-    ghost view = { λ p. record { caller = p.caller; ring = ring_of p.producer.end; capacity = producer_capacity p.producer; posts = map (post p.caller) (sent p.producer) } };
+    ghost view = { λ p. record {
+      caller = p.caller;
+      ring = ring_of p.producer.end;
+      capacity = producer_capacity p.producer;
+      posts = map (post p.caller) (sent p.producer);
+    } };
 
     ghost invariant = { λ p. HasRoom p.producer };
 }
@@ -36,7 +41,12 @@ impl Poster {
     pub(crate) fn new(producer: Producer<u32>, caller: u32) -> Poster
         requires fresh { sent producer ≡ [] }
         requires room { producer_capacity producer ≤ known_free producer }
-        ensures { result ≡ record { caller = caller; ring = ring_of producer.end; capacity = producer_capacity producer; posts = [] } }
+        ensures { result ≡ record {
+          caller = caller;
+          ring = ring_of producer.end;
+          capacity = producer_capacity producer;
+          posts = [];
+        } }
     {
         Poster { producer, caller }
     }
@@ -48,8 +58,9 @@ impl Poster {
         self.caller
     }
 
-    /// Posts, without waiting (Twisted: `reactor.callFromThread`). The post comes back where the ring is full of posts that
-    /// weren't yet taken; the first ones, as many as the ring has room for, are always accepted.
+    /// Posts, without waiting (Twisted: `reactor.callFromThread`). The post comes back where the
+    /// ring is full of posts that weren't yet taken; the first ones, as many as the ring has room
+    /// for, are always accepted.
     pub fn post(&mut self, posted: Posted) -> Result<(), Posted>
         requires own { posted.caller ≡ self.old.caller }
         ensures same { SamePoster self.old self.new }

@@ -29,7 +29,11 @@ impl Model for Receiver {
 
     ghost coded = { Prim.hlevel codes };
 
-    ghost view = { λ r. record { ring = ring_of r.ring.end; taken = received r.ring; seen = known_items r.ring } };
+    ghost view = { λ r. record {
+      ring = ring_of r.ring.end;
+      taken = received r.ring;
+      seen = known_items r.ring;
+    } };
 
     ghost invariant = { λ r. r.count ≡ count_of (received r.ring) };
 }
@@ -71,7 +75,8 @@ impl Receiver {
         index
     }
 
-    /// All that the poster posted is seen from now on. Answers how many of these posts weren't taken.
+    /// All that the poster posted is seen from now on. Answers how many of these posts weren't
+    /// taken.
     pub(crate) fn learn(&mut self, poster: &mut Poster) -> usize
         requires pair { poster.old.ring ≡ self.old.ring }
         ensures ring { self.new.ring ≡ self.old.ring }

@@ -1,5 +1,6 @@
 -- What a DeferredList has of its children (Twisted: `DeferredList`, of which `gatherResults` makes one).
-use Rattle.std.specs.Prelude.{ℕ, pos, Bool, true, false, not, ◌&&◌, if◌then◌else◌, List, [], ◌∷◌, length, replicate, sum_by, nat_eq, Option, None, Some, option_and_then, option_map, slice_get, slice_set}
+use Rattle.std.specs.Prelude.{ℕ, pos, Bool, true, false, not, ◌&&◌, if◌then◌else◌, List, [], ◌∷◌, length, replicate}
+use Rattle.std.specs.Prelude.{sum_by, nat_eq, Option, None, Some, option_and_then, option_map, slice_get, slice_set}
 use Rattle.dv_value.specs.Builtin as builtin
 use Rattle.dv_value.specs.Failure.{is_fault, failure_in}
 use Rattle.dv_value.specs.declared.failure.Failure.{Failure, roll-Failure}
@@ -10,7 +11,8 @@ use Rattle.dv_value.specs.declared.value.Value.TheVariants as value
 use Rattle.dv_prims.specs.declared.gather.Came.{Came}
 use Rattle.dv_prims.specs.declared.gather.Flags.{Flags}
 
--- how it is fired and what failures of its children become; the place of each child, null as long as it hasn't come, and then whether it succeeded and with what; and whether the list is fired, and keeps nothing any more
+-- how it is fired and what failures of its children become; the place of each child, null as long as it hasn't come,
+-- and then whether it succeeded and with what; and whether the list is fired, and keeps nothing any more
 pub record Gather : Type 0 where
   pub flags : Flags
   pub places : List Value
@@ -38,7 +40,11 @@ first_success i v = value.List (v ∷ value.Int (pos i) ∷ [])
 
 -- the first failure, with the place of the child
 abbrev pub first_failure : ℕ → Failure → Value
-first_failure i failure = value.Fault (roll-Failure (record { class = builtin.first_error; message = []; sub = Some (roll-Sub (record { index = i; failure = failure })) }))
+first_failure i failure = value.Fault (roll-Failure (record {
+  class = builtin.first_error;
+  message = [];
+  sub = Some (roll-Sub (record { index = i; failure = failure }));
+}))
 
 -- a place that no child has reached
 abbrev pub is_null_step : Value-F Value → Bool
@@ -75,9 +81,12 @@ due_when_kept i v g = due_at_last (record g { places = slice_set g.places i (kep
 -- by the failure of the child, where it failed
 abbrev pub due_by_failure : ℕ → Option Failure → Value → Gather → Due
 due_by_failure i None v g = due_when_kept i v g
-due_by_failure i (Some failure) v g = if g.flags.fire_on_one_errback then (Some (first_failure i failure), without_places g) else due_when_kept i v g
+due_by_failure i (Some failure) v g =
+    if g.flags.fire_on_one_errback then (Some (first_failure i failure), without_places g) else due_when_kept i v g
 
--- child i came with a value or a failure, of which the first that holds is done: a list that is fired fires nothing more; a success fires it under `fireOnOneCallback`; a failure fires it under `fireOnOneErrback`; the last child fires it
+-- child i came with a value or a failure, of which the first that holds is done: a list that is fired fires nothing
+-- more; a success fires it under `fireOnOneCallback`; a failure fires it under `fireOnOneErrback`; the last child fires
+-- it
 abbrev pub due : ℕ → Value → Gather → Due
 due i v g =
     if g.fired then (None, g) else

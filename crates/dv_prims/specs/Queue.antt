@@ -1,5 +1,6 @@
 -- Queues (Twisted: `DeferredQueue`).
-use Rattle.std.specs.Prelude.{◌≡◌, ◌≢◌, ℕ, Bool, true, nat_lt, if◌then◌else◌, List, [], ◌∷◌, ◌++◌, length, Option, None, Some, Result, Ok, Err, slice_get}
+use Rattle.std.specs.Prelude.{◌≡◌, ◌≢◌, ℕ, Bool, true, nat_lt, if◌then◌else◌, List, [], ◌∷◌, ◌++◌, length, Option, None}
+use Rattle.std.specs.Prelude.{Some, Result, Ok, Err, slice_get}
 use Rattle.dv_value.specs.declared.value.Value.{Value}
 use Rattle.dv_journal.specs.Journal.{Written, fits, with_entry}
 use Rattle.dv_journal.specs.declared.entry.Entry.TheVariants as entry
@@ -11,7 +12,8 @@ use Rattle.dv_prims.specs.declared.error.Overflow.{Overflow}
 use Rattle.dv_journal.specs.declared.error.Fault.{Fault}
 use Rattle.dv_journal.specs.declared.error.Fault.TheVariants as fault
 
--- its name, how many values it stores at most and how many wait at most, none where there is no bound; the values that are stored, from the one that was put first; and who waits for one, in order of asking
+-- its name, how many values it stores at most and how many wait at most, none where there is no bound; the values that
+-- are stored, from the one that was put first; and who waits for one, in order of asking
 pub record Queue : Type 0 where
   pub name : List ℕ
   pub size : Option ℕ
@@ -86,9 +88,11 @@ put_in value s =
 abbrev pub put : Value → State Queue → Put
 put value s = if may_put s.0 then put_in value s else (Err (fault.Refused (record {})), s)
 
--- a putting did what the rule says, or memory was refused where the rule has no other reason to refuse it, and nothing changed
+-- a putting did what the rule says, or memory was refused where the rule has no other reason to refuse it, and nothing
+-- changed
 abbrev pub PutsUnlessMemory : Result (Option (ℕ × Value)) (Fault Overflow) → State Queue → State Queue → Put → Type 0
 PutsUnlessMemory (Ok answer) before after rule = (Ok answer, after) ≡ rule
 PutsUnlessMemory (Err (fault.Refused reason)) before after rule = (Err (fault.Refused reason), after) ≡ rule
 PutsUnlessMemory (Err fault.Limit) before after rule = (Err fault.Limit, after) ≡ rule
-PutsUnlessMemory (Err fault.OutOfMemory) before after rule = ((reason : Overflow) → rule.0 ≢ Err (fault.Refused reason)) × (rule.0 ≢ Err fault.Limit) × (after ≡ before)
+PutsUnlessMemory (Err fault.OutOfMemory) before after rule =
+    ((reason : Overflow) → rule.0 ≢ Err (fault.Refused reason)) × (rule.0 ≢ Err fault.Limit) × (after ≡ before)

@@ -1,5 +1,6 @@
 -- The tickets by which those that wait are kept, in order of asking.
-use Rattle.std.specs.Prelude.{◌≡◌, ◌≤◌, ◌<◌, ℕ, Bool, true, false, nat_eq, if◌then◌else◌, List, [], ◌∷◌, Option, None, Some}
+use Rattle.std.specs.Prelude.{◌≡◌, ◌≤◌, ◌<◌, ℕ, Bool, true, false, nat_eq, if◌then◌else◌, List, [], ◌∷◌, Option, None}
+use Rattle.std.specs.Prelude.{Some}
 use Rattle.std.specs.BTreeMap.{BTreeMap, IsOrdered, get, is_at}
 use Rattle.std.specs.BTreeSet.{BTreeSet, contains}
 use Rattle.std.specs.Map.{values_of}
@@ -37,7 +38,8 @@ pub record IsKept (order : BTreeMap ℕ ℕ) (tickets : BTreeSet (ℕ × ℕ)) (
 -- the first ticket of d, or that it has none
 abbrev pub IsFirstTicket : BTreeSet (ℕ × ℕ) → ℕ → Option ℕ → Type 0
 IsFirstTicket tickets d None = (t : ℕ) → contains by_number tickets (d, t) ≡ false
-IsFirstTicket tickets d (Some ticket) = (contains by_number tickets (d, ticket) ≡ true) × ((t : ℕ) → contains by_number tickets (d, t) ≡ true → ticket ≤ t)
+IsFirstTicket tickets d (Some ticket) =
+    (contains by_number tickets (d, ticket) ≡ true) × ((t : ℕ) → contains by_number tickets (d, t) ≡ true → ticket ≤ t)
 
 -- a ticket is held by d, and the others as before
 abbrev pub Gives : BTreeMap ℕ ℕ → BTreeMap ℕ ℕ → ℕ → ℕ → Type 0
@@ -49,11 +51,15 @@ Frees old new ticket = (t : ℕ) → get nat_cmp new t ≡ (if is_at (nat_cmp ti
 
 -- d is found by one ticket more
 abbrev pub Joins : BTreeSet (ℕ × ℕ) → BTreeSet (ℕ × ℕ) → ℕ × ℕ → Type 0
-Joins old new place = (other : ℕ × ℕ) → contains by_number new other ≡ (if is_at (by_number place) other then true else contains by_number old other)
+Joins old new place =
+    (other : ℕ × ℕ)
+    → contains by_number new other ≡ (if is_at (by_number place) other then true else contains by_number old other)
 
 -- d is found by one ticket less
 abbrev pub Leaves : BTreeSet (ℕ × ℕ) → BTreeSet (ℕ × ℕ) → ℕ × ℕ → Type 0
-Leaves old new place = (other : ℕ × ℕ) → contains by_number new other ≡ (if is_at (by_number place) other then false else contains by_number old other)
+Leaves old new place =
+    (other : ℕ × ℕ)
+    → contains by_number new other ≡ (if is_at (by_number place) other then false else contains by_number old other)
 
 -- all are found as before
 abbrev pub Keeps : BTreeSet (ℕ × ℕ) → BTreeSet (ℕ × ℕ) → Type 0

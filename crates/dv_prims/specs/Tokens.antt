@@ -1,5 +1,6 @@
 -- Locks and semaphores (Twisted: `DeferredSemaphore`, and `DeferredLock`, which is one of one token).
-use Rattle.std.specs.Prelude.{◌≡◌, ◌≢◌, ℕ, ◌+◌, ◌-◌, Bool, nat_eq, nat_lt, if◌then◌else◌, List, [], ◌∷◌, ◌++◌, Option, Result, Ok, Err, slice_get}
+use Rattle.std.specs.Prelude.{◌≡◌, ◌≢◌, ℕ, ◌+◌, ◌-◌, Bool, nat_eq, nat_lt, if◌then◌else◌, List, [], ◌∷◌, ◌++◌, Option}
+use Rattle.std.specs.Prelude.{Result, Ok, Err, slice_get}
 use Rattle.std.specs.List.{list_any}
 use Rattle.std.specs.Set.{remove_key}
 use Rattle.dv_journal.specs.Journal.{Written, fits, with_entry}
@@ -83,15 +84,20 @@ Released = Result (Option ℕ) (Fault NotHeld) × State Semaphore
 
 -- a token that is held is released, and whoever gets it is answered
 abbrev pub release_held : State Semaphore → Released
-release_held s = if fits s.1 (entry.Release s.0.name) then (Ok (first_waiting s.0), (released s.0, with_entry s.1 (entry.Release s.0.name))) else (Err fault.Limit, s)
+release_held s =
+    if fits s.1 (entry.Release s.0.name)
+    then (Ok (first_waiting s.0), (released s.0, with_entry s.1 (entry.Release s.0.name))) else (Err fault.Limit, s)
 
 -- a token is released, where one is held
 abbrev pub release : State Semaphore → Released
 release s = if is_unheld s.0 then (Err (fault.Refused (record {})), s) else release_held s
 
--- a giving back did what the rule says, or memory was refused where the rule has no other reason to refuse it, and nothing changed
-abbrev pub ReleasesUnlessMemory : Result (Option ℕ) (Fault NotHeld) → State Semaphore → State Semaphore → Released → Type 0
+-- a giving back did what the rule says, or memory was refused where the rule has no other reason to refuse it, and
+-- nothing changed
+abbrev pub ReleasesUnlessMemory : Result (Option ℕ) (Fault NotHeld) → State Semaphore → State Semaphore → Released
+    → Type 0
 ReleasesUnlessMemory (Ok answer) before after rule = (Ok answer, after) ≡ rule
 ReleasesUnlessMemory (Err (fault.Refused reason)) before after rule = (Err (fault.Refused reason), after) ≡ rule
 ReleasesUnlessMemory (Err fault.Limit) before after rule = (Err fault.Limit, after) ≡ rule
-ReleasesUnlessMemory (Err fault.OutOfMemory) before after rule = ((reason : NotHeld) → rule.0 ≢ Err (fault.Refused reason)) × (rule.0 ≢ Err fault.Limit) × (after ≡ before)
+ReleasesUnlessMemory (Err fault.OutOfMemory) before after rule =
+    ((reason : NotHeld) → rule.0 ≢ Err (fault.Refused reason)) × (rule.0 ≢ Err fault.Limit) × (after ≡ before)

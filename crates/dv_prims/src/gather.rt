@@ -57,7 +57,8 @@ impl Model for Gather {
 }
 
 impl Gather {
-    ghost use Rattle.dv_prims.specs.DeferredList.{new_gather, without_places, due, due_by_failure, due_when_kept, came};
+    ghost use Rattle.dv_prims.specs.DeferredList.{new_gather, without_places, due, due_by_failure};
+    ghost use Rattle.dv_prims.specs.DeferredList.{due_when_kept, came};
 
     /// No child has come.
     pub fn new(alloc: Global, children: usize, flags: Flags) -> Result<Gather, AllocError>
@@ -72,8 +73,9 @@ impl Gather {
         })
     }
 
-    /// A child came with its value, which may be a failure: answers what the list is to be fired with, if it is, and what
-    /// the child goes on with. A list that is fired fires nothing more. Where the allocation fails, nothing changes.
+    /// A child came with its value, which may be a failure: answers what the list is to be fired
+    /// with, if it is, and what the child goes on with. A list that is fired fires nothing more.
+    /// Where the allocation fails, nothing changes.
     pub fn came(&mut self, index: u32, value: Value) -> Result<Came, AllocError>
         ensures ok { IfOk result (λ answer. (answer, self.new) ≡ came index value self.old) }
         ensures err { OnErr result (self.new ≡ self.old) }
@@ -132,7 +134,8 @@ impl Gather {
 
     /// What a child came with is kept, and the last one fires the list with all.
     fn keep(&mut self, index: u32, value: &Value) -> Result<Option<Value>, AllocError>
-        ensures ok { IfOk result (λ fire. (fire, self.new) ≡ due_when_kept index value.now self.old) }
+        ensures ok { IfOk result
+            (λ fire. (fire, self.new) ≡ due_when_kept index value.now self.old) }
         ensures err { OnErr result (self.new ≡ self.old) }
     {
         let kept = kept_of(self.alloc, value)?;
@@ -148,7 +151,8 @@ impl Gather {
 
 ghost use Rattle.std.specs.Prelude.{false, replicate, slice_set};
 ghost use Rattle.dv_value.specs.declared.value.Value.TheVariants.{Null, List};
-ghost use Rattle.dv_prims.specs.DeferredList.{is_missing, missing_of, count_missing, kept_of, first_success, first_failure};
+ghost use Rattle.dv_prims.specs.DeferredList.{is_missing, missing_of, count_missing, kept_of};
+ghost use Rattle.dv_prims.specs.DeferredList.{first_success, first_failure};
 
 /// Puts what is kept of a child into its place, and answers how many haven't come yet.
 #[tactic(auto, using(crate::proofs::GatherLemmas::set_nowhere))]
@@ -236,8 +240,9 @@ fn first_failure(alloc: Global, index: u32, failure: &Failure) -> Result<Value, 
 ghost use Rattle.std.specs.Option.{option_copied};
 ghost use Rattle.dv_prims.specs.DeferredList.{second_of, seconds_in, seconds_of};
 
-/// What the children of a DeferredList gave, without whether they succeeded: the second parts of a list of lists of two.
-/// None where the value isn't such a list (Twisted: what `gatherResults` does with the results of its list).
+/// What the children of a DeferredList gave, without whether they succeeded: the second parts of a
+/// list of lists of two. None where the value isn't such a list (Twisted: what `gatherResults` does
+/// with the results of its list).
 pub fn seconds(alloc: Global, value: &Value) -> Result<Option<Value>, AllocError>
     ensures { IfOk result (λ seconds. seconds ≡ seconds_of value.now) }
 {

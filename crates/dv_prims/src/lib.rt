@@ -1,4 +1,5 @@
-//! The objects beside Deferreds: locks, semaphores, queues, and what a DeferredList has of its children.
+//! The objects beside Deferreds: locks, semaphores, queues, and what a DeferredList has of its
+//! children.
 #![tactic(auto)]
 
 pub mod error;

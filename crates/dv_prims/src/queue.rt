@@ -25,8 +25,8 @@ pub struct QueueParts {
     pub waiting: Items<DeferredId>,
 }
 
-/// A queue of values (Twisted: `DeferredQueue`). Those that wait for a value get it in the order in which they asked; one
-/// that asks twice waits twice.
+/// A queue of values (Twisted: `DeferredQueue`). Those that wait for a value get it in the order in
+/// which they asked; one that asks twice waits twice.
 #[derive(Drop)]
 pub struct Queue {
     alloc: Global,
@@ -47,20 +47,28 @@ impl Model for Queue {
 
     ghost coded = { Prim.hlevel (codes, value_contract.the_row.coded) };
 
-    ghost view = { λ q. record { name = q.name; size = q.size; backlog = q.backlog; stored = q.stored; waiting = q.waiting } };
+    ghost view = { λ q. record {
+      name = q.name;
+      size = q.size;
+      backlog = q.backlog;
+      stored = q.stored;
+      waiting = q.waiting;
+    } };
 
     ghost invariant = { λ q. (q.stored ≡ []) ⊎ (q.waiting ≡ []) };
 }
 
 impl Queue {
     ghost use Rattle.dv_prims.specs.Laws.{StoresOrIsWaitedFor};
-    ghost use Rattle.dv_prims.specs.Queue.{make_queue, may_put, may_get, put, PutsUnlessMemory, get, withdrawn};
+    ghost use Rattle.dv_prims.specs.Queue.{make_queue, may_put, may_get, put, PutsUnlessMemory};
+    ghost use Rattle.dv_prims.specs.Queue.{get, withdrawn};
     ghost use Rattle.dv_journal.specs.Telling.{UnlessMemory};
     ghost use Rattle.dv_prims.specs.Tokens.{is_waiting};
     ghost use Rattle.dv_journal.specs.declared.entry.Entry.TheVariants as entry;
 
-    /// Makes a queue in which nothing is stored, and logs it. It stores at most as many values as its size, and at
-    /// most as many Deferreds wait for one as its backlog; None is no bound (Twisted: `DeferredQueue`).
+    /// Makes a queue in which nothing is stored, and logs it. It stores at most as many values as
+    /// its size, and at most as many Deferreds wait for one as its backlog; None is no bound
+    /// (Twisted: `DeferredQueue`).
     pub fn new(
         alloc: Global,
         journal: &mut Journal,
@@ -68,7 +76,8 @@ impl Queue {
         size: Option<u32>,
         backlog: Option<u32>,
     ) -> Result<Queue, Stop>
-        ensures { UnlessMemory result journal.old journal.new (make_queue name.now size backlog journal.old) }
+        ensures { UnlessMemory result journal.old journal.new
+            (make_queue name.now size backlog journal.old) }
     {
         if !journal.fits_plain() {
             return Err(Stop::Limit);
@@ -96,7 +105,8 @@ impl Queue {
         }
     }
 
-    /// Whether a value may be asked for: one is stored, or fewer wait than may (Twisted: `QueueUnderflow` where not).
+    /// Whether a value may be asked for: one is stored, or fewer wait than may (Twisted:
+    /// `QueueUnderflow` where not).
     pub fn may_get(&self) -> bool
         ensures { result ≡ may_get self.now }
     {
@@ -106,14 +116,16 @@ impl Queue {
         }
     }
 
-    /// Puts a value: the first Deferred that waits gets it, and both are answered, for it to be fired; with nobody waiting
-    /// the value is stored (Twisted: `DeferredQueue.put`). Where as many are stored as may be, nothing is logged.
+    /// Puts a value: the first Deferred that waits gets it, and both are answered, for it to be
+    /// fired; with nobody waiting the value is stored (Twisted: `DeferredQueue.put`). Where as many
+    /// are stored as may be, nothing is logged.
     pub fn put(
         &mut self,
         journal: &mut Journal,
         value: Value,
     ) -> Result<Option<(DeferredId, Value)>, PutFault>
-        ensures { PutsUnlessMemory result (self.old, journal.old) (self.new, journal.new) (put value (self.old, journal.old)) }
+        ensures { PutsUnlessMemory result (self.old, journal.old) (self.new, journal.new)
+            (put value (self.old, journal.old)) }
     {
         if !self.may_put() {
             drop(value);
@@ -150,10 +162,11 @@ impl Queue {
         Ok(Entry::Put(name, shown))
     }
 
-    /// A Deferred asks for a value: the first that is stored is taken and answered, for it to be fired with; with none
-    /// stored it waits (Twisted: `DeferredQueue.get`).
+    /// A Deferred asks for a value: the first that is stored is taken and answered, for it to be
+    /// fired with; with none stored it waits (Twisted: `DeferredQueue.get`).
     pub fn get(&mut self, journal: &mut Journal, id: DeferredId) -> Result<Option<Value>, Stop>
-        ensures { UnlessMemory result (self.old, journal.old) (self.new, journal.new) (get id (self.old, journal.old)) }
+        ensures { UnlessMemory result (self.old, journal.old) (self.new, journal.new)
+            (get id (self.old, journal.old)) }
     {
         if !journal.fits_plain() {
             return Err(Stop::Limit);
@@ -167,8 +180,8 @@ impl Queue {
         Ok(self.stored.pop_front())
     }
 
-    /// A Deferred waits no longer, or once less where it asked more than once, and whether it waited is answered (Twisted:
-    /// `DeferredQueue._cancelGet`).
+    /// A Deferred waits no longer, or once less where it asked more than once, and whether it
+    /// waited is answered (Twisted: `DeferredQueue._cancelGet`).
     pub fn forget(&mut self, id: DeferredId) -> bool
         ensures waited { result ≡ is_waiting id self.old.waiting }
         ensures rest { self.new ≡ withdrawn id self.old }

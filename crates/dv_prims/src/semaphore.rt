@@ -33,8 +33,9 @@ pub struct SemaphoreParts {
     pub waiting: Items<DeferredId>,
 }
 
-/// A semaphore, or a lock, which is one of one token (Twisted: `DeferredSemaphore`, `DeferredLock`). Those that wait for a
-/// token get it in the order in which they asked; one that asks twice waits twice.
+/// A semaphore, or a lock, which is one of one token (Twisted: `DeferredSemaphore`,
+/// `DeferredLock`). Those that wait for a token get it in the order in which they asked; one that
+/// asks twice waits twice.
 #[derive(Drop)]
 pub struct Semaphore {
     alloc: Global,
@@ -53,7 +54,12 @@ impl Model for Semaphore {
 
     ghost coded = { Prim.hlevel codes };
 
-    ghost view = { λ s. record { name = s.name; tokens = s.tokens; given = s.given; waiting = s.waiting } };
+    ghost view = { λ s. record {
+      name = s.name;
+      tokens = s.tokens;
+      given = s.given;
+      waiting = s.waiting;
+    } };
 
     ghost invariant = { λ s. (s.given ≤ s.tokens) × (0 < length s.waiting → s.given ≡ s.tokens) };
 }
@@ -61,7 +67,9 @@ impl Model for Semaphore {
 impl Semaphore {
     ghost use Rattle.dv_prims.specs.Laws.{GivesAllBeforeAnyWaits};
     ghost use Rattle.dv_journal.specs.Telling.{UnlessMemory};
-    ghost use Rattle.dv_prims.specs.Tokens.{make_lock, make_semaphore, has_free, is_unheld, first_waiting, acquire, release, ReleasesUnlessMemory, is_waiting, forgotten};
+    ghost use Rattle.dv_prims.specs.Tokens.{make_lock, make_semaphore, has_free, is_unheld};
+    ghost use Rattle.dv_prims.specs.Tokens.{first_waiting, acquire, release, ReleasesUnlessMemory};
+    ghost use Rattle.dv_prims.specs.Tokens.{is_waiting, forgotten};
 
     /// Makes a lock, whose one token is free, and logs it (Twisted: `DeferredLock`).
     pub fn lock(alloc: Global, journal: &mut Journal, name: &str) -> Result<Semaphore, Stop>
@@ -76,14 +84,16 @@ impl Semaphore {
         Ok(all_free(alloc, kept, 1))
     }
 
-    /// Makes a semaphore of so many tokens, which are free, and logs it (Twisted: `DeferredSemaphore`).
+    /// Makes a semaphore of so many tokens, which are free, and logs it (Twisted:
+    /// `DeferredSemaphore`).
     pub fn new(
         alloc: Global,
         journal: &mut Journal,
         name: &str,
         tokens: u32,
     ) -> Result<Semaphore, Stop>
-        ensures { UnlessMemory result journal.old journal.new (make_semaphore name.now tokens journal.old) }
+        ensures { UnlessMemory result journal.old journal.new
+            (make_semaphore name.now tokens journal.old) }
     {
         if !journal.fits_plain() {
             return Err(Stop::Limit);
@@ -129,10 +139,11 @@ impl Semaphore {
         let _ = &self.alloc;
     }
 
-    /// A Deferred asks for a token (Twisted: `DeferredSemaphore.acquire`, `DeferredLock.acquire`, which also fire it where
-    /// it gets one).
+    /// A Deferred asks for a token (Twisted: `DeferredSemaphore.acquire`, `DeferredLock.acquire`,
+    /// which also fire it where it gets one).
     pub fn acquire(&mut self, journal: &mut Journal, id: DeferredId) -> Result<Grant, Stop>
-        ensures { UnlessMemory result (self.old, journal.old) (self.new, journal.new) (acquire id (self.old, journal.old)) }
+        ensures { UnlessMemory result (self.old, journal.old) (self.new, journal.new)
+            (acquire id (self.old, journal.old)) }
     {
         if !journal.fits_plain() {
             return Err(Stop::Limit);
@@ -147,10 +158,12 @@ impl Semaphore {
         Ok(Grant::Waits)
     }
 
-    /// Releases a token: the first that waits gets it, and is answered, to be fired; with nobody waiting it is free
-    /// (Twisted: `DeferredSemaphore.release`, `DeferredLock.release`). Where none is held, nothing is logged.
+    /// Releases a token: the first that waits gets it, and is answered, to be fired; with nobody
+    /// waiting it is free (Twisted: `DeferredSemaphore.release`, `DeferredLock.release`). Where
+    /// none is held, nothing is logged.
     pub fn release(&mut self, journal: &mut Journal) -> Result<Option<DeferredId>, ReleaseFault>
-        ensures { ReleasesUnlessMemory result (self.old, journal.old) (self.new, journal.new) (release (self.old, journal.old)) }
+        ensures { ReleasesUnlessMemory result (self.old, journal.old) (self.new, journal.new)
+            (release (self.old, journal.old)) }
     {
         if self.given == 0 {
             return Err(Fault::Refused(NotHeld));
@@ -169,8 +182,8 @@ impl Semaphore {
         }
     }
 
-    /// A Deferred waits no longer, or once less where it asked more than once, and whether it waited is answered (Twisted:
-    /// `DeferredSemaphore._cancelAcquire`).
+    /// A Deferred waits no longer, or once less where it asked more than once, and whether it
+    /// waited is answered (Twisted: `DeferredSemaphore._cancelAcquire`).
     #[tactic(auto, using(crate::proofs::WaitingLemmas::no_more_left))]
     pub fn forget(&mut self, id: DeferredId) -> bool
         ensures waited { result ≡ is_waiting id self.old.waiting }

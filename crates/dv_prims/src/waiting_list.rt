@@ -1,4 +1,5 @@
-ghost use Rattle.std.specs.Prelude.{◌≡◌, ◌-◌, ◌↔◌, IsTrue, IfOk, OnOk, OnErr, [], ◌∷◌, ◌++◌, length, slice_get, take, drop};
+ghost use Rattle.std.specs.Prelude.{◌≡◌, ◌-◌, ◌↔◌, IsTrue, IfOk, OnOk, OnErr, [], ◌∷◌, ◌++◌};
+ghost use Rattle.std.specs.Prelude.{length, slice_get, take, drop};
 
 use dv_journal::deferred_id::DeferredId;
 use dv_journal::entry::Entry;
@@ -9,11 +10,11 @@ use std::alloc::{AllocError, Global};
 use std::collections::{BTreeMap, BTreeSet};
 use std::marker::Model;
 
-/// Those that wait, in order of asking, which contracts see as their numbers, from who has waited longest. One that asks
-/// twice waits twice.
+/// Those that wait, in order of asking, which contracts see as their numbers, from who has waited
+/// longest. One that asks twice waits twice.
 ///
-/// Each has a ticket, whose number grows with each that is given. Whoever is first, and the first ticket of any number,
-/// is found without a walk.
+/// Each has a ticket, whose number grows with each that is given. Whoever is first, and the first
+/// ticket of any number, is found without a walk.
 #[derive(Drop)]
 pub struct WaitingList {
     order: BTreeMap<u64, u32>,
@@ -81,7 +82,8 @@ impl WaitingList {
         Ok(items)
     }
 
-    /// A Deferred waits, last. Where the allocation fails, or as the 2^64th of this list, it doesn't.
+    /// A Deferred waits, last. Where the allocation fails, or as the 2^64th of this list, it
+    /// doesn't.
     pub fn push_back(&mut self, id: DeferredId) -> Result<(), AllocError>
         ensures ok { OnOk result (self.new ≡ self.old ++ id ∷ []) }
         ensures err { OnErr result (self.new ≡ self.old) }
@@ -113,7 +115,8 @@ impl WaitingList {
         }
     }
 
-    /// A Deferred waits no longer, or once less where it waits more than once, and whether it waited is answered.
+    /// A Deferred waits no longer, or once less where it waits more than once, and whether it
+    /// waited is answered.
     pub fn remove(&mut self, id: DeferredId) -> bool
         ensures waited { result ≡ is_waiting id self.old }
         ensures rest { self.new ≡ without id self.old }
@@ -156,7 +159,8 @@ fn keep(
     number: u32,
 ) -> Result<(), AllocError>
     requires new { contains by_number tickets.old (number, ticket) ≡ false }
-    ensures ordered { OnOk result (order.new.entries ≡ insert_entry nat_cmp order.old.entries ticket number) }
+    ensures ordered { OnOk result
+        (order.new.entries ≡ insert_entry nat_cmp order.old.entries ticket number) }
     ensures ascends { OnOk result (IsOrdered nat_cmp order.new) }
     ensures holds { OnOk result (Gives order.old order.new ticket number) }
     ensures found { OnOk result (Joins tickets.old tickets.new (number, ticket)) }

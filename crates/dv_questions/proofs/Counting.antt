@@ -12,7 +12,8 @@ count_items [] = refl
 count_items (v ∷ vs) = ap suc (count_items vs)
 
 -- where no item is left, nothing is asked
-pub none_left : (good : Want → Data → Bool) (ws : List Want) (vs : List Value) → length vs ≡ 0 → one_for_one good ws (items_view vs) ≡ true
+pub none_left : (good : Want → Data → Bool) (ws : List Want) (vs : List Value) → length vs ≡ 0
+    → one_for_one good ws (items_view vs) ≡ true
 none_left good [] vs h = refl
 none_left good (w ∷ ws) [] h = refl
 none_left good (w ∷ ws) (v ∷ vs) h = absurd (omega (arith, h))

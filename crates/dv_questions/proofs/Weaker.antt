@@ -13,7 +13,8 @@ use Rattle.dv_forms.specs.declared.want.Keyed.{Keyed}
 use Rattle.dv_forms.specs.Wants.{item_want, key_want, keys_in, pair_wants}
 use Rattle.dv_forms.specs.Words.{wants_of}
 use Rattle.dv_questions.specs.Questions.{Asked, words, names, classes, pools, every, is_named, is_known, is_pooled}
-use Rattle.dv_questions.specs.Asking.{count, if_there, each_item, one_for_one, arguments_suit, word_suits, call_suits, keys_suit, in_parts, all_suit}
+use Rattle.dv_questions.specs.Asking.{count, if_there, each_item, one_for_one, arguments_suit, word_suits, call_suits}
+use Rattle.dv_questions.specs.Asking.{keys_suit, in_parts, all_suit}
 
 both : {a b : Bool} → a ≡ true → b ≡ true → (a && b) ≡ true
 both h k = rw (h, k) refl
@@ -27,47 +28,63 @@ pub record IsWeaker (a b : Asked) : Type 0 where
 abbrev pub Leads : (Want → Data → Bool) → (Want → Data → Bool) → Type 0
 Leads f g = (w : Want) (d : Data) → f w d ≡ true → g w d ≡ true
 
-there_too : {X : Type 0} (f g : X → Bool) → ((x : X) → f x ≡ true → g x ≡ true) → (o : Option X) → if_there f o ≡ true → if_there g o ≡ true
+there_too : {X : Type 0} (f g : X → Bool) → ((x : X) → f x ≡ true → g x ≡ true) → (o : Option X) → if_there f o ≡ true
+    → if_there g o ≡ true
 there_too f g k None h = refl
 there_too f g k (Some x) h = k x h
 
-each_too : (f g : Data → Bool) → ((d : Data) → f d ≡ true → g d ≡ true) → (ds : Items) → each_item f ds ≡ true → each_item g ds ≡ true
+each_too : (f g : Data → Bool) → ((d : Data) → f d ≡ true → g d ≡ true) → (ds : Items) → each_item f ds ≡ true
+    → each_item g ds ≡ true
 each_too f g k no_items h = refl
 each_too f g k (item d ds) h = let p = and_parts (f d) (each_item f ds) h in both (k d p.0) (each_too f g k ds p.1)
 
-one_too : (f g : Want → Data → Bool) → Leads f g → (ws : List Want) (ds : Items) → one_for_one f ws ds ≡ true → one_for_one g ws ds ≡ true
+one_too : (f g : Want → Data → Bool) → Leads f g → (ws : List Want) (ds : Items) → one_for_one f ws ds ≡ true
+    → one_for_one g ws ds ≡ true
 one_too f g k [] ds h = refl
 one_too f g k (w ∷ ws) no_items h = refl
-one_too f g k (w ∷ ws) (item d ds) h = let p = and_parts (f w d) (one_for_one f ws ds) h in both (k w d p.0) (one_too f g k ws ds p.1)
+one_too f g k (w ∷ ws) (item d ds) h =
+    let p = and_parts (f w d) (one_for_one f ws ds) h in both (k w d p.0) (one_too f g k ws ds p.1)
 
-arguments_too : (f g : Want → Data → Bool) → Leads f g → (o : Option (List Want)) (ds : Items) → arguments_suit f o ds ≡ true → arguments_suit g o ds ≡ true
+arguments_too : (f g : Want → Data → Bool) → Leads f g → (o : Option (List Want)) (ds : Items)
+    → arguments_suit f o ds ≡ true → arguments_suit g o ds ≡ true
 arguments_too f g k None ds h = refl
 arguments_too f g k (Some ws) ds h = one_too f g k ws ds h
 
-call_too : (a b : Asked) (f g : Want → Data → Bool) → IsWeaker a b → Leads f g → (c : Call) (ds : Items) → call_suits a f c ds ≡ true → call_suits b g c ds ≡ true
+call_too : (a b : Asked) (f g : Want → Data → Bool) → IsWeaker a b → Leads f g → (c : Call) (ds : Items)
+    → call_suits a f c ds ≡ true → call_suits b g c ds ≡ true
 call_too a b f g weak k c no_items h = refl
 call_too a b f g weak k c (item d ds) h =
     there_too (word_suits a f c ds) (word_suits b g c ds)
-    (λ x is. let p = and_parts (a.of_word c x) (arguments_suit f (wants_of c x (count ds)) ds) is in both (weak.word c x p.0) (arguments_too f g k (wants_of c x (count ds)) ds p.1))
+    (λ x is. let p = and_parts (a.of_word c x) (arguments_suit f (wants_of c x (count ds)) ds) is in
+    both (weak.word c x p.0) (arguments_too f g k (wants_of c x (count ds)) ds p.1))
     (as_str d) h
 
-keys_too : (f g : Want → Data → Bool) → Leads f g → (o : Keyed) (d : Data) (keys : List (List ℕ)) → keys_suit f o d keys ≡ true → keys_suit g o d keys ≡ true
+keys_too : (f g : Want → Data → Bool) → Leads f g → (o : Keyed) (d : Data) (keys : List (List ℕ))
+    → keys_suit f o d keys ≡ true → keys_suit g o d keys ≡ true
 keys_too f g k o d [] h = refl
 keys_too f g k o d (key ∷ keys) h =
     let p = and_parts (if_there (f (key_want o key)) (get key d)) (keys_suit f o d keys) h in
-    both (there_too (f (key_want o key)) (g (key_want o key)) (k (key_want o key)) (get key d) p.0) (keys_too f g k o d keys p.1)
+    both (there_too (f (key_want o key)) (g (key_want o key)) (k (key_want o key)) (get key d) p.0)
+    (keys_too f g k o d keys p.1)
 
-parts_too : (a b : Asked) (f g : Want → Data → Bool) → IsWeaker a b → Leads f g → (w : Want) (d : Data) → in_parts a f w d ≡ true → in_parts b g w d ≡ true
+parts_too : (a b : Asked) (f g : Want → Data → Bool) → IsWeaker a b → Leads f g → (w : Want) (d : Data)
+    → in_parts a f w d ≡ true → in_parts b g w d ≡ true
 parts_too a b f g weak k (want.Leaf l) d h = there_too (a.of_leaf l) (b.of_leaf l) (weak.leaf l) (as_str d) h
 parts_too a b f g weak k want.Value d h = refl
-parts_too a b f g weak k (want.Call c) d h = there_too (call_suits a f c) (call_suits b g c) (call_too a b f g weak k c) (as_array d) h
-parts_too a b f g weak k (want.Pair p) d h = there_too (one_for_one f (pair_wants p)) (one_for_one g (pair_wants p)) (one_too f g k (pair_wants p)) (as_array d) h
+parts_too a b f g weak k (want.Call c) d h =
+    there_too (call_suits a f c) (call_suits b g c) (call_too a b f g weak k c) (as_array d) h
+parts_too a b f g weak k (want.Pair p) d h =
+    there_too (one_for_one f (pair_wants p)) (one_for_one g (pair_wants p)) (one_too f g k (pair_wants p))
+    (as_array d) h
 parts_too a b f g weak k (want.Keyed o) d h = keys_too f g k o d (keys_in o) h
-parts_too a b f g weak k (want.Array i) d h = there_too (each_item (f (item_want i))) (each_item (g (item_want i))) (each_too (f (item_want i)) (g (item_want i)) (k (item_want i))) (as_array d) h
+parts_too a b f g weak k (want.Array i) d h =
+    there_too (each_item (f (item_want i))) (each_item (g (item_want i)))
+    (each_too (f (item_want i)) (g (item_want i)) (k (item_want i))) (as_array d) h
 parts_too a b f g weak k (want.Word c) d h = there_too (a.of_word c) (b.of_word c) (weak.word c) (as_str d) h
 parts_too a b f g weak k (want.Other o) d h = refl
 
-pub weaker : (a b : Asked) → IsWeaker a b → (levels : ℕ) (w : Want) (d : Data) → all_suit a levels w d ≡ true → all_suit b levels w d ≡ true
+pub weaker : (a b : Asked) → IsWeaker a b → (levels : ℕ) (w : Want) (d : Data) → all_suit a levels w d ≡ true
+    → all_suit b levels w d ≡ true
 unfolding all_suit
 weaker a b weak zero w d h = refl
 weaker a b weak (suc n) w d h = parts_too a b (all_suit a n) (all_suit b n) weak (weaker a b weak n) w d h
@@ -79,17 +96,23 @@ words_too v table declared = record { leaf = λ l x h. refl; word = λ c x h. h 
 
 pub names_too : (v : ℕ) (table : List Class) (declared : List NamedPool) → IsWeaker (every v table declared) names
 names_too v table declared = record {
-  leaf = λ l x h. (and_parts (is_named l x) (is_known table l x) (and_parts (is_named l x && is_known table l x) (is_pooled declared l x) h).0).0;
+  leaf =
+      λ l x h. (and_parts (is_named l x) (is_known table l x)
+      (and_parts (is_named l x && is_known table l x) (is_pooled declared l x) h).0).0;
   word = λ c x h. refl;
 }
 
-pub classes_too : (v : ℕ) (table : List Class) (declared : List NamedPool) → IsWeaker (every v table declared) (classes table)
+pub classes_too : (v : ℕ) (table : List Class) (declared : List NamedPool)
+    → IsWeaker (every v table declared) (classes table)
 classes_too v table declared = record {
-  leaf = λ l x h. (and_parts (is_named l x) (is_known table l x) (and_parts (is_named l x && is_known table l x) (is_pooled declared l x) h).0).1;
+  leaf =
+      λ l x h. (and_parts (is_named l x) (is_known table l x)
+      (and_parts (is_named l x && is_known table l x) (is_pooled declared l x) h).0).1;
   word = λ c x h. refl;
 }
 
-pub pools_too : (v : ℕ) (table : List Class) (declared : List NamedPool) → IsWeaker (every v table declared) (pools declared)
+pub pools_too : (v : ℕ) (table : List Class) (declared : List NamedPool)
+    → IsWeaker (every v table declared) (pools declared)
 pools_too v table declared = record {
   leaf = λ l x h. (and_parts (is_named l x && is_known table l x) (is_pooled declared l x) h).1;
   word = λ c x h. refl;

@@ -50,7 +50,8 @@ abbrev pub keys_suit : (Want → Data → Bool) → Keyed → Data → List (Lis
 keys_suit good k d [] = true
 keys_suit good k d (key ∷ keys) = if_there (good (key_want k key)) (get key d) && keys_suit good k d keys
 
--- of a value at a place that asks for this, by what its parts are found to be; no other value has a text that a question asks of
+-- of a value at a place that asks for this, by what its parts are found to be; no other value has a text that a
+-- question asks of
 abbrev pub in_parts : Asked → (Want → Data → Bool) → Want → Data → Bool
 in_parts a good (want.Leaf l) d = if_there (a.of_leaf l) (as_str d)
 in_parts a good want.Value d = true

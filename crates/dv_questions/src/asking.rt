@@ -5,7 +5,8 @@ ghost use Rattle.serde_json.specs.View.{view, items_view};
 ghost use Rattle.serde_json.specs.Find.{as_array, as_str, get};
 ghost use Rattle.dv_forms.specs.Wants.{key_want, keys_in};
 ghost use Rattle.dv_forms.specs.Words.{may_stand};
-ghost use Rattle.dv_questions.specs.Asking.{all_suit, call_suits, each_item, if_there, keys_suit, one_for_one, word_suits};
+ghost use Rattle.dv_questions.specs.Asking.{all_suit, call_suits, each_item, if_there, keys_suit};
+ghost use Rattle.dv_questions.specs.Asking.{one_for_one, word_suits};
 ghost use Rattle.dv_questions.specs.Questions.{asked_by};
 
 use crate::question::Question;
@@ -31,7 +32,8 @@ fn first_suits(question: &Question<'_>, call: Call, json: &Json) -> bool
     }
 }
 
-/// Whether each text of the value answers the question well, at a place that asks for this. Below so many levels nothing is asked.
+/// Whether each text of the value answers the question well, at a place that asks for this. Below
+/// so many levels nothing is asked.
 #[cycle(ask)]
 #[tactic(auto, unfolding(crate::specs::Asking::all_suit))]
 pub fn all_suit(question: &Question<'_>, levels: u32, want: Want, json: &Json) -> bool
@@ -65,7 +67,8 @@ pub fn all_suit(question: &Question<'_>, levels: u32, want: Want, json: &Json) -
 
 #[cycle(ask)]
 fn each_item(question: &Question<'_>, levels: u32, want: Want, items: &[Json]) -> bool
-    ensures { result ≡ each_item (all_suit (asked_by question.now) levels want) (items_view items.now) }
+    ensures { result ≡ each_item (all_suit (asked_by question.now) levels want)
+        (items_view items.now) }
 {
     for item in items {
         if !all_suit(question, levels, want, item) {
@@ -77,7 +80,8 @@ fn each_item(question: &Question<'_>, levels: u32, want: Want, items: &[Json]) -
 
 #[cycle(ask)]
 fn one_for_one(question: &Question<'_>, levels: u32, wants: &[Want], items: &[Json]) -> bool
-    ensures { result ≡ one_for_one (all_suit (asked_by question.now) levels) wants.now (items_view items.now) }
+    ensures { result
+        ≡ one_for_one (all_suit (asked_by question.now) levels) wants.now (items_view items.now) }
 {
     let mut rest = items;
     for want in wants {
@@ -94,7 +98,8 @@ fn one_for_one(question: &Question<'_>, levels: u32, wants: &[Want], items: &[Js
 
 #[cycle(ask)]
 fn call_suits(question: &Question<'_>, levels: u32, call: Call, parts: &[Json]) -> bool
-    ensures { result ≡ call_suits (asked_by question.now) (all_suit (asked_by question.now) levels) call (items_view parts.now) }
+    ensures { result ≡ call_suits (asked_by question.now)
+        (all_suit (asked_by question.now) levels) call (items_view parts.now) }
 {
     let Some((first, arguments)) = parts.split_first() else {
         return true;
@@ -114,7 +119,8 @@ fn word_suits(
     word: &str,
     arguments: &[Json],
 ) -> bool
-    ensures { result ≡ word_suits (asked_by question.now) (all_suit (asked_by question.now) levels) call (items_view arguments.now) word.now }
+    ensures { result ≡ word_suits (asked_by question.now)
+        (all_suit (asked_by question.now) levels) call (items_view arguments.now) word.now }
 {
     match form_of(call, word, arguments.len()) {
         Some((wants, since)) => {
@@ -127,7 +133,8 @@ fn word_suits(
 
 #[cycle(ask)]
 fn keys_suit(question: &Question<'_>, levels: u32, keyed: Keyed, json: &Json) -> bool
-    ensures { result ≡ keys_suit (all_suit (asked_by question.now) levels) keyed (view json.now) (keys_in keyed) }
+    ensures { result ≡ keys_suit (all_suit (asked_by question.now) levels) keyed (view json.now)
+        (keys_in keyed) }
 {
     let keys = keyed.keys();
     for key in keys {
@@ -140,7 +147,8 @@ fn keys_suit(question: &Question<'_>, levels: u32, keyed: Keyed, json: &Json) ->
 
 #[cycle(ask)]
 fn key_suits(question: &Question<'_>, levels: u32, keyed: Keyed, key: &str, json: &Json) -> bool
-    ensures { result ≡ if_there (all_suit (asked_by question.now) levels (key_want keyed key.now)) (get key.now (view json.now)) }
+    ensures { result ≡ if_there (all_suit (asked_by question.now) levels (key_want keyed key.now))
+        (get key.now (view json.now)) }
 {
     match json.get(key) {
         Some(value) => all_suit(question, levels, keyed.want(key), value),

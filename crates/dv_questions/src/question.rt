@@ -2,7 +2,8 @@
 
 ghost use Rattle.std.specs.Prelude.{◌≡◌, ◌≤◌, ◌&&◌, ℕ, true};
 ghost use Rattle.dv_forms.specs.Words.{may_stand};
-ghost use Rattle.dv_questions.specs.Questions.{is_found_named, is_named, is_class, is_pool, is_known, is_among, is_pooled, asked_by};
+ghost use Rattle.dv_questions.specs.Questions.{is_found_named, is_named, is_class, is_pool};
+ghost use Rattle.dv_questions.specs.Questions.{is_known, is_among, is_pooled, asked_by};
 
 use crate::names::{is_name, names_one};
 use dv_forms::want::{Call, Leaf, Object};
@@ -126,9 +127,11 @@ fn is_pooled(pools: &[NamedPool], leaf: Leaf, name: &str) -> bool
     !is_pool(leaf) || is_among(name, pools)
 }
 
-/// Whether a text at the place of a leaf is well named, and is found if a class or a pool is looked up there.
+/// Whether a text at the place of a leaf is well named, and is found if a class or a pool is looked
+/// up there.
 fn suits_every(classes: &Classes, pools: &[NamedPool], leaf: Leaf, name: &str) -> bool
-    ensures { result ≡ (is_named leaf name.now && is_known classes.now leaf name.now && is_pooled pools.now leaf name.now) }
+    ensures { result ≡ (is_named leaf name.now && is_known classes.now leaf name.now
+        && is_pooled pools.now leaf name.now) }
 {
     match leaf {
         Leaf::Found(Object::Deferred) => names_one(name),

@@ -1,5 +1,6 @@
 -- What the passes answer is what the bytes say.
-use Rattle.std.proofs.Common.{◌≡◌, ℕ, ◌≤◌, List, length, Option, Some, None, Result, Ok, Err, IfOk, IfErr, Bool, true, false, cond, refl, sym, ap, ◌∙◌, arith}
+use Rattle.std.proofs.Common.{◌≡◌, ℕ, ◌≤◌, List, length, Option, Some, None, Result, Ok, Err, IfOk, IfErr, Bool, true}
+use Rattle.std.proofs.Common.{false, cond, refl, sym, ap, ◌∙◌, arith}
 use Rattle.serde_json.specs.Data.{Data}
 use Rattle.std.proofs.lemmas.Bool.{and_parts, leb-true}
 use Rattle.serde_json.proofs.Nesting.{depth-read}
@@ -7,7 +8,8 @@ use Rattle.dv_grammar.specs.declared.draft.Draft.{Draft}
 use Rattle.dv_script.specs.declared.script.Script.{Script}
 use Rattle.dv_script.specs.declared.limits.TheConstants.{MOST_LIMIT, MOST_NODES, MOST_POOLS, USUAL_LIMIT}
 use Rattle.dv_reader.specs.declared.error.ScriptFault.{ScriptFault}
-use Rattle.dv_reader.specs.declared.error.ScriptFault.TheVariants.{TooLong, NotJson, BadVersion, BadShape, TooMany, BadName, BadClass, OutOfMemory, BadPool}
+use Rattle.dv_reader.specs.declared.error.ScriptFault.TheVariants.{TooLong, NotJson, BadVersion, BadShape, TooMany}
+use Rattle.dv_reader.specs.declared.error.ScriptFault.TheVariants.{BadName, BadClass, OutOfMemory, BadPool}
 use Rattle.dv_forms.specs.Forms.{Field, IsNumber}
 use Rattle.dv_reader.specs.Limits.{nodes, is_small}
 use Rattle.dv_reader.specs.Refusal.{IsDocument, IsMisshapen, keeps_version, HasShape, Says, Refuses}
@@ -29,14 +31,16 @@ kept true a draft e = (refl, some_injective e)
 kept false a draft e = cc
 
 -- what is a draft is read as one that keeps to its version
-pub shape_is : (d : Data) (draft : Draft) → shape_at d ≡ Some draft → (script_at d ≡ Some draft) × (keeps_version d draft ≡ true)
+pub shape_is : (d : Data) (draft : Draft) → shape_at d ≡ Some draft
+    → (script_at d ≡ Some draft) × (keeps_version d draft ≡ true)
 shape_is d draft e =
     bind (script_at d) _ draft e (λ a a_is a_then.
     let k = kept (keeps_version d a) a draft a_then in
     (a_is ∙ ap Some k.1, ap (keeps_version d) (sym k.1) ∙ k.0))
 
 -- what is read as a script has its shape
-pub shaped : (bytes : List ℕ) (d : Data) (draft : Draft) → IsDocument bytes d → is_version d ≡ true → shape_at d ≡ Some draft → HasShape bytes d draft
+pub shaped : (bytes : List ℕ) (d : Data) (draft : Draft) → IsDocument bytes d → is_version d ≡ true
+    → shape_at d ≡ Some draft → HasShape bytes d draft
 shaped bytes d draft document version is =
     let s = shape_is d draft is in
     record { document = document; version = version_is d version; shape = sound_script d draft s.0; plain = s.1 }
@@ -44,7 +48,8 @@ shaped bytes d draft document version is =
 -- what is read as nothing has no script's shape
 pub misshapen : (bytes : List ℕ) (d : Data) → IsDocument bytes d → shape_at d ≡ None → IsMisshapen d
 misshapen bytes d document is draft h keeps =
-    let found : shape_at d ≡ Some draft = shape_found d draft (complete_script d draft (depth-read bytes d document.is) h) keeps in cc
+    let found : shape_at d ≡ Some draft =
+    shape_found d draft (complete_script d draft (depth-read bytes d document.is) h) keeps in cc
 
 pub says : (bytes : List ℕ) (r : Result Script ScriptFault) → Passes bytes r → IfOk r (λ s. Says bytes s)
 says bytes (Ok s) h = let j = h.4 in record {
@@ -64,8 +69,12 @@ refuses bytes (Ok s) h = tt
 refuses bytes (Err TooLong) h = h
 refuses bytes (Err NotJson) h = h
 refuses bytes (Err BadVersion) h = (h.0, document bytes (Err BadVersion) h, no_version h.0 h.4)
-refuses bytes (Err BadShape) h =
-    (h.0, document bytes (Err BadShape) h, version_is h.0 h.4.0, misshapen bytes h.0 (document bytes (Err BadShape) h) h.4.1)
+refuses bytes (Err BadShape) h = (
+  h.0,
+  document bytes (Err BadShape) h,
+  version_is h.0 h.4.0,
+  misshapen bytes h.0 (document bytes (Err BadShape) h) h.4.1,
+)
 refuses bytes (Err TooMany) h =
     let j = h.4 in (h.0, j.0, shaped bytes h.0 j.0 (document bytes (Err TooMany) h) j.1 j.2, j.3)
 refuses bytes (Err BadName) h =
@@ -80,8 +89,10 @@ pub few : (bytes : List ℕ) (r : Result Script ScriptFault) → Passes bytes r 
 few bytes (Ok s) h =
     let j = h.4 in
     let same : length s.events ≡ length j.0.script.events = ap (λ (x : Script). length x.events) (sym j.3) in
-    let few_events : length j.0.script.events ≤ nodes h.0 = events_few h.0 j.0 (sound_script h.0 j.0 (shape_is h.0 j.0 j.2).0) in
-    let few_nodes : nodes h.0 ≤ MOST_NODES = leb-true (nodes h.0) MOST_NODES (and_parts _ _ (and_parts _ _ (and_parts _ _ (and_parts _ _ (and_parts _ _ j.4).0).0).0).0).0 in
+    let few_events : length j.0.script.events ≤ nodes h.0 =
+    events_few h.0 j.0 (sound_script h.0 j.0 (shape_is h.0 j.0 j.2).0) in
+    let few_nodes : nodes h.0 ≤ MOST_NODES = leb-true (nodes h.0) MOST_NODES
+    (and_parts _ _ (and_parts _ _ (and_parts _ _ (and_parts _ _ (and_parts _ _ j.4).0).0).0).0).0 in
     omega (arith, same, few_events, few_nodes)
 few bytes (Err fault) h = tt
 
@@ -98,9 +109,12 @@ limited bytes (Err fault) h = tt
 
 -- what is small enough has few pools
 small_pools : (d : Data) (draft : Draft) → is_small d draft ≡ true → length draft.script.pools ≤ MOST_POOLS
-small_pools d draft e = leb-true (length draft.script.pools) MOST_POOLS (and_parts _ _ (and_parts _ _ (and_parts _ _ (and_parts _ _ e).0).0).0).1
+small_pools d draft e =
+    leb-true (length draft.script.pools) MOST_POOLS
+    (and_parts _ _ (and_parts _ _ (and_parts _ _ (and_parts _ _ e).0).0).0).1
 
-pub few_pools : (bytes : List ℕ) (r : Result Script ScriptFault) → Passes bytes r → IfOk r (λ s. length s.pools ≤ MOST_POOLS)
+pub few_pools : (bytes : List ℕ) (r : Result Script ScriptFault) → Passes bytes r
+    → IfOk r (λ s. length s.pools ≤ MOST_POOLS)
 few_pools bytes (Ok s) h =
     let j = h.4 in
     let same : length s.pools ≡ length j.0.script.pools = ap (λ (x : Script). length x.pools) (sym j.3) in

@@ -1,5 +1,6 @@
 -- Bytes that are refused have passed each test before the one that they fail, so they fail one.
-use Rattle.std.proofs.Common.{◌≡◌, ◌≢◌, ◌≤◌, ◌<◌, ◌+◌, ◌-◌, ℕ, zero, suc, nat_lt, Bool, true, false, List, length, refl, sym, ap, subst, ◌∙◌, ◌⊎◌, inl, inr, arith}
+use Rattle.std.proofs.Common.{◌≡◌, ◌≢◌, ◌≤◌, ◌<◌, ◌+◌, ◌-◌, ℕ, zero, suc, nat_lt, Bool, true, false, List, length, refl}
+use Rattle.std.proofs.Common.{sym, ap, subst, ◌∙◌, ◌⊎◌, inl, inr, arith}
 use Rattle.std.proofs.lemmas.Bool.Decides.{nat_tests}
 use Rattle.serde_json.specs.Data.{Data}
 use Rattle.dv_grammar.specs.Grammar.{IsScript}
@@ -9,7 +10,8 @@ use Rattle.dv_reader.specs.Laws.{RefusedForOneReason}
 use Rattle.dv_reader.specs.Limits.{is_small}
 use Rattle.dv_reader.specs.Refusal.{keeps_version, are_known, are_named, HasShape, HasVersion, IsDocument, Refuses}
 use Rattle.dv_reader.specs.declared.error.ScriptFault.{ScriptFault}
-use Rattle.dv_reader.specs.declared.error.ScriptFault.TheVariants.{TooLong, NotJson, BadVersion, BadShape, TooMany, BadName, BadClass, OutOfMemory, BadPool}
+use Rattle.dv_reader.specs.declared.error.ScriptFault.TheVariants.{TooLong, NotJson, BadVersion, BadShape, TooMany}
+use Rattle.dv_reader.specs.declared.error.ScriptFault.TheVariants.{BadName, BadClass, OutOfMemory, BadPool}
 use Rattle.dv_script.specs.declared.limits.TheConstants.{MOST_BYTES}
 
 -- which test each reason fails
@@ -53,10 +55,13 @@ Passes (suc zero) bytes = length bytes ≤ MOST_BYTES
 Passes (suc (suc zero)) bytes = (d : Data) × IsDocument bytes d
 Passes (suc (suc (suc zero))) bytes = (d : Data) × IsDocument bytes d × HasVersion d
 Passes (suc (suc (suc (suc zero)))) bytes = (d : Data) × (draft : Draft) × HasShape bytes d draft
-Passes (suc (suc (suc (suc (suc zero))))) bytes = (d : Data) × (draft : Draft) × HasShape bytes d draft × (is_small d draft ≡ true)
-Passes (suc (suc (suc (suc (suc (suc zero)))))) bytes = (d : Data) × (draft : Draft) × HasShape bytes d draft × (is_small d draft ≡ true) × (are_named d draft ≡ true)
+Passes (suc (suc (suc (suc (suc zero))))) bytes =
+    (d : Data) × (draft : Draft) × HasShape bytes d draft × (is_small d draft ≡ true)
+Passes (suc (suc (suc (suc (suc (suc zero)))))) bytes =
+    (d : Data) × (draft : Draft) × HasShape bytes d draft × (is_small d draft ≡ true) × (are_named d draft ≡ true)
 Passes (suc (suc (suc (suc (suc (suc (suc n))))))) bytes =
-    (d : Data) × (draft : Draft) × HasShape bytes d draft × (is_small d draft ≡ true) × (are_named d draft ≡ true) × (are_known d draft ≡ true)
+    (d : Data) × (draft : Draft) × HasShape bytes d draft × (is_small d draft ≡ true) × (are_named d draft ≡ true)
+    × (are_known d draft ≡ true)
 
 -- and so one test fewer
 fewer : (n : ℕ) (bytes : List ℕ) → Passes (suc n) bytes → Passes n bytes
@@ -127,7 +132,8 @@ most_rank BadPool other = omega arith
 most_rank OutOfMemory other = absurd (other refl)
 
 -- so nobody fails two tests
-not_below : (bytes : List ℕ) (a b : ScriptFault) → b ≢ OutOfMemory → rank a < rank b → Refuses a bytes → Refuses b bytes → ⊥
+not_below : (bytes : List ℕ) (a b : ScriptFault) → b ≢ OutOfMemory → rank a < rank b → Refuses a bytes → Refuses b bytes
+    → ⊥
 not_below bytes a b other low h k =
     let most : rank b ≤ 7 = most_rank b other in
     let few : rank a < 7 = omega (arith, low, most) in

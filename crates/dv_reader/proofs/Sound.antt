@@ -10,12 +10,14 @@ use Rattle.dv_questions.proofs.Weaker.{IsWeaker, weaker, words_too, names_too, c
 use Rattle.dv_reader.specs.Refusal.{answers}
 use Rattle.dv_reader.specs.Passes.{IsSound}
 
-pub sound : (d : Data) (draft : Draft) → answers (every draft.version draft.script.classes draft.script.pools) d draft ≡ true → IsSound d draft
+pub sound : (d : Data) (draft : Draft)
+    → answers (every draft.version draft.script.classes draft.script.pools) d draft ≡ true → IsSound d draft
 sound d draft h =
     let v = draft.version in
     let table = draft.script.classes in
     let ps = draft.script.pools in
-    let each : (a : Asked) → IsWeaker (every v table ps) a → answers a d draft ≡ true = λ a weak. weaker (every v table ps) a weak (suc MOST_LEVELS) (want.Keyed (keyed.Script v)) d h in
+    let each : (a : Asked) → IsWeaker (every v table ps) a → answers a d draft ≡ true =
+    λ a weak. weaker (every v table ps) a weak (suc MOST_LEVELS) (want.Keyed (keyed.Script v)) d h in
     record {
       words_suit = each (words v) (words_too v table ps);
       names_suit = each names (names_too v table ps);

@@ -11,25 +11,31 @@ use Rattle.dv_script.specs.declared.limits.TheConstants.{MOST_CLASSES}
 use Rattle.dv_forms.specs.Table.{can_declare, with_declared, table_after, table_of}
 use Rattle.dv_reader.specs.Laws.{ParentsOfScriptsStandBefore, PathsOfScriptsGoUp}
 
-either_ordered : (b : Bool) (table other : List Class) → ParentsStandBefore table → ParentsStandBefore other → ParentsStandBefore (cond b table other)
+either_ordered : (b : Bool) (table other : List Class) → ParentsStandBefore table → ParentsStandBefore other
+    → ParentsStandBefore (cond b table other)
 either_ordered true table other h k = h
 either_ordered false table other h k = k
 
-with_declared_ordered : (table : List Class) (c : Declaration) → ParentsStandBefore table → ParentsStandBefore (with_declared table c)
+with_declared_ordered : (table : List Class) (c : Declaration) → ParentsStandBefore table
+    → ParentsStandBefore (with_declared table c)
 with_declared_ordered table c h =
-    either_ordered (can_declare table c) (with_class table c.name c.parent) table (declared_ordered table c.name c.parent h) h
+    either_ordered (can_declare table c) (with_class table c.name c.parent) table
+    (declared_ordered table c.name c.parent h) h
 
-table_after_ordered : (table : List Class) (cs : List Declaration) → ParentsStandBefore table → ParentsStandBefore (table_after table cs)
+table_after_ordered : (table : List Class) (cs : List Declaration) → ParentsStandBefore table
+    → ParentsStandBefore (table_after table cs)
 table_after_ordered table [] h = h
 table_after_ordered table (c ∷ cs) h = table_after_ordered (with_declared table c) cs (with_declared_ordered table c h)
 
 table_of_ordered : (cs : List Declaration) → ParentsStandBefore (table_of cs)
 table_of_ordered cs =
-    either_ordered (nat_le (length cs) MOST_CLASSES) (table_after builtin cs) builtin (table_after_ordered builtin cs builtin_ordered) builtin_ordered
+    either_ordered (nat_le (length cs) MOST_CLASSES) (table_after builtin cs) builtin
+    (table_after_ordered builtin cs builtin_ordered) builtin_ordered
 
 pub script_ordered : ParentsOfScriptsStandBefore
 script_ordered bytes s h =
-    subst ParentsStandBefore (sym h.shape.shape.table ∙ ap (λ (x : Script). x.classes) h.same) (table_of_ordered h.draft.declared)
+    subst ParentsStandBefore (sym h.shape.shape.table ∙ ap (λ (x : Script). x.classes) h.same)
+    (table_of_ordered h.draft.declared)
 
 pub script_paths : PathsOfScriptsGoUp
 script_paths bytes s h = paths_go_up s.classes (script_ordered bytes s h)

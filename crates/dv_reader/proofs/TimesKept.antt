@@ -12,7 +12,8 @@ use Rattle.dv_forms.specs.Forms.{Each, Field, IsList, IsNumber, Key}
 use Rattle.dv_reader.specs.Laws.{TimesAreKept}
 use Rattle.dv_reader.specs.Limits.{ticks_in}
 use Rattle.dv_script.specs.declared.body.Body.{Body}
-use Rattle.dv_grammar.specs.Grammar.{plain_cooperator, IsBody, IsEvent, acts, advances, drains, IsCooperator, is_interval, times_body}
+use Rattle.dv_grammar.specs.Grammar.{plain_cooperator, IsBody, IsEvent, acts, advances, drains, IsCooperator}
+use Rattle.dv_grammar.specs.Grammar.{is_interval, times_body}
 use Rattle.dv_grammar.proofs.Actions.{interval_is, short_action, short_body}
 use Rattle.dv_reader.specs.Times.{times_event, KeepsTimes}
 
@@ -22,39 +23,51 @@ short_event table _ _ (advances d n g) = refl
 short_event table _ _ (drains d n g) = refl
 
 -- what holds of each that an item stands for, holds of all
-all_of : {X : Type 0} (Is : Data → X → Type 0) (test : X → Bool) → ((d : Data) (x : X) → Is d x → test x ≡ true) → (ds : Items) (xs : List X) → Each Is ds xs → list_all test xs ≡ true
+all_of : {X : Type 0} (Is : Data → X → Type 0) (test : X → Bool) → ((d : Data) (x : X) → Is d x → test x ≡ true)
+    → (ds : Items) (xs : List X) → Each Is ds xs → list_all test xs ≡ true
 all_of Is test one no_items [] h = refl
 all_of Is test one no_items (x ∷ xs) h = absurd h
 all_of Is test one (item d ds) [] h = absurd h
 all_of Is test one (item d ds) (x ∷ xs) h = rw (one d x h.0, all_of Is test one ds xs h.1) refl
 
-all_in : {X : Type 0} (Is : Data → X → Type 0) (test : X → Bool) → ((d : Data) (x : X) → Is d x → test x ≡ true) → (d : Data) (xs : List X) → IsList Is d xs → list_all test xs ≡ true
+all_in : {X : Type 0} (Is : Data → X → Type 0) (test : X → Bool) → ((d : Data) (x : X) → Is d x → test x ≡ true)
+    → (d : Data) (xs : List X) → IsList Is d xs → list_all test xs ≡ true
 all_in Is test one d xs h = all_of Is test one h.0 xs h.2
 
-events_short : (table : List Class) (events : List Event) (o : Option Data) → Key (IsList (IsEvent table)) o events → list_all times_event events ≡ true
+events_short : (table : List Class) (events : List Event) (o : Option Data) → Key (IsList (IsEvent table)) o events
+    → list_all times_event events ≡ true
 events_short table events None h = absurd h
 events_short table events (Some d) h = all_in (IsEvent table) times_event (short_event table) d events h
 
-posts_short : (table : List Class) (callers : List (List Body)) (o : Option Data) → Field [] (IsList (IsList (IsBody table))) o callers → list_all (λ posts. list_all times_body posts) callers ≡ true
+posts_short : (table : List Class) (callers : List (List Body)) (o : Option Data)
+    → Field [] (IsList (IsList (IsBody table))) o callers → list_all (λ posts. list_all times_body posts) callers ≡ true
 posts_short table callers None h = rw h refl
 posts_short table callers (Some d) h =
-    all_in (IsList (IsBody table)) (λ posts. list_all times_body posts) (λ d posts k. all_in (IsBody table) times_body (λ d b l. short_body l) d posts k) d callers h
+    all_in (IsList (IsBody table)) (λ posts. list_all times_body posts)
+    (λ d posts k. all_in (IsBody table) times_body (λ d b l. short_body l) d posts k) d callers h
 
 delay_short : (delay : ℕ) (o : Option Data) → Key (IsNumber 1 MOST_DELAY) o delay → is_interval delay ≡ true
 delay_short delay None h = absurd h
 delay_short delay (Some d) h = interval_is h
 
-cooperator_short : (c : Cooperator) (o : Option Data) → Field plain_cooperator IsCooperator o c → is_interval c.delay ≡ true
+cooperator_short : (c : Cooperator) (o : Option Data) → Field plain_cooperator IsCooperator o c
+    → is_interval c.delay ≡ true
 cooperator_short c None h = rw h refl
 cooperator_short c (Some d) h = delay_short c.delay (get_member (codes "delay") h.members) h.delay
 
 pub times_are_kept : TimesAreKept
 times_are_kept bytes s h =
     let shape = h.shape.shape in
-    let few : ticks_in h.draft.script.events ≤ MOST_TICKS = leb-true (ticks_in h.draft.script.events) MOST_TICKS (and_parts _ _ h.small).1 in
+    let few : ticks_in h.draft.script.events ≤ MOST_TICKS =
+    leb-true (ticks_in h.draft.script.events) MOST_TICKS (and_parts _ _ h.small).1 in
     subst KeepsTimes h.same (record {
-      events = events_short h.draft.script.classes h.draft.script.events (get_member (codes "events") shape.members) shape.events;
-      posts = posts_short h.draft.script.classes h.draft.script.callers (get_member (codes "callers") shape.members) shape.callers;
-      cooperator = cooperator_short h.draft.script.cooperator (get_member (codes "cooperator") shape.members) shape.cooperator;
+      events =
+          events_short h.draft.script.classes h.draft.script.events
+          (get_member (codes "events") shape.members) shape.events;
+      posts =
+          posts_short h.draft.script.classes h.draft.script.callers
+          (get_member (codes "callers") shape.members) shape.callers;
+      cooperator =
+          cooperator_short h.draft.script.cooperator (get_member (codes "cooperator") shape.members) shape.cooperator;
       advances = omega (arith, few);
     })

@@ -1,5 +1,6 @@
 -- The test of the version shows whether a value has it.
-use Rattle.std.proofs.Common.{◌≡◌, ℕ, nat_eq, Bool, true, false, ◌||◌, ◌⊎◌, inl, inr, Option, Some, None, option_and_then, refl, codes}
+use Rattle.std.proofs.Common.{◌≡◌, ℕ, nat_eq, Bool, true, false, ◌||◌, ◌⊎◌, inl, inr, Option, Some, None}
+use Rattle.std.proofs.Common.{option_and_then, refl, codes}
 use Rattle.std.proofs.lemmas.Bool.{eqb-true}
 use Rattle.serde_json.specs.Data.{Data, number, unsigned, negative, float}
 use Rattle.serde_json.specs.Find.{get, as_number, as_u64}
@@ -19,7 +20,8 @@ number_is n e = elim (or_is (nat_eq n 1) (nat_eq n 2) e) [
   | inr two ↦ inr (rw (eqb-true n 2 two) refl)
 ]
 
-one_or_two_is : (o : Option Data) → is_one_or_two (option_and_then as_u64 (option_and_then as_number o)) ≡ true → IsOneOrTwo o
+one_or_two_is : (o : Option Data) → is_one_or_two (option_and_then as_u64 (option_and_then as_number o)) ≡ true
+    → IsOneOrTwo o
 one_or_two_is None e = cc
 one_or_two_is (Some (number (unsigned n))) e = number_is n e
 one_or_two_is (Some (number (negative z))) e = cc

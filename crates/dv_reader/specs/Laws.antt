@@ -14,11 +14,13 @@ SaysOneAtMost = (bytes : List ℕ) (s t : Script) → Says bytes s → Says byte
 
 -- what is refused says no script
 abbrev pub RefusedSaysNone : Type 0
-RefusedSaysNone = (bytes : List ℕ) (fault : ScriptFault) (s : Script) → fault ≢ OutOfMemory → Refuses fault bytes → Says bytes s → ⊥
+RefusedSaysNone =
+    (bytes : List ℕ) (fault : ScriptFault) (s : Script) → fault ≢ OutOfMemory → Refuses fault bytes → Says bytes s → ⊥
 
 -- bytes are refused for one reason, out of memory aside
 abbrev pub RefusedForOneReason : Type 0
-RefusedForOneReason = (bytes : List ℕ) (a b : ScriptFault) → a ≢ OutOfMemory → b ≢ OutOfMemory → Refuses a bytes → Refuses b bytes → a ≡ b
+RefusedForOneReason =
+    (bytes : List ℕ) (a b : ScriptFault) → a ≢ OutOfMemory → b ≢ OutOfMemory → Refuses a bytes → Refuses b bytes → a ≡ b
 
 -- a document is refused for a reason other than memory
 abbrev pub IsRefused : List ℕ → Type 0

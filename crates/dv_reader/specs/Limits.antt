@@ -1,7 +1,9 @@
--- How much a script may have: bytes; nodes, of which each array, object and scalar is one and a key is none; classes, pools, callers, posts; and ticks of the clock.
+-- How much a script may have: bytes; nodes, of which each array, object and scalar is one and a key is none; classes,
+-- pools, callers, posts; and ticks of the clock.
 use Rattle.std.specs.Prelude.{ℕ, ◌+◌, Bool, ◌&&◌, nat_le, List, length, map, sum}
 use Rattle.std.specs.List.{list_all}
-use Rattle.serde_json.specs.Data.{Data, null, boolean, number, string, array, object, Items, no_items, item, Members, no_members, member}
+use Rattle.serde_json.specs.Data.{Data, null, boolean, number, string, array, object, Items, no_items, item, Members}
+use Rattle.serde_json.specs.Data.{no_members, member}
 use Rattle.dv_script.specs.declared.event.Event.{Event}
 use Rattle.dv_script.specs.declared.event.Event.TheVariants.{Action, Advance, Drain}
 use Rattle.dv_grammar.specs.declared.draft.Draft.{Draft}

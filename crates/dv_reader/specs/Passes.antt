@@ -1,12 +1,14 @@
 -- What the passes of the reader find, by the functions that they compute.
-use Rattle.std.specs.Prelude.{◌≡◌, ◌≤◌, ◌<◌, ℕ, Bool, true, false, ◌||◌, if◌then◌else◌, List, length, Option, Some, None, option_and_then, nat_eq, IsUtf8, codes, Result, Ok, Err, ⊤}
+use Rattle.std.specs.Prelude.{◌≡◌, ◌≤◌, ◌<◌, ℕ, Bool, true, false, ◌||◌, if◌then◌else◌, List, length, Option, Some}
+use Rattle.std.specs.Prelude.{None, option_and_then, nat_eq, IsUtf8, codes, Result, Ok, Err, ⊤}
 use Rattle.serde_json.specs.Data.{Data}
 use Rattle.serde_json.specs.Find.{get, as_number, as_u64}
 use Rattle.serde_json.specs.Read.{read}
 use Rattle.dv_script.specs.declared.script.Script.{Script}
 use Rattle.dv_script.specs.declared.limits.TheConstants.{MOST_BYTES}
 use Rattle.dv_reader.specs.declared.error.ScriptFault.{ScriptFault}
-use Rattle.dv_reader.specs.declared.error.ScriptFault.TheVariants.{TooLong, NotJson, BadVersion, BadShape, TooMany, BadName, BadClass, OutOfMemory, BadPool}
+use Rattle.dv_reader.specs.declared.error.ScriptFault.TheVariants.{TooLong, NotJson, BadVersion, BadShape, TooMany}
+use Rattle.dv_reader.specs.declared.error.ScriptFault.TheVariants.{BadName, BadClass, OutOfMemory, BadPool}
 use Rattle.dv_forms.specs.declared.stop.Stop.{Stop}
 use Rattle.dv_forms.specs.declared.stop.Stop.TheVariants as stop
 use Rattle.dv_grammar.specs.declared.draft.Draft.{Draft}
@@ -42,16 +44,22 @@ pub record IsSound (d : Data) (draft : Draft) : Type 0 where
 
 -- what the last passes find of a draft of a JSON value
 abbrev pub Accepts : Data → Draft → Result ⊤ ScriptFault → Type 0
-Accepts d draft (Ok t) = (keeps_version d draft ≡ true) × (is_small d draft ≡ true) × (are_named d draft ≡ true) × (are_known d draft ≡ true) × (are_pooled d draft ≡ true)
+Accepts d draft (Ok t) =
+    (keeps_version d draft ≡ true) × (is_small d draft ≡ true) × (are_named d draft ≡ true) × (are_known d draft ≡ true)
+    × (are_pooled d draft ≡ true)
 Accepts d draft (Err TooLong) = ⊥
 Accepts d draft (Err NotJson) = ⊥
 Accepts d draft (Err BadVersion) = ⊥
 Accepts d draft (Err BadShape) = keeps_version d draft ≡ false
 Accepts d draft (Err TooMany) = (keeps_version d draft ≡ true) × (is_small d draft ≡ false)
 Accepts d draft (Err BadName) = (keeps_version d draft ≡ true) × (is_small d draft ≡ true) × (are_named d draft ≡ false)
-Accepts d draft (Err BadClass) = (keeps_version d draft ≡ true) × (is_small d draft ≡ true) × (are_named d draft ≡ true) × (are_known d draft ≡ false)
+Accepts d draft (Err BadClass) =
+    (keeps_version d draft ≡ true) × (is_small d draft ≡ true) × (are_named d draft ≡ true)
+    × (are_known d draft ≡ false)
 Accepts d draft (Err OutOfMemory) = ⊥
-Accepts d draft (Err BadPool) = (keeps_version d draft ≡ true) × (is_small d draft ≡ true) × (are_named d draft ≡ true) × (are_known d draft ≡ true) × (are_pooled d draft ≡ false)
+Accepts d draft (Err BadPool) =
+    (keeps_version d draft ≡ true) × (is_small d draft ≡ true) × (are_named d draft ≡ true) × (are_known d draft ≡ true)
+    × (are_pooled d draft ≡ false)
 
 -- what the passes find of a JSON value
 abbrev pub Judged : Data → Result Script ScriptFault → Type 0
@@ -62,20 +70,25 @@ Judged d (Err TooLong) = ⊥
 Judged d (Err NotJson) = ⊥
 Judged d (Err BadVersion) = is_version d ≡ false
 Judged d (Err BadShape) = (is_version d ≡ true) × (shape_at d ≡ None)
-Judged d (Err TooMany) = (draft : Draft) × (is_version d ≡ true) × (shape_at d ≡ Some draft) × (is_small d draft ≡ false)
+Judged d (Err TooMany) =
+    (draft : Draft) × (is_version d ≡ true) × (shape_at d ≡ Some draft) × (is_small d draft ≡ false)
 Judged d (Err BadName) =
-    (draft : Draft) × (is_version d ≡ true) × (shape_at d ≡ Some draft) × (is_small d draft ≡ true) × (are_named d draft ≡ false)
+    (draft : Draft) × (is_version d ≡ true) × (shape_at d ≡ Some draft) × (is_small d draft ≡ true)
+    × (are_named d draft ≡ false)
 Judged d (Err BadClass) =
-    (draft : Draft) × (is_version d ≡ true) × (shape_at d ≡ Some draft) × (is_small d draft ≡ true) × (are_named d draft ≡ true)
+    (draft : Draft) × (is_version d ≡ true) × (shape_at d ≡ Some draft) × (is_small d draft ≡ true)
+    × (are_named d draft ≡ true)
     × (are_known d draft ≡ false)
 Judged d (Err OutOfMemory) = ⊤
 Judged d (Err BadPool) =
-    (draft : Draft) × (is_version d ≡ true) × (shape_at d ≡ Some draft) × (is_small d draft ≡ true) × (are_named d draft ≡ true)
+    (draft : Draft) × (is_version d ≡ true) × (shape_at d ≡ Some draft) × (is_small d draft ≡ true)
+    × (are_named d draft ≡ true)
     × (are_known d draft ≡ true) × (are_pooled d draft ≡ false)
 
 -- what they find of the value that the bytes are
 abbrev pub JudgedIn : List ℕ → Result Script ScriptFault → Type 0
-JudgedIn bytes answer = (d : Data) × (length bytes ≤ MOST_BYTES) × IsUtf8 bytes × (read bytes ≡ Some d) × Judged d answer
+JudgedIn bytes answer =
+    (d : Data) × (length bytes ≤ MOST_BYTES) × IsUtf8 bytes × (read bytes ≡ Some d) × Judged d answer
 
 -- what they find of bytes
 abbrev pub Passes : List ℕ → Result Script ScriptFault → Type 0

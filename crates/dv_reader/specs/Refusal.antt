@@ -1,5 +1,6 @@
 -- What the bytes of a script say, and when they are refused: by the condition of the least number that holds.
-use Rattle.std.specs.Prelude.{◌≡◌, ◌≤◌, ◌<◌, ◌⊎◌, ℕ, suc, Bool, true, false, not, ◌&&◌, List, [], ◌∷◌, length, Some, None, IsUtf8, codes, ⊤}
+use Rattle.std.specs.Prelude.{◌≡◌, ◌≤◌, ◌<◌, ◌⊎◌, ℕ, suc, Bool, true, false, not, ◌&&◌, List, [], ◌∷◌, length, Some}
+use Rattle.std.specs.Prelude.{None, IsUtf8, codes, ⊤}
 use Rattle.serde_json.specs.Data.{Data, number, unsigned}
 use Rattle.serde_json.specs.Find.{get}
 use Rattle.serde_json.specs.Read.{read}
@@ -10,7 +11,8 @@ use Rattle.dv_forms.specs.declared.want.Want.TheVariants as want
 use Rattle.dv_forms.specs.declared.want.Keyed.TheVariants as keyed
 use Rattle.dv_grammar.specs.declared.draft.Draft.{Draft}
 use Rattle.dv_reader.specs.declared.error.ScriptFault.{ScriptFault}
-use Rattle.dv_reader.specs.declared.error.ScriptFault.TheVariants.{TooLong, NotJson, BadVersion, BadShape, TooMany, BadName, BadClass, OutOfMemory, BadPool}
+use Rattle.dv_reader.specs.declared.error.ScriptFault.TheVariants.{TooLong, NotJson, BadVersion, BadShape, TooMany}
+use Rattle.dv_reader.specs.declared.error.ScriptFault.TheVariants.{BadName, BadClass, OutOfMemory, BadPool}
 use Rattle.dv_grammar.specs.Grammar.{IsScript}
 use Rattle.dv_questions.specs.Asking.{all_suit}
 use Rattle.dv_questions.specs.Questions.{Asked, words, names, classes, pools, is_among}
@@ -24,7 +26,8 @@ pub record IsDocument (bytes : List ℕ) (d : Data) : Type 0 where
 
 -- an object whose `version` is the integer 1 or 2
 abbrev pub HasVersion : Data → Type 0
-HasVersion d = (get (codes "version") d ≡ Some (number (unsigned 1))) ⊎ (get (codes "version") d ≡ Some (number (unsigned 2)))
+HasVersion d =
+    (get (codes "version") d ≡ Some (number (unsigned 1))) ⊎ (get (codes "version") d ≡ Some (number (unsigned 2)))
 
 -- each text of the document answers the question well, as one of a script of its version
 abbrev pub answers : Asked → Data → Draft → Bool
@@ -62,7 +65,8 @@ are_distinct (pool ∷ pools) = not (is_among pool.name pools) && are_distinct p
 abbrev pub are_pooled : Data → Draft → Bool
 are_pooled d draft = are_distinct draft.script.pools && answers (pools draft.script.pools) d draft
 
--- the bytes say this script: they have its shape, it is small enough, its names are good and its classes and pools are known
+-- the bytes say this script: they have its shape, it is small enough, its names are good and its classes and pools are
+-- known
 pub record Says (bytes : List ℕ) (script : Script) : Type 0 where
   pub json : Data
   pub draft : Draft
@@ -80,7 +84,12 @@ Refuses NotJson bytes = (length bytes ≤ MOST_BYTES) × (IsUtf8 bytes → read 
 Refuses BadVersion bytes = (d : Data) × IsDocument bytes d × (HasVersion d → ⊥)
 Refuses BadShape bytes = (d : Data) × IsDocument bytes d × HasVersion d × IsMisshapen d
 Refuses TooMany bytes = (d : Data) × (draft : Draft) × HasShape bytes d draft × (is_small d draft ≡ false)
-Refuses BadName bytes = (d : Data) × (draft : Draft) × HasShape bytes d draft × (is_small d draft ≡ true) × (are_named d draft ≡ false)
-Refuses BadClass bytes = (d : Data) × (draft : Draft) × HasShape bytes d draft × (is_small d draft ≡ true) × (are_named d draft ≡ true) × (are_known d draft ≡ false)
+Refuses BadName bytes =
+    (d : Data) × (draft : Draft) × HasShape bytes d draft × (is_small d draft ≡ true) × (are_named d draft ≡ false)
+Refuses BadClass bytes =
+    (d : Data) × (draft : Draft) × HasShape bytes d draft × (is_small d draft ≡ true) × (are_named d draft ≡ true)
+    × (are_known d draft ≡ false)
 Refuses OutOfMemory bytes = ⊤
-Refuses BadPool bytes = (d : Data) × (draft : Draft) × HasShape bytes d draft × (is_small d draft ≡ true) × (are_named d draft ≡ true) × (are_known d draft ≡ true) × (are_pooled d draft ≡ false)
+Refuses BadPool bytes =
+    (d : Data) × (draft : Draft) × HasShape bytes d draft × (is_small d draft ≡ true) × (are_named d draft ≡ true)
+    × (are_known d draft ≡ true) × (are_pooled d draft ≡ false)

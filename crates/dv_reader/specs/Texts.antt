@@ -1,7 +1,8 @@
 -- How refusals are printed.
 use Rattle.std.specs.Prelude.{ℕ, List, ◌++◌, codes, decimal}
 use Rattle.dv_reader.specs.declared.error.ScriptFault.{ScriptFault}
-use Rattle.dv_reader.specs.declared.error.ScriptFault.TheVariants.{TooLong, NotJson, BadVersion, BadShape, TooMany, BadName, BadClass, OutOfMemory, BadPool}
+use Rattle.dv_reader.specs.declared.error.ScriptFault.TheVariants.{TooLong, NotJson, BadVersion, BadShape, TooMany}
+use Rattle.dv_reader.specs.declared.error.ScriptFault.TheVariants.{BadName, BadClass, OutOfMemory, BadPool}
 
 -- the number of a refusal
 abbrev pub refusal_number : ScriptFault → ℕ

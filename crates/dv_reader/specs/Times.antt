@@ -1,5 +1,5 @@
--- The times of a script that is read. The steps of the world cut a delay, an interval and a time of the clock that is too long; none of these
--- is, so that cutting changes nothing.
+-- The times of a script that is read. The steps of the world cut a delay, an interval and a time of the clock that is
+-- too long; none of these is, so that cutting changes nothing.
 use Rattle.std.specs.Prelude.{◌≡◌, Bool, true, min}
 use Rattle.std.specs.List.{list_all}
 use Rattle.dv_clock.specs.declared.limits.TheConstants.{MOST_TICKS}
@@ -15,8 +15,8 @@ times_event (event.Action a) = times_action a
 times_event (event.Advance n) = true
 times_event (event.Drain n) = true
 
--- no time of the script is cut: no delay and no interval of its actions and of its cooperator, and no time that the clock reaches by its
--- advances together
+-- no time of the script is cut: no delay and no interval of its actions and of its cooperator, and no time that the
+-- clock reaches by its advances together
 pub record KeepsTimes (script : Script) : Type 0 where
   pub events : list_all times_event script.events ≡ true
   pub posts : list_all (λ posts. list_all times_body posts) script.callers ≡ true

@@ -16,13 +16,14 @@ pub enum ScriptFault {
     BadVersion,
     /// It is outside the grammar, or a number is outside its range.
     BadShape,
-    /// It has more than 65,536 nodes (each array, object and scalar is one), 256 classes, 4 pools, 8 callers or 256 posts of a
-    /// caller, or its advances sum to more than 10^15.
+    /// It has more than 65,536 nodes (each array, object and scalar is one), 256 classes, 4 pools,
+    /// 8 callers or 256 posts of a caller, or its advances sum to more than 10^15.
     TooMany,
-    /// A name of an object, of a pool or of a declared class isn't of 1 to 32 of A to Z, a to z, 0 to 9 and `_`, nor `@` where a
-    /// Deferred that is there is named.
+    /// A name of an object, of a pool or of a declared class isn't of 1 to 32 of A to Z, a to z, 0
+    /// to 9 and `_`, nor `@` where a Deferred that is there is named.
     BadName,
-    /// A declared class has a name that is taken; or a parent, or a class that is used, isn't in the table.
+    /// A declared class has a name that is taken; or a parent, or a class that is used, isn't in
+    /// the table.
     BadClass,
     /// An allocation failed: this may stand in place of any other answer.
     OutOfMemory,

@@ -3,7 +3,8 @@ ghost use Rattle.std.specs.List.{list_all};
 ghost use Rattle.serde_json.specs.View.{view, items_view, members_view};
 ghost use Rattle.dv_clock.specs.declared.limits.TheConstants.{MOST_TICKS};
 ghost use Rattle.dv_script.specs.declared.limits.TheConstants.{MOST_NODES};
-ghost use Rattle.dv_reader.specs.Limits.{nodes, item_nodes, member_nodes, ticks_of, ticks_in, are_few, is_small};
+ghost use Rattle.dv_reader.specs.Limits.{nodes, item_nodes, member_nodes, ticks_of, ticks_in};
+ghost use Rattle.dv_reader.specs.Limits.{are_few, is_small};
 
 use dv_clock::limits::MOST_TICKS;
 use dv_grammar::draft::Draft;
@@ -95,7 +96,8 @@ fn all_are_few(callers: &[Items<Body>]) -> bool
     callers.iter().all(are_few)
 }
 
-/// Whether a script of this JSON value has few enough nodes, classes, pools, callers, posts and ticks.
+/// Whether a script of this JSON value has few enough nodes, classes, pools, callers, posts and
+/// ticks.
 pub fn is_small(json: &Json, draft: &Draft) -> bool
     ensures { result ≡ is_small (view json.now) draft.now }
 {

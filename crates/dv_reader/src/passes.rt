@@ -4,7 +4,8 @@ ghost use Rattle.std.specs.Prelude.{◌≡◌, ◌≤◌, length, true, IfOk, If
 ghost use Rattle.serde_json.specs.View.{view};
 ghost use Rattle.dv_script.specs.declared.limits.TheConstants.{MOST_LIMIT, MOST_NODES, MOST_POOLS};
 ghost use Rattle.dv_questions.specs.Questions.{asked_by};
-ghost use Rattle.dv_reader.specs.Refusal.{answers, keeps_version, are_named, are_known, are_distinct, are_pooled, Says, Refuses};
+ghost use Rattle.dv_reader.specs.Refusal.{answers, keeps_version, are_named, are_known};
+ghost use Rattle.dv_reader.specs.Refusal.{are_distinct, are_pooled, Says, Refuses};
 ghost use Rattle.dv_reader.specs.Passes.{is_version, Accepts, IsSound, Judged, Passes};
 
 use crate::error::ScriptFault;
@@ -83,8 +84,9 @@ fn are_pooled(sound: bool, json: &Json, draft: &Draft) -> bool
     are_distinct(pools) && (sound || answers(&Question::Pools(pools), json, draft))
 }
 
-/// Whether a draft of this JSON value keeps to its version, is small enough, is named well and knows its classes and pools, or the least
-/// refusal. The questions are asked one by one only where the pass that asks all at once has failed.
+/// Whether a draft of this JSON value keeps to its version, is small enough, is named well and
+/// knows its classes and pools, or the least refusal. The questions are asked one by one only where
+/// the pass that asks all at once has failed.
 fn accept(json: &Json, draft: &Draft) -> Result<(), ScriptFault>
     ensures { Accepts (view json.now) draft.now result }
 {

@@ -26,13 +26,16 @@ every_run script report runs =
 of_one_world : (script : Script) (a b : Report) (w : World) → ReportsOf w a → ReportsOf w b → AreAlike script script a b
 of_one_world script a b w one other = record {
   text =
-      ap (λ (j : Journal). text_of script.classes j.entries ++ output script.classes a.outcomes) (one.journal ∙ sym other.journal)
-      ∙ ap (λ outcomes. text_of script.classes b.journal.entries ++ output script.classes outcomes) (one.outcomes ∙ sym other.outcomes);
+      ap (λ (j : Journal). text_of script.classes j.entries ++ output script.classes a.outcomes)
+      (one.journal ∙ sym other.journal)
+      ∙ ap (λ outcomes. text_of script.classes b.journal.entries ++ output script.classes outcomes)
+      (one.outcomes ∙ sym other.outcomes);
   stopped = one.stopped ∙ sym other.stopped;
 }
 
 -- two runs of a script in the same batches are alike
-same_batches : (script : Script) (a b : Report) → IsRun script a → IsRun script b → a.batches ≡ b.batches → AreAlike script script a b
+same_batches : (script : Script) (a b : Report) → IsRun script a → IsRun script b → a.batches ≡ b.batches
+    → AreAlike script script a b
 same_batches script a b one other same =
     let w = one.reports.world in
     let v = other.reports.world in
@@ -41,8 +44,10 @@ same_batches script a b one other same =
     of_one_world script a b w one.reports.tells (subst (λ u. ReportsOf u b) is other.reports.tells)
 
 -- an input says one script
-one_script : (input : List ℕ) (s t : Script) (a b : Report) → SaysReport (Some input) s a → SaysReport (Some input) t b → t ≡ s
-one_script input s t a b one other = one_at_most other.bytes t s other.says (subst (λ bytes. Says bytes s) (one.read ∙ sym other.read) one.says)
+one_script : (input : List ℕ) (s t : Script) (a b : Report) → SaysReport (Some input) s a → SaysReport (Some input) t b
+    → t ≡ s
+one_script input s t a b one other =
+    one_at_most other.bytes t s other.says (subst (λ bytes. Says bytes s) (one.read ∙ sym other.read) one.says)
 
 pub batches_decide : BatchesDecide
 batches_decide input s t a b one other same =
@@ -63,7 +68,8 @@ alone_all_is_decided input s t a b one other none =
     let empty = empty_batches s.events in
     let listed : orders s ≡ empty ∷ [] = one_order s none in
     let first : a.batches ≡ empty = only a.batches empty (orders s) listed (every_run s a one.runs) in
-    let second : b.batches ≡ empty = only b.batches empty (orders s) listed (every_run s b (subst (λ script. IsRun script b) is other.runs)) in
+    let second : b.batches ≡ empty =
+    only b.batches empty (orders s) listed (every_run s b (subst (λ script. IsRun script b) is other.runs)) in
     batches_decide input s t a b one other (first ∙ sym second)
 
 -- what holds of all holds of each
@@ -74,7 +80,12 @@ of_each P x (y ∷ ys) all (inr h) = of_each P x ys (All-tail P y ys all) h
 
 pub every_run_is_surveyed : EveryRunIsSurveyed
 every_run_is_surveyed format script survey all report runs =
-    let listed : In report.batches (orders script) = in_from report.batches (orders script) (every_run script report runs) in
-    let found = of_map (λ (r : Report). r.batches) report.batches all.reports (subst (In report.batches) (sym all.took) listed) in
-    let other = found.0 in
-    (other, contains_from other all.reports found.1, same_batches script report other runs (of_each (IsRun script) other all.reports all.runs found.1) (sym found.2))
+    let listed : In report.batches (orders script) =
+    in_from report.batches (orders script) (every_run script report runs) in
+    let found =
+    of_map (λ (r : Report). r.batches) report.batches all.reports (subst (In report.batches) (sym all.took) listed) in
+    let other = found.0 in (
+      other,
+      contains_from other all.reports found.1,
+      same_batches script report other runs (of_each (IsRun script) other all.reports all.runs found.1) (sym found.2),
+    )

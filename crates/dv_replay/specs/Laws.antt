@@ -16,12 +16,14 @@ pub record AreAlike (script other : Script) (a b : Report) : Type 0 where
 
 -- two runs of one input in the same batches are alike
 abbrev pub BatchesDecide : Type 0
-BatchesDecide = (input : List ℕ) (s t : Script) (a b : Report) → SaysReport (Some input) s a → SaysReport (Some input) t b
+BatchesDecide =
+    (input : List ℕ) (s t : Script) (a b : Report) → SaysReport (Some input) s a → SaysReport (Some input) t b
     → a.batches ≡ b.batches → AreAlike s t a b
 
 -- two runs of one input in which nobody posts are alike
 abbrev pub AloneAllIsDecided : Type 0
-AloneAllIsDecided = (input : List ℕ) (s t : Script) (a b : Report) → SaysReport (Some input) s a → SaysReport (Some input) t b
+AloneAllIsDecided =
+    (input : List ℕ) (s t : Script) (a b : Report) → SaysReport (Some input) s a → SaysReport (Some input) t b
     → total (counts_of s.callers) ≡ 0 → AreAlike s t a b
 
 -- the batches of every run are one of the orders of its script
@@ -30,5 +32,7 @@ EveryRunIsListed = (script : Script) (report : Report) → IsRun script report �
 
 -- whatever a run of a script prints, a run in one of the orders that were surveyed prints, too
 abbrev pub EveryRunIsSurveyed : Type 0
-EveryRunIsSurveyed = (format : Format) (script : Script) (survey : Survey) (all : HasSurveyed format script (orders script) survey) (report : Report) → IsRun script report
+EveryRunIsSurveyed =
+    (format : Format) (script : Script) (survey : Survey) (all : HasSurveyed format script (orders script) survey)
+    (report : Report) → IsRun script report
     → (other : Report) × Contains all.reports other × AreAlike script script report other

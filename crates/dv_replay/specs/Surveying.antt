@@ -1,5 +1,7 @@
--- A script in every order of its posts, or in each of a sample: what is gathered of its runs, and what is written of that.
-use Rattle.std.specs.Prelude.{◌≡◌, ◌<◌, ◌⊎◌, ◌++◌, ◌^◌, ◌-◌, ℕ, nat_le, Bool, true, false, ⊤, None, Some, List, [], ◌∷◌, length, map, All, Result, Ok, Err}
+-- A script in every order of its posts, or in each of a sample: what is gathered of its runs, and what is written of
+-- that.
+use Rattle.std.specs.Prelude.{◌≡◌, ◌<◌, ◌⊎◌, ◌++◌, ◌^◌, ◌-◌, ℕ, nat_le, Bool, true, false, ⊤, None, Some, List, [], ◌∷◌}
+use Rattle.std.specs.Prelude.{length, map, All, Result, Ok, Err}
 use Rattle.std.specs.Io.KnownBytes.{Appends, Keeps}
 use Rattle.dv_engine.specs.declared.report.Report.{Report}
 use Rattle.dv_journal.specs.Sink.{AppendsPrefix}
@@ -60,8 +62,10 @@ ran (Sample size seed) count = size
 abbrev pub orders_text : Format → Chosen → ℕ → Survey → List ℕ
 orders_text format chosen count survey = number_text format count ++ survey_text survey (ran chosen count)
 
--- what became of the Deferreds in the chosen orders was written, of which there are no more than may run, in so many ways
-pub record PrintsOrders (format : Format) (chosen : Chosen) (old new : Told) (outcomes : ℕ) (script : Script) : Type 0 where
+-- what became of the Deferreds in the chosen orders was written, of which there are no more than may run, in so many
+-- ways
+pub record PrintsOrders (format : Format) (chosen : Chosen) (old new : Told) (outcomes : ℕ)
+    (script : Script) : Type 0 where
   pub few : is_few chosen (length (orders script)) ≡ true
   pub survey : Survey
   pub surveyed : HasSurveyed format script (chosen_orders chosen script) survey
@@ -104,18 +108,23 @@ CountFails (TooMany number) chosen script = Exceeds number chosen script
 -- what was written before each fault, once there is a script: where there are too many orders, nothing
 abbrev pub OrdersGiveUp : Format → SurveyFault → Chosen → Told → Told → Script → Type 0
 OrdersGiveUp format (Run (ScriptRefused fault)) chosen old new script = ⊥
-OrdersGiveUp format (Run OutOfMemory) chosen old new script = PrintsNumber format old new script ⊎ PrintsSome format chosen old new script
+OrdersGiveUp format (Run OutOfMemory) chosen old new script =
+    PrintsNumber format old new script ⊎ PrintsSome format chosen old new script
 OrdersGiveUp format (Run ReadFault) chosen old new script = ⊥
-OrdersGiveUp format (Run WriteFault) chosen old new script = PrintsNumber format old new script ⊎ PrintsSome format chosen old new script
+OrdersGiveUp format (Run WriteFault) chosen old new script =
+    PrintsNumber format old new script ⊎ PrintsSome format chosen old new script
 OrdersGiveUp format (TooMany number) chosen old new script = Exceeds number chosen script × Keeps old new
 
 -- what was written before each fault: nothing where there is no script
 abbrev pub GivesUp : Format → SurveyFault → Chosen → Told → Told → Told → Type 0
 GivesUp format (Run (ScriptRefused fault)) chosen input old new = RefusesInput input old new fault
-GivesUp format (Run OutOfMemory) chosen input old new = Keeps old new ⊎ InputSays input (OrdersGiveUp format (Run OutOfMemory) chosen old new)
+GivesUp format (Run OutOfMemory) chosen input old new =
+    Keeps old new ⊎ InputSays input (OrdersGiveUp format (Run OutOfMemory) chosen old new)
 GivesUp format (Run ReadFault) chosen input old new = Keeps old new
-GivesUp format (Run WriteFault) chosen input old new = InputSays input (OrdersGiveUp format (Run WriteFault) chosen old new)
-GivesUp format (TooMany number) chosen input old new = InputSays input (OrdersGiveUp format (TooMany number) chosen old new)
+GivesUp format (Run WriteFault) chosen input old new =
+    InputSays input (OrdersGiveUp format (Run WriteFault) chosen old new)
+GivesUp format (TooMany number) chosen input old new =
+    InputSays input (OrdersGiveUp format (TooMany number) chosen old new)
 
 -- after a read fault the reader has failed meanwhile, and after any other it hasn't
 abbrev pub ReaderFailedBy : SurveyFault → ℕ → ℕ → Type 0

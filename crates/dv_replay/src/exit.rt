@@ -1,11 +1,14 @@
 ghost use Rattle.std.specs.Prelude.{◌≡◌};
-ghost use Rattle.dv_replay.specs.Exit.{fault_refusal, fault_status, fault_text, survey_fault_status, survey_fault_text, survey_status, too_many};
+ghost use Rattle.dv_replay.specs.Exit.{fault_refusal, fault_status, fault_text};
+ghost use Rattle.dv_replay.specs.Exit.{survey_fault_status, survey_fault_text, survey_status};
+ghost use Rattle.dv_replay.specs.Exit.{too_many};
 
 use crate::error::{ReplayFault, SurveyFault};
 use dv_orders::fault::OrderFault;
 use dv_orders::number::Number;
 
-/// Returns the exit status of a run in given batches that gave up: 5 where the batches are refused, and otherwise that of a run.
+/// Returns the exit status of a run in given batches that gave up: 5 where the batches are refused,
+/// and otherwise that of a run.
 pub fn fault_status(fault: ReplayFault) -> u8
     ensures { result ≡ fault_status fault }
 {
@@ -35,14 +38,16 @@ pub fn fault_refusal(fault: ReplayFault) -> Option<OrderFault>
     }
 }
 
-/// Returns the exit status of a survey of all orders: 0 where all runs ended in one way, and 6 where they didn't.
+/// Returns the exit status of a survey of all orders: 0 where all runs ended in one way, and 6
+/// where they didn't.
 pub fn survey_status(outcomes: usize) -> u8
     ensures { result ≡ survey_status outcomes }
 {
     if outcomes <= 1 { 0 } else { 6 }
 }
 
-/// Returns the exit status of a survey that failed: 7 where there are too many orders, and otherwise that of a run.
+/// Returns the exit status of a survey that failed: 7 where there are too many orders, and
+/// otherwise that of a run.
 pub fn survey_fault_status(fault: SurveyFault) -> u8
     ensures { result ≡ survey_fault_status fault }
 {
@@ -62,7 +67,8 @@ pub fn survey_fault_text(fault: SurveyFault) -> &'static str
     }
 }
 
-/// Returns how many orders there are where these are too many, which goes to standard error, too. None where they aren't.
+/// Returns how many orders there are where these are too many, which goes to standard error, too.
+/// None where they aren't.
 pub fn too_many(fault: SurveyFault) -> Option<Number>
     ensures { result ≡ too_many fault }
 {

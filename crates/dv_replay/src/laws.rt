@@ -1,6 +1,7 @@
 //! Laws of several runs, each a function with an empty body whose clauses are the law.
 
-ghost use Rattle.dv_replay.specs.Laws.{AloneAllIsDecided, BatchesDecide, EveryRunIsListed, EveryRunIsSurveyed};
+ghost use Rattle.dv_replay.specs.Laws.{AloneAllIsDecided, BatchesDecide, EveryRunIsListed};
+ghost use Rattle.dv_replay.specs.Laws.{EveryRunIsSurveyed};
 
 /// Any two runs of one input in the same batches print the same text, and both stop at the limit
 /// of the journal or neither does. So do any two runs of a script in which nobody posts. No run
@@ -11,8 +12,8 @@ pub fn batches_decide_a_run()
     ensures listed { EveryRunIsListed }
 {}
 
-/// No threads can bring an end that a survey of all orders has missed: each run prints what one of the
-/// surveyed runs prints, and both stop at the limit of the journal or neither does.
+/// No threads can bring an end that a survey of all orders has missed: each run prints what one of
+/// the surveyed runs prints, and both stop at the limit of the journal or neither does.
 pub fn every_run_is_surveyed()
     ensures { EveryRunIsSurveyed }
 {}

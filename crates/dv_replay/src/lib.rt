@@ -1,4 +1,5 @@
-//! Runs a script in batches that are given, in place of those in which its callers' threads happen to post.
+//! Runs a script in batches that are given, in place of those in which its callers' threads happen
+//! to post.
 #![tactic(auto)]
 
 pub mod error;

@@ -24,7 +24,8 @@ use std::sync::Wait;
 use std::thread;
 use std::thread::Threads;
 
-/// Performs a script as `dv_run::performing::perform` does, with these batches of its callers' posts. No thread is started for a caller.
+/// Performs a script as `dv_run::performing::perform` does, with these batches of its callers'
+/// posts. No thread is started for a caller.
 pub fn perform<S, G, D>(
     rt: &S,
     script: &Script,
@@ -74,8 +75,8 @@ where
     )
 }
 
-/// Performs a script in these batches of its callers' posts on this thread alone: each job is done where it is submitted, whichever its
-/// pool.
+/// Performs a script in these batches of its callers' posts on this thread alone: each job is done
+/// where it is submitted, whichever its pool.
 pub fn perform_alone<S, G, D>(
     rt: &S,
     script: &Script,
@@ -104,8 +105,8 @@ where
     perform_with(rt, alloc, poller, keys, jobs, script, batches, driver)
 }
 
-/// Performs a script with these batches and this source for its jobs, to which nothing was submitted yet, and which has the pools that
-/// the script names.
+/// Performs a script with these batches and this source for its jobs, to which nothing was
+/// submitted yet, and which has the pools that the script names.
 fn perform_with<S, J, D>(
     rt: &S,
     alloc: Global,

@@ -1,10 +1,13 @@
-//! Runs a script in given batches: reads it, checks the batches, performs it, and prints its journal and its outcomes.
+//! Runs a script in given batches: reads it, checks the batches, performs it, and prints its
+//! journal and its outcomes.
 
 ghost use Rattle.std.specs.Prelude.{◌≡◌, ◌≤◌, length, OnOk, IfOk, IfErr};
 ghost use Rattle.dv_orders.specs.Listed.{AreOrder};
-ghost use Rattle.dv_replay.specs.Replay.{GivesNoRun, GivesUp, Leaves, PrintsIn, ReaderFailed, WriterFailed};
+ghost use Rattle.dv_replay.specs.Replay.{GivesNoRun, GivesUp, Leaves, PrintsIn, ReaderFailed};
+ghost use Rattle.dv_replay.specs.Replay.{WriterFailed};
 ghost use Rattle.dv_run.specs.Run.{HasRead, SaysScript};
-ghost use Rattle.dv_script.specs.declared.limits.TheConstants.{MOST_LIMIT, MOST_POOLS, MOST_WORKERS};
+ghost use Rattle.dv_script.specs.declared.limits.TheConstants.{MOST_LIMIT, MOST_POOLS};
+ghost use Rattle.dv_script.specs.declared.limits.TheConstants.{MOST_WORKERS};
 
 use crate::error::ReplayFault;
 use crate::performing::perform;
@@ -24,10 +27,12 @@ use std::random::RandomSource;
 use std::sync::Wait;
 use std::thread::Threads;
 
-/// Reads a script to the end of the input, and runs it as `dv_run::run_and_keep` does, with these batches of its callers' posts in place
-/// of those in which they happen to come: one for each drain, and one for the end. No thread is started for a caller.
+/// Reads a script to the end of the input, and runs it as `dv_run::run_and_keep` does, with these
+/// batches of its callers' posts in place of those in which they happen to come: one for each
+/// drain, and one for the end. No thread is started for a caller.
 ///
-/// BatchesRefused where the batches aren't an order of the script: nothing was performed, and nothing written.
+/// BatchesRefused where the batches aren't an order of the script: nothing was performed, and
+/// nothing written.
 #[tactic(auto, using(crate::proofs::ReplayLemmas::replay_rules))]
 pub fn replay<S, R, W, G>(
     rt: &S,
@@ -43,9 +48,11 @@ where
     W: Sink,
     G: Gate + Sync,
     requires { workers ≤ MOST_WORKERS }
-    ensures ok { IfOk result (λ kept. PrintsIn batches.now (R.left reader.old) (W.taken writer.old) (W.taken writer.new) kept.report) }
+    ensures ok { IfOk result (λ kept. PrintsIn batches.now (R.left reader.old) (W.taken writer.old)
+        (W.taken writer.new) kept.report) }
     ensures script { IfOk result (λ kept. SaysScript (R.left reader.old) kept.script) }
-    ensures err { IfErr result (λ fault. GivesUp fault batches.now (R.left reader.old) (W.taken writer.old) (W.taken writer.new)) }
+    ensures err { IfErr result (λ fault. GivesUp fault batches.now (R.left reader.old)
+        (W.taken writer.old) (W.taken writer.new)) }
     ensures reader { ReaderFailed result (R.failures reader.old) (R.failures reader.new) }
     ensures writer { WriterFailed result (W.failures writer.old) (W.failures writer.new) }
     ensures left { Leaves result (R.left reader.old) (R.left reader.new) }
@@ -66,7 +73,8 @@ where
     }
 }
 
-/// Returns the script that the input says, of which the batches are an order. BatchesRefused where they aren't.
+/// Returns the script that the input says, of which the batches are an order. BatchesRefused where
+/// they aren't.
 #[tactic(auto, using(crate::proofs::ReplayLemmas::script_rules))]
 pub fn script_in<R: Source>(
     alloc: Global,
@@ -79,7 +87,8 @@ pub fn script_in<R: Source>(
     ensures limited { IfOk result (λ script. script.limit ≤ MOST_LIMIT) }
     ensures kept { OnOk result (R.failures reader.new ≡ R.failures reader.old) }
     ensures left { OnOk result (HasRead (R.left reader.old) (R.left reader.new)) }
-    ensures err { IfErr result (λ fault. GivesNoRun fault batches.now (R.left reader.old) (R.left reader.new) (R.failures reader.old) (R.failures reader.new)) }
+    ensures err { IfErr result (λ fault. GivesNoRun fault batches.now (R.left reader.old)
+        (R.left reader.new) (R.failures reader.old) (R.failures reader.new)) }
 {
     let script = script_of(alloc, reader)?;
     match fault_of(alloc, &script, batches) {

@@ -1,10 +1,14 @@
-//! Runs a script in every order of its posts, or in each of a sample, and prints what became of each Deferred in how many of them.
+//! Runs a script in every order of its posts, or in each of a sample, and prints what became of
+//! each Deferred in how many of them.
 
-ghost use Rattle.std.specs.Prelude.{◌≡◌, ◌+◌, ◌<◌, ◌++◌, ◌^◌, ◌-◌, ◌≤◌, length, true, IfOk, IfErr, IsErrOf, OnOk, OnErr, string_bytes};
+ghost use Rattle.std.specs.Prelude.{◌≡◌, ◌+◌, ◌<◌, ◌++◌, ◌^◌, ◌-◌, ◌≤◌, length, true, IfOk, IfErr};
+ghost use Rattle.std.specs.Prelude.{IsErrOf, OnOk, OnErr, string_bytes};
 ghost use Rattle.dv_journal.specs.Sink.{AppendsPrefix, HasFailed};
 ghost use Rattle.dv_orders.specs.Orders.{orders};
 ghost use Rattle.dv_orders.specs.Visiting.{SeesMore};
-ghost use Rattle.dv_replay.specs.Surveying.{CountFails, GivesUp, chosen_orders, format_of, is_few, ran, HasSurveyed, Leaves, OrdersGiveUp, PrintsOrders, ReaderFailed, Surveys, WriterFailed};
+ghost use Rattle.dv_replay.specs.Surveying.{CountFails, GivesUp, chosen_orders, format_of, is_few};
+ghost use Rattle.dv_replay.specs.Surveying.{ran, HasSurveyed, Leaves, OrdersGiveUp, PrintsOrders};
+ghost use Rattle.dv_replay.specs.Surveying.{ReaderFailed, Surveys, WriterFailed};
 ghost use Rattle.dv_script.specs.declared.limits.TheConstants.{MOST_POOLS};
 ghost use Rattle.dv_survey.specs.Text.{number_text, survey_text};
 ghost use Rattle.std.specs.Io.KnownBytes.{Appends};
@@ -34,7 +38,8 @@ use std::random::RandomSource;
 use std::sync::Wait;
 use std::thread::Threads;
 
-/// Gathers what becomes of the Deferreds of a script in the orders that it visits: each is performed on this thread.
+/// Gathers what becomes of the Deferreds of a script in the orders that it visits: each is
+/// performed on this thread.
 #[derive(Drop)]
 struct Surveyor<'s, S, G> {
     rt: &'s S,
@@ -55,7 +60,8 @@ where
 
     ghost script_of = { λ surveyor. surveyor.script.now };
 
-    ghost has_seen = { λ surveyor mark seen. HasSurveyed (format_of mark) surveyor.script.now seen surveyor.survey };
+    ghost has_seen = { λ surveyor mark seen.
+        HasSurveyed (format_of mark) surveyor.script.now seen surveyor.survey };
 
     fn visit(&mut self, script: &Script, batches: &[Items<Posted>]) -> Result<(), AllocError> {
         let Ok(report) = perform_alone(self.rt, script, self.gate, batches, &Reporting) else {
@@ -86,7 +92,8 @@ fn each_chosen<V: Visitor>(
     requires number { count ≡ length (orders script.now) }
     requires fits { count + 1 < 2 ^ 64 }
     ensures same { V.script_of visitor.new ≡ V.script_of visitor.old }
-    ensures ok { OnOk result (SeesMore V.has_seen visitor.old visitor.new (chosen_orders chosen script.now)) }
+    ensures ok { OnOk result
+        (SeesMore V.has_seen visitor.old visitor.new (chosen_orders chosen script.now)) }
 {
     match chosen {
         Chosen::Every(_) => each_order(alloc, script, visitor),
@@ -96,7 +103,8 @@ fn each_chosen<V: Visitor>(
     }
 }
 
-/// Runs a script, which has `count` orders, in the chosen ones on this thread, and returns what became of its Deferreds.
+/// Runs a script, which has `count` orders, in the chosen ones on this thread, and returns what
+/// became of its Deferreds.
 fn survey_of<S, G>(
     rt: &S,
     script: &Script,
@@ -151,7 +159,8 @@ fn ran(chosen: Chosen, count: u64) -> u64
     }
 }
 
-/// Returns how many orders a script has. TooMany where there are more than may run, or more than 64 bits count.
+/// Returns how many orders a script has. TooMany where there are more than may run, or more than 64
+/// bits count.
 fn count_orders(alloc: Global, script: &Script, chosen: Chosen) -> Result<u64, SurveyFault>
     ensures number { IfOk result (λ count. count ≡ length (orders script.now)) }
     ensures few { IfOk result (λ count. is_few chosen count ≡ true) }
@@ -176,11 +185,15 @@ fn print_number<W: Sink>(
     orders: u64,
     writer: &mut W,
 ) -> Result<(), PrintFault>
-    ensures ok { OnOk result (Appends (W.taken writer.old) (W.taken writer.new) (number_text format orders)) }
+    ensures ok { OnOk result (Appends (W.taken writer.old) (W.taken writer.new)
+        (number_text format orders)) }
     ensures kept { OnOk result (W.failures writer.new ≡ W.failures writer.old) }
-    ensures err { OnErr result (AppendsPrefix (W.taken writer.old) (W.taken writer.new) (number_text format orders)) }
-    ensures cause { IsErrOf result PrintFault.WriteFault → HasFailed (W.failures writer.old) (W.failures writer.new) }
-    ensures memory { IsErrOf result PrintFault.OutOfMemory → W.failures writer.new ≡ W.failures writer.old }
+    ensures err { OnErr result (AppendsPrefix (W.taken writer.old) (W.taken writer.new)
+        (number_text format orders)) }
+    ensures cause { IsErrOf result PrintFault.WriteFault
+        → HasFailed (W.failures writer.old) (W.failures writer.new) }
+    ensures memory { IsErrOf result PrintFault.OutOfMemory
+        → W.failures writer.new ≡ W.failures writer.old }
 {
     let Ok(text) = number_line(alloc, format, orders) else {
         return Err(PrintFault::OutOfMemory);
@@ -206,11 +219,15 @@ fn print_survey<W: Sink>(
     survey: &Survey,
     writer: &mut W,
 ) -> Result<(), PrintFault>
-    ensures ok { OnOk result (Appends (W.taken writer.old) (W.taken writer.new) (survey_text survey.now orders)) }
+    ensures ok { OnOk result (Appends (W.taken writer.old) (W.taken writer.new)
+        (survey_text survey.now orders)) }
     ensures kept { OnOk result (W.failures writer.new ≡ W.failures writer.old) }
-    ensures err { OnErr result (AppendsPrefix (W.taken writer.old) (W.taken writer.new) (survey_text survey.now orders)) }
-    ensures cause { IsErrOf result PrintFault.WriteFault → HasFailed (W.failures writer.old) (W.failures writer.new) }
-    ensures memory { IsErrOf result PrintFault.OutOfMemory → W.failures writer.new ≡ W.failures writer.old }
+    ensures err { OnErr result (AppendsPrefix (W.taken writer.old) (W.taken writer.new)
+        (survey_text survey.now orders)) }
+    ensures cause { IsErrOf result PrintFault.WriteFault
+        → HasFailed (W.failures writer.old) (W.failures writer.new) }
+    ensures memory { IsErrOf result PrintFault.OutOfMemory
+        → W.failures writer.new ≡ W.failures writer.old }
 {
     let Ok(text) = text_of(alloc, orders, survey) else {
         return Err(PrintFault::OutOfMemory);
@@ -229,8 +246,8 @@ fn text_of(alloc: Global, orders: u64, survey: &Survey) -> Result<String, AllocE
     Ok(text)
 }
 
-/// Runs a script in the chosen orders of its posts, where there are no more than may run, and writes what became of its Deferreds. Returns
-/// in how many ways they ended.
+/// Runs a script in the chosen orders of its posts, where there are no more than may run, and
+/// writes what became of its Deferreds. Returns in how many ways they ended.
 fn print_orders<S, W, G>(
     rt: &S,
     script: &Script,
@@ -245,8 +262,10 @@ where
     G: Gate,
     requires limited { script.now.limit < 2 ^ 32 - 1 }
     requires pools { length script.now.pools ≤ MOST_POOLS }
-    ensures ok { IfOk result (λ outcomes. PrintsOrders format chosen (W.taken writer.old) (W.taken writer.new) outcomes script.now) }
-    ensures err { IfErr result (λ fault. OrdersGiveUp format fault chosen (W.taken writer.old) (W.taken writer.new) script.now) }
+    ensures ok { IfOk result (λ outcomes. PrintsOrders format chosen (W.taken writer.old)
+        (W.taken writer.new) outcomes script.now) }
+    ensures err { IfErr result (λ fault. OrdersGiveUp format fault chosen (W.taken writer.old)
+        (W.taken writer.new) script.now) }
     ensures writer { WriterFailed result (W.failures writer.old) (W.failures writer.new) }
 {
     let alloc = rt.alloc();
@@ -266,14 +285,18 @@ where
     }
 }
 
-/// Reads a script to the end of the input, and runs it in the chosen orders in which its callers' posts may be taken: in every one, where
-/// there are no more than may run, or in each of a sample. Each run is that of `replay` in its batches, on this thread alone. The number of
-/// orders is written before the first run. After the last one comes what became of each Deferred, a line for each of its ends, and a line
-/// for each outcome of a run: in how many orders it came, and the batches of the first. All is written in this format, which should name
-/// the size of the sample. Returns in how many ways the runs ended: 1 where no order that ran makes a difference to any Deferred.
+/// Reads a script to the end of the input, and runs it in the chosen orders in which its callers'
+/// posts may be taken: in every one, where there are no more than may run, or in each of a sample.
+/// Each run is that of `replay` in its batches, on this thread alone. The number of orders is
+/// written before the first run. After the last one comes what became of each Deferred, a line for
+/// each of its ends, and a line for each outcome of a run: in how many orders it came, and the
+/// batches of the first. All is written in this format, which should name the size of the sample.
+/// Returns in how many ways the runs ended: 1 where no order that ran makes a difference to any
+/// Deferred.
 ///
-/// TooMany where there are more orders than may run, and for a sample where there are more than 64 bits count: nothing was performed, and
-/// nothing written. The other errors come as in `dv_run::run`, and memory grows with the different ends, not with the orders.
+/// TooMany where there are more orders than may run, and for a sample where there are more than 64
+/// bits count: nothing was performed, and nothing written. The other errors come as in
+/// `dv_run::run`, and memory grows with the different ends, not with the orders.
 pub fn survey<S, R, W, G>(
     rt: &S,
     reader: &mut R,
@@ -287,8 +310,10 @@ where
     R: Source,
     W: Sink,
     G: Gate,
-    ensures ok { IfOk result (λ outcomes. Surveys format chosen (R.left reader.old) (W.taken writer.old) (W.taken writer.new) outcomes) }
-    ensures err { IfErr result (λ fault. GivesUp format fault chosen (R.left reader.old) (W.taken writer.old) (W.taken writer.new)) }
+    ensures ok { IfOk result (λ outcomes. Surveys format chosen (R.left reader.old)
+        (W.taken writer.old) (W.taken writer.new) outcomes) }
+    ensures err { IfErr result (λ fault. GivesUp format fault chosen (R.left reader.old)
+        (W.taken writer.old) (W.taken writer.new)) }
     ensures reader { ReaderFailed result (R.failures reader.old) (R.failures reader.new) }
     ensures writer { WriterFailed result (W.failures writer.old) (W.failures writer.new) }
     ensures left { Leaves result (R.left reader.old) (R.left reader.new) }

@@ -17,7 +17,8 @@ use std::random::RandomSource;
 use std::sync::Wait;
 use std::thread::Threads;
 
-/// Has an engine perform its script, and take one of these batches at each drain and the last one at the end.
+/// Has an engine perform its script, and take one of these batches at each drain and the last one
+/// at the end.
 #[tactic(auto, using(crate::proofs::TakingLemmas::all_complete))]
 pub fn drive<'s, R, J, D>(
     rt: &R,

@@ -12,7 +12,8 @@ fault_status OutOfMemory = 3
 fault_status ReadFault = 4
 fault_status WriteFault = 4
 
--- the exit status: 1 where the run stopped at the limit of its journal, 0 where all events were performed, and otherwise that of the fault
+-- the exit status: 1 where the run stopped at the limit of its journal, 0 where all events were performed, and
+-- otherwise that of the fault
 abbrev pub status : Result Report RunFault → ℕ
 status (Ok report) = if report.stopped then 1 else 0
 status (Err fault) = fault_status fault

@@ -10,7 +10,9 @@ use Rattle.dv_script.specs.declared.script.Script.{Script}
 use Rattle.dv_run.specs.Output.{report_text}
 use Rattle.dv_source.specs.Source.{IsFrontOf}
 
--- the journal and the outcomes are those of the one-thread definition for the script and the batches in which posts were taken, which are lawful; each job that was submitted ran once, with its work; and each caller's posts were taken once each, in order
+-- the journal and the outcomes are those of the one-thread definition for the script and the batches in which posts
+-- were taken, which are lawful; each job that was submitted ran once, with its work; and each caller's posts were taken
+-- once each, in order
 pub record IsRun (script : Script) (report : Report) : Type 0 where
   pub reports : Reports script report
   pub complete : AreComplete script report.batches

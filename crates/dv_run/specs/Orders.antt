@@ -1,5 +1,6 @@
 -- Which orders of posts run.
-use Rattle.std.specs.Prelude.{ℕ, ◌+◌, ◌*◌, ◌-◌, nat_eq, nat_le, ◌&&◌, if◌then◌else◌, List, [], ◌∷◌, Option, None, Some, option_and_then, option_map}
+use Rattle.std.specs.Prelude.{ℕ, ◌+◌, ◌*◌, ◌-◌, nat_eq, nat_le, ◌&&◌, if◌then◌else◌, List, [], ◌∷◌, Option, None, Some}
+use Rattle.std.specs.Prelude.{option_and_then, option_map}
 use Rattle.dv_run.specs.Workers.{is_digit}
 use Rattle.dv_run.specs.declared.orders.Chosen.{Chosen}
 use Rattle.dv_run.specs.declared.orders.Chosen.TheVariants.{Every, Sample}
@@ -7,7 +8,8 @@ use Rattle.dv_run.specs.declared.orders.TheConstants.{MOST_ORDERS, MOST_SEED}
 
 -- a number with one more digit, where it is no more than this
 abbrev pub with_digit : ℕ → ℕ → ℕ → Option ℕ
-with_digit most n byte = if is_digit byte && nat_le (n * 10 + (byte - 48)) most then Some (n * 10 + (byte - 48)) else None
+with_digit most n byte =
+    if is_digit byte && nat_le (n * 10 + (byte - 48)) most then Some (n * 10 + (byte - 48)) else None
 
 -- a number with more digits
 abbrev pub with_digits : ℕ → ℕ → List ℕ → Option ℕ

@@ -20,7 +20,9 @@ pauses_text pauses = if nat_eq pauses 0 then [] else codes "paused "
 
 -- #N NAME STATE
 abbrev pub outcome_line : List Class → ℕ → Outcome → List ℕ
-outcome_line table number o = hash number ++ codes " " ++ name_text o.name ++ codes " " ++ pauses_text o.pauses ++ state_text table o.state ++ codes "\n"
+outcome_line table number o =
+    hash number ++ codes " " ++ name_text o.name ++ codes " " ++ pauses_text o.pauses ++ state_text table o.state
+    ++ codes "\n"
 
 -- a line for each outcome, numbered from this number on
 abbrev pub lines_from : List Class → ℕ → List Outcome → List ℕ

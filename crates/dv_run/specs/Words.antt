@@ -1,5 +1,6 @@
 -- What the words after the program's name ask for.
-use Rattle.std.specs.Prelude.{Bool, false, not, ℕ, nat_eq, ◌&&◌, ◌||◌, if◌then◌else◌, List, [], ◌∷◌, Option, None, Some, bytes_eq, codes, option_and_then, ◌≤◌, ⊤}
+use Rattle.std.specs.Prelude.{Bool, false, not, ℕ, nat_eq, ◌&&◌, ◌||◌, if◌then◌else◌, List, [], ◌∷◌, Option, None, Some}
+use Rattle.std.specs.Prelude.{bytes_eq, codes, option_and_then, ◌≤◌, ⊤}
 use Rattle.std.specs.List.{list_any}
 use Rattle.dv_run.specs.Orders.{every_in, sample_in}
 use Rattle.dv_run.specs.Workers.{few_workers, number_in}
@@ -84,9 +85,11 @@ survey_in form chosen (word ∷ second ∷ words) = None
 abbrev pub sampled_in : Form → List ℕ → List (List ℕ) → Option Asked
 sampled_in form size [] = None
 sampled_in form size (flag ∷ []) = None
-sampled_in form size (flag ∷ seed ∷ words) = if bytes_eq flag (codes "--seed") then survey_in form (sample_in size seed) words else None
+sampled_in form size (flag ∷ seed ∷ words) =
+    if bytes_eq flag (codes "--seed") then survey_in form (sample_in size seed) words else None
 
--- a run in every order, or in each of a sample: `--most` and a number, `--sample` with what follows it, or neither, and then what is read
+-- a run in every order, or in each of a sample: `--most` and a number, `--sample` with what follows it, or neither, and
+-- then what is read
 abbrev pub orders_in : Form → List (List ℕ) → Option Asked
 orders_in form [] = survey_of form (Some (Every ORDERS)) (Some Standard)
 orders_in form (word ∷ []) = survey_of form (Some (Every ORDERS)) (input_in word)
@@ -95,7 +98,8 @@ orders_in form (flag ∷ number ∷ words) =
     else if bytes_eq flag (codes "--sample") then sampled_in form number words
     else None
 
--- what is printed as JSON Lines: a run, in given batches where `--batches` comes first, or in every order where `--orders` does
+-- what is printed as JSON Lines: a run, in given batches where `--batches` comes first, or in every order where
+-- `--orders` does
 abbrev pub json_in : List (List ℕ) → Option Asked
 json_in [] = run_in form.Json []
 json_in (word ∷ words) =
@@ -121,7 +125,12 @@ alone asked (word ∷ words) = None
 
 -- the option that a word is
 abbrev pub flag_in : List ℕ → Option Flag
-flag_in word = if bytes_eq word (codes "--json") then Some flag.Json else if bytes_eq word (codes "--batches") then Some flag.Batches else if bytes_eq word (codes "--orders") then Some flag.Orders else if bytes_eq word (codes "--why") then Some flag.Why else if bytes_eq word (codes "--language") then Some flag.Language else if bytes_eq word (codes "--version") then Some flag.Version else if bytes_eq word (codes "--help") then Some flag.Help else None
+flag_in word =
+    if bytes_eq word (codes "--json") then Some flag.Json else if bytes_eq word (codes "--batches")
+    then Some flag.Batches else if bytes_eq word (codes "--orders") then Some flag.Orders
+    else if bytes_eq word (codes "--why") then Some flag.Why else if bytes_eq word (codes "--language")
+    then Some flag.Language else if bytes_eq word (codes "--version") then Some flag.Version
+    else if bytes_eq word (codes "--help") then Some flag.Help else None
 
 -- what an option asks for, with the words after it
 abbrev pub asked_by : Flag → List (List ℕ) → Option Asked

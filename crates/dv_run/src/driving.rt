@@ -21,7 +21,8 @@ use std::random::RandomSource;
 use std::sync::Wait;
 use std::thread::Threads;
 
-/// What is kept of a run: what is noted of an engine while it performs its script, and what is made of it at its end.
+/// What is kept of a run: what is noted of an engine while it performs its script, and what is made
+/// of it at its end.
 pub trait Driver {
     /// What is noted meanwhile.
     type Notes: Drop;
@@ -42,7 +43,8 @@ pub trait Driver {
     /// Nothing is noted.
     fn start(&self, alloc: Global) -> Self::Notes;
 
-    /// Notes how many entries there are before the next event, or before the last batch. AllocError when out of memory.
+    /// Notes how many entries there are before the next event, or before the last batch. AllocError
+    /// when out of memory.
     fn note(&self, notes: &mut Self::Notes, told: usize) -> Result<(), AllocError>;
 
     /// Keeps what an engine has that has taken all posts. AllocError when out of memory.
@@ -99,8 +101,9 @@ impl Driver for Reporting {
     }
 }
 
-/// Has an engine perform its script, of whose callers these are the bodies, while they post: at each drain it takes what is there, up to
-/// as many as that takes, and after the last event, when the callers have ended, what is left. AllocError when out of memory.
+/// Has an engine perform its script, of whose callers these are the bodies, while they post: at
+/// each drain it takes what is there, up to as many as that takes, and after the last event, when
+/// the callers have ended, what is left. AllocError when out of memory.
 pub fn drive<'s, R, J, D>(
     rt: &R,
     alloc: Global,
@@ -139,8 +142,8 @@ where
     finish(rt, alloc, driver, engine, rest, notes)
 }
 
-/// Performs all events, with what is there at each drain. Answers whether all posts that were taken are next posts of their
-/// callers; where not, it ends there.
+/// Performs all events, with what is there at each drain. Answers whether all posts that were taken
+/// are next posts of their callers; where not, it ends there.
 fn perform_events<'s, R, J, D>(
     rt: &R,
     alloc: Global,
@@ -156,8 +159,10 @@ where
     requires going { engine.old.phase ≡ Going }
     requires agree { Agree engine.old inbox.old }
     ensures same { SameInbox inbox.old inbox.new }
-    ensures yes { IfOk result (λ lawful. IsTrue lawful → HasPerformed engine.old engine.new inbox.new) }
-    ensures no { IfOk result (λ lawful. IsFalse lawful → HasStranger engine.old.script.callers inbox.new) }
+    ensures yes { IfOk result (λ lawful. IsTrue lawful
+        → HasPerformed engine.old engine.new inbox.new) }
+    ensures no { IfOk result (λ lawful. IsFalse lawful
+        → HasStranger engine.old.script.callers inbox.new) }
 {
     loop {
         driver.note(notes, engine.told())?;
@@ -175,8 +180,8 @@ where
     }
 }
 
-/// Has an engine take what is there at a drain. Answers whether each post is the next one of its caller; where not, the engine
-/// takes none.
+/// Has an engine take what is there at a drain. Answers whether each post is the next one of its
+/// caller; where not, the engine takes none.
 fn drain<'s, R, J>(
     rt: &R,
     alloc: Global,
@@ -190,8 +195,10 @@ where
     requires draining { engine.old.phase ≡ Draining most }
     requires agree { Agree engine.old inbox.old }
     ensures same { SameInbox inbox.old inbox.new }
-    ensures yes { IfOk result (λ lawful. IsTrue lawful → HasDrained engine.old engine.new inbox.new) }
-    ensures no { IfOk result (λ lawful. IsFalse lawful → HasStranger engine.old.script.callers inbox.new) }
+    ensures yes { IfOk result (λ lawful. IsTrue lawful
+        → HasDrained engine.old engine.new inbox.new) }
+    ensures no { IfOk result (λ lawful. IsFalse lawful
+        → HasStranger engine.old.script.callers inbox.new) }
 {
     let batch = take_up_to(alloc, inbox, most)?;
     match engine.drain(rt, batch) {
@@ -212,7 +219,8 @@ where
     R: Wait + RandomSource + AllocGlobal,
     J: JobSource,
     requires ended { engine.old.phase ≡ Ended }
-    requires all { (c : ℕ) → of c (joined engine.old.batches ++ rest) ≡ posts_of engine.old.script.callers c }
+    requires all { (c : ℕ)
+        → of c (joined engine.old.batches ++ rest) ≡ posts_of engine.old.script.callers c }
     ensures { OnOk result (HasTakenAll engine.old engine.new) }
 {
     match engine.drain(rt, rest) {
@@ -237,7 +245,8 @@ where
     J: JobSource,
     D: Driver,
     requires ended { engine.phase ≡ Ended }
-    requires all { (c : ℕ) → of c (joined engine.batches ++ rest) ≡ posts_of engine.script.callers c }
+    requires all { (c : ℕ)
+        → of c (joined engine.batches ++ rest) ≡ posts_of engine.script.callers c }
     ensures { IfOk result (D.ends engine.entry.script) }
 {
     let mut engine = engine;

@@ -5,10 +5,12 @@ use crate::error::RunFault;
 use dv_engine::report::Report;
 use dv_reader::error::refusal_text;
 
-/// The exit status of a run, and what goes to standard error: a line of this text, or nothing where it is empty.
+/// The exit status of a run, and what goes to standard error: a line of this text, or nothing where
+/// it is empty.
 ///
-/// The status is 0 where all events were performed, 1 where the run stopped at the limit of its journal, 2 where the
-/// script is refused, 3 if memory ran out, and 4 where the reader or the writer failed.
+/// The status is 0 where all events were performed, 1 where the run stopped at the limit of its
+/// journal, 2 where the script is refused, 3 if memory ran out, and 4 where the reader or the
+/// writer failed.
 pub fn exit_of(ended: &Result<Report, RunFault>) -> (u8, &'static str)
     ensures status { result.0 ≡ status ended.now }
     ensures text { result.1.now ≡ error_text ended.now }

@@ -1,4 +1,5 @@
-//! Runs a script: reads it, runs it, and prints its journal and its outcomes; why a run failed, and its exit status.
+//! Runs a script: reads it, runs it, and prints its journal and its outcomes; why a run failed, and
+//! its exit status.
 #![tactic(auto)]
 
 pub mod driving;

@@ -29,7 +29,8 @@ pub(crate) fn every_in(bytes: &[u8]) -> Option<Chosen>
     }
 }
 
-/// Returns a sample, by the numbers that these bytes are. None for any others, and where it is of none.
+/// Returns a sample, by the numbers that these bytes are. None for any others, and where it is of
+/// none.
 pub(crate) fn sample_in(size: &[u8], seed: &[u8]) -> Option<Chosen>
     ensures { result ≡ sample_in size.now seed.now }
 {

@@ -22,7 +22,8 @@ fn pauses_text(pauses: u32) -> &'static str
 }
 
 fn write_waiting(line: &mut String, id: DeferredId) -> Result<(), AllocError>
-    ensures { OnOk result (string_bytes line.new ≡ string_bytes line.old ++ (codes "waiting " ++ hash id)) }
+    ensures { OnOk result
+        (string_bytes line.new ≡ string_bytes line.old ++ (codes "waiting " ++ hash id)) }
 {
     write_text(line, "waiting #")?;
     write_u32(line, id.number())
@@ -34,7 +35,8 @@ fn write_state(
     line: &mut String,
     state: &State,
 ) -> Result<(), AllocError>
-    ensures { OnOk result (string_bytes line.new ≡ string_bytes line.old ++ state_text classes.now state.now) }
+    ensures { OnOk result
+        (string_bytes line.new ≡ string_bytes line.old ++ state_text classes.now state.now) }
 {
     match state {
         State::Unfired => write_text(line, "unfired"),
@@ -45,7 +47,9 @@ fn write_state(
 
 /// Adds what a line shows before the state: the number, the name, and whether it is paused.
 fn write_head(line: &mut String, number: usize, outcome: &Outcome) -> Result<(), AllocError>
-    ensures { OnOk result (string_bytes line.new ≡ string_bytes line.old ++ (hash number ++ codes " " ++ name_text outcome.now.name ++ codes " " ++ pauses_text outcome.now.pauses)) }
+    ensures { OnOk result
+        (string_bytes line.new ≡ string_bytes line.old ++ (hash number ++ codes " "
+        ++ name_text outcome.now.name ++ codes " " ++ pauses_text outcome.now.pauses)) }
 {
     line.push('#')?;
     write_u64(line, number as u64)?;
@@ -63,26 +67,31 @@ pub fn write_line(
     number: usize,
     outcome: &Outcome,
 ) -> Result<(), AllocError>
-    ensures { OnOk result (string_bytes line.new ≡ string_bytes line.old ++ outcome_line classes.now number outcome.now) }
+    ensures { OnOk result (string_bytes line.new
+        ≡ string_bytes line.old ++ outcome_line classes.now number outcome.now) }
 {
     write_head(line, number, outcome)?;
     write_state(alloc, classes, line, &outcome.state)?;
     line.push('\n')
 }
 
-/// Writes a line for each outcome, some kilobytes at a time, with one buffer for all. Where it fails, what was
-/// written is a prefix of the text.
+/// Writes a line for each outcome, some kilobytes at a time, with one buffer for all. Where it
+/// fails, what was written is a prefix of the text.
 fn print_outcomes<W: Sink>(
     alloc: Global,
     classes: &Classes,
     outcomes: &[Outcome],
     sink: &mut W,
 ) -> Result<(), PrintFault>
-    ensures ok { OnOk result (Appends (W.taken sink.old) (W.taken sink.new) (output classes.now outcomes.now)) }
+    ensures ok { OnOk result (Appends (W.taken sink.old) (W.taken sink.new)
+        (output classes.now outcomes.now)) }
     ensures kept { OnOk result (W.failures sink.new ≡ W.failures sink.old) }
-    ensures err { OnErr result (AppendsPrefix (W.taken sink.old) (W.taken sink.new) (output classes.now outcomes.now)) }
-    ensures cause { IsErrOf result PrintFault.WriteFault → HasFailed (W.failures sink.old) (W.failures sink.new) }
-    ensures memory { IsErrOf result PrintFault.OutOfMemory → W.failures sink.new ≡ W.failures sink.old }
+    ensures err { OnErr result (AppendsPrefix (W.taken sink.old) (W.taken sink.new)
+        (output classes.now outcomes.now)) }
+    ensures cause { IsErrOf result PrintFault.WriteFault
+        → HasFailed (W.failures sink.old) (W.failures sink.new) }
+    ensures memory { IsErrOf result PrintFault.OutOfMemory
+        → W.failures sink.new ≡ W.failures sink.old }
 {
     let mut gathered = String::new(alloc);
     for (number, outcome) in outcomes.iter().enumerate() {
@@ -93,8 +102,8 @@ fn print_outcomes<W: Sink>(
     Ok(())
 }
 
-/// Writes the journal, and then a line for each outcome. WriteFault where the sink fails or takes no byte, OutOfMemory where
-/// an allocation fails; what was written then is a prefix of the text.
+/// Writes the journal, and then a line for each outcome. WriteFault where the sink fails or takes
+/// no byte, OutOfMemory where an allocation fails; what was written then is a prefix of the text.
 #[tactic(auto, using(crate::proofs::OutputLemmas::both_parts))]
 pub fn print_report<W: Sink>(
     alloc: Global,
@@ -102,11 +111,15 @@ pub fn print_report<W: Sink>(
     report: &Report,
     sink: &mut W,
 ) -> Result<(), PrintFault>
-    ensures ok { OnOk result (Appends (W.taken sink.old) (W.taken sink.new) (report_text classes.now report.now)) }
+    ensures ok { OnOk result (Appends (W.taken sink.old) (W.taken sink.new)
+        (report_text classes.now report.now)) }
     ensures kept { OnOk result (W.failures sink.new ≡ W.failures sink.old) }
-    ensures err { OnErr result (AppendsPrefix (W.taken sink.old) (W.taken sink.new) (report_text classes.now report.now)) }
-    ensures cause { IsErrOf result PrintFault.WriteFault → HasFailed (W.failures sink.old) (W.failures sink.new) }
-    ensures memory { IsErrOf result PrintFault.OutOfMemory → W.failures sink.new ≡ W.failures sink.old }
+    ensures err { OnErr result (AppendsPrefix (W.taken sink.old) (W.taken sink.new)
+        (report_text classes.now report.now)) }
+    ensures cause { IsErrOf result PrintFault.WriteFault
+        → HasFailed (W.failures sink.old) (W.failures sink.new) }
+    ensures memory { IsErrOf result PrintFault.OutOfMemory
+        → W.failures sink.new ≡ W.failures sink.old }
 {
     report.journal.print(classes, sink)?;
     print_outcomes(alloc, classes, report.outcomes.as_slice(), sink)?;

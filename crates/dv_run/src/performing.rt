@@ -21,9 +21,10 @@ use std::sync::Wait;
 use std::thread;
 use std::thread::Threads;
 
-/// Performs a script, with a thread for each caller, so many for the jobs of the default pool, and as many as the script says for those
-/// of each other pool. Where there is no worker and no pool is named, no thread is started for jobs. A poller for
-/// inline bodies that can't be made, and keys for names that the system doesn't give, count as out of memory.
+/// Performs a script, with a thread for each caller, so many for the jobs of the default pool, and
+/// as many as the script says for those of each other pool. Where there is no worker and no pool is
+/// named, no thread is started for jobs. A poller for inline bodies that can't be made, and keys
+/// for names that the system doesn't give, count as out of memory.
 pub fn perform<S, G, D>(
     rt: &S,
     script: &Script,
@@ -77,7 +78,8 @@ where
     )
 }
 
-/// Performs a script whose callers post, with this source for its jobs, to which nothing was submitted yet, and which has the pools that the script names.
+/// Performs a script whose callers post, with this source for its jobs, to which nothing was
+/// submitted yet, and which has the pools that the script names.
 fn perform_with<S, J, D>(
     rt: &S,
     alloc: Global,

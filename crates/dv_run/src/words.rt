@@ -2,7 +2,11 @@
 
 ghost use Rattle.std.specs.Prelude.{◌≡◌, ◌≤◌, map, string_bytes, IfSome};
 ghost use Rattle.std.specs.List.{list_any};
-ghost use Rattle.dv_run.specs.Words.{marks_file, names_file, input_in, run_with, run_by_one, run_in, why_of, why_in, alone, batches_word, orders_in, sampled_in, survey_in, survey_of, flag_in, json_in, replay_in, replayed, replayed_task, asked_by, asked_in, AsksFew, HasFewWorkers};
+ghost use Rattle.dv_run.specs.Words.{marks_file, names_file, input_in, run_with, run_by_one};
+ghost use Rattle.dv_run.specs.Words.{run_in, why_of, why_in, alone, batches_word, orders_in};
+ghost use Rattle.dv_run.specs.Words.{sampled_in, survey_in, survey_of, flag_in, json_in, replay_in};
+ghost use Rattle.dv_run.specs.Words.{replayed, replayed_task, asked_by, asked_in, AsksFew};
+ghost use Rattle.dv_run.specs.Words.{HasFewWorkers};
 ghost use Rattle.dv_script.specs.declared.limits.TheConstants.{MOST_WORKERS};
 
 use crate::orders::{Chosen, ORDERS, every_in, sample_in};
@@ -63,13 +67,15 @@ pub enum Flag {
     Help,
 }
 
-/// What the words after the program's name ask for. An option comes first. Behind `--json`, or without an option, come a number
-/// of workers and a FILE, each of which may be left out; behind `--why` comes a FILE alone. Behind `--orders`, which may follow `--json`, comes a
-/// FILE, after `--most` and a decimal number up to `MOST_ORDERS`, after `--sample`, a number from 1 on up to `MOST_ORDERS`, `--seed` and one
-/// up to `MOST_SEED`, or with none of these. Behind `--batches`, which may follow
-/// `--json`, comes a word with the batches, and then the same as without it. A number of workers is one of one or two
-/// decimal digits, 16 at most. A FILE has a `/` or a `.` in it and doesn't begin with `-`, or is `-`, standard input, which is read too
-/// where there is no FILE. None for any other words.
+/// What the words after the program's name ask for. An option comes first. Behind `--json`, or
+/// without an option, come a number of workers and a FILE, each of which may be left out; behind
+/// `--why` comes a FILE alone. Behind `--orders`, which may follow `--json`, comes a FILE, after
+/// `--most` and a decimal number up to `MOST_ORDERS`, after `--sample`, a number from 1 on up to
+/// `MOST_ORDERS`, `--seed` and one up to `MOST_SEED`, or with none of these. Behind `--batches`,
+/// which may follow `--json`, comes a word with the batches, and then the same as without it. A
+/// number of workers is one of one or two decimal digits, 16 at most. A FILE has a `/` or a `.` in
+/// it and doesn't begin with `-`, or is `-`, standard input, which is read too where there is no
+/// FILE. None for any other words.
 pub fn asked_of(words: &[String]) -> Option<Asked>
     ensures asked { result ≡ asked_in (map string_bytes words.now) }
     ensures few { IfSome result AsksFew }
@@ -204,7 +210,8 @@ fn replayed_task(task: Task, input: Input) -> Option<Asked>
     }
 }
 
-/// Returns the word of the batches: the one after `--batches`, where the words ask for a run in given batches.
+/// Returns the word of the batches: the one after `--batches`, where the words ask for a run in
+/// given batches.
 pub fn batches_word(words: &[String]) -> &str
     ensures { result.now ≡ batches_word (map string_bytes words.now) }
 {

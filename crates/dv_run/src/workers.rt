@@ -4,8 +4,9 @@ ghost use Rattle.dv_script.specs.declared.limits.TheConstants.{MOST_WORKERS};
 
 use dv_script::limits::MOST_WORKERS;
 
-/// How many workers the words after the program's name ask for: none without a word, and otherwise the number that one word
-/// of one or two decimal digits is, from 0 to `MOST_WORKERS`. None for any other words.
+/// How many workers the words after the program's name ask for: none without a word, and otherwise
+/// the number that one word of one or two decimal digits is, from 0 to `MOST_WORKERS`. None for any
+/// other words.
 pub fn workers_of(words: &[String]) -> Option<u32>
     ensures workers { result ≡ workers_in (map string_bytes words.now) }
     ensures few { IfSome result (λ workers. workers ≤ MOST_WORKERS) }

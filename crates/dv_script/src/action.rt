@@ -49,8 +49,8 @@ pub enum Action {
     Unpause(Text),
     /// Cancels it (Twisted: `Deferred.cancel`).
     Cancel(Text),
-    /// Cancels it after so many ticks of the clock, at most 10^12, unless it has a result by then (Twisted:
-    /// `Deferred.addTimeout`).
+    /// Cancels it after so many ticks of the clock, at most 10^12, unless it has a result by then
+    /// (Twisted: `Deferred.addTimeout`).
     AddTimeout(Text, u64),
     /// Writes the text to the journal.
     Note(Text),
@@ -64,30 +64,35 @@ pub enum Action {
     Lock(Text),
     /// Makes a semaphore of this many tokens, from 1 to 65,536 (Twisted: `DeferredSemaphore`).
     Semaphore(Text, u32),
-    /// Makes the Deferred that is fired when a token of the lock or semaphore is granted (Twisted: `acquire`).
+    /// Makes the Deferred that is fired when a token of the lock or semaphore is granted (Twisted:
+    /// `acquire`).
     Acquire(Text, Text),
     /// Releases a token of the lock or semaphore (Twisted: `release`).
     Release(Text),
-    /// Makes the Deferred of what the body returns while it has a token of the lock or semaphore (Twisted: `run`).
+    /// Makes the Deferred of what the body returns while it has a token of the lock or semaphore
+    /// (Twisted: `run`).
     RunWith(Text, Text, Body),
-    /// Makes a queue with this size and backlog, each no bound or from 0 to 65,536 (Twisted: `DeferredQueue`).
+    /// Makes a queue with this size and backlog, each no bound or from 0 to 65,536 (Twisted:
+    /// `DeferredQueue`).
     Queue(Text, Option<u32>, Option<u32>),
     /// Puts the value into the queue (Twisted: `DeferredQueue.put`).
     Put(Text, Value),
-    /// Makes the Deferred that is fired with a value of the queue, which is named second (Twisted: `DeferredQueue.get`).
+    /// Makes the Deferred that is fired with a value of the queue, which is named second (Twisted:
+    /// `DeferredQueue.get`).
     Get(Text, Text),
     /// Performs the body after so many ticks of the clock, at most 10^12 (Twisted: `callLater`).
     Later(Text, u64, Body),
     /// Cancels the delayed call (Twisted: `DelayedCall.cancel`).
     CancelCall(Text),
-    /// Makes a loop and, named second, its Deferred; it performs the body each so many ticks, from 1 to 10^12, and at
-    /// once where that is asked for (Twisted: `LoopingCall.start`).
+    /// Makes a loop and, named second, its Deferred; it performs the body each so many ticks, from
+    /// 1 to 10^12, and at once where that is asked for (Twisted: `LoopingCall.start`).
     Loop(Text, Text, u64, bool, Body),
     /// Stops the loop (Twisted: `LoopingCall.stop`).
     StopLoop(Text),
     /// Makes a task of the bodies (Twisted: `cooperate`).
     Cooperate(Text, Items<Body>),
-    /// Makes the Deferred that is fired when the task, named second, ends (Twisted: `CooperativeTask.whenDone`).
+    /// Makes the Deferred that is fired when the task, named second, ends (Twisted:
+    /// `CooperativeTask.whenDone`).
     WhenDone(Text, Text),
     /// Pauses the task once more (Twisted: `CooperativeTask.pause`).
     PauseTask(Text),
@@ -97,8 +102,8 @@ pub enum Action {
     ResumeTask(Text),
     /// Makes the Deferred of an inline body, and starts the body (Twisted: `inlineCallbacks`).
     Inline(Text, Items<Statement>),
-    /// Makes the Deferred of a work that a thread does, which is fired after so many ticks, at most 10^12 (Twisted:
-    /// `deferToThread`).
+    /// Makes the Deferred of a work that a thread does, which is fired after so many ticks, at most
+    /// 10^12 (Twisted: `deferToThread`).
     Thread(Text, u64, Work),
     /// As `Thread`, by a worker of the pool that is named second (Twisted: `deferToThreadPool`).
     ThreadIn(Text, Text, u64, Work),

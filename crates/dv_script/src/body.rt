@@ -22,17 +22,20 @@ pub enum End {
     Wait(Text),
 }
 
-/// What an inline body does, one after the other (Twisted: the lines of a function under `inlineCallbacks`).
+/// What an inline body does, one after the other (Twisted: the lines of a function under
+/// `inlineCallbacks`).
 #[cycle(script)]
 #[derive(Drop)]
 pub enum Statement {
     /// Performs the action. What it raises is thrown here.
     Do(Action),
-    /// Waits for the Deferred of this name. Its value becomes the present one, its failure is thrown here.
+    /// Waits for the Deferred of this name. Its value becomes the present one, its failure is
+    /// thrown here.
     Await(Text),
     /// The first statements, and where these classes are thrown there, the second ones.
     Try(Items<Statement>, Items<ClassId>, Items<Statement>),
-    /// Leaves the inline body, whose input is the present value: `Return`, `Pass`, `Plus` or `Raise`.
+    /// Leaves the inline body, whose input is the present value: `Return`, `Pass`, `Plus` or
+    /// `Raise`.
     End(End),
 }
 

@@ -1,5 +1,5 @@
-//! How large a script may be, and how far its numbers may go. Those of time stand in `dv_clock::limits`, and how many jobs a
-//! run may have in `work`.
+//! How large a script may be, and how far its numbers may go. Those of time stand in
+//! `dv_clock::limits`, and how many jobs a run may have in `work`.
 
 /// The most bytes of a script.
 pub const MOST_BYTES: usize = 1_048_576;
@@ -7,7 +7,8 @@ pub const MOST_BYTES: usize = 1_048_576;
 /// The most nodes of a script, of which each array, object and scalar is one.
 pub const MOST_NODES: u64 = 65_536;
 
-/// To how many levels bodies and statements may nest: as many as JSON may, so that no script is refused for it.
+/// To how many levels bodies and statements may nest: as many as JSON may, so that no script is
+/// refused for it.
 pub const MOST_LEVELS: u32 = 127;
 
 /// The most that a script may let its journal weigh.

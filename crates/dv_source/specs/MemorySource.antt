@@ -1,5 +1,6 @@
 -- What a source over bytes has to give, what it answers to a read, and what it has then.
-use Rattle.std.specs.Prelude.{List, ℕ, Bool, false, ◌-◌, ◌++◌, ◌==◌, min, length, take, drop, if◌then◌else◌, Option, Some, None, Result, Ok, Err}
+use Rattle.std.specs.Prelude.{List, ℕ, Bool, false, ◌-◌, ◌++◌, ◌==◌, min, length, take, drop, if◌then◌else◌, Option}
+use Rattle.std.specs.Prelude.{Some, None, Result, Ok, Err}
 use Rattle.dv_source.specs.declared.source.SourceFault.{SourceFault}
 use Rattle.dv_source.specs.Source.{failures_after_read}
 

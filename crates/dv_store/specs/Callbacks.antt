@@ -1,5 +1,6 @@
 -- One item used (Twisted: the Deferred Reference, "Callbacks" and "Chaining Deferreds"; `Deferred.addCallbacks`).
-use Rattle.std.specs.Prelude.{ℕ, Bool, true, false, not, ◌&&◌, nat_eq, is_none, option_and_then, if◌then◌else◌, List, [], ◌∷◌, drop, Option, Some, None, slice_get, slice_set}
+use Rattle.std.specs.Prelude.{ℕ, Bool, true, false, not, ◌&&◌, nat_eq, is_none, option_and_then, if◌then◌else◌, List}
+use Rattle.std.specs.Prelude.{[], ◌∷◌, drop, Option, Some, None, slice_get, slice_set}
 use Rattle.dv_value.specs.Failure.{is_fault}
 use Rattle.dv_value.specs.declared.value.Value.{Value}
 use Rattle.dv_value.specs.declared.value.Value.TheVariants.{Null}
@@ -28,7 +29,8 @@ with_handed value r = record r { value = value; waits_for = None }
 -- the value is handed over to c, and this one's is null
 abbrev pub hand : {P K : Type 0} → ℕ → ℕ → Record P K → List (Item P) → State P K → Stepped P K
 hand id c r rest s =
-    telling (entry.Hand id c r.value) (Handed c) (changing c (with_handed r.value) (slice_set s.0 id (record r { items = rest; value = Null }))) s
+    telling (entry.Hand id c r.value) (Handed c)
+    (changing c (with_handed r.value) (slice_set s.0 id (record r { items = rest; value = Null }))) s
 
 -- the first item of the Deferred that is found is used up so; an id of no record changes nothing
 abbrev pub hand_found : {P K : Type 0} → ℕ → ℕ → Option (Record P K) → State P K → Stepped P K
@@ -51,7 +53,8 @@ is_pair (Some (item.HandOver c)) = false
 
 -- the side of a pair runs, and the pair is used up
 abbrev pub run_pair : {P K : Type 0} → ℕ → Record P K → P → List (Item P) → State P K → Stepped P K
-run_pair id r pair rest s = telling (entry.Run id) (Run pair) (slice_set s.0 id (record r { items = rest; running = true })) s
+run_pair id r pair rest s =
+    telling (entry.Run id) (Run pair) (slice_set s.0 id (record r { items = rest; running = true })) s
 
 -- the side of this item runs, where it is a pair
 abbrev pub run_item : {P K : Type 0} → ℕ → Record P K → Option (Item P) → State P K → Stepped P K

@@ -23,7 +23,8 @@ unfoldable pub walk : {P K : Type 0} → ℕ → ℕ → List (Record P K) → O
 walk zero id rs = None
 walk (suc n) id rs = option_map_or (λ next. walk n next rs) (link rs id) (Some id)
 
--- the first Deferred on the walk along the links that doesn't wait; None on a cycle. No walk without a cycle passes more Deferreds than there are
+-- the first Deferred on the walk along the links that doesn't wait; None on a cycle. No walk without a cycle passes
+-- more Deferreds than there are
 abbrev pub end_of_chain : {P K : Type 0} → ℕ → List (Record P K) → Option ℕ
 end_of_chain id rs = walk (length rs + 1) id rs
 

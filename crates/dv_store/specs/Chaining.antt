@@ -1,5 +1,6 @@
 -- A side that gives a Deferred (Twisted: the Deferred Reference, "Chaining Deferreds"; `Deferred._runCallbacks`).
-use Rattle.std.specs.Prelude.{ℕ, Bool, false, not, ◌||◌, nat_eq, is_some, if◌then◌else◌, List, Option, Some, None, slice_get}
+use Rattle.std.specs.Prelude.{ℕ, Bool, false, not, ◌||◌, nat_eq, is_some, if◌then◌else◌, List, Option, Some, None}
+use Rattle.std.specs.Prelude.{slice_get}
 use Rattle.std.specs.Option.{option_map_or}
 use Rattle.dv_value.specs.declared.value.Value.{Value}
 use Rattle.dv_value.specs.declared.value.Value.TheVariants.{Null}
@@ -45,7 +46,8 @@ put_from d e r s =
     else telling (entry.Take d e r.value) Taken (taking d e r.value s.0) s
 
 -- an id of no record changes nothing
-abbrev pub put_deferred_found : {P K : Type 0} → ℕ → ℕ → Option (Record P K) → Option (Record P K) → State P K → Told Placed P K
+abbrev pub put_deferred_found : {P K : Type 0} → ℕ → ℕ → Option (Record P K) → Option (Record P K) → State P K
+    → Told Placed P K
 put_deferred_found d e None given s = untold Waits s
 put_deferred_found d e (Some r) None s = untold Waits s
 put_deferred_found d e (Some r) (Some given) s = put_from d e given s

@@ -1,5 +1,6 @@
 -- What holds of every Deferred, whatever its pairs are.
-use Rattle.std.specs.Prelude.{◌≡◌, ℕ, ◌+◌, ◌<◌, Bool, false, if◌then◌else◌, List, length, sum_by, Result, Ok, Err, slice_get}
+use Rattle.std.specs.Prelude.{◌≡◌, ℕ, ◌+◌, ◌<◌, Bool, false, if◌then◌else◌, List, length, sum_by, Result, Ok, Err}
+use Rattle.std.specs.Prelude.{slice_get}
 use Rattle.std.specs.Option.{option_map_or}
 use Rattle.dv_value.specs.declared.value.Value.{Value}
 use Rattle.dv_journal.specs.Journal.{fits}
@@ -28,8 +29,11 @@ is_guarded id rs = option_map_or (λ r. r.swallows) (slice_get rs id) false
 
 -- after a firing, a second one is refused unless the Deferred is guarded, and no record changes
 abbrev pub SecondFiringChangesNothing : Type 0 → Type 0 → Type 0
-SecondFiringChangesNothing P K = (id : ℕ) (first second : Value) (s : State P K) → id < length s.0 → is_guarded id s.0 ≡ false → (fire id first s).0 ≡ Ok Set →
-    ((fire id second (fire id first s).1).0 ≡ second_answer id (fire id first s).1) × ((fire id second (fire id first s).1).1.0 ≡ (fire id first s).1.0)
+SecondFiringChangesNothing P K =
+    (id : ℕ) (first second : Value) (s : State P K) → id < length s.0 → is_guarded id s.0 ≡ false
+    → (fire id first s).0 ≡ Ok Set →
+    ((fire id second (fire id first s).1).0 ≡ second_answer id (fire id first s).1)
+    × ((fire id second (fire id first s).1).1.0 ≡ (fire id first s).1.0)
 
 -- a firing that is swallowed changes nothing but that the Deferred is guarded no more
 abbrev pub SwallowedFiringEndsTheGuard : Type 0 → Type 0 → Type 0

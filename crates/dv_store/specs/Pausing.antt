@@ -1,5 +1,6 @@
 -- Pausing (Twisted: `Deferred.pause`, `Deferred.unpause`).
-use Rattle.std.specs.Prelude.{◌≡◌, ◌≢◌, ℕ, ◌+◌, ◌-◌, nat_eq, if◌then◌else◌, List, Option, Some, None, Result, Ok, Err, slice_get, slice_set}
+use Rattle.std.specs.Prelude.{◌≡◌, ◌≢◌, ℕ, ◌+◌, ◌-◌, nat_eq, if◌then◌else◌, List, Option, Some, None, Result, Ok, Err}
+use Rattle.std.specs.Prelude.{slice_get, slice_set}
 use Rattle.std.specs.Option.{option_map_or}
 use Rattle.dv_journal.specs.Journal.{fits, with_entry}
 use Rattle.dv_journal.specs.declared.entry.Entry.TheVariants as entry
@@ -49,9 +50,12 @@ unpause_found id (Some r) s = if nat_eq r.pauses 0 then (Err (fault.Refused (rec
 abbrev pub unpause : {P K : Type 0} → ℕ → State P K → Unpaused P K
 unpause id s = unpause_found id (slice_get s.0 id) s
 
--- an unpausing did what the rule says, or ran out of memory where the rule has no other reason to refuse it, and nothing changed
-abbrev pub UnpausesUnlessMemory : {P K : Type 0} → Result Unit (Fault NotPaused) → State P K → State P K → Unpaused P K → Type 0
+-- an unpausing did what the rule says, or ran out of memory where the rule has no other reason to refuse it, and
+-- nothing changed
+abbrev pub UnpausesUnlessMemory : {P K : Type 0} → Result Unit (Fault NotPaused) → State P K → State P K → Unpaused P K
+    → Type 0
 UnpausesUnlessMemory (Ok done) before after rule = (Ok done, after) ≡ rule
 UnpausesUnlessMemory (Err (fault.Refused reason)) before after rule = (Err (fault.Refused reason), after) ≡ rule
 UnpausesUnlessMemory (Err fault.Limit) before after rule = (Err fault.Limit, after) ≡ rule
-UnpausesUnlessMemory (Err fault.OutOfMemory) before after rule = ((reason : NotPaused) → rule.0 ≢ Err (fault.Refused reason)) × (rule.0 ≢ Err fault.Limit) × (after ≡ before)
+UnpausesUnlessMemory (Err fault.OutOfMemory) before after rule =
+    ((reason : NotPaused) → rule.0 ≢ Err (fault.Refused reason)) × (rule.0 ≢ Err fault.Limit) × (after ≡ before)

@@ -1,5 +1,6 @@
 -- What is kept of a Deferred, and how one is made (Twisted: the Deferred Reference, "Deferreds").
-use Rattle.std.specs.Prelude.{ℕ, false, List, [], ◌∷◌, ◌++◌, ◌-◌, length, take, Option, Some, None, slice_get, slice_set}
+use Rattle.std.specs.Prelude.{ℕ, false, List, [], ◌∷◌, ◌++◌, ◌-◌, length, take, Option, Some, None, slice_get}
+use Rattle.std.specs.Prelude.{slice_set}
 use Rattle.dv_value.specs.declared.value.Value.TheVariants.{Null}
 use Rattle.dv_journal.specs.declared.entry.Entry.TheVariants.{New, Name, Add}
 use Rattle.dv_journal.specs.Telling.{untold, telling}
@@ -11,7 +12,17 @@ use Rattle.dv_store.specs.declared.record.Record.{Record}
 -- a new Deferred is unfired, and has no pairs
 abbrev pub new_record : {P K : Type 0} → Option (List ℕ) → Option K → Record P K
 new_record name canceller =
-    record { name = name; fired = false; value = Null; items = []; pauses = 0; waits_for = None; running = false; swallows = false; canceller = canceller }
+    record {
+      name = name;
+      fired = false;
+      value = Null;
+      items = [];
+      pauses = 0;
+      waits_for = None;
+      running = false;
+      swallows = false;
+      canceller = canceller;
+    }
 
 -- a Deferred is made after the others, and known by their number
 abbrev pub make : {P K : Type 0} → Option (List ℕ) → Option K → State P K → Told ℕ P K
@@ -39,7 +50,8 @@ abbrev pub append : {P K : Type 0} → ℕ → P → State P K → Told Unit P K
 append id pair s = append_found id pair (slice_get s.0 id) s
 
 -- the record that is found is changed; an id of no record changes nothing
-abbrev pub changed : {P K : Type 0} → ℕ → (Record P K → Record P K) → Option (Record P K) → List (Record P K) → List (Record P K)
+abbrev pub changed : {P K : Type 0} → ℕ → (Record P K → Record P K) → Option (Record P K) → List (Record P K)
+    → List (Record P K)
 changed id change None rs = rs
 changed id change (Some r) rs = slice_set rs id (change r)
 

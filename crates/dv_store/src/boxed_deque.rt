@@ -1,12 +1,13 @@
-ghost use Rattle.std.specs.Prelude.{◌≡◌, ◌↔◌, [], ◌∷◌, ◌++◌, ◌-◌, OnOk, OnErr, IsTrue, length, take, drop, slice_get};
+ghost use Rattle.std.specs.Prelude.{◌≡◌, ◌↔◌, [], ◌∷◌, ◌++◌, ◌-◌, OnOk, OnErr, IsTrue, length};
+ghost use Rattle.std.specs.Prelude.{take, drop, slice_get};
 ghost use Rattle.std.specs.Option.{option_copied};
 
 use dv_value::deque::Deque;
 use std::alloc::{AllocError, Global};
 use std::marker::Model;
 
-/// A `Deque` that lies on the heap as a whole, so that an empty one takes little room. Contracts see it as the list of its elements,
-/// from the front.
+/// A `Deque` that lies on the heap as a whole, so that an empty one takes little room. Contracts
+/// see it as the list of its elements, from the front.
 #[derive(Drop)]
 pub struct BoxedDeque<T> {
     held: Option<Box<Deque<T>>>,
@@ -75,7 +76,8 @@ impl<T> BoxedDeque<T> {
 }
 
 impl<T: Drop> BoxedDeque<T> {
-    /// Takes the item that was pushed first of those that are left, in constant time, and frees the room where it was the last.
+    /// Takes the item that was pushed first of those that are left, in constant time, and frees the
+    /// room where it was the last.
     pub fn take_front(&mut self) -> Option<T>
         ensures value { result ≡ slice_get self.old 0 }
         ensures rest { self.new ≡ drop 1 self.old }

@@ -1,7 +1,8 @@
 //! Laws of the definitions.
 
 ghost use Rattle.dv_store.specs.Cancelling.{ChainsEnd};
-ghost use Rattle.dv_store.specs.Laws.{SecondFiringChangesNothing, SwallowedFiringEndsTheGuard, StepUsesOneItemAtMost};
+ghost use Rattle.dv_store.specs.Laws.{SecondFiringChangesNothing, SwallowedFiringEndsTheGuard};
+ghost use Rattle.dv_store.specs.Laws.{StepUsesOneItemAtMost};
 
 use crate::sides::Sides;
 

@@ -57,8 +57,8 @@ impl Outcome {
 /// How many of its places a list may leave unused, besides one in thirty-two.
 const SPARE: usize = 64;
 
-/// What has become of all Deferreds, in order of making. It frees their room as it goes, so that a run takes little
-/// more at its end than it had. AllocError on allocation failure.
+/// What has become of all Deferreds, in order of making. It frees their room as it goes, so that a
+/// run takes little more at its end than it had. AllocError on allocation failure.
 pub fn outcomes_of<P: Drop, K: Drop>(
     alloc: Global,
     records: Vec<Record<P, K>>,

@@ -17,8 +17,9 @@ pub enum Item<P> {
 pub struct Record<P, K> {
     /// The name that it was made with, where it has one.
     pub name: Option<Text>,
-    /// The current value (Twisted: `Deferred.result`). It is `Null` until the Deferred is fired, and while a side
-    /// runs it is still what that side was given, or `Null` where another Deferred took that.
+    /// The current value (Twisted: `Deferred.result`). It is `Null` until the Deferred is fired,
+    /// and while a side runs it is still what that side was given, or `Null` where another Deferred
+    /// took that.
     pub value: Value,
     /// What isn't used yet, in the order in which it was added (Twisted: `Deferred.callbacks`).
     pub items: BoxedDeque<Item<P>>,
@@ -26,7 +27,8 @@ pub struct Record<P, K> {
     pub canceller: Option<K>,
     /// How often it was paused and not unpaused since (Twisted: `Deferred.paused`).
     pub pauses: u32,
-    /// The Deferred that a side of it gave, and whose value it gets (Twisted: `Deferred._chainedTo`).
+    /// The Deferred that a side of it gave, and whose value it gets (Twisted:
+    /// `Deferred._chainedTo`).
     pub waits_for: Option<DeferredId>,
     /// Whether it has been fired (Twisted: `Deferred.called`).
     pub fired: bool,

@@ -1,4 +1,5 @@
-ghost use Rattle.std.specs.Prelude.{◌≡◌, ◌↔◌, ◌+◌, ◌≤◌, true, false, [], ◌<◌, ◌^◌, ◌-◌, length, slice_get, vec_len, vec_capacity, IfOk, OnOk, OnErr, IsErrOf};
+ghost use Rattle.std.specs.Prelude.{◌≡◌, ◌↔◌, ◌+◌, ◌≤◌, true, false, [], ◌<◌, ◌^◌, ◌-◌, length};
+ghost use Rattle.std.specs.Prelude.{slice_get, vec_len, vec_capacity, IfOk, OnOk, OnErr, IsErrOf};
 ghost use Rattle.std.specs.Option.{option_copied};
 ghost use Rattle.dv_journal.specs.Journal.{fits, with_entry};
 ghost use Rattle.dv_store.specs.Callbacks.{is_ready};
@@ -29,7 +30,8 @@ pub enum Step<P> {
     Passed,
     /// The first pair is taken out, and its side for the value is to be run.
     Run(P),
-    /// The value is handed over to this Deferred, which waits no longer and is to be settled before this one goes on.
+    /// The value is handed over to this Deferred, which waits no longer and is to be settled before
+    /// this one goes on.
     Handed(DeferredId),
 }
 
@@ -53,9 +55,9 @@ pub enum Placed {
 
 /// The records of all Deferreds, in order of making.
 ///
-/// An id that isn't of this store means nothing to it: no call changes anything for it, `record` answers None, `step`
-/// answers Nothing, `fire` answers Set, `put_deferred` answers Waits, `end_of_chain` answers the id, and the others
-/// answer Ok.
+/// An id that isn't of this store means nothing to it: no call changes anything for it, `record`
+/// answers None, `step` answers Nothing, `fire` answers Set, `put_deferred` answers Waits,
+/// `end_of_chain` answers the id, and the others answer Ok.
 #[derive(Drop)]
 pub struct Store<P, K> {
     alloc: Global,
@@ -76,12 +78,16 @@ impl<P, K> Model for Store<P, K> {
 }
 
 impl<P: Sides + Drop, K: Drop> Store<P, K> {
-    ghost use Rattle.dv_store.specs.Record.{make, rename, append, changing, with_item, without_last};
-    ghost use Rattle.dv_store.specs.Fire.{fire, fire_again_found, with_firing, with_guard, FiresUnlessMemory};
-    ghost use Rattle.dv_store.specs.Callbacks.{step, first_of, is_pair, run_found, without_first, hand_found, put, with_handed, with_result};
+    ghost use Rattle.dv_store.specs.Record.{make, rename, append, changing, with_item};
+    ghost use Rattle.dv_store.specs.Record.{without_last};
+    ghost use Rattle.dv_store.specs.Fire.{fire, fire_again_found, with_firing, with_guard};
+    ghost use Rattle.dv_store.specs.Fire.{FiresUnlessMemory};
+    ghost use Rattle.dv_store.specs.Callbacks.{step, first_of, is_pair, run_found, without_first};
+    ghost use Rattle.dv_store.specs.Callbacks.{hand_found, put, with_handed, with_result};
     ghost use Rattle.dv_store.specs.Cancelling.{guard, link, end_of_chain};
     ghost use Rattle.dv_store.specs.Chaining.{put_deferred, with_wait, waiting, taking, value_at};
-    ghost use Rattle.dv_store.specs.Pausing.{pauses_of, with_pauses, pause, unpause, UnpausesUnlessMemory};
+    ghost use Rattle.dv_store.specs.Pausing.{pauses_of, with_pauses, pause, unpause};
+    ghost use Rattle.dv_store.specs.Pausing.{UnpausesUnlessMemory};
     ghost use Rattle.dv_journal.specs.Telling.{UnlessMemory, telling};
     ghost use Rattle.dv_store.specs.declared.store.Placed.TheVariants.{Taken, Waits};
     ghost use Rattle.dv_journal.specs.declared.entry.Entry.TheVariants.{Wait, Take};
@@ -120,7 +126,8 @@ impl<P: Sides + Drop, K: Drop> Store<P, K> {
         canceller: Option<K>,
     ) -> Result<DeferredId, Stop>
         requires room { length self.old < 2 ^ 32 - 1 }
-        ensures { UnlessMemory result (self.old, journal.old) (self.new, journal.new) (make name canceller (self.old, journal.old)) }
+        ensures { UnlessMemory result (self.old, journal.old) (self.new, journal.new)
+            (make name canceller (self.old, journal.old)) }
     {
         let id = DeferredId::new(self.len() as u32);
         reserve_and_tell(self.alloc, journal, &mut self.records, id, &name)?;
@@ -139,19 +146,23 @@ impl<P: Sides + Drop, K: Drop> Store<P, K> {
         Ok(id)
     }
 
-    /// Logs a name that a Deferred gets which was made already. Its record keeps the name of its making.
+    /// Logs a name that a Deferred gets which was made already. Its record keeps the name of its
+    /// making.
     pub fn rename(&self, journal: &mut Journal, id: DeferredId, name: Text) -> Result<(), Stop>
-        ensures { UnlessMemory result (self.now, journal.old) (self.now, journal.new) (rename id name (self.now, journal.old)) }
+        ensures { UnlessMemory result (self.now, journal.old) (self.now, journal.new)
+            (rename id name (self.now, journal.old)) }
     {
         journal.write(Entry::Name(id, Some(name)))
     }
 
-    /// Adds a pair after the others, and uses none (Twisted: `Deferred.addCallbacks`, which also runs what it can).
+    /// Adds a pair after the others, and uses none (Twisted: `Deferred.addCallbacks`, which also
+    /// runs what it can).
     ///
     /// Where it is refused, the pair is dropped.
     #[tactic(auto, using(crate::proofs::StoreLemmas::put_back))]
     pub fn append(&mut self, journal: &mut Journal, id: DeferredId, pair: P) -> Result<(), Stop>
-        ensures { UnlessMemory result (self.old, journal.old) (self.new, journal.new) (append id pair (self.old, journal.old)) }
+        ensures { UnlessMemory result (self.old, journal.old) (self.new, journal.new)
+            (append id pair (self.old, journal.old)) }
     {
         if id.number() as usize >= self.records.len() {
             return Ok(());
@@ -188,16 +199,18 @@ impl<P: Sides + Drop, K: Drop> Store<P, K> {
         }
     }
 
-    /// Fires a Deferred, with a failure too, and uses no pair (Twisted: `Deferred.callback` and `Deferred.errback`, which
-    /// also run what they can). A Deferred that is fired already keeps its value, and the new value is dropped: `refuse`
-    /// is written, or `swallow` where it is guarded, which it then is no more.
+    /// Fires a Deferred, with a failure too, and uses no pair (Twisted: `Deferred.callback` and
+    /// `Deferred.errback`, which also run what they can). A Deferred that is fired already keeps
+    /// its value, and the new value is dropped: `refuse` is written, or `swallow` where it is
+    /// guarded, which it then is no more.
     pub fn fire(
         &mut self,
         journal: &mut Journal,
         id: DeferredId,
         value: Value,
     ) -> Result<Fired, FireFault>
-        ensures { FiresUnlessMemory result (self.old, journal.old) (self.new, journal.new) (fire id value (self.old, journal.old)) }
+        ensures { FiresUnlessMemory result (self.old, journal.old) (self.new, journal.new)
+            (fire id value (self.old, journal.old)) }
     {
         let Some(record) = self.record(id) else {
             drop(value);
@@ -215,10 +228,12 @@ impl<P: Sides + Drop, K: Drop> Store<P, K> {
         Ok(Fired::Set)
     }
 
-    /// Fires a Deferred that is fired already: the firing is swallowed, and the next one isn't, or it is refused.
+    /// Fires a Deferred that is fired already: the firing is swallowed, and the next one isn't, or
+    /// it is refused.
     fn fire_again(&mut self, journal: &mut Journal, id: DeferredId) -> Result<Fired, FireFault>
         requires within { id < length self.old }
-        ensures { FiresUnlessMemory result (self.old, journal.old) (self.new, journal.new) (fire_again_found id (slice_get self.old id) (self.old, journal.old)) }
+        ensures { FiresUnlessMemory result (self.old, journal.old) (self.new, journal.new)
+            (fire_again_found id (slice_get self.old id) (self.old, journal.old)) }
     {
         let record = &self.records[id.number() as usize];
         if !record.swallows {
@@ -230,8 +245,8 @@ impl<P: Sides + Drop, K: Drop> Store<P, K> {
         Ok(Fired::Swallowed)
     }
 
-    /// The next firing of a Deferred that is fired already is swallowed (Twisted: what `Deferred.cancel` asks for where
-    /// there is no canceller). It writes nothing.
+    /// The next firing of a Deferred that is fired already is swallowed (Twisted: what
+    /// `Deferred.cancel` asks for where there is no canceller). It writes nothing.
     pub fn guard(&mut self, id: DeferredId)
         ensures { self.new ≡ guard id self.old }
     {
@@ -258,9 +273,10 @@ impl<P: Sides + Drop, K: Drop> Store<P, K> {
         drop(mem::replace(&mut record.value, value));
     }
 
-    /// The first Deferred that doesn't wait, from this one on along those that are waited for; None where the walk
-    /// reaches one for a second time (Twisted: `Deferred.cancel`, which follows `_chainedTo`). It takes as many steps
-    /// as there are on the walk, or three times as many on one that comes back.
+    /// The first Deferred that doesn't wait, from this one on along those that are waited for; None
+    /// where the walk reaches one for a second time (Twisted: `Deferred.cancel`, which follows
+    /// `_chainedTo`). It takes as many steps as there are on the walk, or three times as many on
+    /// one that comes back.
     #[tactic(auto, using(crate::proofs::ChainLemmas::leads_nowhere, crate::proofs::ChainLemmas::leads_on, crate::proofs::ChainLemmas::ends_here, crate::proofs::ChainLemmas::goes_on, crate::proofs::ChainLemmas::comes_back, crate::proofs::ChainLemmas::no_more))]
     pub fn end_of_chain(&self, id: DeferredId) -> Option<DeferredId>
         ensures { result ≡ end_of_chain id self.now }
@@ -293,14 +309,16 @@ impl<P: Sides + Drop, K: Drop> Store<P, K> {
         self.record(id)?.waits_for
     }
 
-    /// Uses the first unused item of a Deferred, where it is fired, no side of it runs, it isn't paused and it waits for
-    /// no other.
+    /// Uses the first unused item of a Deferred, where it is fired, no side of it runs, it isn't
+    /// paused and it waits for no other.
     ///
-    /// After `Run` the side is the caller's to run, on the record's value, and `put` or `put_deferred` ends it. After
-    /// `Handed` this Deferred's value is `Null`. Where it is refused, the item isn't used.
+    /// After `Run` the side is the caller's to run, on the record's value, and `put` or
+    /// `put_deferred` ends it. After `Handed` this Deferred's value is `Null`. Where it is refused,
+    /// the item isn't used.
     #[tactic(auto, unfolding(crate::specs::Callbacks::step))]
     pub fn step(&mut self, journal: &mut Journal, id: DeferredId) -> Result<Step<P>, Stop>
-        ensures { UnlessMemory result (self.old, journal.old) (self.new, journal.new) (step P.passes_at id (self.old, journal.old)) }
+        ensures { UnlessMemory result (self.old, journal.old) (self.new, journal.new)
+            (step P.passes_at id (self.old, journal.old)) }
     {
         let Some(record) = self.record(id) else {
             return Ok(Step::Nothing);
@@ -337,7 +355,8 @@ impl<P: Sides + Drop, K: Drop> Store<P, K> {
     fn run_first(&mut self, journal: &mut Journal, id: DeferredId) -> Result<Step<P>, Stop>
         requires within { id < length self.old }
         requires pair { is_pair (first_of id self.old) ≡ true }
-        ensures { UnlessMemory result (self.old, journal.old) (self.new, journal.new) (run_found id (slice_get self.old id) (self.old, journal.old)) }
+        ensures { UnlessMemory result (self.old, journal.old) (self.new, journal.new)
+            (run_found id (slice_get self.old id) (self.old, journal.old)) }
     {
         let place = id.number() as usize;
         journal.write(Entry::Run(id))?;
@@ -357,7 +376,8 @@ impl<P: Sides + Drop, K: Drop> Store<P, K> {
         to: DeferredId,
     ) -> Result<Step<P>, Stop>
         requires within { id < length self.old }
-        ensures { UnlessMemory result (self.old, journal.old) (self.new, journal.new) (hand_found id to (slice_get self.old id) (self.old, journal.old)) }
+        ensures { UnlessMemory result (self.old, journal.old) (self.new, journal.new)
+            (hand_found id to (slice_get self.old id) (self.old, journal.old)) }
     {
         let place = id.number() as usize;
         tell_hand(self.alloc, journal, id, to, &self.records[place].value)?;
@@ -368,11 +388,13 @@ impl<P: Sides + Drop, K: Drop> Store<P, K> {
         Ok(Step::Handed(to))
     }
 
-    /// Ends the running side of a Deferred with what it gave, a plain result or a failure, which becomes the value.
+    /// Ends the running side of a Deferred with what it gave, a plain result or a failure, which
+    /// becomes the value.
     ///
     /// Where it is refused, the side runs on, and what it gave is dropped.
     pub fn put(&mut self, journal: &mut Journal, id: DeferredId, value: Value) -> Result<(), Stop>
-        ensures { UnlessMemory result (self.old, journal.old) (self.new, journal.new) (put id value (self.old, journal.old)) }
+        ensures { UnlessMemory result (self.old, journal.old) (self.new, journal.new)
+            (put id value (self.old, journal.old)) }
     {
         if id.number() as usize >= self.records.len() {
             drop(value);
@@ -386,9 +408,9 @@ impl<P: Sides + Drop, K: Drop> Store<P, K> {
         Ok(())
     }
 
-    /// Ends the running side of a Deferred with another that it gave, itself too: its value is taken, which leaves it
-    /// `Null`, or the Deferred waits for it, where it is itself, unfired, paused or waiting (Twisted:
-    /// `Deferred._runCallbacks`, which chains the two).
+    /// Ends the running side of a Deferred with another that it gave, itself too: its value is
+    /// taken, which leaves it `Null`, or the Deferred waits for it, where it is itself, unfired,
+    /// paused or waiting (Twisted: `Deferred._runCallbacks`, which chains the two).
     ///
     /// Where it is refused, the side runs on.
     #[tactic(auto, unfolding(crate::specs::Chaining::put_deferred))]
@@ -398,7 +420,8 @@ impl<P: Sides + Drop, K: Drop> Store<P, K> {
         id: DeferredId,
         given: DeferredId,
     ) -> Result<Placed, Stop>
-        ensures { UnlessMemory result (self.old, journal.old) (self.new, journal.new) (put_deferred id given (self.old, journal.old)) }
+        ensures { UnlessMemory result (self.old, journal.old) (self.new, journal.new)
+            (put_deferred id given (self.old, journal.old)) }
     {
         let Some(_) = self.record(id) else {
             return Ok(Placed::Waits);
@@ -422,7 +445,8 @@ impl<P: Sides + Drop, K: Drop> Store<P, K> {
         given: DeferredId,
     ) -> Result<Placed, Stop>
         requires within { given < length self.old }
-        ensures { UnlessMemory result (self.old, journal.old) (self.new, journal.new) (telling (Wait id given) Waits (waiting id given self.old) (self.old, journal.old)) }
+        ensures { UnlessMemory result (self.old, journal.old) (self.new, journal.new)
+            (telling (Wait id given) Waits (waiting id given self.old) (self.old, journal.old)) }
     {
         if !journal.fits_plain() {
             return Err(Stop::Limit);
@@ -444,7 +468,9 @@ impl<P: Sides + Drop, K: Drop> Store<P, K> {
         given: DeferredId,
     ) -> Result<Placed, Stop>
         requires within { given < length self.old }
-        ensures { UnlessMemory result (self.old, journal.old) (self.new, journal.new) (telling (Take id given (value_at given self.old)) Taken (taking id given (value_at given self.old) self.old) (self.old, journal.old)) }
+        ensures { UnlessMemory result (self.old, journal.old) (self.new, journal.new)
+            (telling (Take id given (value_at given self.old)) Taken
+            (taking id given (value_at given self.old) self.old) (self.old, journal.old)) }
     {
         let place = given.number() as usize;
         tell_take(self.alloc, journal, id, given, &self.records[place].value)?;
@@ -485,10 +511,12 @@ impl<P: Sides + Drop, K: Drop> Store<P, K> {
         record.running = false;
     }
 
-    /// Pauses a Deferred once more: it uses no items until it is unpaused as often (Twisted: `Deferred.pause`).
+    /// Pauses a Deferred once more: it uses no items until it is unpaused as often (Twisted:
+    /// `Deferred.pause`).
     pub fn pause(&mut self, journal: &mut Journal, id: DeferredId) -> Result<(), Stop>
         requires room { pauses_of id self.old < 2 ^ 32 - 1 }
-        ensures { UnlessMemory result (self.old, journal.old) (self.new, journal.new) (pause id (self.old, journal.old)) }
+        ensures { UnlessMemory result (self.old, journal.old) (self.new, journal.new)
+            (pause id (self.old, journal.old)) }
     {
         let Some(record) = self.record(id) else {
             return Ok(());
@@ -499,10 +527,11 @@ impl<P: Sides + Drop, K: Drop> Store<P, K> {
         Ok(())
     }
 
-    /// Pauses a Deferred once less, and uses no item (Twisted: `Deferred.unpause`, which also runs what it can). One that
-    /// isn't paused stays as it is, and nothing is written.
+    /// Pauses a Deferred once less, and uses no item (Twisted: `Deferred.unpause`, which also runs
+    /// what it can). One that isn't paused stays as it is, and nothing is written.
     pub fn unpause(&mut self, journal: &mut Journal, id: DeferredId) -> Result<(), UnpauseFault>
-        ensures { UnpausesUnlessMemory result (self.old, journal.old) (self.new, journal.new) (unpause id (self.old, journal.old)) }
+        ensures { UnpausesUnlessMemory result (self.old, journal.old) (self.new, journal.new)
+            (unpause id (self.old, journal.old)) }
     {
         let Some(record) = self.record(id) else {
             return Ok(());
@@ -544,7 +573,8 @@ fn name_copy(alloc: Global, name: &Option<Text>) -> Result<Option<Text>, AllocEr
     }
 }
 
-/// Whether a Deferred may use an item: it is fired, no side of it runs, it isn't paused and it waits for no other.
+/// Whether a Deferred may use an item: it is fired, no side of it runs, it isn't paused and it
+/// waits for no other.
 fn is_ready<P, K>(record: &Record<P, K>) -> bool
     ensures { result ≡ is_ready «record».now }
 {

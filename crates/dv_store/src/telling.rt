@@ -1,4 +1,5 @@
-//! Entries that show a value: the entry shows a copy, so that the value itself is moved only once the entry is written.
+//! Entries that show a value: the entry shows a copy, so that the value itself is moved only once
+//! the entry is written.
 
 ghost use Rattle.std.specs.Prelude.{◌≡◌, ◌+◌, ◌↔◌, false, IfOk, OnOk, OnErr, IsErrOf};
 ghost use Rattle.dv_value.specs.Size.{size};
@@ -21,7 +22,8 @@ pub(crate) fn tell_fire(
     value: &Value,
 ) -> Result<(), Stop>
     ensures ok { OnOk result (journal.new ≡ with_entry journal.old (entry.Fire id value.now)) }
-    ensures limit { IsErrOf result Stop.Limit ↔ (fits journal.old (entry.Fire id value.now) ≡ false) }
+    ensures limit { IsErrOf result Stop.Limit
+        ↔ (fits journal.old (entry.Fire id value.now) ≡ false) }
     ensures err { OnErr result (journal.new ≡ journal.old) }
 {
     let shown = shown(alloc, journal, value)?;
@@ -36,7 +38,8 @@ pub(crate) fn tell_set(
     value: &Value,
 ) -> Result<(), Stop>
     ensures ok { OnOk result (journal.new ≡ with_entry journal.old (entry.Set id value.now)) }
-    ensures limit { IsErrOf result Stop.Limit ↔ (fits journal.old (entry.Set id value.now) ≡ false) }
+    ensures limit { IsErrOf result Stop.Limit
+        ↔ (fits journal.old (entry.Set id value.now) ≡ false) }
     ensures err { OnErr result (journal.new ≡ journal.old) }
 {
     let shown = shown(alloc, journal, value)?;
@@ -52,7 +55,8 @@ pub(crate) fn tell_take(
     value: &Value,
 ) -> Result<(), Stop>
     ensures ok { OnOk result (journal.new ≡ with_entry journal.old (entry.Take id from value.now)) }
-    ensures limit { IsErrOf result Stop.Limit ↔ (fits journal.old (entry.Take id from value.now) ≡ false) }
+    ensures limit { IsErrOf result Stop.Limit
+        ↔ (fits journal.old (entry.Take id from value.now) ≡ false) }
     ensures err { OnErr result (journal.new ≡ journal.old) }
 {
     let shown = Boxed::new(alloc, shown(alloc, journal, value)?)?;
@@ -68,7 +72,8 @@ pub(crate) fn tell_hand(
     value: &Value,
 ) -> Result<(), Stop>
     ensures ok { OnOk result (journal.new ≡ with_entry journal.old (entry.Hand from to value.now)) }
-    ensures limit { IsErrOf result Stop.Limit ↔ (fits journal.old (entry.Hand from to value.now) ≡ false) }
+    ensures limit { IsErrOf result Stop.Limit
+        ↔ (fits journal.old (entry.Hand from to value.now) ≡ false) }
     ensures err { OnErr result (journal.new ≡ journal.old) }
 {
     let shown = Boxed::new(alloc, shown(alloc, journal, value)?)?;
@@ -78,7 +83,8 @@ pub(crate) fn tell_hand(
 /// A copy of a value, where an entry that shows it fits.
 fn shown(alloc: Global, journal: &Journal, value: &Value) -> Result<Value, Stop>
     ensures ok { IfOk result (λ copy. copy ≡ value.now) }
-    ensures limit { IsErrOf result Stop.Limit ↔ (has_room journal.now (1 + size value.now) ≡ false) }
+    ensures limit { IsErrOf result Stop.Limit
+        ↔ (has_room journal.now (1 + size value.now) ≡ false) }
 {
     if !journal.fits_value(value) {
         return Err(Stop::Limit);

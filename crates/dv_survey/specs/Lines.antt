@@ -1,6 +1,7 @@
 -- What a survey shows of a run: a line for each Deferred, which is known by the same name and place in every run.
 use Rattle.std.specs.Option.{option_map_or}
-use Rattle.std.specs.Prelude.{ℕ, suc, ◌+◌, if◌then◌else◌, nat_eq, Option, None, List, [], ◌∷◌, ◌++◌, codes, count_by, slice_index_or, bytes_eq}
+use Rattle.std.specs.Prelude.{ℕ, suc, ◌+◌, if◌then◌else◌, nat_eq, Option, None, List, [], ◌∷◌, ◌++◌, codes, count_by}
+use Rattle.std.specs.Prelude.{slice_index_or, bytes_eq}
 use Rattle.std.specs.Fmt.{decimal}
 use Rattle.json.specs.Print.{quoted}
 use Rattle.dv_value.specs.Failure.{is_fault}
@@ -21,7 +22,8 @@ name_json name = if bytes_eq name (codes "-") then codes "null" else quoted name
 -- NAME PLACE, or as JSON an object of both
 abbrev pub label : Format → List ℕ → ℕ → List ℕ
 label (Lines sample) name place = name ++ codes " " ++ decimal place
-label (Json sample) name place = codes "{\"name\":" ++ name_json name ++ codes ",\"place\":" ++ decimal place ++ codes "}"
+label (Json sample) name place =
+    codes "{\"name\":" ++ name_json name ++ codes ",\"place\":" ++ decimal place ++ codes "}"
 
 -- the label of each Deferred, where Deferreds of these names were made before: the first of a name has the place 1
 abbrev pub labels_after : Format → List (List ℕ) → List Outcome → List (List ℕ)
@@ -95,11 +97,13 @@ head_json sample label o =
 -- the members after the state
 abbrev pub rest_json : List Class → List (List ℕ) → State → List ℕ
 rest_json table labels state =
-    codes ",\"type\":\"deferred\",\"value\":" ++ value_json table state ++ codes ",\"waits_for\":" ++ waits_json labels state
+    codes ",\"type\":\"deferred\",\"value\":" ++ value_json table state ++ codes ",\"waits_for\":"
+    ++ waits_json labels state
 
 -- what became of the Deferred of this label: LABEL STATE, or the last members of a JSON object
 abbrev pub end_text : Format → List Class → List (List ℕ) → List ℕ → Outcome → List ℕ
-end_text (Lines sample) table labels label o = label ++ codes " " ++ pauses_text o.pauses ++ state_text table labels o.state
+end_text (Lines sample) table labels label o =
+    label ++ codes " " ++ pauses_text o.pauses ++ state_text table labels o.state
 end_text (Json sample) table labels label o = head_json sample label o ++ rest_json table labels o.state
 
 -- the Deferred of this number, with what became of it
@@ -112,7 +116,8 @@ line_of format table labels number o = record {
 -- the lines of Deferreds, the first of whom has this number
 abbrev pub lines_from : Format → List Class → List (List ℕ) → ℕ → List Outcome → List Line
 lines_from format table labels number [] = []
-lines_from format table labels number (o ∷ outcomes) = line_of format table labels number o ∷ lines_from format table labels (suc number) outcomes
+lines_from format table labels number (o ∷ outcomes) =
+    line_of format table labels number o ∷ lines_from format table labels (suc number) outcomes
 
 -- a line for each Deferred of a run, in order of making
 abbrev pub lines_of : Format → List Class → List Outcome → List Line

@@ -24,7 +24,16 @@ run_of batches outcomes stopped = record { batches = batches; outcomes = outcome
 
 -- nothing is gathered yet
 abbrev pub no_runs : Format → Survey
-no_runs format = record { format = format; deferreds = []; lines = []; owners = []; tallies = []; outcomes = []; ends = []; stops = [] }
+no_runs format = record {
+  format = format;
+  deferreds = [];
+  lines = [];
+  owners = [];
+  tallies = [];
+  outcomes = [];
+  ends = [];
+  stops = [];
+}
 
 -- the line of this place is one of this Deferred, unless it was met before
 abbrev pub with_owner : ℕ → ℕ → List ℕ → List ℕ

@@ -1,5 +1,6 @@
 -- The text that tells a survey.
-use Rattle.std.specs.Prelude.{ℕ, ◌+◌, nat_eq, Bool, false, if◌then◌else◌, Option, None, Some, List, [], ◌∷◌, ◌++◌, codes, flat_map, length, map, slice_get, unwrap_or}
+use Rattle.std.specs.Prelude.{ℕ, ◌+◌, nat_eq, Bool, false, if◌then◌else◌, Option, None, Some, List, [], ◌∷◌, ◌++◌}
+use Rattle.std.specs.Prelude.{codes, flat_map, length, map, slice_get, unwrap_or}
 use Rattle.std.specs.Option.{option_map_or}
 use Rattle.std.specs.Fmt.{decimal}
 use Rattle.dv_posts.specs.Batches.{Batch, below}
@@ -49,11 +50,13 @@ number_text (Json sample) orders = orders_json orders ++ sample_json sample ++ c
 -- what stands before that which is counted: as JSON the batches of the first order, and the count
 abbrev pub tally_head : Format → Tally → List ℕ
 tally_head (Lines sample) tally = []
-tally_head (Json sample) tally = codes "{\"batches\":" ++ batches_text tally.first ++ codes ",\"count\":" ++ decimal tally.count ++ codes ","
+tally_head (Json sample) tally =
+    codes "{\"batches\":" ++ batches_text tally.first ++ codes ",\"count\":" ++ decimal tally.count ++ codes ","
 
 -- and what stands after it: in lines the count, and the batches of the first order
 abbrev pub tally_tail : Format → Tally → List ℕ
-tally_tail (Lines sample) tally = codes " in " ++ counted tally.count (noun sample) ++ codes ", first " ++ batches_text tally.first ++ codes "\n"
+tally_tail (Lines sample) tally =
+    codes " in " ++ counted tally.count (noun sample) ++ codes ", first " ++ batches_text tally.first ++ codes "\n"
 tally_tail (Json sample) tally = codes "}\n"
 
 -- a line of what is counted
@@ -71,7 +74,8 @@ is_of deferred owner = option_map_or (nat_eq deferred) owner false
 -- the line of this place, where it is one of the Deferred
 abbrev pub line_text : Survey → ℕ → ℕ → List ℕ
 line_text survey deferred place =
-    if is_of deferred (slice_get survey.owners place) then text_at survey.format survey.tallies place (unwrap_or (slice_get survey.lines place) []) else []
+    if is_of deferred (slice_get survey.owners place)
+    then text_at survey.format survey.tallies place (unwrap_or (slice_get survey.lines place) []) else []
 
 -- the lines of a Deferred, in the order in which they were first met
 abbrev pub deferred_text : Survey → ℕ → List ℕ
@@ -84,11 +88,14 @@ deferreds_text survey = flat_map (deferred_text survey) (below (length survey.de
 -- outcome NUMBER, from 1 in the order in which the outcomes were first met
 abbrev pub outcome_name : Format → ℕ → List ℕ
 outcome_name (Lines sample) place = codes "outcome " ++ decimal (place + 1)
-outcome_name (Json sample) place = codes "\"outcome\":" ++ decimal (place + 1) ++ sample_json sample ++ codes ",\"type\":\"outcome\""
+outcome_name (Json sample) place =
+    codes "\"outcome\":" ++ decimal (place + 1) ++ sample_json sample ++ codes ",\"type\":\"outcome\""
 
 -- a line for each outcome
 abbrev pub outcomes_text : Survey → List ℕ
-outcomes_text survey = flat_map (λ place. text_at survey.format survey.ends place (outcome_name survey.format place)) (below (length survey.ends))
+outcomes_text survey =
+    flat_map (λ place. text_at survey.format survey.ends place (outcome_name survey.format place))
+    (below (length survey.ends))
 
 -- the journal reached its limit
 abbrev pub stop_name : Format → List ℕ
@@ -113,10 +120,13 @@ end_json stopped = codes ",\"stopped\":" ++ decimal stopped ++ codes ",\"type\":
 
 -- how many orders ran, and how many different outcomes there are
 abbrev pub sums_text : Format → ℕ → ℕ → ℕ → List ℕ
-sums_text (Lines sample) stopped orders outcomes = counted orders (noun sample) ++ codes ", " ++ counted outcomes (codes "outcome") ++ codes "\n"
-sums_text (Json sample) stopped orders outcomes = orders_json orders ++ outcomes_json outcomes ++ sample_json sample ++ end_json stopped
+sums_text (Lines sample) stopped orders outcomes =
+    counted orders (noun sample) ++ codes ", " ++ counted outcomes (codes "outcome") ++ codes "\n"
+sums_text (Json sample) stopped orders outcomes =
+    orders_json orders ++ outcomes_json outcomes ++ sample_json sample ++ end_json stopped
 
 -- what became of each Deferred, each outcome, where orders stopped, and the sums
 abbrev pub survey_text : Survey → ℕ → List ℕ
 survey_text survey orders =
-    deferreds_text survey ++ outcomes_text survey ++ stops_text survey ++ sums_text survey.format (stopped_of survey.stops) orders (length survey.outcomes)
+    deferreds_text survey ++ outcomes_text survey ++ stops_text survey
+    ++ sums_text survey.format (stopped_of survey.stops) orders (length survey.outcomes)

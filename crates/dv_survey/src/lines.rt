@@ -5,7 +5,9 @@ ghost use Rattle.std.specs.Prelude.{◌≡◌, ◌+◌, ◌++◌, None, OnOk, If
 ghost use Rattle.dv_journal.specs.Line.{name_text};
 ghost use Rattle.dv_objects.specs.Names.{with_name};
 ghost use Rattle.dv_survey.specs.Lines.{label, label_at, labels_of, line_of, lines_from, lines_of};
-ghost use Rattle.dv_survey.specs.Lines.{end_text, head_json, label_json, rest_json, name_json, no_label, paused_json, sample_json, size_json, pauses_text, state_text, state_word, value_json, waits_json};
+ghost use Rattle.dv_survey.specs.Lines.{end_text, head_json, label_json, rest_json, name_json};
+ghost use Rattle.dv_survey.specs.Lines.{no_label, paused_json, sample_json, size_json, pauses_text};
+ghost use Rattle.dv_survey.specs.Lines.{state_text, state_word, value_json, waits_json};
 ghost use Rattle.dv_survey.specs.declared.format.Format.TheVariants as Format;
 ghost use Rattle.dv_survey.specs.Met.{met_of};
 
@@ -51,7 +53,8 @@ fn lines_in(
     labels: &[Text],
     outcomes: &[Outcome],
 ) -> Result<Items<Line>, AllocError>
-    ensures { IfOk result (λ lines. lines ≡ lines_from format classes.now labels.now 0 outcomes.now) }
+    ensures { IfOk result
+        (λ lines. lines ≡ lines_from format classes.now labels.now 0 outcomes.now) }
 {
     let mut lines = Items::new(alloc);
     for (number, outcome) in outcomes.iter().enumerate() {
@@ -82,7 +85,8 @@ fn labels_of(
 /// Returns the place of a Deferred that was made next, and counts its name.
 fn next_place(met: &mut Names<u64>, name: &str) -> Result<u64, AllocError>
     ensures place { IfOk result (λ place. place ≡ met_of name.now met.old + 1) }
-    ensures counted { OnOk result (met.new ≡ with_name name.now (met_of name.now met.old + 1) met.old) }
+    ensures counted { OnOk result
+        (met.new ≡ with_name name.now (met_of name.now met.old + 1) met.old) }
 {
     let before = met.find(name).unwrap_or(0);
     let Some(place) = before.checked_add(1) else {
@@ -104,7 +108,8 @@ fn label(alloc: Global, format: Format, name: &str, place: u64) -> Result<Text, 
 }
 
 fn write_label(out: &mut String, name: &str, place: u64) -> Result<(), AllocError>
-    ensures { OnOk result (string_bytes out.new ≡ string_bytes out.old ++ label (Format.Lines None) name.now place) }
+    ensures { OnOk result
+        (string_bytes out.new ≡ string_bytes out.old ++ label (Format.Lines None) name.now place) }
 {
     write_text(out, name)?;
     write_space(out)?;
@@ -117,7 +122,8 @@ fn write_label_json(
     name: &str,
     place: u64,
 ) -> Result<(), AllocError>
-    ensures { OnOk result (string_bytes out.new ≡ string_bytes out.old ++ label (Format.Json None) name.now place) }
+    ensures { OnOk result
+        (string_bytes out.new ≡ string_bytes out.old ++ label (Format.Json None) name.now place) }
 {
     write_text(out, "{\"name\":")?;
     write_name_json(alloc, out, name)?;
@@ -162,7 +168,8 @@ fn line_of(
     number: usize,
     outcome: &Outcome,
 ) -> Result<Line, AllocError>
-    ensures { IfOk result (λ line. line ≡ line_of format classes.now labels.now number outcome.now) }
+    ensures { IfOk result
+        (λ line. line ≡ line_of format classes.now labels.now number outcome.now) }
 {
     let label = label_at(format, labels, number);
     let mut out = String::new(alloc);
@@ -186,7 +193,8 @@ fn write_end(
     label: &str,
     outcome: &Outcome,
 ) -> Result<(), AllocError>
-    ensures { OnOk result (string_bytes out.new ≡ string_bytes out.old ++ end_text (Format.Lines None) classes.now labels.now label.now outcome.now) }
+    ensures { OnOk result (string_bytes out.new ≡ string_bytes out.old
+        ++ end_text (Format.Lines None) classes.now labels.now label.now outcome.now) }
 {
     write_text(out, label)?;
     write_space(out)?;
@@ -203,7 +211,8 @@ fn write_end_json(
     label: &str,
     outcome: &Outcome,
 ) -> Result<(), AllocError>
-    ensures { OnOk result (string_bytes out.new ≡ string_bytes out.old ++ end_text (Format.Json sample) classes.now labels.now label.now outcome.now) }
+    ensures { OnOk result (string_bytes out.new ≡ string_bytes out.old
+        ++ end_text (Format.Json sample) classes.now labels.now label.now outcome.now) }
 {
     write_head_json(out, sample, label, outcome)?;
     write_rest_json(alloc, classes, labels, out, &outcome.state)
@@ -215,7 +224,8 @@ fn write_head_json(
     label: &str,
     outcome: &Outcome,
 ) -> Result<(), AllocError>
-    ensures { OnOk result (string_bytes out.new ≡ string_bytes out.old ++ head_json sample label.now outcome.now) }
+    ensures { OnOk result
+        (string_bytes out.new ≡ string_bytes out.old ++ head_json sample label.now outcome.now) }
 {
     write_label_and_pauses(out, label, outcome.pauses)?;
     write_sample_json(out, sample)?;
@@ -225,7 +235,8 @@ fn write_head_json(
 }
 
 fn write_label_and_pauses(out: &mut String, label: &str, pauses: u32) -> Result<(), AllocError>
-    ensures { OnOk result (string_bytes out.new ≡ string_bytes out.old ++ label_json label.now pauses) }
+    ensures { OnOk result
+        (string_bytes out.new ≡ string_bytes out.old ++ label_json label.now pauses) }
 {
     write_text(out, "\"deferred\":")?;
     write_text(out, label)?;
@@ -267,7 +278,8 @@ fn write_rest_json(
     out: &mut String,
     state: &State,
 ) -> Result<(), AllocError>
-    ensures { OnOk result (string_bytes out.new ≡ string_bytes out.old ++ rest_json classes.now labels.now state.now) }
+    ensures { OnOk result (string_bytes out.new
+        ≡ string_bytes out.old ++ rest_json classes.now labels.now state.now) }
 {
     write_text(out, ",\"type\":\"deferred\",\"value\":")?;
     write_value(alloc, classes, out, state)?;
@@ -291,7 +303,8 @@ fn write_value(
     out: &mut String,
     state: &State,
 ) -> Result<(), AllocError>
-    ensures { OnOk result (string_bytes out.new ≡ string_bytes out.old ++ value_json classes.now state.now) }
+    ensures { OnOk result
+        (string_bytes out.new ≡ string_bytes out.old ++ value_json classes.now state.now) }
 {
     match state {
         State::Unfired | State::Waiting(_) => write_text(out, "null"),
@@ -321,7 +334,8 @@ fn write_state(
     out: &mut String,
     state: &State,
 ) -> Result<(), AllocError>
-    ensures { OnOk result (string_bytes out.new ≡ string_bytes out.old ++ state_text classes.now labels.now state.now) }
+    ensures { OnOk result (string_bytes out.new
+        ≡ string_bytes out.old ++ state_text classes.now labels.now state.now) }
 {
     match state {
         State::Unfired => write_text(out, "unfired"),

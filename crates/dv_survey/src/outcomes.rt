@@ -7,7 +7,8 @@ ghost use Rattle.dv_survey.specs.Outcomes.{Marks, outcome_text, place_if};
 use dv_value::writing::{write_space, write_u64};
 use std::alloc::{AllocError, Global};
 
-/// Returns the text of an outcome: the places of its lines that are below `len`, in order and each once, whichever Deferred was made first.
+/// Returns the text of an outcome: the places of its lines that are below `len`, in order and each
+/// once, whichever Deferred was made first.
 pub fn outcome_text(alloc: Global, places: &[usize], len: usize) -> Result<String, AllocError>
     ensures { IfOk result (λ text. string_bytes text ≡ outcome_text places.now len) }
 {
@@ -20,7 +21,8 @@ pub fn outcome_text(alloc: Global, places: &[usize], len: usize) -> Result<Strin
 }
 
 fn write_place_if(out: &mut String, is_marked: bool, place: usize) -> Result<(), AllocError>
-    ensures { OnOk result (string_bytes out.new ≡ string_bytes out.old ++ place_if is_marked place) }
+    ensures { OnOk result
+        (string_bytes out.new ≡ string_bytes out.old ++ place_if is_marked place) }
 {
     if is_marked {
         write_u64(out, place as u64)?;

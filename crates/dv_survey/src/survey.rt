@@ -1,7 +1,8 @@
 ghost use Rattle.std.specs.Prelude.{◌≡◌, if◌then◌else◌, length, OnOk, IfOk};
 ghost use Rattle.dv_survey.specs.Outcomes.{places_after};
 ghost use Rattle.dv_survey.specs.Texts.{place_of};
-ghost use Rattle.dv_survey.specs.Survey.{no_runs, run_of, with_end, with_line, with_lines, with_outcome, with_owner, with_run};
+ghost use Rattle.dv_survey.specs.Survey.{no_runs, run_of, with_end, with_line, with_lines};
+ghost use Rattle.dv_survey.specs.Survey.{with_outcome, with_owner, with_run};
 ghost use Rattle.dv_survey.specs.Tallies.{with_tally};
 
 use crate::format::Format;
@@ -40,7 +41,8 @@ pub struct Survey {
 }
 
 impl Survey {
-    /// Makes a survey of no runs, to be written in this format. Names and lines are hashed with these keys.
+    /// Makes a survey of no runs, to be written in this format. Names and lines are hashed with
+    /// these keys.
     pub fn new(alloc: Global, keys: RandomState, format: Format) -> Survey
         ensures { result ≡ no_runs format }
     {
@@ -70,7 +72,8 @@ impl Survey {
         outcomes: &[Outcome],
         stopped: bool,
     ) -> Result<(), AllocError>
-        ensures { OnOk result (self.new ≡ with_run classes.now self.old (run_of batches.now outcomes.now stopped)) }
+        ensures { OnOk result
+            (self.new ≡ with_run classes.now self.old (run_of batches.now outcomes.now stopped)) }
     {
         let lines = lines_of(alloc, keys, self.format, classes, outcomes)?;
         let places = self.add_lines(alloc, batches, lines.as_slice())?;
@@ -85,7 +88,8 @@ impl Survey {
         batches: &[Items<Posted>],
         lines: &[Line],
     ) -> Result<Vec<usize>, AllocError>
-        ensures places { IfOk result (λ places. places.items ≡ places_after self.old.lines lines.now) }
+        ensures places { IfOk result
+            (λ places. places.items ≡ places_after self.old.lines lines.now) }
         ensures ok { OnOk result (self.new ≡ with_lines batches.now lines.now self.old) }
     {
         let mut places = Vec::new(alloc);

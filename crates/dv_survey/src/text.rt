@@ -1,9 +1,12 @@
 //! Writes a survey as text. Where memory is refused, it is left open what `out` holds.
 
-ghost use Rattle.std.specs.Prelude.{◌≡◌, ◌+◌, ◌^◌, ◌<◌, ◌++◌, [], None, codes, OnOk, slice_get, string_bytes, unwrap_or};
+ghost use Rattle.std.specs.Prelude.{◌≡◌, ◌+◌, ◌^◌, ◌<◌, ◌++◌, [], None, codes, OnOk, slice_get};
+ghost use Rattle.std.specs.Prelude.{string_bytes, unwrap_or};
 ghost use Rattle.dv_survey.specs.Text.{batch_text, batches_text, counted, posted_text};
-ghost use Rattle.dv_survey.specs.Text.{deferred_text, deferreds_text, is_of, line_text, tally_head, tally_tail, tally_text, text_at};
-ghost use Rattle.dv_survey.specs.Text.{end_json, noun, number_text, orders_json, outcome_name, outcomes_json, outcomes_text, sample_text};
+ghost use Rattle.dv_survey.specs.Text.{deferred_text, deferreds_text, is_of, line_text, tally_head};
+ghost use Rattle.dv_survey.specs.Text.{tally_tail, tally_text, text_at};
+ghost use Rattle.dv_survey.specs.Text.{end_json, noun, number_text, orders_json, outcome_name};
+ghost use Rattle.dv_survey.specs.Text.{outcomes_json, outcomes_text, sample_text};
 ghost use Rattle.dv_survey.specs.Text.{stop_name, stopped_of, stops_text, sums_text, survey_text};
 ghost use Rattle.dv_survey.specs.declared.format.Format.TheVariants as Format;
 
@@ -17,11 +20,13 @@ use dv_value::items::Items;
 use dv_value::writing::{write_space, write_text, write_u32, write_u64};
 use std::alloc::AllocError;
 
-/// Adds what became of each Deferred, a line for each of its states, a line for each outcome, and one for the orders that stopped
-/// at the limit of the journal, if any did: in how many orders that came, and the batches of the first. Then come how many
-/// orders ran, and how many different outcomes there are.
+/// Adds what became of each Deferred, a line for each of its states, a line for each outcome, and
+/// one for the orders that stopped at the limit of the journal, if any did: in how many orders that
+/// came, and the batches of the first. Then come how many orders ran, and how many different
+/// outcomes there are.
 pub fn write_survey(out: &mut String, survey: &Survey, orders: u64) -> Result<(), AllocError>
-    ensures { OnOk result (string_bytes out.new ≡ string_bytes out.old ++ survey_text survey.now orders) }
+    ensures { OnOk result
+        (string_bytes out.new ≡ string_bytes out.old ++ survey_text survey.now orders) }
 {
     write_deferreds(out, survey)?;
     write_outcomes(out, survey)?;
@@ -37,7 +42,8 @@ pub fn write_survey(out: &mut String, survey: &Survey, orders: u64) -> Result<()
 
 /// Adds the line with the number of orders, which comes before all others.
 pub fn write_number(out: &mut String, format: Format, orders: u64) -> Result<(), AllocError>
-    ensures { OnOk result (string_bytes out.new ≡ string_bytes out.old ++ number_text format orders) }
+    ensures { OnOk result
+        (string_bytes out.new ≡ string_bytes out.old ++ number_text format orders) }
 {
     match format {
         Format::Lines(sample) => {
@@ -73,7 +79,8 @@ fn write_orders_json(out: &mut String, orders: u64) -> Result<(), AllocError>
 }
 
 fn write_deferreds(out: &mut String, survey: &Survey) -> Result<(), AllocError>
-    ensures { OnOk result (string_bytes out.new ≡ string_bytes out.old ++ deferreds_text survey.now) }
+    ensures { OnOk result
+        (string_bytes out.new ≡ string_bytes out.old ++ deferreds_text survey.now) }
 {
     for deferred in 0..survey.deferreds.len() {
         write_deferred(out, survey, deferred)?;
@@ -82,7 +89,8 @@ fn write_deferreds(out: &mut String, survey: &Survey) -> Result<(), AllocError>
 }
 
 fn write_deferred(out: &mut String, survey: &Survey, deferred: usize) -> Result<(), AllocError>
-    ensures { OnOk result (string_bytes out.new ≡ string_bytes out.old ++ deferred_text survey.now deferred) }
+    ensures { OnOk result
+        (string_bytes out.new ≡ string_bytes out.old ++ deferred_text survey.now deferred) }
 {
     for place in 0..survey.owners.as_slice().len() {
         write_line(out, survey, deferred, place)?;
@@ -97,7 +105,8 @@ fn write_line(
     deferred: usize,
     place: usize,
 ) -> Result<(), AllocError>
-    ensures { OnOk result (string_bytes out.new ≡ string_bytes out.old ++ line_text survey.now deferred place) }
+    ensures { OnOk result
+        (string_bytes out.new ≡ string_bytes out.old ++ line_text survey.now deferred place) }
 {
     if is_of(deferred, survey.owners.as_slice(), place) {
         write_at(
@@ -139,7 +148,8 @@ fn write_at(
     place: usize,
     what: &str,
 ) -> Result<(), AllocError>
-    ensures { OnOk result (string_bytes out.new ≡ string_bytes out.old ++ text_at format tallies.now place what.now) }
+    ensures { OnOk result
+        (string_bytes out.new ≡ string_bytes out.old ++ text_at format tallies.now place what.now) }
 {
     match tallies.get(place) {
         None => Ok(()),
@@ -153,7 +163,8 @@ fn write_tally(
     tally: &Tally,
     what: &str,
 ) -> Result<(), AllocError>
-    ensures { OnOk result (string_bytes out.new ≡ string_bytes out.old ++ tally_text format tally.now what.now) }
+    ensures { OnOk result
+        (string_bytes out.new ≡ string_bytes out.old ++ tally_text format tally.now what.now) }
 {
     write_head(out, format, tally)?;
     write_text(out, what)?;
@@ -161,7 +172,8 @@ fn write_tally(
 }
 
 fn write_head(out: &mut String, format: Format, tally: &Tally) -> Result<(), AllocError>
-    ensures { OnOk result (string_bytes out.new ≡ string_bytes out.old ++ tally_head format tally.now) }
+    ensures { OnOk result
+        (string_bytes out.new ≡ string_bytes out.old ++ tally_head format tally.now) }
 {
     match format {
         Format::Lines(_) => Ok(()),
@@ -170,7 +182,8 @@ fn write_head(out: &mut String, format: Format, tally: &Tally) -> Result<(), All
 }
 
 fn write_members(out: &mut String, tally: &Tally) -> Result<(), AllocError>
-    ensures { OnOk result (string_bytes out.new ≡ string_bytes out.old ++ tally_head (Format.Json None) tally.now) }
+    ensures { OnOk result
+        (string_bytes out.new ≡ string_bytes out.old ++ tally_head (Format.Json None) tally.now) }
 {
     write_text(out, "{\"batches\":")?;
     write_batches(out, tally.first.as_slice())?;
@@ -180,7 +193,8 @@ fn write_members(out: &mut String, tally: &Tally) -> Result<(), AllocError>
 }
 
 fn write_tail(out: &mut String, format: Format, tally: &Tally) -> Result<(), AllocError>
-    ensures { OnOk result (string_bytes out.new ≡ string_bytes out.old ++ tally_tail format tally.now) }
+    ensures { OnOk result
+        (string_bytes out.new ≡ string_bytes out.old ++ tally_tail format tally.now) }
 {
     match format {
         Format::Lines(sample) => write_count(out, sample, tally),
@@ -189,7 +203,8 @@ fn write_tail(out: &mut String, format: Format, tally: &Tally) -> Result<(), All
 }
 
 fn write_count(out: &mut String, sample: Option<u32>, tally: &Tally) -> Result<(), AllocError>
-    ensures { OnOk result (string_bytes out.new ≡ string_bytes out.old ++ tally_tail (Format.Lines sample) tally.now) }
+    ensures { OnOk result (string_bytes out.new
+        ≡ string_bytes out.old ++ tally_tail (Format.Lines sample) tally.now) }
 {
     write_text(out, " in ")?;
     write_counted(out, tally.count, noun(sample))?;
@@ -208,7 +223,8 @@ fn noun(sample: Option<u32>) -> &'static str
 }
 
 fn write_outcomes(out: &mut String, survey: &Survey) -> Result<(), AllocError>
-    ensures { OnOk result (string_bytes out.new ≡ string_bytes out.old ++ outcomes_text survey.now) }
+    ensures { OnOk result
+        (string_bytes out.new ≡ string_bytes out.old ++ outcomes_text survey.now) }
 {
     for place in 0..survey.ends.as_slice().len() {
         write_outcome(out, survey.format, survey.ends.as_slice(), place)?;
@@ -223,7 +239,8 @@ fn write_outcome(
     place: usize,
 ) -> Result<(), AllocError>
     requires { place + 1 < 2 ^ 64 }
-    ensures { OnOk result (string_bytes out.new ≡ string_bytes out.old ++ text_at format ends.now place (outcome_name format place)) }
+    ensures { OnOk result (string_bytes out.new
+        ≡ string_bytes out.old ++ text_at format ends.now place (outcome_name format place)) }
 {
     match ends.get(place) {
         None => Ok(()),
@@ -238,7 +255,8 @@ fn write_outcome_tally(
     tally: &Tally,
 ) -> Result<(), AllocError>
     requires { place + 1 < 2 ^ 64 }
-    ensures { OnOk result (string_bytes out.new ≡ string_bytes out.old ++ tally_text format tally.now (outcome_name format place)) }
+    ensures { OnOk result (string_bytes out.new
+        ≡ string_bytes out.old ++ tally_text format tally.now (outcome_name format place)) }
 {
     write_head(out, format, tally)?;
     write_outcome_name(out, format, place)?;
@@ -247,7 +265,8 @@ fn write_outcome_tally(
 
 fn write_outcome_name(out: &mut String, format: Format, place: usize) -> Result<(), AllocError>
     requires { place + 1 < 2 ^ 64 }
-    ensures { OnOk result (string_bytes out.new ≡ string_bytes out.old ++ outcome_name format place) }
+    ensures { OnOk result
+        (string_bytes out.new ≡ string_bytes out.old ++ outcome_name format place) }
 {
     match format {
         Format::Lines(_) => {
@@ -273,7 +292,8 @@ fn write_stops(out: &mut String, survey: &Survey) -> Result<(), AllocError>
 }
 
 fn write_stop_tally(out: &mut String, format: Format, tally: &Tally) -> Result<(), AllocError>
-    ensures { OnOk result (string_bytes out.new ≡ string_bytes out.old ++ tally_text format tally.now (stop_name format)) }
+    ensures { OnOk result (string_bytes out.new
+        ≡ string_bytes out.old ++ tally_text format tally.now (stop_name format)) }
 {
     write_head(out, format, tally)?;
     write_stop_name(out, format)?;
@@ -309,7 +329,8 @@ fn write_sums(
     orders: u64,
     outcomes: u64,
 ) -> Result<(), AllocError>
-    ensures { OnOk result (string_bytes out.new ≡ string_bytes out.old ++ sums_text format stopped orders outcomes) }
+    ensures { OnOk result
+        (string_bytes out.new ≡ string_bytes out.old ++ sums_text format stopped orders outcomes) }
 {
     match format {
         Format::Lines(sample) => write_sum(out, sample, orders, outcomes),
@@ -328,7 +349,8 @@ fn write_sum(
     orders: u64,
     outcomes: u64,
 ) -> Result<(), AllocError>
-    ensures { OnOk result (string_bytes out.new ≡ string_bytes out.old ++ sums_text (Format.Lines sample) 0 orders outcomes) }
+    ensures { OnOk result (string_bytes out.new
+        ≡ string_bytes out.old ++ sums_text (Format.Lines sample) 0 orders outcomes) }
 {
     write_counted(out, orders, noun(sample))?;
     write_text(out, ", ")?;
@@ -363,7 +385,8 @@ pub fn write_counted(out: &mut String, count: u64, noun: &str) -> Result<(), All
 
 /// Adds batches as JSON: an array for each, whose posts are `[CALLER,POST]`.
 pub fn write_batches(out: &mut String, batches: &[Items<Posted>]) -> Result<(), AllocError>
-    ensures { OnOk result (string_bytes out.new ≡ string_bytes out.old ++ batches_text batches.now) }
+    ensures { OnOk result
+        (string_bytes out.new ≡ string_bytes out.old ++ batches_text batches.now) }
 {
     out.push('[')?;
     let mut later = false;

@@ -30,17 +30,20 @@ pub fn cooperate<'s>(
     bodies: BodiesRef<'s>,
 ) -> Result<(), AllocError>
     requires done { turn.old.performed ≡ Done }
-    ensures { OnOk result (turn.new ≡ after (NewTask name.entry bodies.entry next KeepTick next finished) turn.old) }
+    ensures { OnOk result
+        (turn.new ≡ after (NewTask name.entry bodies.entry next KeepTick next finished) turn.old) }
 {
     turn.world.make_task(name, bodies)?;
     turn.world.keep_tick()
 }
 
-/// Makes a Deferred that is fired when a task ends, which is given by its name (Twisted: `CooperativeTask.whenDone`).
+/// Makes a Deferred that is fired when a task ends, which is given by its name (Twisted:
+/// `CooperativeTask.whenDone`).
 pub fn when_done<'s>(turn: &mut Turn<'s>, name: TextRef<'s>, task: &str) -> Result<(), AllocError>
     requires bounded { Bounded turn.old.world }
     requires done { turn.old.performed ≡ Done }
-    ensures { OnOk result (turn.new ≡ after (on_task task.now λ t. page.when_done name.entry t) turn.old) }
+    ensures { OnOk result
+        (turn.new ≡ after (on_task task.now λ t. page.when_done name.entry t) turn.old) }
 {
     let Some(found) = turn.find_task(task)? else {
         return Ok(());
@@ -260,7 +263,8 @@ fn has_ended<'s>(world: &World<'s>, task: TaskId) -> bool
     }
 }
 
-/// Goes on with a tick: takes a step, while one is left and a task takes turns; else the next tick is scheduled.
+/// Goes on with a tick: takes a step, while one is left and a task takes turns; else the next tick
+/// is scheduled.
 pub fn go_on_ticking<'s>(turn: &mut Turn<'s>, units: u32) -> Result<(), AllocError>
     requires done { turn.old.performed ≡ Done }
     ensures { OnOk result (turn.new ≡ after (page.tick units) turn.old) }

@@ -1,4 +1,5 @@
-//! What timers, loops and tasks lead to, and delayed calls that are cancelled (Twisted: `twisted.internet.task`).
+//! What timers, loops and tasks lead to, and delayed calls that are cancelled (Twisted:
+//! `twisted.internet.task`).
 #![tactic(auto)]
 
 pub mod cooperating;

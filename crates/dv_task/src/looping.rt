@@ -19,7 +19,8 @@ use dv_value::value::Value;
 use dv_world::world::looping::not_running;
 use std::alloc::AllocError;
 
-/// Makes a loop and its Deferred, and takes its first turn at once or schedules it (Twisted: `LoopingCall.start`).
+/// Makes a loop and its Deferred, and takes its first turn at once or schedules it (Twisted:
+/// `LoopingCall.start`).
 #[tactic(auto, using(dv_frames::proofs::BoundsLemmas::records_within))]
 pub fn start_loop<'s>(
     turn: &mut Turn<'s>,
@@ -31,7 +32,8 @@ pub fn start_loop<'s>(
 ) -> Result<(), AllocError>
     requires bounded { Bounded turn.old.world }
     requires done { turn.old.performed ≡ Done }
-    ensures { OnOk result (turn.new ≡ after (page.loop name.entry of.entry interval at_once body.entry) turn.old) }
+    ensures { OnOk result
+        (turn.new ≡ after (page.loop name.entry of.entry interval at_once body.entry) turn.old) }
 {
     let id = turn.world.next_id();
     turn.world.make(Some(of), None)?;
@@ -48,7 +50,8 @@ fn begin_loop<'s>(
     body: BodyRef<'s>,
 ) -> Result<(), AllocError>
     requires done { turn.old.performed ≡ Done }
-    ensures { OnOk result (turn.new ≡ after (page.begin_loop name.entry of interval at_once body.entry) turn.old) }
+    ensures { OnOk result
+        (turn.new ≡ after (page.begin_loop name.entry of interval at_once body.entry) turn.old) }
 {
     let shown = name.as_str();
     let body = body.get();
@@ -70,7 +73,8 @@ fn begin_at_once<'s>(
     body: BodyRef<'s>,
 ) -> Result<(), AllocError>
     requires done { turn.old.performed ≡ Done }
-    ensures { OnOk result (turn.new ≡ after (page.first_turn name.now looping body.entry) turn.old) }
+    ensures { OnOk result
+        (turn.new ≡ after (page.first_turn name.now looping body.entry) turn.old) }
 {
     turn.world.tell(Entry::Turn(Text::of(turn.alloc, name)?))?;
     perform_for(turn, Purpose::Turning(looping), body)
@@ -90,7 +94,8 @@ pub fn take_turn(turn: &mut Turn<'_>, looping: LoopId) -> Result<(), AllocError>
     }
 }
 
-/// A turn of a loop has ended: while the loop runs its next turn is scheduled, else its Deferred is fired with its name.
+/// A turn of a loop has ended: while the loop runs its next turn is scheduled, else its Deferred is
+/// fired with its name.
 pub fn end_turn<'s>(turn: &mut Turn<'s>, looping: LoopId) -> Result<(), AllocError>
     requires done { turn.old.performed ≡ Done }
     ensures { OnOk result (turn.new ≡ after (page.end_turn looping) turn.old) }
@@ -121,8 +126,8 @@ pub fn fail_turn<'s>(turn: &mut Turn<'s>, looping: LoopId, failure: Value) -> Re
     fire_and_settle(turn, of, failure)
 }
 
-/// Stops a loop by its name; where no turn of it is under way, its Deferred is fired with its name (Twisted:
-/// `LoopingCall.stop`).
+/// Stops a loop by its name; where no turn of it is under way, its Deferred is fired with its name
+/// (Twisted: `LoopingCall.stop`).
 pub fn stop_loop<'s>(turn: &mut Turn<'s>, name: &str) -> Result<(), AllocError>
     requires done { turn.old.performed ≡ Done }
     ensures { OnOk result (turn.new ≡ after (on_loop name.now page.stop_loop) turn.old) }

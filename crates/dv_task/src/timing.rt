@@ -15,7 +15,8 @@ use std::alloc::AllocError;
 /// Cancels a delayed call by its name (Twisted: `DelayedCall.cancel`).
 pub fn cancel_call<'s>(turn: &mut Turn<'s>, name: &str) -> Result<(), AllocError>
     requires done { turn.old.performed ≡ Done }
-    ensures { OnOk result (turn.new ≡ after (on_call name.now λ number. Asks (CancelCall number) Ends) turn.old) }
+    ensures { OnOk result
+        (turn.new ≡ after (on_call name.now λ number. Asks (CancelCall number) Ends) turn.old) }
 {
     let Some(call) = turn.find_call(name)? else {
         return Ok(());
@@ -24,7 +25,8 @@ pub fn cancel_call<'s>(turn: &mut Turn<'s>, name: &str) -> Result<(), AllocError
     Ok(())
 }
 
-/// Gives a Deferred so many ticks, by its name, after which it is cancelled (Twisted: `Deferred.addTimeout`).
+/// Gives a Deferred so many ticks, by its name, after which it is cancelled (Twisted:
+/// `Deferred.addTimeout`).
 pub fn add_timeout<'s>(
     turn: &mut Turn<'s>,
     itself: Option<DeferredId>,
@@ -32,7 +34,8 @@ pub fn add_timeout<'s>(
     delay: u64,
 ) -> Result<(), AllocError>
     requires done { turn.old.performed ≡ Done }
-    ensures { OnOk result (turn.new ≡ after (on_deferred itself name.now λ d. page.add_timeout d delay) turn.old) }
+    ensures { OnOk result
+        (turn.new ≡ after (on_deferred itself name.now λ d. page.add_timeout d delay) turn.old) }
 {
     let Some(id) = turn.find(itself, name)? else {
         return Ok(());

@@ -1,5 +1,6 @@
 -- What is logged submits nothing, and the works that are submitted are the first of those that a run has made.
-use Rattle.std.proofs.Common.{◌≡◌, ℕ, zero, suc, Bool, true, false, cond, List, [], ◌∷◌, ◌++◌, Option, None, Some, refl, sym, subst, ap, ◌∙◌, length, length-append, ◌+◌, ◌<◌, ◌≤◌, slice_get, arith}
+use Rattle.std.proofs.Common.{◌≡◌, ℕ, zero, suc, Bool, true, false, cond, List, [], ◌∷◌, ◌++◌, Option, None, Some, refl}
+use Rattle.std.proofs.Common.{sym, subst, ap, ◌∙◌, length, length-append, ◌+◌, ◌<◌, ◌≤◌, slice_get, arith}
 use Rattle.dv_journal.specs.Journal.{fits}
 use Rattle.dv_journal.specs.declared.entry.Entry.{Entry}
 use Rattle.dv_script.specs.declared.work.Work.{Work}
@@ -29,13 +30,18 @@ some_injective : {x y : Work} → Some x ≡ Some y → x ≡ y
 some_injective h = cc
 
 -- one more that is submitted is the next of them
-next_after : (s more : List Work) (work : Work) → slice_get (s ++ more) (length s) ≡ Some work → GoesOn (s ++ work ∷ []) (s ++ more)
+next_after : (s more : List Work) (work : Work) → slice_get (s ++ more) (length s) ≡ Some work
+    → GoesOn (s ++ work ∷ []) (s ++ more)
 next_after [] [] work h = absurd cc
 next_after [] (x ∷ more) work h = record { more = more; same = ap (λ (y : Work). y ∷ more) (some_injective h) }
-next_after (y ∷ s) more work h = let rest = next_after s more work h in record { more = rest.more; same = ap (λ (z : List Work). y ∷ z) rest.same }
+next_after (y ∷ s) more work h =
+    let rest = next_after s more work h in record { more = rest.more; same = ap (λ (z : List Work). y ∷ z) rest.same }
 
-pub next_goes_on : (s works : List Work) (work : Work) → GoesOn s works → slice_get works (length s) ≡ Some work → GoesOn (s ++ work ∷ []) works
-next_goes_on s works work g h = subst (λ (x : List Work). GoesOn (s ++ work ∷ []) x) (sym g.same) (next_after s g.more work (subst (λ (x : List Work). slice_get x (length s) ≡ Some work) g.same h))
+pub next_goes_on : (s works : List Work) (work : Work) → GoesOn s works → slice_get works (length s) ≡ Some work
+    → GoesOn (s ++ work ∷ []) works
+next_goes_on s works work g h =
+    subst (λ (x : List Work). GoesOn (s ++ work ∷ []) x) (sym g.same)
+    (next_after s g.more work (subst (λ (x : List Work). slice_get x (length s) ≡ Some work) g.same h))
 
 -- where as many are submitted as there are, these are they
 all_after : (s more : List Work) → length (s ++ more) ≤ length s → s ≡ s ++ more
@@ -47,9 +53,12 @@ pub all_goes_on : (s works : List Work) → GoesOn s works → length works ≤ 
 all_goes_on s works g h = all_after s g.more (subst (λ (x : List Work). length x ≤ length s) g.same h) ∙ sym g.same
 
 -- one more job stands in the row
-pub one_more_row : (old new : List Job) (count : ℕ) (work : Work) → count ≡ length old → AreInRow old → new ≡ old ++ numbered (length old) work ∷ [] → (count + 1 ≡ length new) × AreInRow new
-one_more_row old new count work so_many row grown =
-    (omega (arith, so_many, ap length grown, length-append old (numbered (length old) work ∷ [])), subst AreInRow (sym grown) (row-snoc old work row))
+pub one_more_row : (old new : List Job) (count : ℕ) (work : Work) → count ≡ length old → AreInRow old
+    → new ≡ old ++ numbered (length old) work ∷ [] → (count + 1 ≡ length new) × AreInRow new
+one_more_row old new count work so_many row grown = (
+  omega (arith, so_many, ap length grown, length-append old (numbered (length old) work ∷ [])),
+  subst AreInRow (sym grown) (row-snoc old work row),
+)
 
 there : (works : List Work) (job : ℕ) → job < length works → (work : Work) × (slice_get works job ≡ Some work)
 there [] job low = absurd (omega (arith, low))
@@ -57,14 +66,17 @@ there (x ∷ works) zero low = (x, refl)
 there (x ∷ works) (suc job) low = there works job (omega (arith, low))
 
 -- a number below their count is that of a job
-pub low_submitted : (jobs : List Job) (count job : ℕ) → count ≡ length jobs → AreInRow jobs → job < count → IsSubmitted job jobs
+pub low_submitted : (jobs : List Job) (count job : ℕ) → count ≡ length jobs → AreInRow jobs → job < count
+    → IsSubmitted job jobs
 low_submitted jobs count job so_many row low =
     let found = there (works_of jobs) job (omega (arith, low, so_many, length-works jobs)) in
     (found.0, at_row jobs job row ∙ found.1)
 
 -- the value of the work under a number is the result of that job
-pub result_at : (job : ℕ) (jobs : List Job) (value : Value) → AreInRow jobs → IsValueUnder job jobs value → Some value ≡ job_result job (works_of jobs)
-result_at job jobs value row h = ap Some h.2 ∙ ap (λ (o : Option Work). option_map value_of o) (sym h.1 ∙ at_row jobs job row)
+pub result_at : (job : ℕ) (jobs : List Job) (value : Value) → AreInRow jobs → IsValueUnder job jobs value
+    → Some value ≡ job_result job (works_of jobs)
+result_at job jobs value row h =
+    ap Some h.2 ∙ ap (λ (o : Option Work). option_map value_of o) (sym h.1 ∙ at_row jobs job row)
 
 -- a number past them is of no job
 none_past : (job : ℕ) (works : List Work) → length works ≤ job → slice_get works job ≡ None

@@ -48,7 +48,8 @@ pub fn end_action<'s>(
     came: Performed<'s>,
 ) -> Result<(), AllocError>
     requires done { turn.old.performed ≡ Done }
-    ensures { OnOk result (turn.new ≡ after (page.go_with inline (page.answer_of came.entry) body.entry) turn.old) }
+    ensures { OnOk result
+        (turn.new ≡ after (page.go_with inline (page.answer_of came.entry) body.entry) turn.old) }
 {
     go_on_with(turn, inline, body, answer_of(came))
 }
@@ -68,8 +69,8 @@ pub fn go_on_with<'s>(
     turn.stack.push(Frame::Inline(Inlining::Goes(inline, body)))
 }
 
-/// The pair by which a body awaits a Deferred has been added. Where what it awaits came meanwhile, it goes on; else it is
-/// parked.
+/// The pair by which a body awaits a Deferred has been added. Where what it awaits came meanwhile,
+/// it goes on; else it is parked.
 pub fn end_await<'s>(
     turn: &mut Turn<'s>,
     inline: Inline,
@@ -77,7 +78,8 @@ pub fn end_await<'s>(
     body: InlineBody<'s>,
 ) -> Result<(), AllocError>
     requires done { turn.old.performed ≡ Done }
-    ensures { OnOk result (turn.new ≡ after (page.after_awaiting inline awaited body.entry) turn.old) }
+    ensures { OnOk result
+        (turn.new ≡ after (page.after_awaiting inline awaited body.entry) turn.old) }
 {
     let came = turn.world.end_await(inline.id, awaited, body)?;
     go_on_where(turn, inline, came)
@@ -145,7 +147,8 @@ fn throw<'s>(
     body: InlineBody<'s>,
 ) -> Result<(), AllocError>
     requires done { turn.old.performed ≡ Done }
-    ensures { OnOk result (turn.new ≡ after (page.go_with inline (fault_of name_error name.entry) body.entry) turn.old) }
+    ensures { OnOk result (turn.new
+        ≡ after (page.go_with inline (fault_of name_error name.entry) body.entry) turn.old) }
 {
     match fault(turn.alloc, ClassId::NAME_ERROR, name.as_str()) {
         Ok(thrown) => go_on_with(turn, inline, body, thrown),

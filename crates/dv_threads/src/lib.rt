@@ -1,5 +1,5 @@
-//! What inline bodies lead to, the Deferreds that bodies become, and the jobs that a run submits to threads (Twisted:
-//! `twisted.internet.threads`).
+//! What inline bodies lead to, the Deferreds that bodies become, and the jobs that a run submits to
+//! threads (Twisted: `twisted.internet.threads`).
 #![tactic(auto)]
 
 pub mod inlining;

@@ -17,7 +17,8 @@ use std::random::RandomSource;
 use std::sync::Wait;
 use std::thread::Threads;
 
-/// Who does a run's jobs, the pools that the script names, and how many jobs were submitted. Contracts see the works of these.
+/// Who does a run's jobs, the pools that the script names, and how many jobs were submitted.
+/// Contracts see the works of these.
 #[derive(Drop)]
 pub struct Submissions<'s, J: JobSource> {
     source: J,
@@ -39,11 +40,12 @@ impl<'s, J: JobSource> Model for Submissions<'s, J> {
 
     ghost view = { λ s. works_of (J.jobs s.source) };
 
-    ghost invariant = { λ s. (s.count ≡ length (J.jobs s.source)) × AreInRow (J.jobs s.source) × (length s.pools ≤ J.pools s.source) };
+    ghost invariant = { λ s. (s.count ≡ length (J.jobs s.source)) × AreInRow (J.jobs s.source)
+        × (length s.pools ≤ J.pools s.source) };
 }
 
-/// The number of the pool of this name: one more than its place. 0 where none is named, which is the default one, and where none has
-/// the name, as in no script that is read.
+/// The number of the pool of this name: one more than its place. 0 where none is named, which is
+/// the default one, and where none has the name, as in no script that is read.
 fn pool_number(pools: &[NamedPool], name: Option<&str>) -> u32
     ensures { result ≤ length pools.now }
 {
@@ -74,8 +76,8 @@ impl<'s, J: JobSource> Submissions<'s, J> {
         }
     }
 
-    /// Submits what isn't yet of these works, of which the first were submitted, in order, each to its pool. AllocError where memory
-    /// is refused.
+    /// Submits what isn't yet of these works, of which the first were submitted, in order, each to
+    /// its pool. AllocError where memory is refused.
     #[inline(always)]
     #[tactic(auto, using(crate::proofs::JobLemmas::all_goes_on))]
     pub fn submit_all(&mut self, alloc: Global, works: &Works<'_>) -> Result<(), AllocError>
@@ -88,7 +90,8 @@ impl<'s, J: JobSource> Submissions<'s, J> {
         Ok(())
     }
 
-    /// Submits a work to the pool of this name, for which there has to be room. AllocError when out of memory.
+    /// Submits a work to the pool of this name, for which there has to be room. AllocError when out
+    /// of memory.
     #[inline(never)]
     fn submit(
         &mut self,
@@ -111,7 +114,8 @@ impl<'s, J: JobSource> Submissions<'s, J> {
         }
     }
 
-    /// Returns the result of a job; it may wait. None for a number of no job. AllocError when it or the job is out of memory.
+    /// Returns the result of a job; it may wait. None for a number of no job. AllocError when it or
+    /// the job is out of memory.
     #[tactic(auto, using(crate::proofs::JobLemmas::result_at, crate::proofs::JobLemmas::no_result))]
     pub fn outcome<R: Wait + RandomSource + AllocGlobal>(
         &mut self,
@@ -128,7 +132,8 @@ impl<'s, J: JobSource> Submissions<'s, J> {
         Ok(Some(self.source.outcome(rt, alloc, job)?))
     }
 
-    /// Returns each job, once, in order; it may wait. AllocError when this call or a job is out of memory.
+    /// Returns each job, once, in order; it may wait. AllocError when this call or a job is out of
+    /// memory.
     pub fn close<R: Threads + Wait>(self, rt: &R, alloc: Global) -> Result<Ran, AllocError>
         ensures { IfOk result (λ ran. jobs_of ran.dones ≡ jobs_from 0 self.entry) }
     {

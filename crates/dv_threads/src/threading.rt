@@ -13,8 +13,8 @@ use dv_value::value::Value;
 use dv_world::world::jobs::too_many_jobs;
 use std::alloc::AllocError;
 
-/// Makes a Deferred and submits the job that it is for, to the pool of this name or to the default one (Twisted:
-/// `deferToThreadPool`, `deferToThread`).
+/// Makes a Deferred and submits the job that it is for, to the pool of this name or to the default
+/// one (Twisted: `deferToThreadPool`, `deferToThread`).
 #[tactic(auto, using(dv_frames::proofs::BoundsLemmas::records_within))]
 pub fn thread<'s>(
     turn: &mut Turn<'s>,
@@ -25,7 +25,8 @@ pub fn thread<'s>(
 ) -> Result<(), AllocError>
     requires bounded { Bounded turn.old.world }
     requires done { turn.old.performed ≡ Done }
-    ensures { OnOk result (turn.new ≡ after (page.thread name.entry pool.entry delay work.entry) turn.old) }
+    ensures { OnOk result
+        (turn.new ≡ after (page.thread name.entry pool.entry delay work.entry) turn.old) }
 {
     if turn.world.works().is_full() {
         turn.performed = too_many_jobs(turn.alloc)?;
@@ -45,15 +46,16 @@ fn begin_job<'s>(
     work: WorkRef<'s>,
 ) -> Result<(), AllocError>
     requires done { turn.old.performed ≡ Done }
-    ensures { OnOk result (turn.new ≡ after (page.begin_job id pool.entry delay work.entry) turn.old) }
+    ensures { OnOk result
+        (turn.new ≡ after (page.begin_job id pool.entry delay work.entry) turn.old) }
 {
     let job = turn.world.works().len() as u32;
     turn.world.submit(id, pool, work)?;
     turn.world.deliver_later(job, id, delay)
 }
 
-/// Fires a Deferred with the result of its job (Twisted: `Deferred.callback`, or `Deferred.errback` where the job has
-/// failed); nothing for a number of no job.
+/// Fires a Deferred with the result of its job (Twisted: `Deferred.callback`, or `Deferred.errback`
+/// where the job has failed); nothing for a number of no job.
 pub fn deliver<'s>(
     turn: &mut Turn<'s>,
     id: DeferredId,

@@ -1,5 +1,6 @@
 -- Names in a table of classes.
-use Rattle.std.proofs.Common.{◌≡◌, ◌≢◌, ℕ, zero, suc, ◌+◌, ◌<◌, Bool, true, false, ◌&&◌, nat_eq, nat_lt, List, [], ◌∷◌, Option, None, Some, length, get_or, refl, ap, arith}
+use Rattle.std.proofs.Common.{◌≡◌, ◌≢◌, ℕ, zero, suc, ◌+◌, ◌<◌, Bool, true, false, ◌&&◌, nat_eq, nat_lt, List, [], ◌∷◌}
+use Rattle.std.proofs.Common.{Option, None, Some, length, get_or, refl, ap, arith}
 use Rattle.std.proofs.lemmas.List.Quantifiers.{position-Some}
 use Rattle.std.proofs.lemmas.List.Sums.{position_or_len_is}
 use Rattle.std.proofs.lemmas.Option.{slice_get-get_or}
@@ -29,13 +30,16 @@ is_no_name text name h = not_from_Decides (bytes_eq text name) (bytes_eq-Decides
 differs : (text name : List ℕ) → text ≢ name → bytes_eq text name ≡ false
 differs text name h = false_from_ne_true (bytes_eq text name) (λ t. h (is_name text name t))
 
-pub found_is_first : (name : List ℕ) (table : List Class) (c : ℕ) → find_class name table ≡ Some c → IsFirstOf name table c
+pub found_is_first : (name : List ℕ) (table : List Class) (c : ℕ) → find_class name table ≡ Some c
+    → IsFirstOf name table c
 found_is_first name table c e =
     let found = position-Some (λ (class : Class). bytes_eq class.name name) table c nameless e in
     record {
       within = found.0;
       named = name_at table c found.0 ∙ is_name _ name found.1;
-      first = λ d below same. is_no_name _ name (found.2 d below) (sym (name_at table d (omega (arith, below, found.0))) ∙ same);
+      first =
+          λ d below same.
+          is_no_name _ name (found.2 d below) (sym (name_at table d (omega (arith, below, found.0))) ∙ same);
     }
 
 first_is_found : (name : List ℕ) (table : List Class) (c : ℕ) → IsFirstOf name table c → find_class name table ≡ Some c
@@ -64,7 +68,8 @@ all_found : List Class → ℕ → List Class → Bool
 all_found whole k [] = true
 all_found whole k (class ∷ classes) = is_at k (find_class class.name whole) && all_found whole (suc k) classes
 
-found_in_place : (whole classes : List Class) (k c : ℕ) → all_found whole k classes ≡ true → c < length classes → find_class (name_of classes c) whole ≡ Some (k + c)
+found_in_place : (whole classes : List Class) (k c : ℕ) → all_found whole k classes ≡ true → c < length classes
+    → find_class (name_of classes c) whole ≡ Some (k + c)
 unfolding all_found
 found_in_place whole [] k c h within = absurd (omega (arith, within))
 found_in_place whole (class ∷ classes) k zero h within =

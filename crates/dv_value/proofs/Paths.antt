@@ -1,5 +1,6 @@
 -- Paths in a table of classes.
-use Rattle.std.proofs.Common.{◌≡◌, ℕ, zero, suc, ◌+◌, ◌-◌, ◌<◌, ◌⊎◌, inl, inr, Bool, true, ◌&&◌, nat_lt, List, [], ◌∷◌, ◌++◌, Option, None, Some, length, refl, arith, ap}
+use Rattle.std.proofs.Common.{◌≡◌, ℕ, zero, suc, ◌+◌, ◌-◌, ◌<◌, ◌⊎◌, inl, inr, Bool, true, ◌&&◌, nat_lt, List, [], ◌∷◌}
+use Rattle.std.proofs.Common.{◌++◌, Option, None, Some, length, refl, arith, ap}
 use Rattle.std.specs.Option.{option_map_or}
 use Rattle.std.proofs.lemmas.Bool.{and_parts, ltb-true}
 use Rattle.dv_value.specs.declared.classes.Class.{Class}
@@ -9,7 +10,8 @@ use Rattle.dv_value.specs.Laws.{ParentsStandBefore, PathsGoUp, DeclaredClassesKe
 use Rattle.dv_value.proofs.Names.{found_is_first}
 
 -- one step of a path
-pub path_step : (n : ℕ) (table : List Class) (c : ℕ) → 0 < n → path_within n table c ≡ c ∷ option_map_or (path_within (n - 1) table) (parent_of table c) []
+pub path_step : (n : ℕ) (table : List Class) (c : ℕ) → 0 < n
+    → path_within n table c ≡ c ∷ option_map_or (path_within (n - 1) table) (parent_of table c) []
 path_step zero table c h = absurd (omega arith)
 path_step (suc n) table c h =
     let e : suc n - 1 ≡ n = omega arith in
@@ -20,7 +22,8 @@ module _ (table : List Class) (ordered : ParentsStandBefore table) where
   abbrev Enough : ℕ → Type 0
   Enough n = (m c : ℕ) → c < n → c < m → path_within n table c ≡ path_within m table c
 
-  above : (n m c : ℕ) (p : Option ℕ) → Enough n → c < suc n → c < suc m → parent_of table c ≡ p → option_map_or (path_within n table) p [] ≡ option_map_or (path_within m table) p []
+  above : (n m c : ℕ) (p : Option ℕ) → Enough n → c < suc n → c < suc m → parent_of table c ≡ p
+      → option_map_or (path_within n table) p [] ≡ option_map_or (path_within m table) p []
   above n m c None enough below within e = refl
   above n m c (Some p) enough below within e =
       let up : p < c = ordered c p e in
@@ -29,9 +32,11 @@ module _ (table : List Class) (ordered : ParentsStandBefore table) where
   enough_steps : (n : ℕ) → Enough n
   enough_steps zero m c below within = absurd (omega arith)
   enough_steps (suc n) zero c below within = absurd (omega arith)
-  enough_steps (suc n) (suc m) c below within = ap (λ (l : List ℕ). c ∷ l) (above n m c _ (enough_steps n) below within refl)
+  enough_steps (suc n) (suc m) c below within =
+      ap (λ (l : List ℕ). c ∷ l) (above n m c _ (enough_steps n) below within refl)
 
-  up_from : (c : ℕ) (p : Option ℕ) → parent_of table c ≡ p → option_map_or (path_within c table) p [] ≡ option_map_or (path table) p []
+  up_from : (c : ℕ) (p : Option ℕ) → parent_of table c ≡ p
+      → option_map_or (path_within c table) p [] ≡ option_map_or (path table) p []
   up_from c None e = refl
   up_from c (Some p) e =
       let up : p < c = ordered c p e in
@@ -56,11 +61,13 @@ stands_before c k (Some p) q h e =
     let same : p ≡ q = cc in
     omega (arith, ltb-true p k h, same)
 
-all_stand_before : (classes : List Class) (k c q : ℕ) → all_before k classes ≡ true → parent_of classes c ≡ Some q → q < c + k
+all_stand_before : (classes : List Class) (k c q : ℕ) → all_before k classes ≡ true → parent_of classes c ≡ Some q
+    → q < c + k
 unfolding all_before
 all_stand_before [] k c q h e = cc
 all_stand_before (class ∷ classes) k zero q h e = omega (arith, stands_before 0 k class.parent q (and_parts _ _ h).0 e)
-all_stand_before (class ∷ classes) k (suc c) q h e = omega (arith, all_stand_before classes (suc k) c q (and_parts _ _ h).1 e)
+all_stand_before (class ∷ classes) k (suc c) q h e =
+    omega (arith, all_stand_before classes (suc k) c q (and_parts _ _ h).1 e)
 
 pub builtin_ordered : ParentsStandBefore builtin
 unfolding builtin all_before before
@@ -70,7 +77,8 @@ pub builtin_paths_go_up : PathsGoUp builtin
 builtin_paths_go_up = paths_go_up builtin builtin_ordered
 
 -- a parent in a table with one class more is one of the table, or that of the last class
-parent_in_longer : (table : List Class) (last : Class) (c p : ℕ) → parent_of (table ++ last ∷ []) c ≡ Some p → (parent_of table c ≡ Some p) ⊎ ((c ≡ length table) × (last.parent ≡ Some p))
+parent_in_longer : (table : List Class) (last : Class) (c p : ℕ) → parent_of (table ++ last ∷ []) c ≡ Some p
+    → (parent_of table c ≡ Some p) ⊎ ((c ≡ length table) × (last.parent ≡ Some p))
 parent_in_longer [] last zero p e = inr (refl, e)
 parent_in_longer [] last (suc c) p e = cc
 parent_in_longer (class ∷ table) last zero p e = inl e

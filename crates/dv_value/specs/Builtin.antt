@@ -73,10 +73,13 @@ timeout_error = 20
 -- the names of those right below the root
 abbrev pub of_exception : List (List ℕ)
 of_exception =
-    codes "ValueError" ∷ codes "TypeError" ∷ codes "NameError" ∷ codes "AssertionError" ∷ codes "OverflowError" ∷ codes "RuntimeError"
-    ∷ codes "AlreadyCalledError" ∷ codes "CancelledError" ∷ codes "FirstError" ∷ codes "QueueOverflow" ∷ codes "QueueUnderflow" ∷ codes "SchedulerError" ∷ []
+    codes "ValueError" ∷ codes "TypeError" ∷ codes "NameError" ∷ codes "AssertionError" ∷ codes "OverflowError"
+    ∷ codes "RuntimeError"
+    ∷ codes "AlreadyCalledError" ∷ codes "CancelledError" ∷ codes "FirstError" ∷ codes "QueueOverflow"
+    ∷ codes "QueueUnderflow" ∷ codes "SchedulerError" ∷ []
 
--- the root, and below it a line for each class that has children; of those right below the root `TimeoutError` stands last of all
+-- the root, and below it a line for each class that has children; of those right below the root `TimeoutError` stands
+-- last of all
 unfoldable pub builtin : List Class
 builtin =
     children_of None (codes "Exception" ∷ [])

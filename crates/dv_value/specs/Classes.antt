@@ -1,5 +1,7 @@
--- The table of classes: each class with its parent, and what a class descends from (Twisted: `Failure.check`, `Failure.trap`).
-use Rattle.std.specs.Prelude.{ℕ, zero, suc, Bool, List, [], ◌∷◌, Option, slice_get, nat_eq, option_and_then, find, position, bytes_eq}
+-- The table of classes: each class with its parent, and what a class descends from (Twisted: `Failure.check`,
+-- `Failure.trap`).
+use Rattle.std.specs.Prelude.{ℕ, zero, suc, Bool, List, [], ◌∷◌, Option, slice_get, nat_eq, option_and_then, find}
+use Rattle.std.specs.Prelude.{position, bytes_eq}
 use Rattle.std.specs.List.{list_any}
 use Rattle.std.specs.Option.{option_map_or}
 use Rattle.dv_value.specs.declared.classes.Class.{Class}
@@ -21,7 +23,8 @@ abbrev pub path_within : ℕ → List Class → ℕ → List ℕ
 path_within zero table c = []
 path_within (suc n) table c = c ∷ option_map_or (path_within n table) (parent_of table c) []
 
--- the class, then the path of its parent: since a parent stands before its children, a step for each place up to the class's is enough
+-- the class, then the path of its parent: since a parent stands before its children, a step for each place up to the
+-- class's is enough
 abbrev pub path : List Class → ℕ → List ℕ
 path table c = path_within (suc c) table c
 

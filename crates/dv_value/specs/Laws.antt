@@ -4,7 +4,9 @@ use Rattle.std.specs.Option.{option_map_or}
 use Rattle.dv_value.specs.declared.classes.Class.{Class}
 use Rattle.dv_value.specs.Classes.{parent_of, path, find_class, name_of}
 use Rattle.dv_value.specs.Declaring.{with_class}
-use Rattle.dv_value.specs.Builtin.{builtin, type_error, name_error, assertion_error, overflow_error, already_called_error, cancelled_error, first_error, queue_overflow, queue_underflow, timeout_error}
+use Rattle.dv_value.specs.Builtin.{builtin, type_error, name_error, assertion_error, overflow_error}
+use Rattle.dv_value.specs.Builtin.{already_called_error, cancelled_error, first_error, queue_overflow, queue_underflow}
+use Rattle.dv_value.specs.Builtin.{timeout_error}
 
 -- each class's parent stands before it
 abbrev pub ParentsStandBefore : List Class → Type 0
@@ -20,7 +22,9 @@ PathsOfOrderedTablesGoUp = (table : List Class) → ParentsStandBefore table →
 
 -- a class that is declared stands after its parent, so that each parent stands before its children still
 abbrev pub DeclaredClassesKeepTheOrder : Type 0
-DeclaredClassesKeepTheOrder = (table : List Class) (name parent : List ℕ) → ParentsStandBefore table → ParentsStandBefore (with_class table name parent)
+DeclaredClassesKeepTheOrder =
+    (table : List Class) (name parent : List ℕ) → ParentsStandBefore table
+    → ParentsStandBefore (with_class table name parent)
 
 -- each class that a rule names stands in its place
 pub record BuiltinsHaveTheirPlaces : Type 0 where

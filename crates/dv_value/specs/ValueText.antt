@@ -23,7 +23,8 @@ inside sub = (sub.index, sub.failure)
 abbrev pub after_class : List ℕ → Option Inside → List ℕ
 after_class message None = codes ",\"message\":" ++ quoted message ++ codes "}"
 after_class message (Some sub) =
-    codes ",\"index\":" ++ decimal sub.0 ++ codes ",\"message\":" ++ quoted message ++ codes ",\"sub\":" ++ sub.1 ++ codes "}"
+    codes ",\"index\":" ++ decimal sub.0 ++ codes ",\"message\":" ++ quoted message ++ codes ",\"sub\":" ++ sub.1
+    ++ codes "}"
 
 -- {"fail":CLASS,"message":TEXT}, and with one inside {"fail":CLASS,"index":I,"message":TEXT,"sub":..}
 abbrev pub failure_json_step : List Class → Failure-F (List ℕ) Inside → List ℕ

@@ -27,7 +27,8 @@ impl ClassId {
     pub const TYPE_ERROR: ClassId = ClassId { place: 2 };
     /// For a name that nothing bears; the message is the name.
     pub const NAME_ERROR: ClassId = ClassId { place: 3 };
-    /// For a call that the state of its object doesn't allow; the message says which state is wanted.
+    /// For a call that the state of its object doesn't allow; the message says which state is
+    /// wanted.
     pub const ASSERTION_ERROR: ClassId = ClassId { place: 4 };
     /// For a sum that no `i64` holds.
     pub const OVERFLOW_ERROR: ClassId = ClassId { place: 5 };
@@ -37,7 +38,8 @@ impl ClassId {
     pub const ALREADY_CALLED_ERROR: ClassId = ClassId { place: 7 };
     /// What a Deferred is fired with that is cancelled (Twisted: `defer.CancelledError`).
     pub const CANCELLED_ERROR: ClassId = ClassId { place: 8 };
-    /// For the first child of a DeferredList that failed, which is inside (Twisted: `defer.FirstError`).
+    /// For the first child of a DeferredList that failed, which is inside (Twisted:
+    /// `defer.FirstError`).
     pub const FIRST_ERROR: ClassId = ClassId { place: 9 };
     /// For a queue that stores as many values as it may (Twisted: `defer.QueueOverflow`).
     pub const QUEUE_OVERFLOW: ClassId = ClassId { place: 10 };
@@ -59,7 +61,8 @@ impl ClassId {
     pub const TASK_STOPPED: ClassId = ClassId { place: 18 };
     /// For a cooperative task that has failed (Twisted: `task.TaskFailed`).
     pub const TASK_FAILED: ClassId = ClassId { place: 19 };
-    /// What a cancel by a timer results in, in place of `CANCELLED_ERROR` (Twisted: `error.TimeoutError`).
+    /// What a cancel by a timer results in, in place of `CANCELLED_ERROR` (Twisted:
+    /// `error.TimeoutError`).
     pub const TIMEOUT_ERROR: ClassId = ClassId { place: 20 };
 
     /// The class at this place, which need not be in any table.

@@ -1,4 +1,5 @@
-ghost use Rattle.std.specs.Prelude.{◌≡◌, ◌++◌, ◌+◌, ◌<◌, ◌^◌, length, map, nat_eq, IfOk, OnOk, OnErr, IfSome};
+ghost use Rattle.std.specs.Prelude.{◌≡◌, ◌++◌, ◌+◌, ◌<◌, ◌^◌, length, map, nat_eq, IfOk, OnOk};
+ghost use Rattle.std.specs.Prelude.{OnErr, IfSome};
 ghost use Rattle.dv_value.specs.Classes.{find_class};
 ghost use Rattle.std.specs.List.{list_any};
 ghost use Rattle.dv_value.specs.Builtin.{children_of};
@@ -16,7 +17,8 @@ pub struct Class {
     pub parent: Option<ClassId>,
 }
 
-/// The table of classes, which contracts see as the list of them. A class is known by its place in it.
+/// The table of classes, which contracts see as the list of them. A class is known by its place in
+/// it.
 #[derive(Debug, Drop)]
 pub struct Classes {
     alloc: Global,
@@ -93,7 +95,8 @@ impl Classes {
         Ok(Classes { alloc, classes })
     }
 
-    /// Adds a class at the end of the table, under the class of its parent's name. After a refusal the table is as it was.
+    /// Adds a class at the end of the table, under the class of its parent's name. After a refusal
+    /// the table is as it was.
     pub fn declare(&mut self, name: &str, parent: &str) -> Result<ClassId, ClassFault>
         requires room { length self.old + 1 < 2 ^ 32 }
         ensures answer { AnswersDeclare self.old name.now parent.now result }
@@ -148,7 +151,8 @@ impl Classes {
         }
     }
 
-    /// Whether `class` is `from`, or has it above. A class with no place in the table descends from itself alone.
+    /// Whether `class` is `from`, or has it above. A class with no place in the table descends from
+    /// itself alone.
     pub fn descends(&self, class: ClassId, from: ClassId) -> bool
         ensures { result ≡ descends self.now class from }
     {
@@ -178,7 +182,8 @@ fn add_children(
     parent: Option<ClassId>,
     names: &[&str],
 ) -> Result<(), AllocError>
-    ensures { OnOk result (classes.new.items ≡ classes.old.items ++ children_of parent (map (λ name. name.now) names.now)) }
+    ensures { OnOk result (classes.new.items
+        ≡ classes.old.items ++ children_of parent (map (λ name. name.now) names.now)) }
 {
     for child in names {
         classes.push(child_of(alloc, parent, child)?)?;

@@ -1,11 +1,13 @@
-ghost use Rattle.std.specs.Prelude.{◌≡◌, ◌↔◌, [], ◌∷◌, ◌++◌, ◌-◌, OnOk, OnErr, IsTrue, length, take, drop, slice_get};
+ghost use Rattle.std.specs.Prelude.{◌≡◌, ◌↔◌, [], ◌∷◌, ◌++◌, ◌-◌, OnOk, OnErr, IsTrue, length};
+ghost use Rattle.std.specs.Prelude.{take, drop, slice_get};
 ghost use Rattle.std.specs.Option.{option_copied};
 
 use std::alloc::{AllocError, Global};
 use std::collections::VecDeque;
 use std::marker::Model;
 
-/// A `VecDeque` that contracts see as the list of its elements, from the front, without an address and without a capacity.
+/// A `VecDeque` that contracts see as the list of its elements, from the front, without an address
+/// and without a capacity.
 #[derive(Drop)]
 pub struct Deque<T> {
     items: VecDeque<T>,

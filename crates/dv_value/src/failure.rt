@@ -19,7 +19,8 @@ pub struct Failure {
     pub sub: Option<Sub>,
 }
 
-/// The failure inside another, with the place of the Deferred that it came from (Twisted: `FirstError`).
+/// The failure inside another, with the place of the Deferred that it came from (Twisted:
+/// `FirstError`).
 #[cycle(failure)]
 #[derive(Debug, Drop)]
 pub struct Sub {
@@ -40,16 +41,16 @@ impl Failure {
         }
     }
 
-    /// The first of the listed classes that the failure is of, in the order of the list and not of the table (Twisted:
-    /// `Failure.check`).
+    /// The first of the listed classes that the failure is of, in the order of the list and not of
+    /// the table (Twisted: `Failure.check`).
     pub fn check(&self, classes: &Classes, listed: &[ClassId]) -> Option<ClassId>
         ensures { result ≡ check classes.now (class_of self.now) listed.now }
     {
         first_above(classes, self.class, listed)
     }
 
-    /// The first of the listed classes that the failure is of. Where it is of none of them, the failure itself comes back,
-    /// to be raised again (Twisted: `Failure.trap`).
+    /// The first of the listed classes that the failure is of. Where it is of none of them, the
+    /// failure itself comes back, to be raised again (Twisted: `Failure.trap`).
     pub fn trap(self, classes: &Classes, listed: &[ClassId]) -> Result<ClassId, Failure>
         ensures { result ≡ trap classes.now self listed.now }
     {
@@ -78,8 +79,8 @@ impl Failure {
         })
     }
 
-    /// How much an entry of the journal weighs more for showing the failure, in bytes of its messages and one for each
-    /// failure; it stops at `u64::MAX`.
+    /// How much an entry of the journal weighs more for showing the failure, in bytes of its
+    /// messages and one for each failure; it stops at `u64::MAX`.
     pub fn size(&self) -> u64
         ensures { result ≡ min (failure_size self.now) (2 ^ 64 - 1) }
     {

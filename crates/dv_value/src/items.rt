@@ -1,10 +1,12 @@
-ghost use Rattle.std.specs.Prelude.{◌≡◌, ◌<◌, [], ◌∷◌, ◌++◌, Some, length, slice_get, slice_set, IfOk, OnOk, OnErr};
+ghost use Rattle.std.specs.Prelude.{◌≡◌, ◌<◌, [], ◌∷◌, ◌++◌, Some, length, slice_get, slice_set};
+ghost use Rattle.std.specs.Prelude.{IfOk, OnOk, OnErr};
 
 use std::alloc::{AllocError, Global};
 use std::marker::Model;
 use std::mem;
 
-/// A `Vec` that contracts see as the list of its elements, without an address and without a capacity.
+/// A `Vec` that contracts see as the list of its elements, without an address and without a
+/// capacity.
 #[derive(Debug, Drop)]
 pub struct Items<T> {
     items: Vec<T>,

@@ -1,9 +1,12 @@
 //! Laws of the table of classes, each a function with an empty body whose clause is the law.
 
 ghost use Rattle.dv_value.specs.Builtin.{builtin};
-ghost use Rattle.dv_value.specs.Laws.{DeclaredClassesKeepTheOrder, PathsOfOrderedTablesGoUp, PathsGoUp, BuiltinsHaveTheirPlaces, FindsTheFirst, NamesAreDistinct};
+ghost use Rattle.dv_value.specs.Laws.{DeclaredClassesKeepTheOrder, PathsOfOrderedTablesGoUp};
+ghost use Rattle.dv_value.specs.Laws.{PathsGoUp, BuiltinsHaveTheirPlaces, FindsTheFirst};
+ghost use Rattle.dv_value.specs.Laws.{NamesAreDistinct};
 
-/// Where each class's parent stands before it, the path of a class is the class and then the path of its parent.
+/// Where each class's parent stands before it, the path of a class is the class and then the path
+/// of its parent.
 pub fn paths_go_up()
     ensures { PathsOfOrderedTablesGoUp }
 {}
@@ -13,7 +16,8 @@ pub fn builtin_paths_go_up()
     ensures { PathsGoUp builtin }
 {}
 
-/// A table in which each class's parent stands before it is such a table still once a class is declared.
+/// A table in which each class's parent stands before it is such a table still once a class is
+/// declared.
 pub fn declared_classes_keep_the_order()
     ensures { DeclaredClassesKeepTheOrder }
 {}

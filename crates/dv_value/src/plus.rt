@@ -7,8 +7,8 @@ use crate::fault::fault;
 use crate::value::Value;
 use std::alloc::{AllocError, Global};
 
-/// The value plus `n`: a TypeError where it is no integer, an OverflowError where the sum is none of
-/// 64 bits. AllocError where the allocation of one of these fails.
+/// The value plus `n`: a TypeError where it is no integer, an OverflowError where the sum is none
+/// of 64 bits. AllocError where the allocation of one of these fails.
 pub fn plus(alloc: Global, n: i64, value: Value) -> Result<Value, AllocError>
     ensures { IfOk result (λ v. v ≡ plus_to n (out-Value value)) }
 {

@@ -14,7 +14,8 @@ enum Held {
     Long(String),
 }
 
-/// A text of UTF-8, which contracts see as the list of its bytes. A short one takes no memory besides itself.
+/// A text of UTF-8, which contracts see as the list of its bytes. A short one takes no memory
+/// besides itself.
 #[derive(Debug, Drop)]
 pub struct Text {
     held: Held,

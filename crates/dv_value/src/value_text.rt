@@ -28,15 +28,16 @@ fn are_plain(bytes: &[u8]) -> bool
 
 /// Adds a text as it is, between quotes.
 fn write_quoted(out: &mut String, text: &str) -> Result<(), AllocError>
-    ensures { OnOk result (string_bytes out.new ≡ string_bytes out.old ++ 34 ∷ (text.now ++ 34 ∷ [])) }
+    ensures { OnOk result
+        (string_bytes out.new ≡ string_bytes out.old ++ 34 ∷ (text.now ++ 34 ∷ [])) }
 {
     out.push('"')?;
     write_text(out, text)?;
     out.push('"')
 }
 
-/// Adds a text as a JSON string, between quotes, with what JSON forbids escaped and all else as it is. On allocation
-/// failure, it is left open what `out` holds.
+/// Adds a text as a JSON string, between quotes, with what JSON forbids escaped and all else as it
+/// is. On allocation failure, it is left open what `out` holds.
 #[tactic(auto, using(crate::proofs::Quoted::one_string, crate::proofs::Quoted::plain_quoted))]
 pub fn write_string(alloc: Global, out: &mut String, text: &str) -> Result<(), AllocError>
     ensures { OnOk result (string_bytes out.new ≡ string_bytes out.old ++ quoted text.now) }
@@ -54,21 +55,24 @@ pub fn write_string(alloc: Global, out: &mut String, text: &str) -> Result<(), A
 
 /// Adds what stands before the message of a failure that has another inside: its place.
 fn write_index(out: &mut String, index: u32) -> Result<(), AllocError>
-    ensures { OnOk result (string_bytes out.new ≡ string_bytes out.old ++ (codes ",\"index\":" ++ decimal index ++ codes ",\"message\":")) }
+    ensures { OnOk result (string_bytes out.new
+        ≡ string_bytes out.old ++ (codes ",\"index\":" ++ decimal index ++ codes ",\"message\":")) }
 {
     write_text(out, ",\"index\":")?;
     write_u32(out, index)?;
     write_text(out, ",\"message\":")
 }
 
-/// Adds the compact JSON of a failure, its keys in a fixed order. On allocation failure, `out` may hold anything.
+/// Adds the compact JSON of a failure, its keys in a fixed order. On allocation failure, `out` may
+/// hold anything.
 pub fn write_failure_json(
     alloc: Global,
     classes: &Classes,
     out: &mut String,
     failure: &Failure,
 ) -> Result<(), AllocError>
-    ensures { OnOk result (string_bytes out.new ≡ string_bytes out.old ++ failure_json classes.now failure.now) }
+    ensures { OnOk result
+        (string_bytes out.new ≡ string_bytes out.old ++ failure_json classes.now failure.now) }
 {
     write_text(out, "{\"fail\":")?;
     write_string(alloc, out, classes.name(failure.class))?;
@@ -90,22 +94,24 @@ pub fn write_failure_json(
 
 /// Adds what stands before the failure inside another: its place.
 fn write_place(out: &mut String, index: u32) -> Result<(), AllocError>
-    ensures { OnOk result (string_bytes out.new ≡ string_bytes out.old ++ (codes " at " ++ decimal index ++ codes " of ")) }
+    ensures { OnOk result (string_bytes out.new
+        ≡ string_bytes out.old ++ (codes " at " ++ decimal index ++ codes " of ")) }
 {
     write_text(out, " at ")?;
     write_u32(out, index)?;
     write_text(out, " of ")
 }
 
-/// Adds a failure as the journal shows it: its class, its message as a JSON string, and what is inside. On allocation
-/// failure, it is left open what `out` holds.
+/// Adds a failure as the journal shows it: its class, its message as a JSON string, and what is
+/// inside. On allocation failure, it is left open what `out` holds.
 pub fn write_failure(
     alloc: Global,
     classes: &Classes,
     out: &mut String,
     failure: &Failure,
 ) -> Result<(), AllocError>
-    ensures { OnOk result (string_bytes out.new ≡ string_bytes out.old ++ failure_text classes.now failure.now) }
+    ensures { OnOk result
+        (string_bytes out.new ≡ string_bytes out.old ++ failure_text classes.now failure.now) }
 {
     write_text(out, classes.name(failure.class))?;
     write_space(out)?;
@@ -120,7 +126,8 @@ pub fn write_failure(
     }
 }
 
-/// Adds the compact JSON of a value, with no space. On allocation failure, it is left open what `out` holds.
+/// Adds the compact JSON of a value, with no space. On allocation failure, it is left open what
+/// `out` holds.
 #[cycle(write_json)]
 pub fn write_json(
     alloc: Global,
@@ -128,7 +135,8 @@ pub fn write_json(
     out: &mut String,
     value: &Value,
 ) -> Result<(), AllocError>
-    ensures { OnOk result (string_bytes out.new ≡ string_bytes out.old ++ json classes.now value.now) }
+    ensures { OnOk result
+        (string_bytes out.new ≡ string_bytes out.old ++ json classes.now value.now) }
 {
     match value {
         Value::Null => write_text(out, "null"),
@@ -151,7 +159,8 @@ fn write_list(
     out: &mut String,
     values: &[Value],
 ) -> Result<(), AllocError>
-    ensures { OnOk result (string_bytes out.new ≡ string_bytes out.old ++ list_text (map (json classes.now) values.now)) }
+    ensures { OnOk result (string_bytes out.new
+        ≡ string_bytes out.old ++ list_text (map (json classes.now) values.now)) }
 {
     out.push('[')?;
     let mut later = false;
@@ -166,15 +175,16 @@ fn write_list(
     Ok(())
 }
 
-/// Adds what an outcome shows of a value: `ok` and its JSON, or `fail` and its failure. On allocation failure, it is
-/// left open what `out` holds.
+/// Adds what an outcome shows of a value: `ok` and its JSON, or `fail` and its failure. On
+/// allocation failure, it is left open what `out` holds.
 pub fn write_outcome(
     alloc: Global,
     classes: &Classes,
     out: &mut String,
     value: &Value,
 ) -> Result<(), AllocError>
-    ensures { OnOk result (string_bytes out.new ≡ string_bytes out.old ++ outcome classes.now value.now) }
+    ensures { OnOk result
+        (string_bytes out.new ≡ string_bytes out.old ++ outcome classes.now value.now) }
 {
     match value {
         Value::Null | Value::Bool(_) | Value::Int(_) | Value::Text(_) | Value::List(_) => {

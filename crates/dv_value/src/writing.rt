@@ -1,5 +1,5 @@
-//! Texts and numbers at the end of a text, which costs less than the formatter. On allocation failure, it is left open
-//! what `out` holds.
+//! Texts and numbers at the end of a text, which costs less than the formatter. On allocation
+//! failure, it is left open what `out` holds.
 
 ghost use Rattle.std.specs.Prelude.{◌≡◌, ◌+◌, ◌/◌, ◌%◌, ◌++◌, [], ◌∷◌, OnOk, codes, string_bytes};
 ghost use Rattle.std.specs.Fmt.{decimal, signed_decimal};
@@ -33,7 +33,8 @@ fn push_digit(out: &mut String, number: u64) -> Result<(), AllocError>
 /// Adds the last two digits of a number.
 #[inline(always)]
 fn push_two_digits(out: &mut String, number: u64) -> Result<(), AllocError>
-    ensures { OnOk result (string_bytes out.new ≡ string_bytes out.old ++ (48 + number / 10 % 10) ∷ (48 + number % 10) ∷ []) }
+    ensures { OnOk result (string_bytes out.new
+        ≡ string_bytes out.old ++ (48 + number / 10 % 10) ∷ (48 + number % 10) ∷ []) }
 {
     push_digit(out, number / 10)?;
     push_digit(out, number)

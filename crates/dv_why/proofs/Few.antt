@@ -1,5 +1,7 @@
 -- Where a document has few of everything, its script is small.
-use Rattle.std.proofs.Common.{◌≡◌, ℕ, zero, suc, ◌+◌, ◌-◌, ◌^◌, ◌≤◌, ◌<◌, min, Bool, true, false, not, bytes_eq, ◌&&◌, nat_lt, List, [], ◌∷◌, length, map, sum, Option, Some, None, option_and_then, refl, sym, ap, ◌∙◌, arith, codes}
+use Rattle.std.proofs.Common.{◌≡◌, ℕ, zero, suc, ◌+◌, ◌-◌, ◌^◌, ◌≤◌, ◌<◌, min, Bool, true, false, not, bytes_eq, ◌&&◌}
+use Rattle.std.proofs.Common.{nat_lt, List, [], ◌∷◌, length, map, sum, Option, Some, None, option_and_then, refl, sym}
+use Rattle.std.proofs.Common.{ap, ◌∙◌, arith, codes}
 use Rattle.std.specs.List.{fold, list_all}
 use Rattle.std.proofs.lemmas.Bool.{le-leb, ltb-false}
 use Rattle.serde_json.specs.Data.{Data, Items, no_items, item}
@@ -39,10 +41,12 @@ each_count Is no_items (x ∷ xs) g = absurd g
 each_count Is (item d ds) [] g = absurd g
 each_count Is (item d ds) (x ∷ xs) g = ap suc (each_count Is ds xs g.1)
 
-list_count : {X : Type 0} (Is : Data → X → Type 0) (d : Data) (xs : List X) → IsList Is d xs → length xs ≡ count (or_no_items (as_array d))
+list_count : {X : Type 0} (Is : Data → X → Type 0) (d : Data) (xs : List X) → IsList Is d xs
+    → length xs ≡ count (or_no_items (as_array d))
 list_count Is d xs g = rw (g.1) (each_count Is g.0 xs g.2)
 
-field_count : {X : Type 0} (Is : Data → X → Type 0) (o : Option Data) (xs : List X) → Field [] (IsList Is) o xs → length xs ≡ count (or_no_items (option_and_then as_array o))
+field_count : {X : Type 0} (Is : Data → X → Type 0) (o : Option Data) (xs : List X) → Field [] (IsList Is) o xs
+    → length xs ≡ count (or_no_items (option_and_then as_array o))
 field_count Is None xs g = ap length g
 field_count Is (Some d) xs g = list_count Is d xs g
 
@@ -51,7 +55,8 @@ field_count Is (Some d) xs g = list_count Is d xs g
 both : {a b : Bool} → a ≡ true → b ≡ true → (a && b) ≡ true
 both h k = rw (h, k) refl
 
-few_posts : (Is : Data → Body → Type 0) (ds : Items) (xs : List (List Body)) → Each (IsList Is) ds xs → ((n : ℕ) → count_at n ds ≤ MOST_POSTS) → list_all are_few xs ≡ true
+few_posts : (Is : Data → Body → Type 0) (ds : Items) (xs : List (List Body)) → Each (IsList Is) ds xs
+    → ((n : ℕ) → count_at n ds ≤ MOST_POSTS) → list_all are_few xs ≡ true
 few_posts Is no_items [] g few = refl
 few_posts Is no_items (x ∷ xs) g few = absurd g
 few_posts Is (item d ds) [] g few = absurd g
@@ -60,13 +65,15 @@ few_posts Is (item d ds) (x ∷ xs) g few =
     let here : count (or_no_items (as_array d)) ≤ MOST_POSTS = few 0 in
     both (le-leb (length x) MOST_POSTS (rw same here)) (few_posts Is ds xs g.1 (λ n. few (suc n)))
 
-field_posts : (Is : Data → Body → Type 0) (o : Option Data) (xs : List (List Body)) → Field [] (IsList (IsList Is)) o xs → ((n : ℕ) → count_at n (or_no_items (option_and_then as_array o)) ≤ MOST_POSTS) → list_all are_few xs ≡ true
+field_posts : (Is : Data → Body → Type 0) (o : Option Data) (xs : List (List Body)) → Field [] (IsList (IsList Is)) o xs
+    → ((n : ℕ) → count_at n (or_no_items (option_and_then as_array o)) ≤ MOST_POSTS) → list_all are_few xs ≡ true
 field_posts Is None xs g few = rw g refl
 field_posts Is (Some d) xs g few = few_posts Is g.0 xs g.2 (rw (g.1) at few)
 
 -- ---- ticks
 
-no_advance : (word : List ℕ) (ticks : Option ℕ) → bytes_eq word (codes "advance") ≡ false → ticks_by (Some word) ticks ≡ 0
+no_advance : (word : List ℕ) (ticks : Option ℕ) → bytes_eq word (codes "advance") ≡ false
+    → ticks_by (Some word) ticks ≡ 0
 no_advance word None h = refl
 no_advance word (Some n) h = rw h refl
 
@@ -95,7 +102,8 @@ fold_sum k (n ∷ ns) =
 sum_first : (n : ℕ) (ns : List ℕ) → sum (n ∷ ns) ≡ n + sum ns
 sum_first n ns = let whole : fold ◌+◌ (0 + n) ns ≡ (0 + n) + sum ns = fold_sum (0 + n) ns in omega (arith, whole)
 
-events_ticks : (table : List Class) (ds : Items) (xs : List Event) → Each (IsEvent table) ds xs → draft_ticks xs ≡ ticks_among ds
+events_ticks : (table : List Class) (ds : Items) (xs : List Event) → Each (IsEvent table) ds xs
+    → draft_ticks xs ≡ ticks_among ds
 events_ticks table no_items [] g = refl
 events_ticks table no_items (x ∷ xs) g = absurd g
 events_ticks table (item d ds) [] g = absurd g
@@ -105,12 +113,14 @@ events_ticks table (item d ds) (x ∷ xs) g =
     let split : draft_ticks (x ∷ xs) ≡ ticks_of x + draft_ticks xs = sum_first (ticks_of x) (map ticks_of xs) in
     omega (arith, split, here, later)
 
-key_ticks : (table : List Class) (o : Option Data) (xs : List Event) → Key (IsList (IsEvent table)) o xs → draft_ticks xs ≡ ticks_among (or_no_items (option_and_then as_array o))
+key_ticks : (table : List Class) (o : Option Data) (xs : List Event) → Key (IsList (IsEvent table)) o xs
+    → draft_ticks xs ≡ ticks_among (or_no_items (option_and_then as_array o))
 key_ticks table None xs g = absurd g
 key_ticks table (Some d) xs g = rw (g.1) (events_ticks table g.0 xs g.2)
 
 -- where each caller has few posts, each number has
-pub few_all : (ds : Items) → ((n : ℕ) → n < count ds → count_at n ds ≤ MOST_POSTS) → (n : ℕ) → count_at n ds ≤ MOST_POSTS
+pub few_all : (ds : Items) → ((n : ℕ) → n < count ds → count_at n ds ≤ MOST_POSTS) → (n : ℕ)
+    → count_at n ds ≤ MOST_POSTS
 few_all no_items few n = omega arith
 few_all (item d ds) few zero = few 0 (omega arith)
 few_all (item d ds) few (suc n) = few_all ds (λ k less. few (suc k) (omega (arith, less))) n
@@ -129,11 +139,18 @@ pub record IsFew (d : Data) : Type 0 where
 pub few_small : (d : Data) (draft : Draft) → IsScript d draft → IsFew d → is_small d draft ≡ true
 few_small d draft g few =
     let value : (k : List ℕ) → get k d ≡ get_member k g.members = λ k. ap (get k) g.whole in
-    let of_key : (k : List ℕ) → count_in k d ≡ count (or_no_items (option_and_then as_array (get_member k g.members))) = λ k. ap (λ o. count (or_no_items (option_and_then as_array o))) (value k) in
-    let classes : length draft.declared ≤ MOST_CLASSES = omega (arith, few.classes, of_key (codes "classes"), field_count _ _ _ g.declared) in
-    let pools : length draft.script.pools ≤ MOST_POOLS = omega (arith, few.pools, of_key (codes "pools"), field_count _ _ _ g.pools) in
-    let callers : length draft.script.callers ≤ MOST_CALLERS = omega (arith, few.callers, of_key (codes "callers"), field_count _ _ _ g.callers) in
-    let posts : list_all are_few draft.script.callers ≡ true = field_posts _ _ _ g.callers (rw (value (codes "callers")) at few.posts) in
-    let sums : draft_ticks draft.script.events ≡ ticks_in d = key_ticks _ _ _ g.events ∙ sym (ap (λ o. ticks_among (or_no_items (option_and_then as_array o))) (value (codes "events"))) in
+    let of_key : (k : List ℕ) → count_in k d ≡ count (or_no_items (option_and_then as_array (get_member k g.members))) =
+    λ k. ap (λ o. count (or_no_items (option_and_then as_array o))) (value k) in
+    let classes : length draft.declared ≤ MOST_CLASSES =
+    omega (arith, few.classes, of_key (codes "classes"), field_count _ _ _ g.declared) in
+    let pools : length draft.script.pools ≤ MOST_POOLS =
+    omega (arith, few.pools, of_key (codes "pools"), field_count _ _ _ g.pools) in
+    let callers : length draft.script.callers ≤ MOST_CALLERS =
+    omega (arith, few.callers, of_key (codes "callers"), field_count _ _ _ g.callers) in
+    let posts : list_all are_few draft.script.callers ≡ true =
+    field_posts _ _ _ g.callers (rw (value (codes "callers")) at few.posts) in
+    let sums : draft_ticks draft.script.events ≡ ticks_in d = key_ticks _ _ _ g.events
+    ∙ sym (ap (λ o. ticks_among (or_no_items (option_and_then as_array o))) (value (codes "events"))) in
     let ticks : draft_ticks draft.script.events ≤ MOST_TICKS = omega (arith, few.ticks, sums) in
-    both (both (both (both (both (le-leb _ _ few.nodes) (le-leb _ _ classes)) (le-leb _ _ pools)) (le-leb _ _ callers)) posts) (le-leb _ _ ticks)
+    both (both (both (both (both (le-leb _ _ few.nodes) (le-leb _ _ classes)) (le-leb _ _ pools)) (le-leb _ _ callers))
+    posts) (le-leb _ _ ticks)

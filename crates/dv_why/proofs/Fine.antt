@@ -1,16 +1,21 @@
 -- A value of which each part fits, opened.
-use Rattle.std.proofs.Common.{◌≡◌, ℕ, suc, ◌≤◌, ℤ, nat_le, Bool, true, false, ◌&&◌, List, [], ◌∷◌, length, Option, Some, None, is_some, option_map, bytes_eq, refl, sym, ap, ◌∙◌, arith, codes}
+use Rattle.std.proofs.Common.{◌≡◌, ℕ, suc, ◌≤◌, ℤ, nat_le, Bool, true, false, ◌&&◌, List, [], ◌∷◌, length, Option, Some}
+use Rattle.std.proofs.Common.{None, is_some, option_map, bytes_eq, refl, sym, ap, ◌∙◌, arith, codes}
 use Rattle.std.specs.Prelude.{⊤}
 use Rattle.std.proofs.lemmas.Bool.{and_parts, leb-true}
 use Rattle.std.proofs.lemmas.Slice.Eq.{bytes_eq-Decides}
-use Rattle.serde_json.specs.Data.{Data, unsigned, negative, float, null, boolean, number, string, array, object, Items, no_items, item, depth}
+use Rattle.serde_json.specs.Data.{Data, unsigned, negative, float, null, boolean, number, string, array, object, Items}
+use Rattle.serde_json.specs.Data.{no_items, item, depth}
 use Rattle.serde_json.specs.Find.{at, get, get_item, as_array, as_bool, as_i64, as_str}
 use Rattle.dv_script.specs.declared.action.ListFlag.{ListFlag}
 use Rattle.dv_script.specs.declared.action.GatherFlag.{GatherFlag}
 use Rattle.dv_script.specs.declared.limits.TheConstants.{MOST_PLACES}
-use Rattle.dv_forms.specs.Forms.{Each, IsList, IsInteger, IsNumber, IsValue, AreValues, a_null, a_bool, an_int, a_text, a_list, no_values, more_values}
-use Rattle.dv_forms.specs.Parts.{call_at, within, integer_at, number_at, bound_at, list_flag, list_flag_at, gather_flag_named, gather_flag_at}
-use Rattle.dv_grammar.specs.Grammar.{IsListFlag, fires_on_callback, fires_on_errback, consumes_errors, IsGatherFlag, gathers_errors, IsBound, no_bound, a_bound}
+use Rattle.dv_forms.specs.Forms.{Each, IsList, IsInteger, IsNumber, IsValue, AreValues, a_null, a_bool, an_int, a_text}
+use Rattle.dv_forms.specs.Forms.{a_list, no_values, more_values}
+use Rattle.dv_forms.specs.Parts.{call_at, within, integer_at, number_at, bound_at, list_flag, list_flag_at}
+use Rattle.dv_forms.specs.Parts.{gather_flag_named, gather_flag_at}
+use Rattle.dv_grammar.specs.Grammar.{IsListFlag, fires_on_callback, fires_on_errback, consumes_errors, IsGatherFlag}
+use Rattle.dv_grammar.specs.Grammar.{gathers_errors, IsBound, no_bound, a_bound}
 use Rattle.dv_value.specs.declared.value.Value.{Value, Null, Bool as Flag, Int, Text, List as Values}
 use Rattle.dv_forms.specs.declared.want.Want.{Want}
 use Rattle.dv_forms.specs.declared.want.Want.TheVariants as want
@@ -39,20 +44,36 @@ fits_fine h = here h.suit
 -- ---- parts
 
 -- a part, a level down
-pub inside : {v n : ℕ} {w u : Want} {d e : Data} (k : ℕ) → IsFine v (suc n) w d → part_want w d k ≡ Some u → at k d ≡ Some e → IsFine v n u e
-inside {n = n} {d = d} {e = e} k h wants is = record { suit = part k h.suit wants is; deep = item_below k n d e is (let deep : depth d ≤ suc n = h.deep in omega (arith, deep)) }
+pub inside : {v n : ℕ} {w u : Want} {d e : Data} (k : ℕ) → IsFine v (suc n) w d → part_want w d k ≡ Some u
+    → at k d ≡ Some e → IsFine v n u e
+inside {n = n} {d = d} {e = e} k h wants is = record {
+  suit = part k h.suit wants is;
+  deep = item_below k n d e is (let deep : depth d ≤ suc n = h.deep in omega (arith, deep));
+}
 
 -- a part, at the same level
-pub same : {v n : ℕ} {w u : Want} {d e : Data} (k : ℕ) → IsFine v n w d → part_want w d k ≡ Some u → at k d ≡ Some e → IsFine v n u e
-same {n = n} {d = d} {e = e} k h wants is = record { suit = part k h.suit wants is; deep = let deep : depth d ≤ n = h.deep in item_below k n d e is (omega (arith, deep)) }
+pub same : {v n : ℕ} {w u : Want} {d e : Data} (k : ℕ) → IsFine v n w d → part_want w d k ≡ Some u → at k d ≡ Some e
+    → IsFine v n u e
+same {n = n} {d = d} {e = e} k h wants is = record {
+  suit = part k h.suit wants is;
+  deep = let deep : depth d ≤ n = h.deep in item_below k n d e is (omega (arith, deep));
+}
 
 -- the value of a key, a level down
-pub under : {v n : ℕ} {w u : Want} {d e : Data} (key : List ℕ) → IsFine v (suc n) w d → value_want w key ≡ Some u → get key d ≡ Some e → IsFine v n u e
-under {n = n} {d = d} {e = e} key h wants is = record { suit = value key h.suit wants is; deep = value_below key n d e is (let deep : depth d ≤ suc n = h.deep in omega (arith, deep)) }
+pub under : {v n : ℕ} {w u : Want} {d e : Data} (key : List ℕ) → IsFine v (suc n) w d → value_want w key ≡ Some u
+    → get key d ≡ Some e → IsFine v n u e
+under {n = n} {d = d} {e = e} key h wants is = record {
+  suit = value key h.suit wants is;
+  deep = value_below key n d e is (let deep : depth d ≤ suc n = h.deep in omega (arith, deep));
+}
 
 -- the value of a key, at the same level
-pub value_fine : {v n : ℕ} {w u : Want} {d e : Data} (key : List ℕ) → IsFine v n w d → value_want w key ≡ Some u → get key d ≡ Some e → IsFine v n u e
-value_fine {n = n} {d = d} {e = e} key h wants is = record { suit = value key h.suit wants is; deep = let deep : depth d ≤ n = h.deep in value_below key n d e is (omega (arith, deep)) }
+pub value_fine : {v n : ℕ} {w u : Want} {d e : Data} (key : List ℕ) → IsFine v n w d → value_want w key ≡ Some u
+    → get key d ≡ Some e → IsFine v n u e
+value_fine {n = n} {d = d} {e = e} key h wants is = record {
+  suit = value key h.suit wants is;
+  deep = let deep : depth d ≤ n = h.deep in value_below key n d e is (omega (arith, deep));
+}
 
 -- ---- leaves
 
@@ -69,12 +90,15 @@ pub integer_of : (d : Data) → is_some (integer_at d) ≡ true → (n : ℤ) ×
 integer_of (number x) h = let n = there (as_i64 x) h in (n.0, (x, refl, n.1))
 integer_of _ h = cc
 
-within_some : (low high n : ℕ) (b : Bool) → (nat_le low n && nat_le n high) ≡ b → is_some (within low high n) ≡ true → (low ≤ n) × (n ≤ high)
-within_some low high n true e h = let both = and_parts (nat_le low n) (nat_le n high) e in (leb-true low n both.0, leb-true n high both.1)
+within_some : (low high n : ℕ) (b : Bool) → (nat_le low n && nat_le n high) ≡ b → is_some (within low high n) ≡ true
+    → (low ≤ n) × (n ≤ high)
+within_some low high n true e h =
+    let both = and_parts (nat_le low n) (nat_le n high) e in (leb-true low n both.0, leb-true n high both.1)
 within_some low high n false e h = let none : is_some (within low high n) ≡ false = rw e refl in cc
 
 pub number_of : (low high : ℕ) (d : Data) → is_some (number_at low high d) ≡ true → (n : ℕ) × IsNumber low high d n
-number_of low high (number (unsigned n)) h = let both = within_some low high n (nat_le low n && nat_le n high) refl h in (n, (refl, both.0, both.1))
+number_of low high (number (unsigned n)) h =
+    let both = within_some low high n (nat_le low n && nat_le n high) refl h in (n, (refl, both.0, both.1))
 number_of low high (number (negative z)) h = cc
 number_of low high (number (float x)) h = cc
 number_of low high _ h = cc
@@ -89,25 +113,32 @@ some_of f (Some x) h = refl
 
 pub bound_of : (d : Data) → is_some (bound_at d) ≡ true → (o : Option ℕ) × IsBound d o
 bound_of null h = (None, no_bound)
-bound_of (number x) h = let n = number_of 0 MOST_PLACES (number x) (some_of (λ (k : ℕ). Some k) (number_at 0 MOST_PLACES (number x)) h) in (Some n.0, a_bound (number x) n.0 n.1)
+bound_of (number x) h =
+    let n = number_of 0 MOST_PLACES (number x) (some_of (λ (k : ℕ). Some k) (number_at 0 MOST_PLACES (number x)) h) in
+    (Some n.0, a_bound (number x) n.0 n.1)
 bound_of _ h = cc
 
 -- a text is this word, or it isn't
-by_word : {X : Type 0} (text word : List ℕ) (b : Bool) → bytes_eq text word ≡ b → (word ≡ text → X) → (b ≡ false → X) → X
+by_word : {X : Type 0} (text word : List ℕ) (b : Bool) → bytes_eq text word ≡ b → (word ≡ text → X) → (b ≡ false → X)
+    → X
 by_word text word true e is isnt = is (sym ((bytes_eq-Decides text word).0 e))
 by_word text word false e is isnt = isnt refl
 
 pub list_flag_of : (d : Data) → is_some (list_flag_at d) ≡ true → (x : ListFlag) × IsListFlag d x
 list_flag_of (string text) h =
-    by_word text (codes "fireOnOneCallback") (bytes_eq text (codes "fireOnOneCallback")) refl (λ is. rw (← is) (_, fires_on_callback)) (λ f0.
-    by_word text (codes "fireOnOneErrback") (bytes_eq text (codes "fireOnOneErrback")) refl (λ is. rw (← is) (_, fires_on_errback)) (λ f1.
-    by_word text (codes "consumeErrors") (bytes_eq text (codes "consumeErrors")) refl (λ is. rw (← is) (_, consumes_errors)) (λ f2.
+    by_word text (codes "fireOnOneCallback") (bytes_eq text (codes "fireOnOneCallback")) refl
+    (λ is. rw (← is) (_, fires_on_callback)) (λ f0.
+    by_word text (codes "fireOnOneErrback") (bytes_eq text (codes "fireOnOneErrback")) refl
+    (λ is. rw (← is) (_, fires_on_errback)) (λ f1.
+    by_word text (codes "consumeErrors") (bytes_eq text (codes "consumeErrors")) refl
+    (λ is. rw (← is) (_, consumes_errors)) (λ f2.
     (let none : is_some (list_flag text) ≡ false = rw (f0, f1, f2) refl in cc))))
 list_flag_of _ h = cc
 
 pub gather_flag_of : (d : Data) → is_some (gather_flag_at d) ≡ true → (x : GatherFlag) × IsGatherFlag d x
 gather_flag_of (string text) h =
-    by_word text (codes "consumeErrors") (bytes_eq text (codes "consumeErrors")) refl (λ is. rw (← is) (_, gathers_errors)) (λ f.
+    by_word text (codes "consumeErrors") (bytes_eq text (codes "consumeErrors")) refl
+    (λ is. rw (← is) (_, gathers_errors)) (λ f.
     (let none : is_some (gather_flag_named text) ≡ false = rw f refl in cc))
 gather_flag_of _ h = cc
 
@@ -119,10 +150,12 @@ mutual
   value_of v n (boolean b) h = (Flag b, a_bool b)
   value_of v n (number x) h = let i = there (as_i64 x) (fits_fine h) in (Int i.0, an_int x i.0 i.1)
   value_of v n (string text) h = (Text text, a_text text)
-  value_of v n (array ds) h = let xs = values_of v n ds (λ k e is. same k h refl is) in (Values xs.0, a_list ds xs.0 xs.1)
+  value_of v n (array ds) h =
+      let xs = values_of v n ds (λ k e is. same k h refl is) in (Values xs.0, a_list ds xs.0 xs.1)
   value_of v n (object ms) h = let no : fits v want.Value (object ms) ≡ true = fits_fine h in cc
 
-  values_of : (v n : ℕ) (ds : Items) → ((k : ℕ) (e : Data) → get_item k ds ≡ Some e → IsFine v n want.Value e) → (xs : List Value) × AreValues ds xs
+  values_of : (v n : ℕ) (ds : Items) → ((k : ℕ) (e : Data) → get_item k ds ≡ Some e → IsFine v n want.Value e)
+      → (xs : List Value) × AreValues ds xs
   values_of v n no_items h = ([], no_values)
   values_of v n (item d ds) h =
       let x = value_of v n d (h 0 d refl) in
@@ -132,7 +165,8 @@ mutual
 -- ---- arrays
 
 -- each item reads
-pub each_of : {X : Type 0} (Is : Data → X → Type 0) (ds : Items) → ((k : ℕ) (e : Data) → get_item k ds ≡ Some e → (x : X) × Is e x) → (xs : List X) × Each Is ds xs
+pub each_of : {X : Type 0} (Is : Data → X → Type 0) (ds : Items)
+    → ((k : ℕ) (e : Data) → get_item k ds ≡ Some e → (x : X) × Is e x) → (xs : List X) × Each Is ds xs
 each_of Is no_items h = ([], tt)
 each_of Is (item d ds) h =
     let x = h 0 d refl in
@@ -154,7 +188,9 @@ open_array v n i d h =
     let a = array_of d (fits_fine h) in
     record { items = a.0; whole = a.1; each = λ k e is. same k h refl (ap (at k) a.1 ∙ is) }
 
-pub list_of : {X : Type 0} (v n : ℕ) (i : Item) (Is : Data → X → Type 0) → ((e : Data) → IsFine v n (item_want i) e → (x : X) × Is e x) → (d : Data) → IsFine v n (want.Array i) d → (xs : List X) × IsList Is d xs
+pub list_of : {X : Type 0} (v n : ℕ) (i : Item) (Is : Data → X → Type 0)
+    → ((e : Data) → IsFine v n (item_want i) e → (x : X) × Is e x) → (d : Data) → IsFine v n (want.Array i) d
+    → (xs : List X) × IsList Is d xs
 list_of v n i Is one d h =
     let a = open_array v n i d h in
     let xs = each_of Is a.items (λ k e is. one e (a.each k e is)) in
@@ -169,11 +205,13 @@ AreFine v n [] (item d ds) = ⊥
 AreFine v n (w ∷ ws) no_items = ⊥
 AreFine v n (w ∷ ws) (item d ds) = IsFine v n w d × AreFine v n ws ds
 
-pub are_fine : (v n : ℕ) (ws : List Want) (ds : Items) → length ws ≡ count ds → ((k : ℕ) (u : Want) (e : Data) → nth ws k ≡ Some u → get_item k ds ≡ Some e → IsFine v n u e) → AreFine v n ws ds
+pub are_fine : (v n : ℕ) (ws : List Want) (ds : Items) → length ws ≡ count ds
+    → ((k : ℕ) (u : Want) (e : Data) → nth ws k ≡ Some u → get_item k ds ≡ Some e → IsFine v n u e) → AreFine v n ws ds
 are_fine v n [] no_items many h = tt
 are_fine v n [] (item d ds) many h = absurd (omega (arith, many))
 are_fine v n (w ∷ ws) no_items many h = absurd (omega (arith, many))
-are_fine v n (w ∷ ws) (item d ds) many h = (h 0 w d refl refl, are_fine v n ws ds (omega (arith, many)) (λ k u e wants is. h (suc k) u e wants is))
+are_fine v n (w ∷ ws) (item d ds) many h =
+    (h 0 w d refl refl, are_fine v n ws ds (omega (arith, many)) (λ k u e wants is. h (suc k) u e wants is))
 
 pub no_args : (v n : ℕ) (ds : Items) → AreFine v n [] ds → ds ≡ no_items
 no_args v n no_items h = refl
@@ -212,7 +250,9 @@ pub record IsOpenCall (v n : ℕ) (c : Call) (d : Data) : Type 0 where
   pub form : wants_of c word (count rest) ≡ Some wants
   pub args : AreFine v n wants rest
 
-pub open_call : (v n : ℕ) (c : Call) (d : Data) → fits v (want.Call c) d ≡ true → ((k : ℕ) (u : Want) (e : Data) → part_want (want.Call c) d k ≡ Some u → at k d ≡ Some e → IsFine v n u e) → IsOpenCall v n c d
+pub open_call : (v n : ℕ) (c : Call) (d : Data) → fits v (want.Call c) d ≡ true
+    → ((k : ℕ) (u : Want) (e : Data) → part_want (want.Call c) d k ≡ Some u → at k d ≡ Some e → IsFine v n u e)
+    → IsOpenCall v n c d
 unfolding call_at
 open_call v n c (array (item (string word) rest)) h parts =
     let plain : word_fits v c (Some word) ≡ true = fits_fine (parts 0 (want.Word c) (string word) refl refl) in
@@ -229,5 +269,6 @@ open_call v n c (array (item (string word) rest)) h parts =
       form = form.1;
       args = are_fine v n form.0 rest many (λ k u e wants is. parts (suc k) u e (rw (form.1) wants) is);
     }
-open_call v n c (array (item first rest)) h parts = let plain : word_fits v c (as_str first) ≡ true = fits_fine (parts 0 (want.Word c) first refl refl) in cc
+open_call v n c (array (item first rest)) h parts =
+    let plain : word_fits v c (as_str first) ≡ true = fits_fine (parts 0 (want.Word c) first refl refl) in cc
 open_call v n c _ h parts = cc

@@ -1,5 +1,7 @@
 -- Where each class and each pool is as a question asks, the script knows its classes and its pools.
-use Rattle.std.proofs.Common.{◌≡◌, ◌≢◌, ℕ, zero, suc, ◌≤◌, Bool, true, false, not, ◌||◌, nat_eq, List, [], ◌∷◌, length, Option, Some, None, option_and_then, bytes_eq, refl, sym, ap, subst, ◌∙◌, arith, codes, inl, inr}
+use Rattle.std.proofs.Common.{◌≡◌, ◌≢◌, ℕ, zero, suc, ◌≤◌, Bool, true, false, not, ◌||◌, nat_eq, List, [], ◌∷◌, length}
+use Rattle.std.proofs.Common.{Option, Some, None, option_and_then, bytes_eq, refl, sym, ap, subst, ◌∙◌, arith, codes}
+use Rattle.std.proofs.Common.{inl, inr}
 use Rattle.std.proofs.lemmas.Bool.{and_parts, leb-true}
 use Rattle.std.proofs.Math.Bool.{or-true}
 use Rattle.std.proofs.lemmas.Slice.Eq.{bytes_eq-Decides}
@@ -12,7 +14,8 @@ use Rattle.dv_forms.specs.Forms.{Each, IsList, Field}
 use Rattle.dv_grammar.specs.declared.draft.Draft.{Draft}
 use Rattle.dv_grammar.specs.Grammar.{IsPool, pools, IsScript}
 use Rattle.dv_grammar.proofs.Steps.{some_injective}
-use Rattle.dv_questions.specs.Questions.{Asked, words, names, classes, pools as pools_asked, is_known, is_pool, is_among}
+use Rattle.dv_questions.specs.Questions.{Asked, words, names, classes, pools as pools_asked, is_known, is_pool}
+use Rattle.dv_questions.specs.Questions.{is_among}
 use Rattle.dv_reader.specs.Limits.{is_small}
 use Rattle.dv_reader.specs.Refusal.{answers, are_named, are_known, are_distinct, are_pooled}
 use Rattle.dv_reader.specs.declared.error.ScriptFault.TheVariants.{BadShape, BadName, BadClass, BadPool}
@@ -40,9 +43,11 @@ use Rattle.dv_why.proofs.Suits.{IsOfClasses, IsOfPools, misnamed, misused_class,
 use Rattle.dv_why.proofs.Tables.{tables_same}
 
 -- where each part answers well, each text does
-answered : {q : Question} {a : Asked} (d : Data) (draft : Draft) → Tells q a → IsScript d draft → AllSuit q (script_in d) d → answers a d draft ≡ true
+answered : {q : Question} {a : Asked} (d : Data) (draft : Draft) → Tells q a → IsScript d draft
+    → AllSuit q (script_in d) d → answers a d draft ≡ true
 answered {a = a} d draft t g h =
-    subst (λ (v : ℕ). all_suit a (suc MOST_LEVELS) (want.Keyed (keyed.Script v)) d ≡ true) (same_version d draft g) (texts_suit t (suc MOST_LEVELS) (script_in d) d h)
+    subst (λ (v : ℕ). all_suit a (suc MOST_LEVELS) (want.Keyed (keyed.Script v)) d ≡ true) (same_version d draft g)
+    (texts_suit t (suc MOST_LEVELS) (script_in d) d h)
 
 -- ---- names
 
@@ -51,10 +56,12 @@ names_asked = record { leaf = λ l x h. h; word = λ c x h. refl }
 
 -- ---- classes
 
-classes_asked : (q : Question) (d : Data) (table : List Class) → IsOfClasses d q → table_in d ≡ table → Tells q (classes table)
+classes_asked : (q : Question) (d : Data) (table : List Class) → IsOfClasses d q → table_in d ≡ table
+    → Tells q (classes table)
 classes_asked (question.Shape version) d table of same = absurd of
 classes_asked question.Names d table of same = absurd of
-classes_asked (question.Classes given) d table of same = record { leaf = λ l x h. ap (λ t. is_known t l x) (sym (of ∙ same)) ∙ h; word = λ c x h. refl }
+classes_asked (question.Classes given) d table of same =
+    record { leaf = λ l x h. ap (λ t. is_known t l x) (sym (of ∙ same)) ∙ h; word = λ c x h. refl }
 classes_asked (question.Pools ps) d table of same = absurd of
 
 few_declared : (d : Data) (draft : Draft) → is_small d draft ≡ true → length draft.declared ≤ MOST_CLASSES
@@ -66,11 +73,15 @@ few_declared d draft h =
     leb-true (length draft.declared) MOST_CLASSES (and_parts _ _ e.0).1
 
 -- a script in which each class may be declared and each that is used is in the table knows its classes
-pub classes_good : (q : Question) (d : Data) (draft : Draft) → IsOfClasses d q → AllMayDeclare (list_in (codes "classes") d) → IsScript d draft → is_small d draft ≡ true → AllSuit q (script_in d) d → are_known d draft ≡ true
+pub classes_good : (q : Question) (d : Data) (draft : Draft) → IsOfClasses d q
+    → AllMayDeclare (list_in (codes "classes") d) → IsScript d draft → is_small d draft ≡ true
+    → AllSuit q (script_in d) d → are_known d draft ≡ true
 classes_good q d draft of may g small h =
     let value : get (codes "classes") d ≡ get_member (codes "classes") g.members = ap (get (codes "classes")) g.whole in
-    let may_so : AllMayDeclare (or_no_items (option_and_then as_array (get_member (codes "classes") g.members))) = rw value at may in
-    let same = tables_same (get_member (codes "classes") g.members) draft.declared g.declared (few_declared d draft small) may_so in
+    let may_so : AllMayDeclare (or_no_items (option_and_then as_array (get_member (codes "classes") g.members))) =
+    rw value at may in
+    let same = tables_same (get_member (codes "classes") g.members) draft.declared g.declared
+    (few_declared d draft small) may_so in
     let table : table_in d ≡ draft.script.classes = rw value (sym same.1 ∙ sym g.table) in
     both (g.all_declared ∙ same.0) (answered d draft (classes_asked q d draft.script.classes of table) g h)
 
@@ -80,7 +91,8 @@ name_of_pool : (d : Data) (ds : Items) (p : NamedPool) → IsPool d p → name_i
 name_of_pool _ ds _ (pools name d workers g) = refl
 
 -- a name that a pool has is among them
-among_some : (ds : Items) (ps : List NamedPool) → Each IsPool ds ps → (n : ℕ) (name : List ℕ) → name_in n ds ≡ Some name → is_among name ps ≡ true
+among_some : (ds : Items) (ps : List NamedPool) → Each IsPool ds ps → (n : ℕ) (name : List ℕ) → name_in n ds ≡ Some name
+    → is_among name ps ≡ true
 among_some no_items [] g n name is = cc
 among_some no_items (p ∷ ps) g n name is = absurd g
 among_some (item d ds) [] g n name is = absurd g
@@ -97,12 +109,14 @@ neither : {a b : Bool} → a ≡ false → b ≡ false → (a || b) ≡ false
 neither h k = rw (h, k) refl
 
 -- a name that no pool has isn't
-among_none : (ds : Items) (ps : List NamedPool) → Each IsPool ds ps → (name : List ℕ) → ((n : ℕ) → name_in n ds ≢ Some name) → is_among name ps ≡ false
+among_none : (ds : Items) (ps : List NamedPool) → Each IsPool ds ps → (name : List ℕ)
+    → ((n : ℕ) → name_in n ds ≢ Some name) → is_among name ps ≡ false
 among_none no_items [] g name none = refl
 among_none no_items (p ∷ ps) g name none = absurd g
 among_none (item d ds) [] g name none = absurd g
 among_none (item d ds) (p ∷ ps) g name none =
-    neither (differ p.name name (bytes_eq p.name name) refl (λ same. none 0 (name_of_pool d ds p g.0 ∙ ap Some same))) (among_none ds ps g.1 name (λ n. none (suc n)))
+    neither (differ p.name name (bytes_eq p.name name) refl (λ same. none 0 (name_of_pool d ds p g.0 ∙ ap Some same)))
+    (among_none ds ps g.1 name (λ n. none (suc n)))
 
 distinct : (ds : Items) (ps : List NamedPool) → Each IsPool ds ps → AreDistinct ds → are_distinct ps ≡ true
 distinct no_items [] g h = refl
@@ -112,11 +126,13 @@ distinct (item d ds) (p ∷ ps) g h =
     both (ap not (among_none ds ps g.1 p.name (λ n is. h (suc n) 0 p.name (omega arith) (name_of_pool d ds p g.0) is)))
     (distinct ds ps g.1 (λ n k name less is. h (suc n) (suc k) name (omega (arith, less)) is))
 
-field_distinct : (o : Option Data) (ps : List NamedPool) → Field [] (IsList IsPool) o ps → AreDistinct (or_no_items (option_and_then as_array o)) → are_distinct ps ≡ true
+field_distinct : (o : Option Data) (ps : List NamedPool) → Field [] (IsList IsPool) o ps
+    → AreDistinct (or_no_items (option_and_then as_array o)) → are_distinct ps ≡ true
 field_distinct None ps g h = rw g refl
 field_distinct (Some d) ps g h = distinct g.0 ps g.2 (rw (g.1) at h)
 
-field_among : (o : Option Data) (ps : List NamedPool) → Field [] (IsList IsPool) o ps → (n : ℕ) (name : List ℕ) → name_in n (or_no_items (option_and_then as_array o)) ≡ Some name → is_among name ps ≡ true
+field_among : (o : Option Data) (ps : List NamedPool) → Field [] (IsList IsPool) o ps → (n : ℕ) (name : List ℕ)
+    → name_in n (or_no_items (option_and_then as_array o)) ≡ Some name → is_among name ps ≡ true
 field_among None ps g n name is = cc
 field_among (Some d) ps g n name is = among_some g.0 ps g.2 n name (rw (g.1) at is)
 
@@ -124,32 +140,44 @@ or_also : (a b c : Bool) → (b ≡ true → c ≡ true) → (a || b) ≡ true �
 or_also true b c k h = refl
 or_also false b c k h = k h
 
-among_declared : (d : Data) (draft : Draft) (ps : List Value) → items_view ps ≡ list_in (codes "pools") d → IsScript d draft → (x : List ℕ) → is_declared ps x ≡ true → is_among x draft.script.pools ≡ true
+among_declared : (d : Data) (draft : Draft) (ps : List Value) → items_view ps ≡ list_in (codes "pools") d
+    → IsScript d draft → (x : List ℕ) → is_declared ps x ≡ true → is_among x draft.script.pools ≡ true
 among_declared d draft ps of g x h =
     let one = declared_one ps x h in
-    let value : list_in (codes "pools") d ≡ or_no_items (option_and_then as_array (get_member (codes "pools") g.members)) = ap (λ e. or_no_items (option_and_then as_array (get (codes "pools") e))) g.whole in
-    field_among (get_member (codes "pools") g.members) draft.script.pools g.pools one.0 x (ap (name_in one.0) (sym (of ∙ value)) ∙ one.1)
+    let value : list_in (codes "pools") d
+    ≡ or_no_items (option_and_then as_array (get_member (codes "pools") g.members)) =
+    ap (λ e. or_no_items (option_and_then as_array (get (codes "pools") e))) g.whole in
+    field_among (get_member (codes "pools") g.members) draft.script.pools g.pools one.0 x
+    (ap (name_in one.0) (sym (of ∙ value)) ∙ one.1)
 
-pools_tell : (q : Question) (d : Data) (draft : Draft) → IsOfPools d q → IsScript d draft → Tells q (pools_asked draft.script.pools)
+pools_tell : (q : Question) (d : Data) (draft : Draft) → IsOfPools d q → IsScript d draft
+    → Tells q (pools_asked draft.script.pools)
 pools_tell (question.Shape version) d draft of g = absurd of
 pools_tell question.Names d draft of g = absurd of
 pools_tell (question.Classes given) d draft of g = absurd of
 pools_tell (question.Pools ps) d draft of g = record {
-  leaf = λ l x h. or_also (not (is_pool l)) (is_declared ps.now x) (is_among x draft.script.pools) (among_declared d draft ps.now of g x) h;
+  leaf =
+      λ l x h. or_also (not (is_pool l)) (is_declared ps.now x) (is_among x draft.script.pools)
+      (among_declared d draft ps.now of g x) h;
   word = λ c x h. refl;
 }
 
-all_distinct : (d : Data) (draft : Draft) (b : Bool) → nat_eq (version_in d) 1 ≡ b → IsScript d draft → PoolsDistinct d → are_distinct draft.script.pools ≡ true
+all_distinct : (d : Data) (draft : Draft) (b : Bool) → nat_eq (version_in d) 1 ≡ b → IsScript d draft → PoolsDistinct d
+    → are_distinct draft.script.pools ≡ true
 all_distinct d draft true one g h =
     let none : Field [] (IsList IsPool) None draft.script.pools = rw (first_has_no_pools d draft g one) at g.pools in
     rw none refl
 all_distinct d draft false two g h =
-    let value : list_in (codes "pools") d ≡ or_no_items (option_and_then as_array (get_member (codes "pools") g.members)) = ap (λ e. or_no_items (option_and_then as_array (get (codes "pools") e))) g.whole in
+    let value : list_in (codes "pools") d
+    ≡ or_no_items (option_and_then as_array (get_member (codes "pools") g.members)) =
+    ap (λ e. or_no_items (option_and_then as_array (get (codes "pools") e))) g.whole in
     field_distinct (get_member (codes "pools") g.members) draft.script.pools g.pools (subst AreDistinct value (h two))
 
 -- a script in which no name of a pool is given twice and each pool that is used is declared has its pools
-pub pools_good : (q : Question) (d : Data) (draft : Draft) → IsOfPools d q → PoolsDistinct d → IsScript d draft → AllSuit q (script_in d) d → are_pooled d draft ≡ true
-pools_good q d draft of h g suit = both (all_distinct d draft (nat_eq (version_in d) 1) refl g h) (answered d draft (pools_tell q d draft of g) g suit)
+pub pools_good : (q : Question) (d : Data) (draft : Draft) → IsOfPools d q → PoolsDistinct d → IsScript d draft
+    → AllSuit q (script_in d) d → are_pooled d draft ≡ true
+pools_good q d draft of h g suit =
+    both (all_distinct d draft (nat_eq (version_in d) 1) refl g h) (answered d draft (pools_tell q d draft of g) g suit)
 
 -- ---- what is found where a script is refused so
 
@@ -158,19 +186,25 @@ differs true is isnt = cc
 differs false is isnt = cc
 
 -- refused for a name, a name is found
-pub found_name : (d : Data) (m : Misfit) → IsRefusedFor BadName d → depth d ≤ MOST_LEVELS → Misfits question.Names d m → IsMisnamed m
+pub found_name : (d : Data) (m : Misfit) → IsRefusedFor BadName d → depth d ≤ MOST_LEVELS → Misfits question.Names d m
+    → IsMisnamed m
 found_name d m h shallow (inl bad) = misnamed m bad
-found_name d m h shallow (inr whole) = differs (are_named d h.0) (answered d h.0 names_asked h.1.shape (whole.1 shallow)) h.3
+found_name d m h shallow (inr whole) =
+    differs (are_named d h.0) (answered d h.0 names_asked h.1.shape (whole.1 shallow)) h.3
 
 -- refused for a class, a class is found, where each may be declared
-pub found_class : (q : Question) (d : Data) (m : Misfit) → IsOfClasses d q → AllMayDeclare (list_in (codes "classes") d) → IsRefusedFor BadClass d → depth d ≤ MOST_LEVELS → Misfits q d m → IsBadClass d m
+pub found_class : (q : Question) (d : Data) (m : Misfit) → IsOfClasses d q → AllMayDeclare (list_in (codes "classes") d)
+    → IsRefusedFor BadClass d → depth d ≤ MOST_LEVELS → Misfits q d m → IsBadClass d m
 found_class q d m of may h shallow (inl bad) = misused_class q d m of bad
-found_class q d m of may h shallow (inr whole) = differs (are_known d h.0) (classes_good q d h.0 of may h.1.shape h.2 (whole.1 shallow)) h.4
+found_class q d m of may h shallow (inr whole) =
+    differs (are_known d h.0) (classes_good q d h.0 of may h.1.shape h.2 (whole.1 shallow)) h.4
 
 -- refused for a pool, a pool is found, where each is given once
-pub found_pool : (q : Question) (d : Data) (m : Misfit) → IsOfPools d q → PoolsDistinct d → IsRefusedFor BadPool d → depth d ≤ MOST_LEVELS → Misfits q d m → IsBadPool d m
+pub found_pool : (q : Question) (d : Data) (m : Misfit) → IsOfPools d q → PoolsDistinct d → IsRefusedFor BadPool d
+    → depth d ≤ MOST_LEVELS → Misfits q d m → IsBadPool d m
 found_pool q d m of once h shallow (inl bad) = misused_pool q d m of bad
-found_pool q d m of once h shallow (inr whole) = differs (are_pooled d h.0) (pools_good q d h.0 of once h.1.shape (whole.1 shallow)) h.5
+found_pool q d m of once h shallow (inr whole) =
+    differs (are_pooled d h.0) (pools_good q d h.0 of once h.1.shape (whole.1 shallow)) h.5
 
 -- ---- shapes
 
@@ -178,7 +212,8 @@ shape_asked : (v w : ℕ) → v ≡ w → Tells (question.Shape v) (words w)
 shape_asked v w same = record { leaf = λ l x h. refl; word = λ c x h. rw (← same) h }
 
 -- refused for its shape, a part is found that doesn't fit
-pub found_shape : (d : Data) (m : Misfit) → IsRefusedFor BadShape d → depth d ≤ MOST_LEVELS → Misfits (question.Shape (version_in d)) d m → IsMisshaped d m
+pub found_shape : (d : Data) (m : Misfit) → IsRefusedFor BadShape d → depth d ≤ MOST_LEVELS
+    → Misfits (question.Shape (version_in d)) d m → IsMisshaped d m
 found_shape d m h shallow (inl bad) = bad
 found_shape d m h shallow (inr whole) =
     let suit = whole.1 shallow in

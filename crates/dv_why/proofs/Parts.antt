@@ -15,8 +15,10 @@ both h k = rw (h, k) refl
 pub here : {q : Question} {w : Want} {d : Data} → AllSuit q w d → suits q w d ≡ true
 here (all_suit w d suit items values) = suit
 
-pub part : {q : Question} {w v : Want} {d e : Data} (n : ℕ) → AllSuit q w d → part_want w d n ≡ Some v → at n d ≡ Some e → AllSuit q v e
+pub part : {q : Question} {w v : Want} {d e : Data} (n : ℕ) → AllSuit q w d → part_want w d n ≡ Some v → at n d ≡ Some e
+    → AllSuit q v e
 part n (all_suit w d suit items values) wants is = items n _ _ wants is
 
-pub value : {q : Question} {w v : Want} {d e : Data} (key : List ℕ) → AllSuit q w d → value_want w key ≡ Some v → value_of key d ≡ Some e → AllSuit q v e
+pub value : {q : Question} {w v : Want} {d e : Data} (key : List ℕ) → AllSuit q w d → value_want w key ≡ Some v
+    → value_of key d ≡ Some e → AllSuit q v e
 value key (all_suit w d suit items values) wants is = values key _ _ wants is

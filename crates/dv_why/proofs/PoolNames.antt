@@ -1,5 +1,6 @@
 -- The names of pools, by their numbers.
-use Rattle.std.proofs.Common.{◌≡◌, ◌≢◌, ℕ, zero, suc, ◌<◌, Bool, true, false, ◌||◌, List, [], ◌∷◌, length, take, Option, Some, None, refl, ap, arith, inl, inr}
+use Rattle.std.proofs.Common.{◌≡◌, ◌≢◌, ℕ, zero, suc, ◌<◌, Bool, true, false, ◌||◌, List, [], ◌∷◌, length, take, Option}
+use Rattle.std.proofs.Common.{Some, None, refl, ap, arith, inl, inr}
 use Rattle.std.proofs.Math.Bool.{or-true}
 use Rattle.std.proofs.lemmas.Bool.{or_cases}
 use Rattle.std.proofs.lemmas.Slice.Eq.{bytes_eq-Decides}
@@ -19,14 +20,17 @@ has_name_so : (name : List ℕ) (o : Option (List ℕ)) → o ≡ Some name → 
 has_name_so name o is = rw is ((bytes_eq-Decides name name).1 refl)
 
 -- a name that is among the first pools is that of one of them
-pub declared_some : (pools : List Value) (n : ℕ) (name : List ℕ) → is_declared (take n pools) name ≡ true → (k : ℕ) × (k < n) × (name_in k (items_view pools) ≡ Some name)
+pub declared_some : (pools : List Value) (n : ℕ) (name : List ℕ) → is_declared (take n pools) name ≡ true
+    → (k : ℕ) × (k < n) × (name_in k (items_view pools) ≡ Some name)
 declared_some [] zero name h = cc
 declared_some [] (suc n) name h = cc
 declared_some (v ∷ vs) zero name h = cc
-declared_some (v ∷ vs) (suc n) name h = elim (or_cases (has_name name (first_text (view v))) (is_declared (take n vs) name) h) [
-  | inl first ↦ (0, omega arith, has_name_is name (first_text (view v)) first)
-  | inr later ↦ let found = declared_some vs n name later in (suc found.0, (let less : found.0 < n = found.1 in omega arith), found.2)
-]
+declared_some (v ∷ vs) (suc n) name h =
+    elim (or_cases (has_name name (first_text (view v))) (is_declared (take n vs) name) h) [
+      | inl first ↦ (0, omega arith, has_name_is name (first_text (view v)) first)
+      | inr later ↦ let found = declared_some vs n name later in
+          (suc found.0, (let less : found.0 < n = found.1 in omega arith), found.2)
+    ]
 
 -- a name that is given among the first pools
 pub record IsGivenBy (pools : List Value) (n : ℕ) (o : Option (List ℕ)) : Type 0 where
@@ -36,26 +40,32 @@ pub record IsGivenBy (pools : List Value) (n : ℕ) (o : Option (List ℕ)) : Ty
   pub order : first < n
   pub same : name_in first (items_view pools) ≡ Some name
 
-pub given_some : (pools : List Value) (n : ℕ) (o : Option (List ℕ)) → is_given (take n pools) o ≡ true → IsGivenBy pools n o
+pub given_some : (pools : List Value) (n : ℕ) (o : Option (List ℕ)) → is_given (take n pools) o ≡ true
+    → IsGivenBy pools n o
 given_some pools n None h = cc
-given_some pools n (Some name) h = let found = declared_some pools n name h in record { name = name; text = refl; first = found.0; order = found.1; same = found.2 }
+given_some pools n (Some name) h =
+    let found = declared_some pools n name h in
+    record { name = name; text = refl; first = found.0; order = found.1; same = found.2 }
 
 or_none : (a b : Bool) → (a || b) ≡ false → (a ≡ false) × (b ≡ false)
 or_none true b h = cc
 or_none false b h = (refl, h)
 
 -- a name that isn't among the pools is that of none
-pub declared_none : (pools : List Value) (name : List ℕ) → is_declared pools name ≡ false → (n : ℕ) → name_in n (items_view pools) ≢ Some name
+pub declared_none : (pools : List Value) (name : List ℕ) → is_declared pools name ≡ false → (n : ℕ)
+    → name_in n (items_view pools) ≢ Some name
 declared_none [] name h zero is = cc
 declared_none [] name h (suc n) is = cc
 declared_none (v ∷ vs) name h zero is =
     let no = or_none (has_name name (first_text (view v))) (is_declared vs name) h in
     let yes = has_name_so name (first_text (view v)) is in
     cc
-declared_none (v ∷ vs) name h (suc n) is = declared_none vs name (or_none (has_name name (first_text (view v))) (is_declared vs name) h).1 n is
+declared_none (v ∷ vs) name h (suc n) is =
+    declared_none vs name (or_none (has_name name (first_text (view v))) (is_declared vs name) h).1 n is
 
 -- a name that is among them is that of one
-pub declared_one : (pools : List Value) (name : List ℕ) → is_declared pools name ≡ true → (n : ℕ) × (name_in n (items_view pools) ≡ Some name)
+pub declared_one : (pools : List Value) (name : List ℕ) → is_declared pools name ≡ true
+    → (n : ℕ) × (name_in n (items_view pools) ≡ Some name)
 declared_one [] name h = cc
 declared_one (v ∷ vs) name h = elim (or_cases (has_name name (first_text (view v))) (is_declared vs name) h) [
   | inl first ↦ (0, has_name_is name (first_text (view v)) first)
@@ -63,15 +73,18 @@ declared_one (v ∷ vs) name h = elim (or_cases (has_name name (first_text (view
 ]
 
 -- a name that is that of one of the first pools is among them
-declared_before : (pools : List Value) (n k : ℕ) (name : List ℕ) → k < n → name_in k (items_view pools) ≡ Some name → is_declared (take n pools) name ≡ true
+declared_before : (pools : List Value) (n k : ℕ) (name : List ℕ) → k < n → name_in k (items_view pools) ≡ Some name
+    → is_declared (take n pools) name ≡ true
 declared_before [] n zero name less is = cc
 declared_before [] n (suc k) name less is = cc
 declared_before (v ∷ vs) zero k name less is = absurd (omega (arith, less))
 declared_before (v ∷ vs) (suc n) zero name less is = rw (has_name_so name (first_text (view v)) is) refl
-declared_before (v ∷ vs) (suc n) (suc k) name less is = rw (declared_before vs n k name (omega (arith, less)) is) (or-true (has_name name (first_text (view v))))
+declared_before (v ∷ vs) (suc n) (suc k) name less is =
+    rw (declared_before vs n k name (omega (arith, less)) is) (or-true (has_name name (first_text (view v))))
 
 -- a name that isn't given among the pools before is new
-pub is_new : (pools : List Value) (n : ℕ) → is_given (take n pools) (name_in n (items_view pools)) ≡ false → IsNew n (items_view pools)
+pub is_new : (pools : List Value) (n : ℕ) → is_given (take n pools) (name_in n (items_view pools)) ≡ false
+    → IsNew n (items_view pools)
 is_new pools n h k name less same is =
     let yes = declared_before pools n k name less same in
     let no : is_given (take n pools) (Some name) ≡ false = rw is at h in
@@ -84,7 +97,8 @@ name_within (v ∷ vs) zero name is = omega arith
 name_within (v ∷ vs) (suc n) name is = let less : n < length vs = name_within vs n name is in omega (arith, less)
 
 -- where the name of each pool is new, they are distinct
-pub all_new : (pools : List Value) → ((n : ℕ) → n < length pools → IsNew n (items_view pools)) → AreDistinct (items_view pools)
+pub all_new : (pools : List Value) → ((n : ℕ) → n < length pools → IsNew n (items_view pools))
+    → AreDistinct (items_view pools)
 all_new pools new n k name less same is = new n (name_within pools n name is) k name less same is
 
 -- where there is no array, there are no names

@@ -1,12 +1,15 @@
 -- Where each part of a value fits, it reads.
-use Rattle.std.proofs.Common.{Ordering, Less, Equal, Greater, is_eq, nat_cmp, ◌≡◌, ℕ, zero, suc, ◌≤◌, nat_eq, Bool, true, false, List, [], ◌∷◌, Option, Some, None, is_some, option_and_then, bytes_eq, refl, sym, ap, subst, ◌∙◌, arith, codes}
+use Rattle.std.proofs.Common.{Ordering, Less, Equal, Greater, is_eq, nat_cmp, ◌≡◌, ℕ, zero, suc, ◌≤◌, nat_eq, Bool}
+use Rattle.std.proofs.Common.{true, false, List, [], ◌∷◌, Option, Some, None, is_some, option_and_then, bytes_eq, refl}
+use Rattle.std.proofs.Common.{sym, ap, subst, ◌∙◌, arith, codes}
 use Rattle.std.specs.List.{list_any}
 use Rattle.std.specs.Ordering.{match_ordering}
 use Rattle.std.specs.Cmp.Lexicographic.{slice_cmp}
 use Rattle.std.proofs.lemmas.Bool.{and_parts, eqb-true}
 use Rattle.std.proofs.lemmas.Map.Text.{is_eq-slice_cmp}
 use Rattle.std.proofs.lemmas.Slice.Eq.{bytes_eq-Decides}
-use Rattle.serde_json.specs.Data.{Data, string, array, object, Items, no_items, item, Members, no_members, member, depth}
+use Rattle.serde_json.specs.Data.{Data, string, array, object, Items, no_items, item, Members, no_members, member}
+use Rattle.serde_json.specs.Data.{depth}
 use Rattle.serde_json.specs.Find.{at, get_item, get_member, as_number, as_u64, as_str}
 use Rattle.dv_value.specs.declared.classes.Class.{Class}
 use Rattle.dv_script.specs.declared.body.End.{End}
@@ -15,19 +18,35 @@ use Rattle.dv_script.specs.declared.body.Body.{Body}
 use Rattle.dv_script.specs.declared.body.Statement.{Statement, Do, Await, Try, End as Leave}
 use Rattle.dv_script.specs.declared.work.Work.{Work}
 use Rattle.dv_script.specs.declared.work.Work.TheVariants as job_of
-use Rattle.dv_script.specs.declared.action.Action.{Action, Deferred, Callback, Errback, AddCallback, AddErrback, AddBoth, AddCallbacks, Chain, Pause, Unpause, Cancel, AddTimeout, Note, List as ListOf, Gather, Maybe, Lock, Semaphore, Acquire, Release, RunWith, Queue, Put, Get, Later, CancelCall, Loop, StopLoop, Cooperate, WhenDone, PauseTask, StopTask, ResumeTask, Inline, Thread, ThreadIn}
+use Rattle.dv_script.specs.declared.action.Action.{Action, Deferred, Callback, Errback, AddCallback, AddErrback}
+use Rattle.dv_script.specs.declared.action.Action.{AddBoth, AddCallbacks, Chain, Pause, Unpause, Cancel, AddTimeout}
+use Rattle.dv_script.specs.declared.action.Action.{Note, List as ListOf, Gather, Maybe, Lock, Semaphore, Acquire}
+use Rattle.dv_script.specs.declared.action.Action.{Release, RunWith, Queue, Put, Get, Later, CancelCall, Loop, StopLoop}
+use Rattle.dv_script.specs.declared.action.Action.{Cooperate, WhenDone, PauseTask, StopTask, ResumeTask, Inline, Thread}
+use Rattle.dv_script.specs.declared.action.Action.{ThreadIn}
 use Rattle.dv_script.specs.declared.event.Event.{Event}
 use Rattle.dv_script.specs.declared.event.Event.TheVariants as happens
 use Rattle.dv_script.specs.declared.script.Cooperator.{Cooperator}
 use Rattle.dv_script.specs.declared.script.NamedPool.{NamedPool}
-use Rattle.dv_script.specs.declared.limits.TheConstants.{MOST_DRAINED, MOST_LIMIT, MOST_PLACES, MOST_SUM, MOST_UNITS, MOST_WORKERS, USUAL_LIMIT}
+use Rattle.dv_script.specs.declared.limits.TheConstants.{MOST_DRAINED, MOST_LIMIT, MOST_PLACES, MOST_SUM, MOST_UNITS}
+use Rattle.dv_script.specs.declared.limits.TheConstants.{MOST_WORKERS, USUAL_LIMIT}
 use Rattle.dv_clock.specs.declared.limits.TheConstants.{MOST_DELAY, MOST_TICKS}
 use Rattle.dv_forms.specs.declared.declaration.Declaration.{Declaration}
 use Rattle.dv_forms.specs.Forms.{call, IsList, Field, Key, has_only, IsNumber, IsText, IsClass, IsValue, place_of}
 use Rattle.dv_forms.specs.Leaving.{may_leave}
 use Rattle.dv_forms.specs.Table.{table_of, all_declared}
 use Rattle.dv_grammar.specs.declared.draft.Draft.{Draft}
-use Rattle.dv_grammar.specs.Grammar.{body_keys, cooperator_keys, keys_of, plain_cooperator, IsEnd, returns, passes, adds, raises, traps, waits, IsWork, gives, fails, sums, IsListFlag, IsGatherFlag, IsAction, deferred, deferred_with, callback, errback, add_callback, add_errback, add_both, add_callbacks, chain, pause, unpause, cancel, add_timeout, note, list, gather, maybe, lock, semaphore, acquire, release, run_with, queue, put, get, later, cancel_call, loop, stop_loop, cooperate, when_done, pause_task, stop_task, resume_task, inline, thread, thread_in, AreActions, no_actions, more_actions, IsDo, does_nothing, does, IsBody, body, AreBodies, no_bodies, more_bodies, IsStatement, performs, awaits, tries, leaves, AreStatements, no_statements, more_statements, IsEvent, acts, advances, drains, IsDeclaration, declares, IsPool, pools, IsCooperator, IsScript, IsBound}
+use Rattle.dv_grammar.specs.Grammar.{body_keys, cooperator_keys, keys_of, plain_cooperator, IsEnd, returns, passes}
+use Rattle.dv_grammar.specs.Grammar.{adds, raises, traps, waits, IsWork, gives, fails, sums, IsListFlag, IsGatherFlag}
+use Rattle.dv_grammar.specs.Grammar.{IsAction, deferred, deferred_with, callback, errback, add_callback, add_errback}
+use Rattle.dv_grammar.specs.Grammar.{add_both, add_callbacks, chain, pause, unpause, cancel, add_timeout, note, list}
+use Rattle.dv_grammar.specs.Grammar.{gather, maybe, lock, semaphore, acquire, release, run_with, queue, put, get, later}
+use Rattle.dv_grammar.specs.Grammar.{cancel_call, loop, stop_loop, cooperate, when_done, pause_task, stop_task}
+use Rattle.dv_grammar.specs.Grammar.{resume_task, inline, thread, thread_in, AreActions, no_actions, more_actions, IsDo}
+use Rattle.dv_grammar.specs.Grammar.{does_nothing, does, IsBody, body, AreBodies, no_bodies, more_bodies, IsStatement}
+use Rattle.dv_grammar.specs.Grammar.{performs, awaits, tries, leaves, AreStatements, no_statements, more_statements}
+use Rattle.dv_grammar.specs.Grammar.{IsEvent, acts, advances, drains, IsDeclaration, declares, IsPool, pools}
+use Rattle.dv_grammar.specs.Grammar.{IsCooperator, IsScript, IsBound}
 use Rattle.dv_grammar.proofs.WordsLemmas.{◌&◌}
 use Rattle.dv_forms.specs.declared.want.Want.{Want}
 use Rattle.dv_forms.specs.declared.want.Want.TheVariants as want
@@ -47,7 +66,9 @@ use Rattle.dv_why.specs.Documents.{one_or_two, version_in, script_in}
 use Rattle.dv_why.specs.Fits.{fits, are_two}
 use Rattle.dv_why.specs.AllSuit.{AllSuit}
 use Rattle.dv_why.proofs.Asked.{EachKey, known_key}
-use Rattle.dv_why.proofs.Fine.{IsFine, fits_fine, inside, same, under, value_fine, text_of, integer_of, number_of, boolean_of, bound_of, list_flag_of, gather_flag_of, value_of, open_array, list_of, AreFine, are_fine, no_args, one_arg, more_args, open_call}
+use Rattle.dv_why.proofs.Fine.{IsFine, fits_fine, inside, same, under, value_fine, text_of, integer_of, number_of}
+use Rattle.dv_why.proofs.Fine.{boolean_of, bound_of, list_flag_of, gather_flag_of, value_of, open_array, list_of}
+use Rattle.dv_why.proofs.Fine.{AreFine, are_fine, no_args, one_arg, more_args, open_call}
 use Rattle.dv_why.proofs.Forms.{EachForm, either_found, found_form}
 use Rattle.dv_why.proofs.Parts.{both, here, value}
 use Rattle.dv_why.proofs.Versions.{within_two}
@@ -60,7 +81,8 @@ is_text v n d h = text_of d (fits_fine h)
 class_fine : (v n : ℕ) (table : List Class) (d : Data) → IsFine v n a_class d → (class : ℕ) × IsClass table d class
 class_fine v n table d h = let x = text_of d (fits_fine h) in (place_of x.0 table, (x.0, x.1, refl))
 
-number_fine : (v n low high : ℕ) (d : Data) → IsFine v n (want.Leaf (leaf.Number low high)) d → (k : ℕ) × IsNumber low high d k
+number_fine : (v n low high : ℕ) (d : Data) → IsFine v n (want.Leaf (leaf.Number low high)) d
+    → (k : ℕ) × IsNumber low high d k
 number_fine v n low high d h = number_of low high d (fits_fine h)
 
 -- ---- arguments, two to five
@@ -91,7 +113,15 @@ three_args : (v n : ℕ) (w1 w2 w3 : Want) (ds : Items) → AreFine v n (w1 ∷ 
 three_args v n w1 w2 w3 ds h =
     let m = more_args v n w1 (w2 ∷ w3 ∷ []) ds h in
     let l = two_args v n w2 w3 m.rest m.others in
-    record { a = m.a; b = l.a; c = l.b; items = m.items ∙ ap (item m.a) l.items; one = m.fine; two = l.one; three = l.two }
+    record {
+      a = m.a;
+      b = l.a;
+      c = l.b;
+      items = m.items ∙ ap (item m.a) l.items;
+      one = m.fine;
+      two = l.one;
+      three = l.two;
+    }
 
 record IsFour (v n : ℕ) (w1 w2 w3 w4 : Want) (ds : Items) : Type 0 where
   a : Data
@@ -104,11 +134,22 @@ record IsFour (v n : ℕ) (w1 w2 w3 w4 : Want) (ds : Items) : Type 0 where
   three : IsFine v n w3 c
   four : IsFine v n w4 d
 
-four_args : (v n : ℕ) (w1 w2 w3 w4 : Want) (ds : Items) → AreFine v n (w1 ∷ w2 ∷ w3 ∷ w4 ∷ []) ds → IsFour v n w1 w2 w3 w4 ds
+four_args : (v n : ℕ) (w1 w2 w3 w4 : Want) (ds : Items) → AreFine v n (w1 ∷ w2 ∷ w3 ∷ w4 ∷ []) ds
+    → IsFour v n w1 w2 w3 w4 ds
 four_args v n w1 w2 w3 w4 ds h =
     let m = more_args v n w1 (w2 ∷ w3 ∷ w4 ∷ []) ds h in
     let l = three_args v n w2 w3 w4 m.rest m.others in
-    record { a = m.a; b = l.a; c = l.b; d = l.c; items = m.items ∙ ap (item m.a) l.items; one = m.fine; two = l.one; three = l.two; four = l.three }
+    record {
+      a = m.a;
+      b = l.a;
+      c = l.b;
+      d = l.c;
+      items = m.items ∙ ap (item m.a) l.items;
+      one = m.fine;
+      two = l.one;
+      three = l.two;
+      four = l.three;
+    }
 
 record IsFive (v n : ℕ) (w1 w2 w3 w4 w5 : Want) (ds : Items) : Type 0 where
   a : Data
@@ -123,25 +164,42 @@ record IsFive (v n : ℕ) (w1 w2 w3 w4 w5 : Want) (ds : Items) : Type 0 where
   four : IsFine v n w4 d
   five : IsFine v n w5 e
 
-five_args : (v n : ℕ) (w1 w2 w3 w4 w5 : Want) (ds : Items) → AreFine v n (w1 ∷ w2 ∷ w3 ∷ w4 ∷ w5 ∷ []) ds → IsFive v n w1 w2 w3 w4 w5 ds
+five_args : (v n : ℕ) (w1 w2 w3 w4 w5 : Want) (ds : Items) → AreFine v n (w1 ∷ w2 ∷ w3 ∷ w4 ∷ w5 ∷ []) ds
+    → IsFive v n w1 w2 w3 w4 w5 ds
 five_args v n w1 w2 w3 w4 w5 ds h =
     let m = more_args v n w1 (w2 ∷ w3 ∷ w4 ∷ w5 ∷ []) ds h in
     let l = four_args v n w2 w3 w4 w5 m.rest m.others in
-    record { a = m.a; b = l.a; c = l.b; d = l.c; e = l.d; items = m.items ∙ ap (item m.a) l.items; one = m.fine; two = l.one; three = l.two; four = l.three; five = l.four }
+    record {
+      a = m.a;
+      b = l.a;
+      c = l.b;
+      d = l.c;
+      e = l.d;
+      items = m.items ∙ ap (item m.a) l.items;
+      one = m.fine;
+      two = l.one;
+      three = l.two;
+      four = l.three;
+      five = l.four;
+    }
 
 -- ---- ends and works
 
 -- the arguments of a word read as those of an end
 abbrev IsEndRead : ℕ → ℕ → List Class → List ℕ → List Want → Type 0
-IsEndRead v n table word wants = (ds : Items) → AreFine v n wants ds → (e : End) × IsEnd table (array (item (string word) ds)) e
+IsEndRead v n table word wants =
+    (ds : Items) → AreFine v n wants ds → (e : End) × IsEnd table (array (item (string word) ds)) e
 
 -- as those of an end by which an inline body may be left
 abbrev IsLeavingRead : ℕ → ℕ → List Class → List ℕ → List Want → Type 0
-IsLeavingRead v n table word wants = (ds : Items) → AreFine v n wants ds → (e : End) × IsEnd table (array (item (string word) ds)) e × (may_leave e ≡ true)
+IsLeavingRead v n table word wants =
+    (ds : Items) → AreFine v n wants ds
+    → (e : End) × IsEnd table (array (item (string word) ds)) e × (may_leave e ≡ true)
 
 -- as those of a work
 abbrev IsWorkRead : ℕ → ℕ → List Class → List ℕ → List Want → Type 0
-IsWorkRead v n table word wants = (ds : Items) → AreFine v n wants ds → (x : Work) × IsWork table (array (item (string word) ds)) x
+IsWorkRead v n table word wants =
+    (ds : Items) → AreFine v n wants ds → (x : Work) × IsWork table (array (item (string word) ds)) x
 
 leavings : (v n : ℕ) (table : List Class) → EachForm (IsLeavingRead v n table) (own_forms call_of.Leaving)
 leavings v n table =
@@ -174,23 +232,30 @@ other_ends v n table =
     rw (a.items, t.1) (Wait t.0, waits t.0)) &
     tt
 
-end_by : (v n : ℕ) (table : List Class) (word : List ℕ) (wants : List Want) (ds : Items) → wants_in (own_forms call_of.Leaving) word (count ds) ≡ Some wants → AreFine v n wants ds → (e : End) × IsEnd table (array (item (string word) ds)) e
+end_by : (v n : ℕ) (table : List Class) (word : List ℕ) (wants : List Want) (ds : Items)
+    → wants_in (own_forms call_of.Leaving) word (count ds) ≡ Some wants → AreFine v n wants ds
+    → (e : End) × IsEnd table (array (item (string word) ds)) e
 end_by v n table word wants ds form args =
-    let x = found_form (IsLeavingRead v n table) (own_forms call_of.Leaving) (leavings v n table) word (count ds) wants form ds args in
+    let x = found_form (IsLeavingRead v n table) (own_forms call_of.Leaving) (leavings v n table) word
+    (count ds) wants form ds args in
     (x.0, x.1)
 
-end_fine : (v n : ℕ) (table : List Class) (d : Data) → IsFine v n (want.Call call_of.End) d → (e : End) × IsEnd table d e
+end_fine : (v n : ℕ) (table : List Class) (d : Data) → IsFine v n (want.Call call_of.End) d
+    → (e : End) × IsEnd table d e
 end_fine v n table d h =
     let o = open_call v n call_of.End d (fits_fine h) (λ k u e wants is. same k h wants is) in
     rw (o.whole) (either_found (wants_in (own_forms call_of.End) o.word (count o.rest)) _ o.wants o.form
-    (λ form. found_form (IsEndRead v n table) (own_forms call_of.End) (other_ends v n table) o.word (count o.rest) o.wants form o.rest o.args)
+    (λ form. found_form (IsEndRead v n table) (own_forms call_of.End) (other_ends v n table) o.word
+    (count o.rest) o.wants form o.rest o.args)
     (λ form. end_by v n table o.word o.wants o.rest form o.args))
 
-leave_fine : (v n : ℕ) (table : List Class) (d : Data) → IsFine v n (want.Call call_of.Leaving) d → (e : End) × IsEnd table d e × (may_leave e ≡ true)
+leave_fine : (v n : ℕ) (table : List Class) (d : Data) → IsFine v n (want.Call call_of.Leaving) d
+    → (e : End) × IsEnd table d e × (may_leave e ≡ true)
 leave_fine v n table d h =
     let o = open_call v n call_of.Leaving d (fits_fine h) (λ k u e wants is. same k h wants is) in
     rw (o.whole) (either_found (wants_in (own_forms call_of.Leaving) o.word (count o.rest)) None o.wants o.form
-    (λ form. found_form (IsLeavingRead v n table) (own_forms call_of.Leaving) (leavings v n table) o.word (count o.rest) o.wants form o.rest o.args)
+    (λ form. found_form (IsLeavingRead v n table) (own_forms call_of.Leaving) (leavings v n table) o.word
+    (count o.rest) o.wants form o.rest o.args)
     (λ form. cc))
 
 works : (v n : ℕ) (table : List Class) → EachForm (IsWorkRead v n table) (own_forms call_of.Work)
@@ -210,35 +275,44 @@ works v n table =
     rw (a.items) (job_of.Sum k.0, sums a.a k.0 k.1)) &
     tt
 
-work_fine : (v n : ℕ) (table : List Class) (d : Data) → IsFine v n (want.Call call_of.Work) d → (x : Work) × IsWork table d x
+work_fine : (v n : ℕ) (table : List Class) (d : Data) → IsFine v n (want.Call call_of.Work) d
+    → (x : Work) × IsWork table d x
 work_fine v n table d h =
     let o = open_call v n call_of.Work d (fits_fine h) (λ k u e wants is. same k h wants is) in
     rw (o.whole) (either_found (wants_in (own_forms call_of.Work) o.word (count o.rest)) None o.wants o.form
-    (λ form. found_form (IsWorkRead v n table) (own_forms call_of.Work) (works v n table) o.word (count o.rest) o.wants form o.rest o.args)
+    (λ form. found_form (IsWorkRead v n table) (own_forms call_of.Work) (works v n table) o.word
+    (count o.rest) o.wants form o.rest o.args)
     (λ form. cc))
 
 -- ---- keys
 
-first_there : (o : Ordering) (rest : Option Data) (d : Data) → is_eq o ≡ true → match_ordering o rest (Some d) rest ≡ Some d
+first_there : (o : Ordering) (rest : Option Data) (d : Data) → is_eq o ≡ true
+    → match_ordering o rest (Some d) rest ≡ Some d
 first_there Less rest d e = cc
 first_there Equal rest d e = refl
 first_there Greater rest d e = cc
 
-still_there : (o : Ordering) (rest : Option Data) (d e : Data) → rest ≡ Some e → (f : Data) × (match_ordering o rest (Some d) rest ≡ Some f)
+still_there : (o : Ordering) (rest : Option Data) (d e : Data) → rest ≡ Some e
+    → (f : Data) × (match_ordering o rest (Some d) rest ≡ Some f)
 still_there Less rest d e is = (e, is)
 still_there Equal rest d e is = (d, refl)
 still_there Greater rest d e is = (e, is)
 
 -- each key that is there is one of these
-only_of : (keys : List (List ℕ)) (ms : Members) → ((key : List ℕ) (e : Data) → get_member key ms ≡ Some e → list_any (λ k. bytes_eq key k) keys ≡ true) → has_only keys ms ≡ true
+only_of : (keys : List (List ℕ)) (ms : Members)
+    → ((key : List ℕ) (e : Data) → get_member key ms ≡ Some e → list_any (λ k. bytes_eq key k) keys ≡ true)
+    → has_only keys ms ≡ true
 unfolding has_only
 only_of keys no_members h = refl
 only_of keys (member k d ms) h =
-    let first : get_member k (member k d ms) ≡ Some d = first_there (slice_cmp nat_cmp k k) (get_member k ms) d (is_eq-slice_cmp k k ∙ (bytes_eq-Decides k k).1 refl) in
-    both (h k d first) (only_of keys ms (λ key e is. let f = still_there (slice_cmp nat_cmp key k) (get_member key ms) d e is in h key f.0 f.1))
+    let first : get_member k (member k d ms) ≡ Some d =
+    first_there (slice_cmp nat_cmp k k) (get_member k ms) d (is_eq-slice_cmp k k ∙ (bytes_eq-Decides k k).1 refl) in
+    both (h k d first) (only_of keys ms (λ key e is. let f =
+    still_there (slice_cmp nat_cmp key k) (get_member key ms) d e is in h key f.0 f.1))
 
 -- a key that is there isn't another
-not_other : (v : ℕ) (k : Keyed) (ms : Members) → AllSuit (question.Shape v) (want.Keyed k) (object ms) → (key : List ℕ) (e : Data) → get_member key ms ≡ Some e → key_want k key ≡ want.Other k → ⊥
+not_other : (v : ℕ) (k : Keyed) (ms : Members) → AllSuit (question.Shape v) (want.Keyed k) (object ms)
+    → (key : List ℕ) (e : Data) → get_member key ms ≡ Some e → key_want k key ≡ want.Other k → ⊥
 not_other v k ms h key e is other =
     let fit : fits v (key_want k key) e ≡ true = here (value key h refl is) in
     let no : fits v (want.Other k) e ≡ true = ap (λ (w : Want). fits v w e) (sym other) ∙ fit in
@@ -249,19 +323,24 @@ body_only v ms h = only_of body_keys ms (λ key e is.
     let P : List ℕ → Type 0 = λ x. (list_any (λ k. bytes_eq x k) body_keys ≡ true) in
     known_key P keyed.Body key (refl, (refl, tt)) (λ other. absurd (not_other v keyed.Body ms h key e is other)))
 
-cooperator_only : (v : ℕ) (ms : Members) → AllSuit (question.Shape v) (want.Keyed keyed.Cooperator) (object ms) → has_only cooperator_keys ms ≡ true
+cooperator_only : (v : ℕ) (ms : Members) → AllSuit (question.Shape v) (want.Keyed keyed.Cooperator) (object ms)
+    → has_only cooperator_keys ms ≡ true
 cooperator_only v ms h = only_of cooperator_keys ms (λ key e is.
     let P : List ℕ → Type 0 = λ x. (list_any (λ k. bytes_eq x k) cooperator_keys ≡ true) in
-    known_key P keyed.Cooperator key (refl, (refl, tt)) (λ other. absurd (not_other v keyed.Cooperator ms h key e is other)))
+    known_key P keyed.Cooperator key (refl, (refl, tt))
+    (λ other. absurd (not_other v keyed.Cooperator ms h key e is other)))
 
-each_script_key : (v : ℕ) (b : Bool) → nat_eq v 1 ≡ b → EachKey (λ x. list_any (λ k. bytes_eq x k) (keys_of v) ≡ true) (keys_in (keyed.Script v))
+each_script_key : (v : ℕ) (b : Bool) → nat_eq v 1 ≡ b
+    → EachKey (λ x. list_any (λ k. bytes_eq x k) (keys_of v) ≡ true) (keys_in (keyed.Script v))
 each_script_key v true one = simp one (refl, (refl, (refl, (refl, (refl, (refl, tt))))))
 each_script_key v false two = simp two (refl, (refl, (refl, (refl, (refl, (refl, (refl, tt)))))))
 
-script_only : (v : ℕ) (ms : Members) → AllSuit (question.Shape v) (want.Keyed (keyed.Script v)) (object ms) → has_only (keys_of v) ms ≡ true
+script_only : (v : ℕ) (ms : Members) → AllSuit (question.Shape v) (want.Keyed (keyed.Script v)) (object ms)
+    → has_only (keys_of v) ms ≡ true
 script_only v ms h = only_of (keys_of v) ms (λ key e is.
     let P : List ℕ → Type 0 = λ x. (list_any (λ k. bytes_eq x k) (keys_of v) ≡ true) in
-    known_key P (keyed.Script v) key (each_script_key v (nat_eq v 1) refl) (λ other. absurd (not_other v (keyed.Script v) ms h key e is other)))
+    known_key P (keyed.Script v) key (each_script_key v (nat_eq v 1) refl)
+    (λ other. absurd (not_other v (keyed.Script v) ms h key e is other)))
 
 -- ---- bodies and statements, by those inside
 
@@ -270,21 +349,27 @@ record AreRead (v n : ℕ) (table : List Class) : Type 0 where
   of_body : (d : Data) → IsFine v n a_body d → (b : Body) × IsBody table d b
   of_statement : (d : Data) → IsFine v n (want.Call call_of.Statement) d → (s : Statement) × IsStatement table d s
 
-bodies_of : (table : List Class) (ds : Items) → ((k : ℕ) (e : Data) → get_item k ds ≡ Some e → (b : Body) × IsBody table e b) → (xs : List Body) × AreBodies table ds xs
+bodies_of : (table : List Class) (ds : Items)
+    → ((k : ℕ) (e : Data) → get_item k ds ≡ Some e → (b : Body) × IsBody table e b)
+    → (xs : List Body) × AreBodies table ds xs
 bodies_of table no_items h = ([], no_bodies)
 bodies_of table (item d ds) h =
     let x = h 0 d refl in
     let xs = bodies_of table ds (λ k e is. h (suc k) e is) in
     (x.0 ∷ xs.0, more_bodies d ds x.0 xs.0 x.1 xs.1)
 
-statements_of : (table : List Class) (ds : Items) → ((k : ℕ) (e : Data) → get_item k ds ≡ Some e → (s : Statement) × IsStatement table e s) → (xs : List Statement) × AreStatements table ds xs
+statements_of : (table : List Class) (ds : Items)
+    → ((k : ℕ) (e : Data) → get_item k ds ≡ Some e → (s : Statement) × IsStatement table e s)
+    → (xs : List Statement) × AreStatements table ds xs
 statements_of table no_items h = ([], no_statements)
 statements_of table (item d ds) h =
     let x = h 0 d refl in
     let xs = statements_of table ds (λ k e is. h (suc k) e is) in
     (x.0 ∷ xs.0, more_statements d ds x.0 xs.0 x.1 xs.1)
 
-actions_of : (table : List Class) (ds : Items) → ((k : ℕ) (e : Data) → get_item k ds ≡ Some e → (a : Action) × IsAction table e a) → (xs : List Action) × AreActions table ds xs
+actions_of : (table : List Class) (ds : Items)
+    → ((k : ℕ) (e : Data) → get_item k ds ≡ Some e → (a : Action) × IsAction table e a)
+    → (xs : List Action) × AreActions table ds xs
 actions_of table no_items h = ([], no_actions)
 actions_of table (item d ds) h =
     let x = h 0 d refl in
@@ -295,20 +380,24 @@ actions_of table (item d ds) h =
 
 -- the arguments of a word read as those of an action
 abbrev IsActionRead : ℕ → ℕ → List Class → List ℕ → List Want → Type 0
-IsActionRead v n table word wants = (ds : Items) → AreFine v n wants ds → (a : Action) × IsAction table (array (item (string word) ds)) a
+IsActionRead v n table word wants =
+    (ds : Items) → AreFine v n wants ds → (a : Action) × IsAction table (array (item (string word) ds)) a
 
 -- a text
 abbrev IsTextAt : ℕ → Want → Type 0
 IsTextAt v w = (d : Data) → fits v w d ≡ true → is_some (as_str d) ≡ true
 
-one_text : {word : List ℕ} (v n : ℕ) (table : List Class) (w : Want) → IsTextAt v w → (make : List ℕ → Action) → ((x : List ℕ) → IsAction table (call word (string x ∷ [])) (make x)) → IsActionRead v n table word (w ∷ [])
+one_text : {word : List ℕ} (v n : ℕ) (table : List Class) (w : Want) → IsTextAt v w → (make : List ℕ → Action)
+    → ((x : List ℕ) → IsAction table (call word (string x ∷ [])) (make x)) → IsActionRead v n table word (w ∷ [])
 one_text v n table w text make rule ds h =
     let a = one_arg v n _ ds h in
     let x = text_of a.a (text a.a (fits_fine a.fine)) in
     rw (a.items, x.1) (make x.0, rule x.0)
 
-two_texts : {word : List ℕ} (v n : ℕ) (table : List Class) (w u : Want) → IsTextAt v w → IsTextAt v u → (make : List ℕ → List ℕ → Action)
-    → ((x y : List ℕ) → IsAction table (call word (string x ∷ string y ∷ [])) (make x y)) → IsActionRead v n table word (w ∷ u ∷ [])
+two_texts : {word : List ℕ} (v n : ℕ) (table : List Class) (w u : Want) → IsTextAt v w → IsTextAt v u
+    → (make : List ℕ → List ℕ → Action)
+    → ((x y : List ℕ) → IsAction table (call word (string x ∷ string y ∷ [])) (make x y))
+    → IsActionRead v n table word (w ∷ u ∷ [])
 two_texts v n table w u text other make rule ds h =
     let a = two_args v n _ _ ds h in
     let x = text_of a.a (text a.a (fits_fine a.one)) in
@@ -316,8 +405,11 @@ two_texts v n table w u text other make rule ds h =
     rw (a.items, x.1, y.1) (make x.0 y.0, rule x.0 y.0)
 
 -- a text, and what is read so
-text_and : {B : Type 0} {u : Want} {word : List ℕ} (v n : ℕ) (table : List Class) (w : Want) → IsTextAt v w → (Is : Data → B → Type 0) → ((d : Data) → IsFine v n u d → (b : B) × Is d b)
-    → (make : List ℕ → B → Action) → ((x : List ℕ) (d : Data) (b : B) → Is d b → IsAction table (call word (string x ∷ d ∷ [])) (make x b)) → IsActionRead v n table word (w ∷ u ∷ [])
+text_and : {B : Type 0} {u : Want} {word : List ℕ} (v n : ℕ) (table : List Class) (w : Want) → IsTextAt v w
+    → (Is : Data → B → Type 0) → ((d : Data) → IsFine v n u d → (b : B) × Is d b)
+    → (make : List ℕ → B → Action)
+    → ((x : List ℕ) (d : Data) (b : B) → Is d b → IsAction table (call word (string x ∷ d ∷ [])) (make x b))
+    → IsActionRead v n table word (w ∷ u ∷ [])
 text_and v n table w text Is read make rule ds h =
     let a = two_args v n _ _ ds h in
     let x = text_of a.a (text a.a (fits_fine a.one)) in
@@ -325,9 +417,11 @@ text_and v n table w text Is read make rule ds h =
     rw (a.items, x.1) (make x.0 b.0, rule x.0 a.b b.0 b.1)
 
 -- a text, and two things that are
-text_and_two : {B C : Type 0} {u t : Want} {word : List ℕ} (v n : ℕ) (table : List Class) (w : Want) → IsTextAt v w → (Is : Data → B → Type 0) → ((d : Data) → IsFine v n u d → (b : B) × Is d b)
+text_and_two : {B C : Type 0} {u t : Want} {word : List ℕ} (v n : ℕ) (table : List Class) (w : Want) → IsTextAt v w
+    → (Is : Data → B → Type 0) → ((d : Data) → IsFine v n u d → (b : B) × Is d b)
     → (Are : Data → C → Type 0) → ((d : Data) → IsFine v n t d → (c : C) × Are d c) → (make : List ℕ → B → C → Action)
-    → ((x : List ℕ) (d e : Data) (b : B) (c : C) → Is d b → Are e c → IsAction table (call word (string x ∷ d ∷ e ∷ [])) (make x b c)) → IsActionRead v n table word (w ∷ u ∷ t ∷ [])
+    → ((x : List ℕ) (d e : Data) (b : B) (c : C) → Is d b → Are e c
+    → IsAction table (call word (string x ∷ d ∷ e ∷ [])) (make x b c)) → IsActionRead v n table word (w ∷ u ∷ t ∷ [])
 text_and_two v n table w text Is read Are also make rule ds h =
     let a = three_args v n _ _ _ ds h in
     let x = text_of a.a (text a.a (fits_fine a.one)) in
@@ -336,7 +430,8 @@ text_and_two v n table w text Is read Are also make rule ds h =
     rw (a.items, x.1) (make x.0 b.0 c.0, rule x.0 a.b a.c b.0 c.0 b.1 c.1)
 
 -- those of each form, in the order of the table
-actions : (v n : ℕ) (table : List Class) → AreRead v n table → EachForm (IsActionRead v n table) (own_forms call_of.Action)
+actions : (v n : ℕ) (table : List Class) → AreRead v n table
+    → EachForm (IsActionRead v n table) (own_forms call_of.Action)
 actions v n table read =
     one_text v n table _ (λ d h. h) (λ x. Deferred x None) deferred &
     text_and v n table _ (λ d h. h) (IsBody table) read.of_body (λ x b. Deferred x (Some b)) deferred_with &
@@ -350,18 +445,25 @@ actions v n table read =
     text_and v n table _ (λ d h. h) (IsBody table) read.of_body (λ x b. AddCallback x b) add_callback &
     text_and v n table _ (λ d h. h) (IsBody table) read.of_body (λ x b. AddErrback x b) add_errback &
     text_and v n table _ (λ d h. h) (IsBody table) read.of_body (λ x b. AddBoth x b) add_both &
-    text_and_two v n table _ (λ d h. h) (IsBody table) read.of_body (IsBody table) read.of_body (λ x b c. AddCallbacks x b c) add_callbacks &
+    text_and_two v n table _ (λ d h. h) (IsBody table) read.of_body (IsBody table) read.of_body
+    (λ x b c. AddCallbacks x b c) add_callbacks &
     two_texts v n table _ _ (λ d h. h) (λ d h. h) (λ x y. Chain x y) chain &
     one_text v n table _ (λ d h. h) (λ x. Pause x) pause &
     one_text v n table _ (λ d h. h) (λ x. Unpause x) unpause &
     one_text v n table _ (λ d h. h) (λ x. Cancel x) cancel &
-    text_and v n table _ (λ d h. h) (IsNumber 0 MOST_DELAY) (number_fine v n 0 MOST_DELAY) (λ x b. AddTimeout x b) add_timeout &
+    text_and v n table _ (λ d h. h) (IsNumber 0 MOST_DELAY) (number_fine v n 0 MOST_DELAY)
+    (λ x b. AddTimeout x b) add_timeout &
     one_text v n table _ (λ d h. h) (λ x. Note x) note &
-    text_and_two v n table _ (λ d h. h) (IsList IsText) (list_of v n item_of.Deferred IsText (is_text v n)) (IsList IsListFlag) (list_of v n item_of.ListFlag IsListFlag (λ e g. list_flag_of e (fits_fine g))) (λ x b c. ListOf x b c) list &
-    text_and_two v n table _ (λ d h. h) (IsList IsText) (list_of v n item_of.Deferred IsText (is_text v n)) (IsList IsGatherFlag) (list_of v n item_of.GatherFlag IsGatherFlag (λ e g. gather_flag_of e (fits_fine g))) (λ x b c. Gather x b c) gather &
+    text_and_two v n table _ (λ d h. h) (IsList IsText) (list_of v n item_of.Deferred IsText (is_text v n))
+    (IsList IsListFlag) (list_of v n item_of.ListFlag IsListFlag (λ e g. list_flag_of e (fits_fine g)))
+    (λ x b c. ListOf x b c) list &
+    text_and_two v n table _ (λ d h. h) (IsList IsText) (list_of v n item_of.Deferred IsText (is_text v n))
+    (IsList IsGatherFlag) (list_of v n item_of.GatherFlag IsGatherFlag (λ e g. gather_flag_of e (fits_fine g)))
+    (λ x b c. Gather x b c) gather &
     text_and v n table _ (λ d h. h) (IsBody table) read.of_body (λ x b. Maybe x b) maybe &
     one_text v n table _ (λ d h. h) (λ x. Lock x) lock &
-    text_and v n table _ (λ d h. h) (IsNumber 1 MOST_PLACES) (number_fine v n 1 MOST_PLACES) (λ x b. Semaphore x b) semaphore &
+    text_and v n table _ (λ d h. h) (IsNumber 1 MOST_PLACES) (number_fine v n 1 MOST_PLACES)
+    (λ x b. Semaphore x b) semaphore &
     two_texts v n table _ _ (λ d h. h) (λ d h. h) (λ x y. Acquire x y) acquire &
     one_text v n table _ (λ d h. h) (λ x. Release x) release &
     (λ ds h.
@@ -370,10 +472,12 @@ actions v n table read =
     let q = text_of a.b (fits_fine a.two) in
     let r = read.of_body a.c a.three in
     rw (a.items, p.1, q.1) (RunWith p.0 q.0 r.0, run_with p.0 q.0 a.c r.0 r.1)) &
-    text_and_two v n table _ (λ d h. h) IsBound (λ d h. bound_of d (fits_fine h)) IsBound (λ d h. bound_of d (fits_fine h)) (λ x b c. Queue x b c) queue &
+    text_and_two v n table _ (λ d h. h) IsBound (λ d h. bound_of d (fits_fine h)) IsBound
+    (λ d h. bound_of d (fits_fine h)) (λ x b c. Queue x b c) queue &
     text_and v n table _ (λ d h. h) IsValue (value_of v n) (λ x b. Put x b) put &
     two_texts v n table _ _ (λ d h. h) (λ d h. h) (λ x y. Get x y) get &
-    text_and_two v n table _ (λ d h. h) (IsNumber 0 MOST_DELAY) (number_fine v n 0 MOST_DELAY) (IsBody table) read.of_body (λ x b c. Later x b c) later &
+    text_and_two v n table _ (λ d h. h) (IsNumber 0 MOST_DELAY) (number_fine v n 0 MOST_DELAY)
+    (IsBody table) read.of_body (λ x b c. Later x b c) later &
     one_text v n table _ (λ d h. h) (λ x. CancelCall x) cancel_call &
     (λ ds h.
     let a = five_args v n _ _ _ _ _ ds h in
@@ -400,7 +504,8 @@ actions v n table read =
     let o = open_array v n item_of.Statement a.b a.two in
     let q = statements_of table o.items (λ k e is. read.of_statement e (o.each k e is)) in
     rw (a.items, p.1, o.whole) (Inline p.0 q.0, inline p.0 o.items q.0 q.1)) &
-    text_and_two v n table _ (λ d h. h) (IsNumber 0 MOST_DELAY) (number_fine v n 0 MOST_DELAY) (IsWork table) (work_fine v n table) (λ x b c. Thread x b c) thread &
+    text_and_two v n table _ (λ d h. h) (IsNumber 0 MOST_DELAY) (number_fine v n 0 MOST_DELAY) (IsWork table)
+    (work_fine v n table) (λ x b c. Thread x b c) thread &
     (λ ds h.
     let a = four_args v n _ _ _ _ ds h in
     let p = text_of a.a (fits_fine a.one) in
@@ -410,27 +515,32 @@ actions v n table read =
     rw (a.items, p.1, q.1) (ThreadIn p.0 q.0 r.0 s.0, thread_in p.0 q.0 a.c a.d r.0 s.0 r.1 s.1)) &
     tt
 
-action_fine : (v n : ℕ) (table : List Class) → AreRead v n table → (d : Data) → IsFine v n (want.Call call_of.Action) d → (a : Action) × IsAction table d a
+action_fine : (v n : ℕ) (table : List Class) → AreRead v n table → (d : Data) → IsFine v n (want.Call call_of.Action) d
+    → (a : Action) × IsAction table d a
 action_fine v n table r d h =
     let o = open_call v n call_of.Action d (fits_fine h) (λ k u e wants is. same k h wants is) in
     rw (o.whole) (either_found (wants_in (own_forms call_of.Action) o.word (count o.rest)) None o.wants o.form
-    (λ form. found_form (IsActionRead v n table) (own_forms call_of.Action) (actions v n table r) o.word (count o.rest) o.wants form o.rest o.args)
+    (λ form. found_form (IsActionRead v n table) (own_forms call_of.Action) (actions v n table r) o.word
+    (count o.rest) o.wants form o.rest o.args)
     (λ form. cc))
 
 -- ---- bodies and statements
 
-do_of : (v n : ℕ) (table : List Class) → AreRead v n table → (o : Option Data) → ((e : Data) → o ≡ Some e → IsFine v n (want.Array item_of.Action) e) → (xs : List Action) × IsDo table o xs
+do_of : (v n : ℕ) (table : List Class) → AreRead v n table → (o : Option Data)
+    → ((e : Data) → o ≡ Some e → IsFine v n (want.Array item_of.Action) e) → (xs : List Action) × IsDo table o xs
 do_of v n table r None h = ([], does_nothing)
 do_of v n table r (Some d) h =
     let a = open_array v n item_of.Action d (h d refl) in
     let xs = actions_of table a.items (λ k e is. action_fine v n table r e (a.each k e is)) in
     rw (a.whole) (xs.0, does a.items xs.0 xs.1)
 
-last_of : (v n : ℕ) (table : List Class) (o : Option Data) → ((e : Data) → o ≡ Some e → IsFine v n (want.Call call_of.End) e) → (x : End) × Field Pass (IsEnd table) o x
+last_of : (v n : ℕ) (table : List Class) (o : Option Data)
+    → ((e : Data) → o ≡ Some e → IsFine v n (want.Call call_of.End) e) → (x : End) × Field Pass (IsEnd table) o x
 last_of v n table None h = (Pass, refl)
 last_of v n table (Some d) h = end_fine v n table d (h d refl)
 
-body_of : (v n : ℕ) (table : List Class) → AreRead v n table → (d : Data) → IsFine v (suc n) a_body d → (b : Body) × IsBody table d b
+body_of : (v n : ℕ) (table : List Class) → AreRead v n table → (d : Data) → IsFine v (suc n) a_body d
+    → (b : Body) × IsBody table d b
 body_of v n table r (object ms) h =
     let xs = do_of v n table r (get_member (codes "do") ms) (λ e is. under (codes "do") h refl is) in
     let x = last_of v n table (get_member (codes "end") ms) (λ e is. under (codes "end") h refl is) in
@@ -439,9 +549,11 @@ body_of v n table r d h = let fit : fits v a_body d ≡ true = fits_fine h in cc
 
 -- the arguments of a word read as those of a statement
 abbrev IsStatementRead : ℕ → ℕ → List Class → List ℕ → List Want → Type 0
-IsStatementRead v n table word wants = (ds : Items) → AreFine v n wants ds → (s : Statement) × IsStatement table (array (item (string word) ds)) s
+IsStatementRead v n table word wants =
+    (ds : Items) → AreFine v n wants ds → (s : Statement) × IsStatement table (array (item (string word) ds)) s
 
-statements : (v n : ℕ) (table : List Class) → AreRead v n table → EachForm (IsStatementRead v n table) (own_forms call_of.Statement)
+statements : (v n : ℕ) (table : List Class) → AreRead v n table
+    → EachForm (IsStatementRead v n table) (own_forms call_of.Statement)
 statements v n table r =
     (λ ds h.
     let a = one_arg v n (want.Call call_of.Action) ds h in
@@ -452,7 +564,8 @@ statements v n table r =
     let t = text_of a.a (fits_fine a.fine) in
     rw (a.items, t.1) (Await t.0, awaits t.0)) &
     (λ ds h.
-    let a = three_args v n (want.Array item_of.Statement) (want.Array item_of.Class) (want.Array item_of.Statement) ds h in
+    let a =
+    three_args v n (want.Array item_of.Statement) (want.Array item_of.Class) (want.Array item_of.Statement) ds h in
     let o = open_array v n item_of.Statement a.a a.one in
     let xs = statements_of table o.items (λ k e is. r.of_statement e (o.each k e is)) in
     let c = list_of v n item_of.Class (IsClass table) (class_fine v n table) a.b a.two in
@@ -465,30 +578,35 @@ statements v n table r =
     rw (a.items) (Leave x.0, leaves a.a x.0 x.1 x.2)) &
     tt
 
-statement_fine : (v n : ℕ) (table : List Class) → AreRead v n table → (d : Data) → IsFine v (suc n) (want.Call call_of.Statement) d → (s : Statement) × IsStatement table d s
+statement_fine : (v n : ℕ) (table : List Class) → AreRead v n table → (d : Data)
+    → IsFine v (suc n) (want.Call call_of.Statement) d → (s : Statement) × IsStatement table d s
 statement_fine v n table r d h =
     let o = open_call v n call_of.Statement d (fits_fine h) (λ k u e wants is. inside k h wants is) in
     rw (o.whole) (either_found (wants_in (own_forms call_of.Statement) o.word (count o.rest)) None o.wants o.form
-    (λ form. found_form (IsStatementRead v n table) (own_forms call_of.Statement) (statements v n table r) o.word (count o.rest) o.wants form o.rest o.args)
+    (λ form. found_form (IsStatementRead v n table) (own_forms call_of.Statement) (statements v n table r) o.word
+    (count o.rest) o.wants form o.rest o.args)
     (λ form. cc))
 
 no_body : (v : ℕ) (table : List Class) (d : Data) → IsFine v 0 a_body d → (b : Body) × IsBody table d b
 no_body v table (object ms) h = let deep : depth (object ms) ≤ 0 = h.deep in absurd (omega (arith, deep))
 no_body v table d h = let fit : fits v a_body d ≡ true = fits_fine h in cc
 
-no_statement : (v : ℕ) (table : List Class) (d : Data) → IsFine v 0 (want.Call call_of.Statement) d → (s : Statement) × IsStatement table d s
+no_statement : (v : ℕ) (table : List Class) (d : Data) → IsFine v 0 (want.Call call_of.Statement) d
+    → (s : Statement) × IsStatement table d s
 no_statement v table (array ds) h = let deep : depth (array ds) ≤ 0 = h.deep in absurd (omega (arith, deep))
 no_statement v table d h = let fit : fits v (want.Call call_of.Statement) d ≡ true = fits_fine h in cc
 
 are_read : (v n : ℕ) (table : List Class) → AreRead v n table
 are_read v zero table = record { of_body = no_body v table; of_statement = no_statement v table }
-are_read v (suc n) table = let r = are_read v n table in record { of_body = body_of v n table r; of_statement = statement_fine v n table r }
+are_read v (suc n) table =
+    let r = are_read v n table in record { of_body = body_of v n table r; of_statement = statement_fine v n table r }
 
 -- ---- events
 
 -- the arguments of a word read as those of an event
 abbrev IsEventRead : ℕ → ℕ → List Class → List ℕ → List Want → Type 0
-IsEventRead v n table word wants = (ds : Items) → AreFine v n wants ds → (e : Event) × IsEvent table (array (item (string word) ds)) e
+IsEventRead v n table word wants =
+    (ds : Items) → AreFine v n wants ds → (e : Event) × IsEvent table (array (item (string word) ds)) e
 
 other_events : (v n : ℕ) (table : List Class) → EachForm (IsEventRead v n table) (own_forms call_of.Event)
 other_events v n table =
@@ -502,27 +620,37 @@ other_events v n table =
     rw (a.items) (happens.Drain k.0, drains a.a k.0 k.1)) &
     tt
 
-event_by : (v n : ℕ) (table : List Class) (word : List ℕ) (wants : List Want) (ds : Items) → wants_in (own_forms call_of.Action) word (count ds) ≡ Some wants → AreFine v n wants ds → (e : Event) × IsEvent table (array (item (string word) ds)) e
+event_by : (v n : ℕ) (table : List Class) (word : List ℕ) (wants : List Want) (ds : Items)
+    → wants_in (own_forms call_of.Action) word (count ds) ≡ Some wants → AreFine v n wants ds
+    → (e : Event) × IsEvent table (array (item (string word) ds)) e
 event_by v n table word wants ds form args =
-    let x = found_form (IsActionRead v n table) (own_forms call_of.Action) (actions v n table (are_read v n table)) word (count ds) wants form ds args in
+    let x = found_form (IsActionRead v n table) (own_forms call_of.Action) (actions v n table (are_read v n table)) word
+    (count ds) wants form ds args in
     (happens.Action x.0, acts _ x.0 x.1)
 
-event_fine : (v n : ℕ) (table : List Class) (d : Data) → IsFine v n (want.Call call_of.Event) d → (e : Event) × IsEvent table d e
+event_fine : (v n : ℕ) (table : List Class) (d : Data) → IsFine v n (want.Call call_of.Event) d
+    → (e : Event) × IsEvent table d e
 event_fine v n table d h =
     let o = open_call v n call_of.Event d (fits_fine h) (λ k u e wants is. same k h wants is) in
     rw (o.whole) (either_found (wants_in (own_forms call_of.Event) o.word (count o.rest)) _ o.wants o.form
-    (λ form. found_form (IsEventRead v n table) (own_forms call_of.Event) (other_events v n table) o.word (count o.rest) o.wants form o.rest o.args)
+    (λ form. found_form (IsEventRead v n table) (own_forms call_of.Event) (other_events v n table) o.word
+    (count o.rest) o.wants form o.rest o.args)
     (λ form. event_by v n table o.word o.wants o.rest form o.args))
 
 -- ---- declarations, pools, the cooperator
 
-pair_fine : (v n : ℕ) (w1 w2 : Want) (d : Data) (ds : Items) → d ≡ array ds → are_two ds ≡ true → ((k : ℕ) (u : Want) (e : Data) → nth (w1 ∷ w2 ∷ []) k ≡ Some u → at k d ≡ Some e → IsFine v n u e) → IsTwo v n w1 w2 ds
+pair_fine : (v n : ℕ) (w1 w2 : Want) (d : Data) (ds : Items) → d ≡ array ds → are_two ds ≡ true
+    → ((k : ℕ) (u : Want) (e : Data) → nth (w1 ∷ w2 ∷ []) k ≡ Some u → at k d ≡ Some e → IsFine v n u e)
+    → IsTwo v n w1 w2 ds
 pair_fine v n w1 w2 d ds whole two parts =
-    two_args v n w1 w2 ds (are_fine v n (w1 ∷ w2 ∷ []) ds (sym (eqb-true (count ds) 2 two)) (λ k u e wants is. parts k u e wants (ap (at k) whole ∙ is)))
+    two_args v n w1 w2 ds (are_fine v n (w1 ∷ w2 ∷ []) ds (sym (eqb-true (count ds) 2 two))
+    (λ k u e wants is. parts k u e wants (ap (at k) whole ∙ is)))
 
-declaration_fine : (v n : ℕ) (d : Data) → IsFine v n (item_want item_of.Declaration) d → (c : Declaration) × IsDeclaration d c
+declaration_fine : (v n : ℕ) (d : Data) → IsFine v n (item_want item_of.Declaration) d
+    → (c : Declaration) × IsDeclaration d c
 declaration_fine v n (array ds) h =
-    let a = pair_fine v n (want.Leaf (leaf.New object.Class)) a_text (array ds) ds refl (fits_fine h) (λ k u e wants is. same k h wants is) in
+    let a = pair_fine v n (want.Leaf (leaf.New object.Class)) a_text (array ds) ds refl (fits_fine h)
+    (λ k u e wants is. same k h wants is) in
     let t = text_of a.a (fits_fine a.one) in
     let u = text_of a.b (fits_fine a.two) in
     rw (a.items, t.1, u.1) (record { name = t.0; parent = u.0 }, declares t.0 u.0)
@@ -530,37 +658,53 @@ declaration_fine v n d h = let fit : fits v (item_want item_of.Declaration) d �
 
 pool_pair_fine : (v n : ℕ) (d : Data) → IsFine v n (item_want item_of.Pool) d → (p : NamedPool) × IsPool d p
 pool_pair_fine v n (array ds) h =
-    let a = pair_fine v n (want.Leaf (leaf.New object.Pool)) (want.Leaf (leaf.Number 0 MOST_WORKERS)) (array ds) ds refl (fits_fine h) (λ k u e wants is. same k h wants is) in
+    let a = pair_fine v n (want.Leaf (leaf.New object.Pool)) (want.Leaf (leaf.Number 0 MOST_WORKERS)) (array ds) ds refl
+    (fits_fine h) (λ k u e wants is. same k h wants is) in
     let t = text_of a.a (fits_fine a.one) in
     let k = number_fine v n 0 MOST_WORKERS a.b a.two in
     rw (a.items, t.1) (record { name = t.0; workers = k.0 }, pools t.0 a.b k.0 k.1)
 pool_pair_fine v n d h = let fit : fits v (item_want item_of.Pool) d ≡ true = fits_fine h in cc
 
-number_key : (v n low high : ℕ) (o : Option Data) → is_some o ≡ true → ((e : Data) → o ≡ Some e → IsFine v n (want.Leaf (leaf.Number low high)) e) → (k : ℕ) × Key (IsNumber low high) o k
+number_key : (v n low high : ℕ) (o : Option Data) → is_some o ≡ true
+    → ((e : Data) → o ≡ Some e → IsFine v n (want.Leaf (leaf.Number low high)) e)
+    → (k : ℕ) × Key (IsNumber low high) o k
 number_key v n low high None is h = cc
 number_key v n low high (Some d) is h = number_fine v n low high d (h d refl)
 
-number_field : (v n default low high : ℕ) (o : Option Data) → ((e : Data) → o ≡ Some e → IsFine v n (want.Leaf (leaf.Number low high)) e) → (k : ℕ) × Field default (IsNumber low high) o k
+number_field : (v n default low high : ℕ) (o : Option Data)
+    → ((e : Data) → o ≡ Some e → IsFine v n (want.Leaf (leaf.Number low high)) e)
+    → (k : ℕ) × Field default (IsNumber low high) o k
 number_field v n default low high None h = (default, refl)
 number_field v n default low high (Some d) h = number_fine v n low high d (h d refl)
 
-cooperator_fine : (v n : ℕ) (d : Data) → IsFine v n (want.Keyed keyed.Cooperator) d → (c : Cooperator) × IsCooperator d c
+cooperator_fine : (v n : ℕ) (d : Data) → IsFine v n (want.Keyed keyed.Cooperator) d
+    → (c : Cooperator) × IsCooperator d c
 cooperator_fine v n (object ms) h =
-    let keys = and_parts (is_some (get_member (codes "units") ms)) (is_some (get_member (codes "delay") ms)) (fits_fine h) in
-    let units = number_key v n 1 MOST_UNITS (get_member (codes "units") ms) keys.0 (λ e is. value_fine (codes "units") h refl is) in
-    let delay = number_key v n 1 MOST_DELAY (get_member (codes "delay") ms) keys.1 (λ e is. value_fine (codes "delay") h refl is) in
-    (record { units = units.0; delay = delay.0 }, record { members = ms; whole = refl; only = cooperator_only v ms h.suit; units = units.1; delay = delay.1 })
+    let keys =
+    and_parts (is_some (get_member (codes "units") ms)) (is_some (get_member (codes "delay") ms)) (fits_fine h) in
+    let units =
+    number_key v n 1 MOST_UNITS (get_member (codes "units") ms) keys.0 (λ e is. value_fine (codes "units") h refl is) in
+    let delay = number_key v n 1 MOST_DELAY (get_member (codes "delay") ms) keys.1
+    (λ e is. value_fine (codes "delay") h refl is) in (
+      record { units = units.0; delay = delay.0 },
+      record { members = ms; whole = refl; only = cooperator_only v ms h.suit; units = units.1; delay = delay.1 },
+    )
 cooperator_fine v n d h = let fit : fits v (want.Keyed keyed.Cooperator) d ≡ true = fits_fine h in cc
 
-cooperator_field : (v n : ℕ) (o : Option Data) → ((e : Data) → o ≡ Some e → IsFine v n (want.Keyed keyed.Cooperator) e) → (c : Cooperator) × Field plain_cooperator IsCooperator o c
+cooperator_field : (v n : ℕ) (o : Option Data) → ((e : Data) → o ≡ Some e → IsFine v n (want.Keyed keyed.Cooperator) e)
+    → (c : Cooperator) × Field plain_cooperator IsCooperator o c
 cooperator_field v n None h = (plain_cooperator, refl)
 cooperator_field v n (Some d) h = cooperator_fine v n d (h d refl)
 
-list_field : {X : Type 0} (v n : ℕ) (i : Item) (Is : Data → X → Type 0) → ((e : Data) → IsFine v n (item_want i) e → (x : X) × Is e x) → (o : Option Data) → ((e : Data) → o ≡ Some e → IsFine v n (want.Array i) e) → (xs : List X) × Field [] (IsList Is) o xs
+list_field : {X : Type 0} (v n : ℕ) (i : Item) (Is : Data → X → Type 0)
+    → ((e : Data) → IsFine v n (item_want i) e → (x : X) × Is e x) → (o : Option Data)
+    → ((e : Data) → o ≡ Some e → IsFine v n (want.Array i) e) → (xs : List X) × Field [] (IsList Is) o xs
 list_field v n i Is one None h = ([], refl)
 list_field v n i Is one (Some d) h = list_of v n i Is one d (h d refl)
 
-list_key : {X : Type 0} (v n : ℕ) (i : Item) (Is : Data → X → Type 0) → ((e : Data) → IsFine v n (item_want i) e → (x : X) × Is e x) → (o : Option Data) → is_some o ≡ true → ((e : Data) → o ≡ Some e → IsFine v n (want.Array i) e) → (xs : List X) × Key (IsList Is) o xs
+list_key : {X : Type 0} (v n : ℕ) (i : Item) (Is : Data → X → Type 0)
+    → ((e : Data) → IsFine v n (item_want i) e → (x : X) × Is e x) → (o : Option Data) → is_some o ≡ true
+    → ((e : Data) → o ≡ Some e → IsFine v n (want.Array i) e) → (xs : List X) × Key (IsList Is) o xs
 list_key v n i Is one None is h = cc
 list_key v n i Is one (Some d) is h = list_of v n i Is one d (h d refl)
 
@@ -570,37 +714,58 @@ no_value : (o : Option Data) → ((e : Data) → o ≡ Some e → ⊥) → o ≡
 no_value None h = refl
 no_value (Some e) h = absurd (h e refl)
 
-pools_field : (v n : ℕ) (b : Bool) → nat_eq v 1 ≡ b → (ms : Members) → IsFine v n (want.Keyed (keyed.Script v)) (object ms) → (xs : List NamedPool) × Field [] (IsList IsPool) (get_member (codes "pools") ms) xs
+pools_field : (v n : ℕ) (b : Bool) → nat_eq v 1 ≡ b → (ms : Members)
+    → IsFine v n (want.Keyed (keyed.Script v)) (object ms)
+    → (xs : List NamedPool) × Field [] (IsList IsPool) (get_member (codes "pools") ms) xs
 pools_field v n true one ms h =
-    let none : get_member (codes "pools") ms ≡ None = no_value (get_member (codes "pools") ms) (λ e is. not_other v (keyed.Script v) ms h.suit (codes "pools") e is (rw one refl)) in
+    let none : get_member (codes "pools") ms ≡ None = no_value (get_member (codes "pools") ms)
+    (λ e is. not_other v (keyed.Script v) ms h.suit (codes "pools") e is (rw one refl)) in
     rw none ([], refl)
-pools_field v n false two ms h = list_field v n item_of.Pool IsPool (pool_pair_fine v n) (get_member (codes "pools") ms) (λ e is. value_fine (codes "pools") h (rw two refl) is)
+pools_field v n false two ms h =
+    list_field v n item_of.Pool IsPool (pool_pair_fine v n) (get_member (codes "pools") ms)
+    (λ e is. value_fine (codes "pools") h (rw two refl) is)
 
-version_number : (o : Option Data) (n : ℕ) → Key (IsNumber 1 2) o n → one_or_two (option_and_then as_u64 (option_and_then as_number o)) ≡ n
+version_number : (o : Option Data) (n : ℕ) → Key (IsNumber 1 2) o n
+    → one_or_two (option_and_then as_u64 (option_and_then as_number o)) ≡ n
 version_number None n h = absurd h
 version_number (Some d) n h = rw (h.0) (within_two n h.1 h.2)
 
 -- a document of which each part fits is a script
-pub script_fine : (d : Data) → AllSuit (question.Shape (version_in d)) (script_in d) d → (draft : Draft) × IsScript d draft
+pub script_fine : (d : Data) → AllSuit (question.Shape (version_in d)) (script_in d) d
+    → (draft : Draft) × IsScript d draft
 script_fine (object ms) suit =
     let v = version_in (object ms) in
     let n = depth (object ms) in
     let h : IsFine v n (want.Keyed (keyed.Script v)) (object ms) = record { suit = suit; deep = omega arith } in
-    let keys = and_parts (is_some (get_member (codes "version") ms)) (is_some (get_member (codes "events") ms)) (fits_fine h) in
-    let version = number_key v n 1 2 (get_member (codes "version") ms) keys.0 (λ e is. value_fine (codes "version") h refl is) in
+    let keys =
+    and_parts (is_some (get_member (codes "version") ms)) (is_some (get_member (codes "events") ms)) (fits_fine h) in
+    let version =
+    number_key v n 1 2 (get_member (codes "version") ms) keys.0 (λ e is. value_fine (codes "version") h refl is) in
     let same_version : v ≡ version.0 = version_number (get_member (codes "version") ms) version.0 version.1 in
-    let classes = list_field v n item_of.Declaration IsDeclaration (declaration_fine v n) (get_member (codes "classes") ms) (λ e is. value_fine (codes "classes") h refl is) in
+    let classes = list_field v n item_of.Declaration IsDeclaration (declaration_fine v n)
+    (get_member (codes "classes") ms) (λ e is. value_fine (codes "classes") h refl is) in
     let table = table_of classes.0 in
-    let limit = number_field v n USUAL_LIMIT 0 MOST_LIMIT (get_member (codes "limit") ms) (λ e is. value_fine (codes "limit") h refl is) in
-    let cooperator = cooperator_field v n (get_member (codes "cooperator") ms) (λ e is. value_fine (codes "cooperator") h refl is) in
+    let limit = number_field v n USUAL_LIMIT 0 MOST_LIMIT (get_member (codes "limit") ms)
+    (λ e is. value_fine (codes "limit") h refl is) in
+    let cooperator =
+    cooperator_field v n (get_member (codes "cooperator") ms) (λ e is. value_fine (codes "cooperator") h refl is) in
     let named = pools_field v n (nat_eq v 1) refl ms h in
-    let callers = list_field v n item_of.Caller (IsList (IsBody table)) (list_of v n item_of.Body (IsBody table) (are_read v n table).of_body) (get_member (codes "callers") ms) (λ e is. value_fine (codes "callers") h refl is) in
-    let events = list_key v n item_of.Event (IsEvent table) (event_fine v n table) (get_member (codes "events") ms) keys.1 (λ e is. value_fine (codes "events") h refl is) in (
+    let callers = list_field v n item_of.Caller (IsList (IsBody table)) (list_of v n item_of.Body (IsBody table)
+    (are_read v n table).of_body) (get_member (codes "callers") ms) (λ e is. value_fine (codes "callers") h refl is) in
+    let events = list_key v n item_of.Event (IsEvent table) (event_fine v n table)
+    (get_member (codes "events") ms) keys.1 (λ e is. value_fine (codes "events") h refl is) in (
       record {
         version = version.0;
         declared = classes.0;
         all_declared = all_declared classes.0;
-        script = record { classes = table; limit = limit.0; cooperator = cooperator.0; pools = named.0; callers = callers.0; events = events.0 };
+        script = record {
+          classes = table;
+          limit = limit.0;
+          cooperator = cooperator.0;
+          pools = named.0;
+          callers = callers.0;
+          events = events.0;
+        };
       },
       record {
         members = ms;

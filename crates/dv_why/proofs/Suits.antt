@@ -1,5 +1,6 @@
 -- What answers a question of names badly.
-use Rattle.std.proofs.Common.{◌≡◌, ◌≢◌, ℕ, Bool, true, false, not, ◌||◌, List, Option, Some, None, is_some, refl, sym, ap, subst, ◌∙◌, codes, Result, Ok, Err}
+use Rattle.std.proofs.Common.{◌≡◌, ◌≢◌, ℕ, Bool, true, false, not, ◌||◌, List, Option, Some, None, is_some, refl, sym}
+use Rattle.std.proofs.Common.{ap, subst, ◌∙◌, codes, Result, Ok, Err}
 use Rattle.std.specs.Prelude.{IfOk}
 use Rattle.serde_json.specs.Data.{Data, Items}
 use Rattle.serde_json.specs.Find.{as_str}
@@ -28,7 +29,8 @@ record IsBadText (q : Question) (w : Want) (d : Data) : Type 0 where
   text : as_str d ≡ Some name
   bad : name_suits q leaf name ≡ false
 
-bad_leaf : (q : Question) (l : Leaf) (d : Data) (o : Option (List ℕ)) → as_str d ≡ o → leaf_suits q l o ≡ false → IsBadText q (want.Leaf l) d
+bad_leaf : (q : Question) (l : Leaf) (d : Data) (o : Option (List ℕ)) → as_str d ≡ o → leaf_suits q l o ≡ false
+    → IsBadText q (want.Leaf l) d
 bad_leaf q l d None is h = cc
 bad_leaf q l d (Some name) is h = record { leaf = l; name = name; asks = refl; text = is; bad = h }
 
@@ -66,14 +68,16 @@ IsOfClasses d (question.Classes classes) = classes.now ≡ table_in d
 IsOfClasses d (question.Pools pools) = ⊥
 
 -- a part that answers badly is a class that isn't in the table
-pub misused_class : (q : Question) (d : Data) (m : Misfit) → IsOfClasses d q → suits q m.want (view m.found.now) ≡ false → IsBadClass d m
+pub misused_class : (q : Question) (d : Data) (m : Misfit) → IsOfClasses d q → suits q m.want (view m.found.now) ≡ false
+    → IsBadClass d m
 misused_class (question.Shape version) d m of h = absurd of
 misused_class question.Names d m of h = absurd of
 misused_class (question.Pools pools) d m of h = absurd of
 misused_class (question.Classes classes) d m of bad =
     let b = bad_text (question.Classes classes) m.want (view m.found.now) bad in
     let c = or_not (is_class b.leaf) (is_some (find_class b.name classes.now)) b.bad in
-    unknown_class b.name (b.asks ∙ ap (λ (l : Leaf). want.Leaf l) (class_is b.leaf c.0)) b.text (ap (find_class b.name) (sym of) ∙ not_some (find_class b.name classes.now) c.1)
+    unknown_class b.name (b.asks ∙ ap (λ (l : Leaf). want.Leaf l) (class_is b.leaf c.0)) b.text
+    (ap (find_class b.name) (sym of) ∙ not_some (find_class b.name classes.now) c.1)
 
 -- the question asks for the pools of this document
 abbrev pub IsOfPools : Data → Question → Type 0
@@ -83,17 +87,20 @@ IsOfPools d (question.Classes classes) = ⊥
 IsOfPools d (question.Pools pools) = items_view pools.now ≡ list_in (codes "pools") d
 
 -- a part that answers badly is a pool that isn't declared
-pub misused_pool : (q : Question) (d : Data) (m : Misfit) → IsOfPools d q → suits q m.want (view m.found.now) ≡ false → IsBadPool d m
+pub misused_pool : (q : Question) (d : Data) (m : Misfit) → IsOfPools d q → suits q m.want (view m.found.now) ≡ false
+    → IsBadPool d m
 misused_pool (question.Shape version) d m of h = absurd of
 misused_pool question.Names d m of h = absurd of
 misused_pool (question.Classes classes) d m of h = absurd of
 misused_pool (question.Pools pools) d m of bad =
     let b = bad_text (question.Pools pools) m.want (view m.found.now) bad in
     let c = or_not (is_pool b.leaf) (is_declared pools.now b.name) b.bad in
-    let none : (n : ℕ) → name_in n (list_in (codes "pools") d) ≢ Some b.name = subst (λ (ds : Items). (n : ℕ) → name_in n ds ≢ Some b.name) of (declared_none pools.now b.name c.1) in
+    let none : (n : ℕ) → name_in n (list_in (codes "pools") d) ≢ Some b.name =
+    subst (λ (ds : Items). (n : ℕ) → name_in n ds ≢ Some b.name) of (declared_none pools.now b.name c.1) in
     unknown_pool b.name (b.asks ∙ ap (λ (l : Leaf). want.Leaf l) (pool_is b.leaf c.0)) b.text none
 
 -- what two clauses say of a result
-pub both_ok : {X E : Type 0} (r : Result X E) (P Q R : X → Type 0) → ((x : X) → P x → Q x → R x) → IfOk r P → IfOk r Q → IfOk r R
+pub both_ok : {X E : Type 0} (r : Result X E) (P Q R : X → Type 0) → ((x : X) → P x → Q x → R x) → IfOk r P → IfOk r Q
+    → IfOk r R
 both_ok (Ok x) P Q R k p q = k x p q
 both_ok (Err e) P Q R k p q = tt

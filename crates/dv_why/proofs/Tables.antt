@@ -1,5 +1,6 @@
 -- Where each class of a document may be declared, the table of the document is that of its script.
-use Rattle.std.proofs.Common.{◌≡◌, ◌≢◌, ℕ, zero, suc, ◌+◌, ◌-◌, ◌≤◌, Bool, true, ◌&&◌, List, [], ◌∷◌, length, Option, Some, None, option_and_then, refl, sym, ap, subst, ◌∙◌, arith}
+use Rattle.std.proofs.Common.{◌≡◌, ◌≢◌, ℕ, zero, suc, ◌+◌, ◌-◌, ◌≤◌, Bool, true, ◌&&◌, List, [], ◌∷◌, length, Option}
+use Rattle.std.proofs.Common.{Some, None, option_and_then, refl, sym, ap, subst, ◌∙◌, arith}
 use Rattle.std.proofs.lemmas.Bool.{le-leb}
 use Rattle.serde_json.specs.Data.{Data, null, boolean, number, string, array, object, Items, no_items, item}
 use Rattle.serde_json.specs.Find.{at, get_item, as_array}
@@ -10,7 +11,8 @@ use Rattle.dv_value.specs.Declaring.{CanDeclare}
 use Rattle.dv_script.specs.declared.limits.TheConstants.{MOST_CLASSES}
 use Rattle.dv_forms.specs.declared.declaration.Declaration.{Declaration}
 use Rattle.dv_forms.specs.Forms.{Each, IsList, Field}
-use Rattle.dv_forms.specs.Table.{is_free_under, can_declare, with_declared, table_after, are_declared, table_of, all_declared}
+use Rattle.dv_forms.specs.Table.{is_free_under, can_declare, with_declared, table_after, are_declared, table_of}
+use Rattle.dv_forms.specs.Table.{all_declared}
 use Rattle.dv_grammar.specs.Grammar.{IsDeclaration, declares}
 use Rattle.dv_why.specs.Declaring.{MayDeclare, AllMayDeclare, class_after, table_before}
 use Rattle.dv_why.specs.Documents.{or_no_items}
@@ -44,7 +46,8 @@ free (Some x) p h k = cc
 free None (Some x) h k = refl
 free None None h k = absurd (k refl)
 
-may_declare : (table : List Class) (name parent : List ℕ) → CanDeclare table name parent → can_declare table (record { name = name; parent = parent }) ≡ true
+may_declare : (table : List Class) (name parent : List ℕ) → CanDeclare table name parent
+    → can_declare table (record { name = name; parent = parent }) ≡ true
 may_declare table name parent h = free (find_class name table) (find_class parent table) h.is_free h.has_parent
 
 -- the items from a number on
@@ -62,16 +65,20 @@ no_more : (all : Items) (k n : ℕ) → IsFrom all k no_items → table_before a
 no_more all k zero from = ap (table_before all) (let e : 0 + k ≡ k = omega arith in e)
 no_more all k (suc n) from =
     let next : suc n + k ≡ suc (n + k) = omega arith in
-    let none : get_item (n + k) all ≡ None = (let e : n + k ≡ k + n = omega arith in ap (λ i. get_item i all) e ∙ from n) in
-    ap (table_before all) next ∙ table_next all (n + k) ∙ ap (class_after (table_before all (n + k))) none ∙ no_more all k n from
+    let none : get_item (n + k) all ≡ None =
+    (let e : n + k ≡ k + n = omega arith in ap (λ i. get_item i all) e ∙ from n) in
+    ap (table_before all) next ∙ table_next all (n + k) ∙ ap (class_after (table_before all (n + k))) none
+    ∙ no_more all k n from
 
-declare_one : (table : List Class) (d : Data) (c : Declaration) → IsDeclaration d c → MayDeclare table (Some d) → (can_declare table c ≡ true) × (with_declared table c ≡ class_after table (Some d))
+declare_one : (table : List Class) (d : Data) (c : Declaration) → IsDeclaration d c → MayDeclare table (Some d)
+    → (can_declare table c ≡ true) × (with_declared table c ≡ class_after table (Some d))
 declare_one table _ _ (declares name parent) h = let may = may_declare table name parent h in (may, rw may refl)
 
 both : {a b : Bool} → a ≡ true → b ≡ true → (a && b) ≡ true
 both h k = rw (h, k) refl
 
-from_number : (all : Items) (k : ℕ) (ds : Items) (cs : List Declaration) → IsFrom all k ds → Each IsDeclaration ds cs → k + length cs ≤ MOST_CLASSES → AllMayDeclare all → IsTableFrom all (table_before all k) cs
+from_number : (all : Items) (k : ℕ) (ds : Items) (cs : List Declaration) → IsFrom all k ds → Each IsDeclaration ds cs
+    → k + length cs ≤ MOST_CLASSES → AllMayDeclare all → IsTableFrom all (table_before all k) cs
 from_number all k no_items [] from g most may =
     let rest : MOST_CLASSES ≡ (MOST_CLASSES - k) + k = omega arith in
     (refl, sym (ap (table_before all) rest ∙ no_more all k (MOST_CLASSES - k) from))
@@ -80,16 +87,20 @@ from_number all k (item d ds) [] from g most may = absurd g
 from_number all k (item d ds) (c ∷ cs) from g most may =
     let first : k ≡ k + 0 = omega arith in
     let is : get_item k all ≡ Some d = ap (λ i. get_item i all) first ∙ from 0 in
-    let one = declare_one (table_before all k) d c g.0 (subst (MayDeclare (table_before all k)) is (may k (omega arith))) in
-    let next : with_declared (table_before all k) c ≡ table_before all (suc k) = one.1 ∙ ap (class_after (table_before all k)) (sym is) ∙ sym (table_next all k) in
+    let one =
+    declare_one (table_before all k) d c g.0 (subst (MayDeclare (table_before all k)) is (may k (omega arith))) in
+    let next : with_declared (table_before all k) c ≡ table_before all (suc k) =
+    one.1 ∙ ap (class_after (table_before all k)) (sym is) ∙ sym (table_next all k) in
     let rest = from_number all (suc k) ds cs (later all k d ds from) g.1 (omega arith) may in
     (both one.0 (rw next rest.0), rw next rest.1)
 
 -- each class may be declared, and the tables are the same
-pub tables_same : (o : Option Data) (cs : List Declaration) → Field [] (IsList IsDeclaration) o cs → length cs ≤ MOST_CLASSES → AllMayDeclare (or_no_items (option_and_then as_array o))
+pub tables_same : (o : Option Data) (cs : List Declaration) → Field [] (IsList IsDeclaration) o cs
+    → length cs ≤ MOST_CLASSES → AllMayDeclare (or_no_items (option_and_then as_array o))
     → (all_declared cs ≡ true) × (table_of cs ≡ table_before (or_no_items (option_and_then as_array o)) MOST_CLASSES)
 tables_same None cs g most may = rw g (refl, sym (table_none MOST_CLASSES))
 tables_same (Some d) cs g most may =
     let few = le-leb (length cs) MOST_CLASSES most in
-    let same = rw table_first at (from_number g.0 0 g.0 cs (λ n. let e : 0 + n ≡ n = omega arith in ap (λ i. get_item i g.0) e) g.2 (omega arith) (rw (g.1) at may)) in
+    let same = rw table_first at (from_number g.0 0 g.0 cs (λ n. let e : 0 + n ≡ n = omega arith in
+    ap (λ i. get_item i g.0) e) g.2 (omega arith) (rw (g.1) at may)) in
     rw (few, g.1) same

@@ -11,7 +11,8 @@ use Rattle.dv_forms.specs.Parts.{call_at}
 use Rattle.dv_forms.specs.Wants.{item_want, key_want, keys_in, pair_wants}
 use Rattle.dv_forms.specs.Words.{wants_of}
 use Rattle.dv_questions.specs.Questions.{Asked}
-use Rattle.dv_questions.specs.Asking.{count, if_there, each_item, one_for_one, arguments_suit, word_suits, call_suits, keys_suit, in_parts, all_suit}
+use Rattle.dv_questions.specs.Asking.{count, if_there, each_item, one_for_one, arguments_suit, word_suits, call_suits}
+use Rattle.dv_questions.specs.Asking.{keys_suit, in_parts, all_suit}
 use Rattle.dv_why.specs.declared.question.Question.{Question}
 use Rattle.dv_why.specs.Places.{nth}
 use Rattle.dv_why.specs.Fits.{suits}
@@ -27,7 +28,8 @@ pub record Tells (q : Question) (a : Asked) : Type 0 where
 abbrev Goods : Question → (Want → Data → Bool) → Type 0
 Goods q good = (w : Want) (d : Data) → AllSuit q w d → good w d ≡ true
 
-leaf_good : {q : Question} {a : Asked} → Tells q a → (l : Leaf) (d : Data) → AllSuit q (want.Leaf l) d → if_there (a.of_leaf l) (as_str d) ≡ true
+leaf_good : {q : Question} {a : Asked} → Tells q a → (l : Leaf) (d : Data) → AllSuit q (want.Leaf l) d
+    → if_there (a.of_leaf l) (as_str d) ≡ true
 leaf_good t l (string x) h = t.leaf l x (here h)
 leaf_good t l null h = refl
 leaf_good t l (boolean b) h = refl
@@ -35,7 +37,8 @@ leaf_good t l (number n) h = refl
 leaf_good t l (array ds) h = refl
 leaf_good t l (object ms) h = refl
 
-word_good : {q : Question} {a : Asked} → Tells q a → (c : Call) (d : Data) → AllSuit q (want.Word c) d → if_there (a.of_word c) (as_str d) ≡ true
+word_good : {q : Question} {a : Asked} → Tells q a → (c : Call) (d : Data) → AllSuit q (want.Word c) d
+    → if_there (a.of_word c) (as_str d) ≡ true
 word_good t c (string x) h = t.word c x (here h)
 word_good t c null h = refl
 word_good t c (boolean b) h = refl
@@ -44,7 +47,8 @@ word_good t c (array ds) h = refl
 word_good t c (object ms) h = refl
 
 -- where an array stands
-array_good : (f : Items → Bool) (d : Data) → ((ds : Items) → d ≡ array ds → f ds ≡ true) → if_there f (as_array d) ≡ true
+array_good : (f : Items → Bool) (d : Data) → ((ds : Items) → d ≡ array ds → f ds ≡ true)
+    → if_there f (as_array d) ≡ true
 array_good f (array ds) k = k ds refl
 array_good f null k = refl
 array_good f (boolean b) k = refl
@@ -52,26 +56,35 @@ array_good f (number n) k = refl
 array_good f (string x) k = refl
 array_good f (object ms) k = refl
 
-each_good : (f : Data → Bool) (ds : Items) → ((n : ℕ) (e : Data) → get_item n ds ≡ Some e → f e ≡ true) → each_item f ds ≡ true
+each_good : (f : Data → Bool) (ds : Items) → ((n : ℕ) (e : Data) → get_item n ds ≡ Some e → f e ≡ true)
+    → each_item f ds ≡ true
 each_good f no_items k = refl
 each_good f (item d ds) k = both (k 0 d refl) (each_good f ds (λ n e is. k (suc n) e is))
 
-ones_good : (f : Want → Data → Bool) (ws : List Want) (ds : Items) → ((n : ℕ) (v : Want) (e : Data) → nth ws n ≡ Some v → get_item n ds ≡ Some e → f v e ≡ true) → one_for_one f ws ds ≡ true
+ones_good : (f : Want → Data → Bool) (ws : List Want) (ds : Items)
+    → ((n : ℕ) (v : Want) (e : Data) → nth ws n ≡ Some v → get_item n ds ≡ Some e → f v e ≡ true)
+    → one_for_one f ws ds ≡ true
 ones_good f [] ds k = refl
 ones_good f (w ∷ ws) no_items k = refl
-ones_good f (w ∷ ws) (item d ds) k = both (k 0 w d refl refl) (ones_good f ws ds (λ n v e wants is. k (suc n) v e wants is))
+ones_good f (w ∷ ws) (item d ds) k =
+    both (k 0 w d refl refl) (ones_good f ws ds (λ n v e wants is. k (suc n) v e wants is))
 
-arguments_good : (f : Want → Data → Bool) (o : Option (List Want)) (ds : Items) → ((n : ℕ) (v : Want) (e : Data) → option_and_then (λ ws. nth ws n) o ≡ Some v → get_item n ds ≡ Some e → f v e ≡ true) → arguments_suit f o ds ≡ true
+arguments_good : (f : Want → Data → Bool) (o : Option (List Want)) (ds : Items) → ((n : ℕ) (v : Want) (e : Data)
+    → option_and_then (λ ws. nth ws n) o ≡ Some v → get_item n ds ≡ Some e → f v e ≡ true)
+    → arguments_suit f o ds ≡ true
 arguments_good f None ds k = refl
 arguments_good f (Some ws) ds k = ones_good f ws ds k
 
-parts_good : {q : Question} {a : Asked} → Tells q a → (f : Want → Data → Bool) → Goods q f → (c : Call) (x : List ℕ) (ds : Items) → AllSuit q (want.Call c) (array (item (string x) ds)) → word_suits a f c ds x ≡ true
+parts_good : {q : Question} {a : Asked} → Tells q a → (f : Want → Data → Bool) → Goods q f
+    → (c : Call) (x : List ℕ) (ds : Items) → AllSuit q (want.Call c) (array (item (string x) ds))
+    → word_suits a f c ds x ≡ true
 unfolding call_at
 parts_good t f k c x ds h =
     both (t.word c x (here (part 0 h refl refl)))
     (arguments_good f (wants_of c x (count ds)) ds (λ n v e wants is. k v e (part (suc n) h wants is)))
 
-call_good : {q : Question} {a : Asked} → Tells q a → (f : Want → Data → Bool) → Goods q f → (c : Call) (ds : Items) → AllSuit q (want.Call c) (array ds) → call_suits a f c ds ≡ true
+call_good : {q : Question} {a : Asked} → Tells q a → (f : Want → Data → Bool) → Goods q f → (c : Call) (ds : Items)
+    → AllSuit q (want.Call c) (array ds) → call_suits a f c ds ≡ true
 call_good t f k c no_items h = refl
 call_good t f k c (item (string x) ds) h = parts_good t f k c x ds h
 call_good t f k c (item null ds) h = refl
@@ -84,25 +97,35 @@ value_good : (f : Data → Bool) (o : Option Data) → ((e : Data) → o ≡ Som
 value_good f None k = refl
 value_good f (Some e) k = k e refl
 
-keys_good : {q : Question} (f : Want → Data → Bool) → Goods q f → (o : Keyed) (d : Data) → AllSuit q (want.Keyed o) d → (keys : List (List ℕ)) → keys_suit f o d keys ≡ true
+keys_good : {q : Question} (f : Want → Data → Bool) → Goods q f → (o : Keyed) (d : Data) → AllSuit q (want.Keyed o) d
+    → (keys : List (List ℕ)) → keys_suit f o d keys ≡ true
 keys_good f k o d h [] = refl
-keys_good f k o d h (key ∷ keys) = both (value_good (f (key_want o key)) (get key d) (λ e is. k (key_want o key) e (value key h refl is))) (keys_good f k o d h keys)
+keys_good f k o d h (key ∷ keys) =
+    both (value_good (f (key_want o key)) (get key d) (λ e is. k (key_want o key) e (value key h refl is)))
+    (keys_good f k o d h keys)
 
 array_is : {q : Question} {w : Want} {d e : Data} → d ≡ e → AllSuit q w d → AllSuit q w e
 array_is is h = rw is at h
 
-all_good : {q : Question} {a : Asked} → Tells q a → (f : Want → Data → Bool) → Goods q f → (w : Want) (d : Data) → AllSuit q w d → in_parts a f w d ≡ true
+all_good : {q : Question} {a : Asked} → Tells q a → (f : Want → Data → Bool) → Goods q f → (w : Want) (d : Data)
+    → AllSuit q w d → in_parts a f w d ≡ true
 all_good t f k (want.Leaf l) d h = leaf_good t l d h
 all_good t f k want.Value d h = refl
-all_good {a = a} t f k (want.Call c) d h = array_good (call_suits a f c) d (λ ds is. call_good t f k c ds (array_is is h))
-all_good t f k (want.Pair p) d h = array_good (one_for_one f (pair_wants p)) d (λ ds is. ones_good f (pair_wants p) ds (λ n v e wants here. k v e (part n (array_is is h) wants here)))
+all_good {a = a} t f k (want.Call c) d h =
+    array_good (call_suits a f c) d (λ ds is. call_good t f k c ds (array_is is h))
+all_good t f k (want.Pair p) d h =
+    array_good (one_for_one f (pair_wants p)) d
+    (λ ds is. ones_good f (pair_wants p) ds (λ n v e wants here. k v e (part n (array_is is h) wants here)))
 all_good t f k (want.Keyed o) d h = keys_good f k o d h (keys_in o)
-all_good t f k (want.Array i) d h = array_good (each_item (f (item_want i))) d (λ ds is. each_good (f (item_want i)) ds (λ n e here. k (item_want i) e (part n (array_is is h) refl here)))
+all_good t f k (want.Array i) d h =
+    array_good (each_item (f (item_want i))) d
+    (λ ds is. each_good (f (item_want i)) ds (λ n e here. k (item_want i) e (part n (array_is is h) refl here)))
 all_good t f k (want.Word c) d h = word_good t c d h
 all_good t f k (want.Other o) d h = refl
 
 -- each text of the value answers well
-pub texts_suit : {q : Question} {a : Asked} → Tells q a → (levels : ℕ) (w : Want) (d : Data) → AllSuit q w d → all_suit a levels w d ≡ true
+pub texts_suit : {q : Question} {a : Asked} → Tells q a → (levels : ℕ) (w : Want) (d : Data) → AllSuit q w d
+    → all_suit a levels w d ≡ true
 unfolding all_suit
 texts_suit t zero w d h = refl
 texts_suit {a = a} t (suc n) w d h = all_good t (all_suit a n) (texts_suit t n) w d h

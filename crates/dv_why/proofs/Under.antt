@@ -20,11 +20,15 @@ at_under s m n path u h = ap path_of u.steps ∙ ap (λ (l : List Part). part_of
 pub text_under : (s : Step) (m n : Misfit) (text : List ℕ) → IsUnder s m n → HasText text m → HasText text n
 text_under s m n text u h = ap (λ f. as_str (view f.now)) u.found ∙ h
 
-pub undeclarable_under : (table : List Class) (path : List Part) (s : Step) (m n : Misfit) → IsUnder s m n → IsUndeclarable table path m → IsUndeclarable table (part_of s ∷ path) n
-undeclarable_under table path s m n u (taken_name name at has taken) = taken_name name (at_under s m n _ u at) (text_under s m n name u has) taken
-undeclarable_under table path s m n u (missing_parent name at has none) = missing_parent name (at_under s m n _ u at) (text_under s m n name u has) none
+pub undeclarable_under : (table : List Class) (path : List Part) (s : Step) (m n : Misfit) → IsUnder s m n
+    → IsUndeclarable table path m → IsUndeclarable table (part_of s ∷ path) n
+undeclarable_under table path s m n u (taken_name name at has taken) =
+    taken_name name (at_under s m n _ u at) (text_under s m n name u has) taken
+undeclarable_under table path s m n u (missing_parent name at has none) =
+    missing_parent name (at_under s m n _ u at) (text_under s m n name u has) none
 
-pub given_under : (pools : Items) (path : List Part) (s : Step) (m n : Misfit) → IsUnder s m n → IsGivenTwice pools path m → IsGivenTwice pools (part_of s ∷ path) n
+pub given_under : (pools : Items) (path : List Part) (s : Step) (m n : Misfit) → IsUnder s m n
+    → IsGivenTwice pools path m → IsGivenTwice pools (part_of s ∷ path) n
 given_under pools path s m n u h = record {
   first = h.first;
   second = h.second;

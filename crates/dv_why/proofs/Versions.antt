@@ -1,5 +1,7 @@
 -- The version that a document says, and that a script of the first has no pools.
-use Rattle.std.proofs.Common.{is_eq, true≢false, Ordering, Less, Equal, Greater, nat_cmp, ◌≡◌, ℕ, zero, suc, ◌≤◌, Bool, true, false, nat_eq, List, Option, Some, None, option_and_then, bytes_eq, refl, sym, ap, ◌∙◌, arith, codes}
+use Rattle.std.proofs.Common.{is_eq, true≢false, Ordering, Less, Equal, Greater, nat_cmp, ◌≡◌, ℕ, zero, suc, ◌≤◌, Bool}
+use Rattle.std.proofs.Common.{true, false, nat_eq, List, Option, Some, None, option_and_then, bytes_eq, refl, sym, ap}
+use Rattle.std.proofs.Common.{◌∙◌, arith, codes}
 use Rattle.std.specs.List.{list_any}
 use Rattle.std.proofs.lemmas.Bool.{and_parts}
 use Rattle.std.proofs.lemmas.Map.Text.{is_eq-slice_cmp}
@@ -19,7 +21,8 @@ within_two (suc zero) low high = refl
 within_two (suc (suc zero)) low high = refl
 within_two (suc (suc (suc n))) low high = absurd (omega arith)
 
-version_of : (o : Option Data) (n : ℕ) → Key (IsNumber 1 2) o n → one_or_two (option_and_then as_u64 (option_and_then as_number o)) ≡ n
+version_of : (o : Option Data) (n : ℕ) → Key (IsNumber 1 2) o n
+    → one_or_two (option_and_then as_u64 (option_and_then as_number o)) ≡ n
 version_of None n h = absurd h
 version_of (Some d) n h = rw (h.0) (within_two n h.1 h.2)
 
@@ -42,9 +45,11 @@ no_pools no_members h = refl
 no_pools (member key d ms) h =
     let parts = and_parts (list_any (λ k. bytes_eq key k) script_keys) (has_only script_keys ms) h in
     let other : codes "pools" ≡ key → ⊥ = λ e. true≢false (sym (rw (← e) at parts.0)) in
-    either_side (slice_cmp nat_cmp (codes "pools") key) _ _ (is_eq-slice_cmp (codes "pools") key ∙ differ (codes "pools") key _ refl other) ∙ no_pools ms parts.1
+    either_side (slice_cmp nat_cmp (codes "pools") key) _ _
+    (is_eq-slice_cmp (codes "pools") key ∙ differ (codes "pools") key _ refl other) ∙ no_pools ms parts.1
 
-pub first_has_no_pools : (d : Data) (draft : Draft) (g : IsScript d draft) → nat_eq (version_in d) 1 ≡ true → get_member (codes "pools") g.members ≡ None
+pub first_has_no_pools : (d : Data) (draft : Draft) (g : IsScript d draft) → nat_eq (version_in d) 1 ≡ true
+    → get_member (codes "pools") g.members ≡ None
 first_has_no_pools d draft g one =
     let same : nat_eq draft.version 1 ≡ true = ap (λ v. nat_eq v 1) (sym (same_version d draft g)) ∙ one in
     no_pools g.members (rw same at g.only)

@@ -27,11 +27,14 @@ ValuesSuit q w d = (key : List ℕ) (v : Want) (e : Data) → value_want w key �
 
 -- the value of each key that an object may have does
 abbrev pub KnownSuit : Question → Keyed → Data → Type 0
-KnownSuit q k d = (i : ℕ) → i < length (keys_in k) → (e : Data) → get (get_or (keys_in k) i []) d ≡ Some e → AllSuit q (key_want k (get_or (keys_in k) i [])) e
+KnownSuit q k d =
+    (i : ℕ) → i < length (keys_in k) → (e : Data) → get (get_or (keys_in k) i []) d ≡ Some e
+    → AllSuit q (key_want k (get_or (keys_in k) i [])) e
 
 -- the value of each key that it may not have does
 abbrev pub OthersSuit : Question → Keyed → Data → Type 0
-OthersSuit q k d = (key : List ℕ) (e : Data) → get key d ≡ Some e → is_other (key_want k key) ≡ true → AllSuit q (key_want k key) e
+OthersSuit q k d =
+    (key : List ℕ) (e : Data) → get key d ≡ Some e → is_other (key_want k key) ≡ true → AllSuit q (key_want k key) e
 
 -- the same, where an object is asked for
 abbrev pub OthersOf : Question → Want → Data → Type 0

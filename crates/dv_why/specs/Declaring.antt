@@ -30,7 +30,8 @@ abbrev pub MayDeclare : List Class → Option Data → Type 0
 MayDeclare table None = ⊤
 MayDeclare table (Some d) = MayAdd table (option_and_then as_str (at 0 d)) (option_and_then as_str (at 1 d))
 
--- the table before the declaration of this number: the classes that every script has, and those that are declared before it
+-- the table before the declaration of this number: the classes that every script has, and those that are declared
+-- before it
 unfoldable pub table_before : Items → ℕ → List Class
 table_before ds zero = builtin
 table_before ds (suc n) = class_after (table_before ds n) (get_item n ds)

@@ -1,5 +1,6 @@
 -- What a document says as a whole: its version, and the lists of its keys.
-use Rattle.std.specs.Prelude.{◌≡◌, ◌≢◌, ◌<◌, false, ℕ, nat_eq, if◌then◌else◌, List, Option, Some, None, option_and_then, codes}
+use Rattle.std.specs.Prelude.{◌≡◌, ◌≢◌, ◌<◌, false, ℕ, nat_eq, if◌then◌else◌, List, Option, Some, None, option_and_then}
+use Rattle.std.specs.Prelude.{codes}
 use Rattle.serde_json.specs.Data.{Data, Items, no_items}
 use Rattle.serde_json.specs.Find.{get, at, get_item, as_array, as_number, as_str, as_u64}
 use Rattle.dv_forms.specs.declared.want.Want.{Want}

@@ -14,7 +14,8 @@ use Rattle.dv_script.specs.declared.limits.TheConstants.{MOST_BYTES}
 -- the line of the script that the source gives was written, and the answer is the line's
 abbrev pub Explains : Option (List ℕ) → Option (List ℕ) → Option (List ℕ) → Option ScriptFault → Type 0
 Explains left before after fault =
-    (bytes line : List ℕ) × IsFrontOf left (MOST_BYTES + 1) bytes × Answers bytes fault line × Appends before after (line ++ 10 ∷ [])
+    (bytes line : List ℕ) × IsFrontOf left (MOST_BYTES + 1) bytes × Answers bytes fault line
+    × Appends before after (line ++ 10 ∷ [])
 
 -- the fault of a reader
 abbrev pub of_read_error : ReadError → WhyFault

@@ -27,7 +27,8 @@ pub record Finds (q : Question) (w : Want) (d : Data) (m : Misfit) : Type 0 wher
 
 -- what stands at a place answers the question badly, or the place is the whole, and each part of it answers well
 abbrev pub Misfits : Question → Data → Misfit → Type 0
-Misfits q d m = (suits q m.want (view m.found.now) ≡ false) ⊎ (IsAt [] m × (depth d ≤ MOST_LEVELS → AllSuit q (script_in d) d))
+Misfits q d m =
+    (suits q m.want (view m.found.now) ≡ false) ⊎ (IsAt [] m × (depth d ≤ MOST_LEVELS → AllSuit q (script_in d) d))
 
 -- the table of a document, of which each class may be declared, or a class that may not
 abbrev pub IsTableOf : Data → Table → Type 0

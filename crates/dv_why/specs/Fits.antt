@@ -1,7 +1,9 @@
 -- Whether what stands at a place is what the place asks for, its parts apart.
-use Rattle.std.specs.Prelude.{ℕ, if◌then◌else◌, ◌&&◌, ◌||◌, nat_eq, Bool, true, false, not, List, Option, Some, None, is_some, option_and_then, bytes_eq, codes}
+use Rattle.std.specs.Prelude.{ℕ, if◌then◌else◌, ◌&&◌, ◌||◌, nat_eq, Bool, true, false, not, List, Option, Some, None}
+use Rattle.std.specs.Prelude.{is_some, option_and_then, bytes_eq, codes}
 use Rattle.std.specs.List.{list_any}
-use Rattle.serde_json.specs.Data.{Data, null, boolean, number, string, array, object, Items, no_items, item, Members, no_members, member}
+use Rattle.serde_json.specs.Data.{Data, null, boolean, number, string, array, object, Items, no_items, item, Members}
+use Rattle.serde_json.specs.Data.{no_members, member}
 use Rattle.serde_json.specs.Find.{as_str, as_bool, as_array, as_object, as_i64, get, at}
 use Rattle.serde_json.specs.View.{view}
 use Rattle.serde_json.specs.declared.value.Value.{Value}
@@ -42,7 +44,8 @@ value_fits (string text) = true
 value_fits (array ds) = true
 value_fits (object ms) = false
 
--- the first part of a call is no word that may stand there, which is wrong itself, or one that has a form with so many arguments
+-- the first part of a call is no word that may stand there, which is wrong itself, or one that has a form with so many
+-- arguments
 abbrev pub begins_well : Call → Option (List ℕ) → ℕ → Bool
 begins_well c None given = true
 begins_well c (Some word) given = not (may_stand c word LAST_VERSION) || is_some (wants_of c word given)

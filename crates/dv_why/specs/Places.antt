@@ -48,7 +48,8 @@ nth (w ∷ ws) (suc n) = nth ws n
 
 -- what the place of an argument asks for
 abbrev pub argument_want : Call → Data → ℕ → Option Want
-argument_want c d n = option_and_then (λ call. option_and_then (λ ws. nth ws n) (wants_of c call.0 (count call.1))) (call_at d)
+argument_want c d n =
+    option_and_then (λ call. option_and_then (λ ws. nth ws n) (wants_of c call.0 (count call.1))) (call_at d)
 
 -- what the place of a part of a call asks for: first its word
 abbrev pub call_want : Call → Data → ℕ → Option Want

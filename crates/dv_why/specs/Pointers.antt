@@ -6,7 +6,9 @@ use Rattle.dv_why.specs.declared.misfit.Step.TheVariants as step
 -- a key, in which `~0` stands for `~` and `~1` for `/`
 unfoldable pub escaped_key : List ℕ → List ℕ
 escaped_key [] = []
-escaped_key (x ∷ rest) = if x == 126 then 126 ∷ 48 ∷ escaped_key rest else (if x == 47 then 126 ∷ 49 ∷ escaped_key rest else x ∷ escaped_key rest)
+escaped_key (x ∷ rest) =
+    if x == 126 then 126 ∷ 48 ∷ escaped_key rest
+    else (if x == 47 then 126 ∷ 49 ∷ escaped_key rest else x ∷ escaped_key rest)
 
 -- the same of one character
 abbrev pub escaped_letter : ℕ → List ℕ

@@ -4,7 +4,8 @@ use Rattle.serde_json.specs.Data.{Data}
 use Rattle.dv_grammar.specs.declared.draft.Draft.{Draft}
 use Rattle.dv_grammar.specs.Grammar.{IsScript}
 use Rattle.dv_reader.specs.declared.error.ScriptFault.{ScriptFault}
-use Rattle.dv_reader.specs.declared.error.ScriptFault.TheVariants.{TooLong, NotJson, BadVersion, BadShape, TooMany, BadName, BadClass, OutOfMemory, BadPool}
+use Rattle.dv_reader.specs.declared.error.ScriptFault.TheVariants.{TooLong, NotJson, BadVersion, BadShape, TooMany}
+use Rattle.dv_reader.specs.declared.error.ScriptFault.TheVariants.{BadName, BadClass, OutOfMemory, BadPool}
 use Rattle.dv_reader.specs.Limits.{is_small}
 use Rattle.dv_reader.specs.Refusal.{HasVersion, IsMisshapen, keeps_version, are_named, are_known, are_pooled}
 
@@ -21,6 +22,10 @@ IsRefusedFor BadVersion d = HasVersion d → ⊥
 IsRefusedFor BadShape d = HasVersion d × IsMisshapen d
 IsRefusedFor TooMany d = (draft : Draft) × HasShapeOf d draft × (is_small d draft ≡ false)
 IsRefusedFor BadName d = (draft : Draft) × HasShapeOf d draft × (is_small d draft ≡ true) × (are_named d draft ≡ false)
-IsRefusedFor BadClass d = (draft : Draft) × HasShapeOf d draft × (is_small d draft ≡ true) × (are_named d draft ≡ true) × (are_known d draft ≡ false)
+IsRefusedFor BadClass d =
+    (draft : Draft) × HasShapeOf d draft × (is_small d draft ≡ true) × (are_named d draft ≡ true)
+    × (are_known d draft ≡ false)
 IsRefusedFor OutOfMemory d = ⊤
-IsRefusedFor BadPool d = (draft : Draft) × HasShapeOf d draft × (is_small d draft ≡ true) × (are_named d draft ≡ true) × (are_known d draft ≡ true) × (are_pooled d draft ≡ false)
+IsRefusedFor BadPool d =
+    (draft : Draft) × HasShapeOf d draft × (is_small d draft ≡ true) × (are_named d draft ≡ true)
+    × (are_known d draft ≡ true) × (are_pooled d draft ≡ false)

@@ -9,7 +9,8 @@ use Rattle.serde_json.specs.View.{view}
 use Rattle.serde_json.specs.Written.{IsInOrder}
 use Rattle.dv_script.specs.declared.script.Script.{Script}
 use Rattle.dv_reader.specs.declared.error.ScriptFault.{ScriptFault}
-use Rattle.dv_reader.specs.declared.error.ScriptFault.TheVariants.{TooLong, NotJson, BadVersion, BadShape, TooMany, BadName, BadClass, OutOfMemory, BadPool}
+use Rattle.dv_reader.specs.declared.error.ScriptFault.TheVariants.{TooLong, NotJson, BadVersion, BadShape, TooMany}
+use Rattle.dv_reader.specs.declared.error.ScriptFault.TheVariants.{BadName, BadClass, OutOfMemory, BadPool}
 use Rattle.dv_reader.specs.Refusal.{Says, Refuses}
 use Rattle.dv_reader.specs.Texts.{refusal_name, refusal_number}
 use Rattle.dv_why.specs.declared.line.TheConstants.{MOST_SHOWN}
@@ -26,14 +27,18 @@ accepted = object (member (codes "accepted") (boolean true) no_members)
 -- what is reported about a refusal
 abbrev pub refused : ScriptFault → List ℕ → List ℕ → List ℕ → Data
 refused fault at expected found =
-    object (member (codes "at") (string at) (member (codes "expected") (string expected) (member (codes "found") (string found)
-    (member (codes "name") (string (refusal_name fault)) (member (codes "refusal") (number (unsigned (refusal_number fault))) no_members)))))
+    object
+    (member (codes "at") (string at) (member (codes "expected") (string expected) (member (codes "found") (string found)
+    (member (codes "name") (string (refusal_name fault))
+    (member (codes "refusal") (number (unsigned (refusal_number fault))) no_members)))))
 
 -- what is reported about a text that is no JSON
 abbrev pub refused_text : ScriptFault → ℕ → ℕ → List ℕ → List ℕ → Data
 refused_text fault line column expected found =
-    object (member (codes "at") (string []) (member (codes "column") (number (unsigned column)) (member (codes "expected") (string expected)
-    (member (codes "found") (string found) (member (codes "line") (number (unsigned line)) (member (codes "name") (string (refusal_name fault))
+    object (member (codes "at") (string [])
+    (member (codes "column") (number (unsigned column)) (member (codes "expected") (string expected)
+    (member (codes "found") (string found)
+    (member (codes "line") (number (unsigned line)) (member (codes "name") (string (refusal_name fault))
     (member (codes "refusal") (number (unsigned (refusal_number fault))) no_members)))))))
 
 -- as many characters of a text as are shown, from its front
@@ -49,7 +54,8 @@ pub record Explains (fault : ScriptFault) (d : Data) (m : Misfit) : Type 0 where
   pub leads : Leads (script_in d) d m
   pub wrong : IsWrong fault d m
 
--- the report of a refusal of a JSON value: the text `at` leads where the steps of a misfit lead, and what stands there is shown
+-- the report of a refusal of a JSON value: the text `at` leads where the steps of a misfit lead, and what stands there
+-- is shown
 pub record TellsOf (fault : ScriptFault) (d : Data) (told : Data) : Type 0 where
   pub misfit : Misfit
   pub at : List ℕ
@@ -67,13 +73,15 @@ TellsOfJson fault bytes told = (d : Data) × IsUtf8 bytes × (read bytes ≡ Som
 
 -- what is reported about a text that is too long: its own front is shown
 abbrev pub TellsOfLong : List ℕ → Data → Type 0
-TellsOfLong bytes told = (expected : List ℕ) × (told ≡ refused TooLong [] expected (first_characters (utf8_lossy bytes)))
+TellsOfLong bytes told =
+    (expected : List ℕ) × (told ≡ refused TooLong [] expected (first_characters (utf8_lossy bytes)))
 
 -- what is reported about a text that is no JSON, with a line and a column where they are known
 abbrev pub TellsOfText : List ℕ → Data → Type 0
 TellsOfText bytes told =
     ((expected : List ℕ) × (told ≡ refused NotJson [] expected (first_characters (utf8_lossy bytes))))
-    ⊎ ((line column : ℕ) × (expected : List ℕ) × (told ≡ refused_text NotJson line column expected (first_characters (utf8_lossy bytes))))
+    ⊎ ((line column : ℕ) × (expected : List ℕ)
+    × (told ≡ refused_text NotJson line column expected (first_characters (utf8_lossy bytes))))
 
 -- what is reported about bytes that are refused
 abbrev pub IsToldOf : ScriptFault → List ℕ → Data → Type 0

@@ -9,7 +9,8 @@ use Rattle.dv_script.specs.declared.limits.TheConstants.{MOST_CALLERS, MOST_CLAS
 use Rattle.dv_clock.specs.declared.limits.TheConstants.{MOST_TICKS}
 use Rattle.dv_reader.specs.Limits.{nodes}
 use Rattle.dv_reader.specs.declared.error.ScriptFault.{ScriptFault}
-use Rattle.dv_reader.specs.declared.error.ScriptFault.TheVariants.{TooLong, NotJson, BadVersion, BadShape, TooMany, BadName, BadClass, OutOfMemory, BadPool}
+use Rattle.dv_reader.specs.declared.error.ScriptFault.TheVariants.{TooLong, NotJson, BadVersion, BadShape, TooMany}
+use Rattle.dv_reader.specs.declared.error.ScriptFault.TheVariants.{BadName, BadClass, OutOfMemory, BadPool}
 use Rattle.dv_forms.specs.declared.want.Leaf.{Leaf}
 use Rattle.dv_forms.specs.declared.want.Want.TheVariants as want
 use Rattle.dv_why.specs.declared.misfit.Misfit.{Misfit}
@@ -57,15 +58,21 @@ pub record IsMisnamed (m : Misfit) : Type 0 where
   pub found : HasText name m
   pub wrong : is_named leaf name ≡ false
 
--- the declaration at this path may not be added to this table: its name, part 0 of it, is taken, or its parent, part 1, isn't there
+-- the declaration at this path may not be added to this table: its name, part 0 of it, is taken, or its parent, part 1,
+-- isn't there
 pub data IsUndeclarable (table : List Class) (path : List Part) (m : Misfit) : Type 0 where
-  taken_name : (name : List ℕ) → IsAt (path ++ to_item 0 ∷ []) m → HasText name m → find_class name table ≢ None → IsUndeclarable table path m
-  missing_parent : (name : List ℕ) → IsAt (path ++ to_item 1 ∷ []) m → HasText name m → find_class name table ≡ None → IsUndeclarable table path m
+  taken_name : (name : List ℕ) → IsAt (path ++ to_item 0 ∷ []) m → HasText name m → find_class name table ≢ None
+      → IsUndeclarable table path m
+  missing_parent : (name : List ℕ) → IsAt (path ++ to_item 1 ∷ []) m → HasText name m → find_class name table ≡ None
+      → IsUndeclarable table path m
 
 -- BadClass: a class may not be declared after those before it, or a class is used that isn't in the table of all
 pub data IsBadClass (d : Data) (m : Misfit) : Type 0 where
-  undeclarable : (n : ℕ) → IsUndeclarable (table_before (list_in (codes "classes") d) n) (to_key (codes "classes") ∷ to_item n ∷ []) m → IsBadClass d m
-  unknown_class : (name : List ℕ) → m.want ≡ a_class → HasText name m → find_class name (table_in d) ≡ None → IsBadClass d m
+  undeclarable : (n : ℕ)
+      → IsUndeclarable (table_before (list_in (codes "classes") d) n) (to_key (codes "classes") ∷ to_item n ∷ []) m
+      → IsBadClass d m
+  unknown_class : (name : List ℕ) → m.want ≡ a_class → HasText name m → find_class name (table_in d) ≡ None
+      → IsBadClass d m
 
 -- the second of two pools of the list at this path has the name of the first
 pub record IsGivenTwice (pools : Items) (path : List Part) (m : Misfit) : Type 0 where
@@ -80,7 +87,8 @@ pub record IsGivenTwice (pools : Items) (path : List Part) (m : Misfit) : Type 0
 -- BadPool: a pool has the name of one before it, or a pool is used whose name none has
 pub data IsBadPool (d : Data) (m : Misfit) : Type 0 where
   given_twice : IsGivenTwice (list_in (codes "pools") d) (to_key (codes "pools") ∷ []) m → IsBadPool d m
-  unknown_pool : (name : List ℕ) → m.want ≡ a_pool → HasText name m → ((n : ℕ) → name_in n (list_in (codes "pools") d) ≢ Some name) → IsBadPool d m
+  unknown_pool : (name : List ℕ) → m.want ≡ a_pool → HasText name m
+      → ((n : ℕ) → name_in n (list_in (codes "pools") d) ≢ Some name) → IsBadPool d m
 
 -- what is wrong where a script is refused so
 abbrev pub IsWrong : ScriptFault → Data → Misfit → Type 0

@@ -1,6 +1,7 @@
 //! The classes that a script declares.
 
-ghost use Rattle.std.specs.Prelude.{◌≡◌, ◌+◌, ◌<◌, ◌≤◌, ◌^◌, ◌∷◌, [], length, None, Some, IfOk, IfSome, OnOk};
+ghost use Rattle.std.specs.Prelude.{◌≡◌, ◌+◌, ◌<◌, ◌≤◌, ◌^◌, ◌∷◌, [], length, None, Some, IfOk};
+ghost use Rattle.std.specs.Prelude.{IfSome, OnOk};
 ghost use Rattle.serde_json.specs.Find.{at};
 ghost use Rattle.serde_json.specs.View.{view};
 ghost use Rattle.dv_why.specs.Declaring.{MayDeclare, class_after};
@@ -41,7 +42,8 @@ pub fn make_table(alloc: Global, json: &Json) -> Result<Table<'_>, AllocError>
     Ok(Table::Whole(classes))
 }
 
-/// Adds the class of this number to the table, if one may be declared, or returns which part of it is wrong.
+/// Adds the class of this number to the table, if one may be declared, or returns which part of it
+/// is wrong.
 fn declare_next<'j>(
     alloc: Global,
     classes: &mut Classes,
@@ -49,10 +51,14 @@ fn declare_next<'j>(
     number: usize,
 ) -> Result<Option<(Misfit<'j>, Expected)>, AllocError>
     requires room { length classes.old + 1 < 2 ^ 32 }
-    ensures leads { IfOk result (λ found. IfSome found (λ part. Leads all_classes (view declared.now) part.0)) }
-    ensures wrong { IfOk result (λ found. IfSome found (λ part. IsUndeclarable classes.old (to_item number ∷ []) part.0)) }
-    ensures may { IfOk result (λ found. found ≡ None → MayDeclare classes.old (at number (view declared.now))) }
-    ensures table { IfOk result (λ found. found ≡ None → classes.new ≡ class_after classes.old (at number (view declared.now))) }
+    ensures leads { IfOk result
+        (λ found. IfSome found (λ part. Leads all_classes (view declared.now) part.0)) }
+    ensures wrong { IfOk result
+        (λ found. IfSome found (λ part. IsUndeclarable classes.old (to_item number ∷ []) part.0)) }
+    ensures may { IfOk result (λ found. found ≡ None
+        → MayDeclare classes.old (at number (view declared.now))) }
+    ensures table { IfOk result (λ found. found ≡ None
+        → classes.new ≡ class_after classes.old (at number (view declared.now))) }
     ensures grows { OnOk result (length classes.new ≤ length classes.old + 1) }
 {
     let Some(json) = declared.get(number) else {
@@ -71,10 +77,14 @@ fn declare<'j>(
     json: &'j Json,
 ) -> Result<Option<(Misfit<'j>, Expected)>, AllocError>
     requires room { length classes.old + 1 < 2 ^ 32 }
-    ensures leads { IfOk result (λ found. IfSome found (λ part. Leads one_class (view json.now) part.0)) }
-    ensures wrong { IfOk result (λ found. IfSome found (λ part. IsUndeclarable classes.old [] part.0)) }
-    ensures may { IfOk result (λ found. found ≡ None → MayDeclare classes.old (Some (view json.now))) }
-    ensures table { IfOk result (λ found. found ≡ None → classes.new ≡ class_after classes.old (Some (view json.now))) }
+    ensures leads { IfOk result
+        (λ found. IfSome found (λ part. Leads one_class (view json.now) part.0)) }
+    ensures wrong { IfOk result
+        (λ found. IfSome found (λ part. IsUndeclarable classes.old [] part.0)) }
+    ensures may { IfOk result (λ found. found ≡ None
+        → MayDeclare classes.old (Some (view json.now))) }
+    ensures table { IfOk result (λ found. found ≡ None
+        → classes.new ≡ class_after classes.old (Some (view json.now))) }
     ensures grows { OnOk result (length classes.new ≤ length classes.old + 1) }
 {
     let (Some(name), Some(parent)) = (json.get(0usize), json.get(1usize)) else {

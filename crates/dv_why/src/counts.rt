@@ -1,6 +1,7 @@
 //! What there is too much of in a script.
 
-ghost use Rattle.std.specs.Prelude.{◌≡◌, ◌∷◌, ◌^◌, ◌-◌, ◌≤◌, ◌<◌, ℕ, [], None, IfOk, IfSome, min, nat_lt, codes};
+ghost use Rattle.std.specs.Prelude.{◌≡◌, ◌∷◌, ◌^◌, ◌-◌, ◌≤◌, ◌<◌, ℕ, [], None, IfOk, IfSome, min};
+ghost use Rattle.std.specs.Prelude.{nat_lt, codes};
 ghost use Rattle.serde_json.specs.Find.{as_array};
 ghost use Rattle.serde_json.specs.View.{view, items_view};
 ghost use Rattle.dv_script.specs.declared.limits.TheConstants.{MOST_POSTS};
@@ -69,10 +70,13 @@ fn is_long(json: &Json, key: &str, most: usize) -> bool
 
 /// The first caller that has too many posts.
 fn busy_caller(alloc: Global, callers: &Json) -> Result<Option<Misfit<'_>>, AllocError>
-    ensures leads { IfOk result (λ found. IfSome found (λ misfit. Leads all_callers (view callers.now) misfit)) }
+    ensures leads { IfOk result
+        (λ found. IfSome found (λ misfit. Leads all_callers (view callers.now) misfit)) }
     ensures wrong { IfOk result (λ found. IfSome found (λ misfit.
-        (n : ℕ) × IsAt (to_item n ∷ []) misfit × (MOST_POSTS < count_at n (or_no_items (as_array (view callers.now)))))) }
-    ensures none { IfOk result (λ found. found ≡ None → (n : ℕ) → count_at n (or_no_items (as_array (view callers.now))) ≤ MOST_POSTS) }
+        (n : ℕ) × IsAt (to_item n ∷ []) misfit
+        × (MOST_POSTS < count_at n (or_no_items (as_array (view callers.now)))))) }
+    ensures none { IfOk result (λ found. found ≡ None → (n : ℕ)
+        → count_at n (or_no_items (as_array (view callers.now))) ≤ MOST_POSTS) }
 {
     let Json::Array(items) = callers else {
         return Ok(None);
@@ -100,10 +104,13 @@ fn is_busy(posts: &Json) -> bool
 
 /// The first caller of a document that has too many posts, seen from the document.
 fn busy_one(alloc: Global, json: &Json) -> Result<Option<Misfit<'_>>, AllocError>
-    ensures leads { IfOk result (λ found. IfSome found (λ misfit. Leads (script_in (view json.now)) (view json.now) misfit)) }
+    ensures leads { IfOk result (λ found.
+        IfSome found (λ misfit. Leads (script_in (view json.now)) (view json.now) misfit)) }
     ensures wrong { IfOk result (λ found. IfSome found (λ misfit.
-        (n : ℕ) × IsAt (to_key (codes "callers") ∷ to_item n ∷ []) misfit × (MOST_POSTS < posts_of n (view json.now)))) }
-    ensures none { IfOk result (λ found. found ≡ None → (n : ℕ) → posts_of n (view json.now) ≤ MOST_POSTS) }
+        (n : ℕ) × IsAt (to_key (codes "callers") ∷ to_item n ∷ []) misfit
+        × (MOST_POSTS < posts_of n (view json.now)))) }
+    ensures none { IfOk result (λ found. found ≡ None → (n : ℕ)
+        → posts_of n (view json.now) ≤ MOST_POSTS) }
 {
     let Some(callers) = json.get("callers") else {
         return Ok(None);
@@ -114,10 +121,12 @@ fn busy_one(alloc: Global, json: &Json) -> Result<Option<Misfit<'_>>, AllocError
     }
 }
 
-/// The first list of a script of which there is too much, or the whole script, and what is expected.
+/// The first list of a script of which there is too much, or the whole script, and what is
+/// expected.
 pub fn too_many(alloc: Global, json: &Json) -> Result<(Misfit<'_>, Expected), AllocError>
     requires { IsRefusedFor TooMany (view json.now) }
-    ensures leads { IfOk result (λ found. Leads (script_in (view json.now)) (view json.now) found.0) }
+    ensures leads { IfOk result (λ found. Leads (script_in (view json.now))
+        (view json.now) found.0) }
     ensures wrong { IfOk result (λ found. IsTooMuch (view json.now) found.0) }
 {
     if !has_few_nodes(json) {

@@ -43,8 +43,10 @@ pub fn value_of<'j>(
     json: &'j Json,
     key: &'static str,
 ) -> Result<Misfit<'j>, AllocError>
-    ensures leads { IfOk result (λ misfit. Leads (script_in (view json.now)) (view json.now) misfit) }
-    ensures path { IfOk result (λ misfit. path_of misfit.steps.items ≡ path_to key.now (get key.now (view json.now))) }
+    ensures leads { IfOk result (λ misfit. Leads (script_in (view json.now))
+        (view json.now) misfit) }
+    ensures path { IfOk result
+        (λ misfit. path_of misfit.steps.items ≡ path_to key.now (get key.now (view json.now))) }
 {
     match json.get(key) {
         Some(value) => {

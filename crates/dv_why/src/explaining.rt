@@ -2,7 +2,8 @@
 
 ghost use Rattle.std.specs.Prelude.{◌≡◌, OnOk, IfOk, IsErrOf};
 ghost use Rattle.dv_journal.specs.Sink.{HasFailed};
-ghost use Rattle.dv_why.specs.Explaining.{Explains, fault_status, fault_text, ended_status, ended_text};
+ghost use Rattle.dv_why.specs.Explaining.{Explains, fault_status, fault_text, ended_status};
+ghost use Rattle.dv_why.specs.Explaining.{ended_text};
 
 use crate::why::tell;
 use dv_journal::sink::{Sink, SinkFault, write_all};
@@ -58,16 +59,20 @@ impl From<ReadError> for WhyFault {
     }
 }
 
-/// Reads a script to the end of the input, or to one byte more than a script may have, and writes a line of JSON that says
-/// whether it is accepted, and where it isn't, why. Answers the refusal, if it is refused.
+/// Reads a script to the end of the input, or to one byte more than a script may have, and writes a
+/// line of JSON that says whether it is accepted, and where it isn't, why. Answers the refusal, if
+/// it is refused.
 pub fn explain<R: Source, W: Sink>(
     alloc: Global,
     reader: &mut R,
     writer: &mut W,
 ) -> Result<Option<ScriptFault>, WhyFault>
-    ensures ok { IfOk result (λ fault. Explains (R.left reader.old) (W.taken writer.old) (W.taken writer.new) fault) }
-    ensures read { IsErrOf result WhyFault.ReadFault → HasFailed (R.failures reader.old) (R.failures reader.new) }
-    ensures write { IsErrOf result WhyFault.WriteFault → HasFailed (W.failures writer.old) (W.failures writer.new) }
+    ensures ok { IfOk result (λ fault. Explains (R.left reader.old) (W.taken writer.old)
+        (W.taken writer.new) fault) }
+    ensures read { IsErrOf result WhyFault.ReadFault
+        → HasFailed (R.failures reader.old) (R.failures reader.new) }
+    ensures write { IsErrOf result WhyFault.WriteFault
+        → HasFailed (W.failures writer.old) (W.failures writer.new) }
     ensures kept { OnOk result (W.failures writer.new ≡ W.failures writer.old) }
 {
     let bytes = read_up_to(alloc, reader, MOST_BYTES + 1)?;
@@ -77,7 +82,8 @@ pub fn explain<R: Source, W: Sink>(
     Ok(told.fault)
 }
 
-/// The exit status of an explanation, and the text that goes to standard error where it isn't empty.
+/// The exit status of an explanation, and the text that goes to standard error where it isn't
+/// empty.
 pub fn exit_of(ended: Result<Option<ScriptFault>, WhyFault>) -> (u8, &'static str)
     ensures status { result.0 ≡ ended_status ended }
     ensures text { result.1.now ≡ ended_text ended }

@@ -32,7 +32,8 @@ fn nth(wants: &[Want], number: usize) -> Option<Want>
 /// The word of a call, and what comes with it.
 #[tactic(auto, unfolding(dv_forms::specs::Parts::call_at))]
 fn call_in(json: &Json) -> Option<(&str, &[Json])>
-    ensures { option_map (λ call. (call.0.now, items_view call.1.now)) result ≡ call_at (view json.now) }
+    ensures { option_map (λ call. (call.0.now, items_view call.1.now)) result
+        ≡ call_at (view json.now) }
 {
     let Json::Array(parts) = json else {
         return None;
@@ -89,8 +90,10 @@ pub fn find<'j>(
     levels: u32,
     json: &'j Json,
 ) -> Result<Option<Misfit<'j>>, AllocError>
-    ensures found { IfOk result (λ found. IfSome found (λ misfit. Finds question.entry want (view json.now) misfit)) }
-    ensures none { IfOk result (λ found. found ≡ None → depth (view json.now) ≤ levels → AllSuit question.entry want (view json.now)) }
+    ensures found { IfOk result
+        (λ found. IfSome found (λ misfit. Finds question.entry want (view json.now) misfit)) }
+    ensures none { IfOk result (λ found. found ≡ None → depth (view json.now) ≤ levels
+        → AllSuit question.entry want (view json.now)) }
 {
     if let Some(misfit) = other_key(alloc, question, want, levels, json)? {
         return Ok(Some(misfit));
@@ -110,8 +113,10 @@ fn other_key<'j>(
     levels: u32,
     json: &'j Json,
 ) -> Result<Option<Misfit<'j>>, AllocError>
-    ensures found { IfOk result (λ found. IfSome found (λ misfit. Finds question.entry want (view json.now) misfit)) }
-    ensures none { IfOk result (λ found. found ≡ None → depth (view json.now) ≤ levels → OthersOf question.entry want (view json.now)) }
+    ensures found { IfOk result
+        (λ found. IfSome found (λ misfit. Finds question.entry want (view json.now) misfit)) }
+    ensures none { IfOk result (λ found. found ≡ None → depth (view json.now) ≤ levels
+        → OthersOf question.entry want (view json.now)) }
 {
     if levels == 0 {
         return Ok(None);
@@ -138,8 +143,10 @@ fn in_parts<'j>(
     json: &'j Json,
 ) -> Result<Option<Misfit<'j>>, AllocError>
     requires { suits question want (view json.now) ≡ true }
-    ensures found { IfOk result (λ found. IfSome found (λ misfit. Finds question.entry want (view json.now) misfit)) }
-    ensures none { IfOk result (λ found. found ≡ None → depth (view json.now) ≤ levels → OthersOf question.entry want (view json.now) → AllSuit question.entry want (view json.now)) }
+    ensures found { IfOk result
+        (λ found. IfSome found (λ misfit. Finds question.entry want (view json.now) misfit)) }
+    ensures none { IfOk result (λ found. found ≡ None → depth (view json.now) ≤ levels → OthersOf
+        question.entry want (view json.now) → AllSuit question.entry want (view json.now)) }
 {
     if levels == 0 {
         return Ok(None);
@@ -161,8 +168,10 @@ fn in_array<'j>(
     levels: u32,
     json: &'j Json,
 ) -> Result<Option<Misfit<'j>>, AllocError>
-    ensures found { IfOk result (λ found. IfSome found (λ misfit. Finds question.entry want (view json.now) misfit)) }
-    ensures none { IfOk result (λ found. found ≡ None → depth (view json.now) ≤ levels + 1 → ItemsSuit question.entry want (view json.now)) }
+    ensures found { IfOk result
+        (λ found. IfSome found (λ misfit. Finds question.entry want (view json.now) misfit)) }
+    ensures none { IfOk result (λ found. found ≡ None → depth (view json.now) ≤ levels + 1
+        → ItemsSuit question.entry want (view json.now)) }
 {
     let Json::Array(items) = json else {
         return Ok(None);
@@ -184,9 +193,11 @@ fn in_item<'j>(
     json: &'j Json,
     number: usize,
 ) -> Result<Option<Misfit<'j>>, AllocError>
-    ensures found { IfOk result (λ found. IfSome found (λ misfit. Finds question.entry want (view json.now) misfit)) }
+    ensures found { IfOk result
+        (λ found. IfSome found (λ misfit. Finds question.entry want (view json.now) misfit)) }
     ensures none { IfOk result (λ found. found ≡ None → depth (view json.now) ≤ levels + 1
-        → (v : Want) (e : Data) → part_want want (view json.now) number ≡ Some v → at number (view json.now) ≡ Some e → AllSuit question.entry v e) }
+        → (v : Want) (e : Data) → part_want want (view json.now) number ≡ Some v
+        → at number (view json.now) ≡ Some e → AllSuit question.entry v e) }
 {
     let (Some(part), Some(item)) = (part_of(want, json, number), json.get(number)) else {
         return Ok(None);
@@ -205,8 +216,10 @@ fn in_object<'j>(
     levels: u32,
     json: &'j Json,
 ) -> Result<Option<Misfit<'j>>, AllocError>
-    ensures found { IfOk result (λ found. IfSome found (λ misfit. Finds question.entry (Want.Keyed keyed) (view json.now) misfit)) }
-    ensures none { IfOk result (λ found. found ≡ None → depth (view json.now) ≤ levels + 1 → KnownSuit question.entry keyed (view json.now)) }
+    ensures found { IfOk result (λ found.
+        IfSome found (λ misfit. Finds question.entry (Want.Keyed keyed) (view json.now) misfit)) }
+    ensures none { IfOk result (λ found. found ≡ None → depth (view json.now) ≤ levels + 1
+        → KnownSuit question.entry keyed (view json.now)) }
 {
     for key in keyed.keys() {
         if let Some(misfit) = in_key(alloc, question, keyed, levels, json, *key)? {
@@ -225,8 +238,10 @@ fn at_other_key<'j>(
     levels: u32,
     json: &'j Json,
 ) -> Result<Option<Misfit<'j>>, AllocError>
-    ensures found { IfOk result (λ found. IfSome found (λ misfit. Finds question.entry (Want.Keyed keyed) (view json.now) misfit)) }
-    ensures none { IfOk result (λ found. found ≡ None → depth (view json.now) ≤ levels + 1 → OthersSuit question.entry keyed (view json.now)) }
+    ensures found { IfOk result (λ found.
+        IfSome found (λ misfit. Finds question.entry (Want.Keyed keyed) (view json.now) misfit)) }
+    ensures none { IfOk result (λ found. found ≡ None → depth (view json.now) ≤ levels + 1
+        → OthersSuit question.entry keyed (view json.now)) }
 {
     let Json::Object(members) = json else {
         return Ok(None);
@@ -239,7 +254,8 @@ fn at_other_key<'j>(
 
 /// The first key that an object may not have.
 fn first_other(keyed: Keyed, members: &Map<String, Json>) -> Option<&str>
-    ensures { option_map (λ key. key.now) result ≡ first_other keyed (members_view members.now.entries) }
+    ensures { option_map (λ key. key.now) result
+        ≡ first_other keyed (members_view members.now.entries) }
 {
     for (key, _) in members.iter() {
         if is_other(keyed, key.as_str()) {
@@ -265,9 +281,11 @@ fn in_key<'j>(
     json: &'j Json,
     key: &'j str,
 ) -> Result<Option<Misfit<'j>>, AllocError>
-    ensures found { IfOk result (λ found. IfSome found (λ misfit. Finds question.entry (Want.Keyed keyed) (view json.now) misfit)) }
+    ensures found { IfOk result (λ found.
+        IfSome found (λ misfit. Finds question.entry (Want.Keyed keyed) (view json.now) misfit)) }
     ensures none { IfOk result (λ found. found ≡ None → depth (view json.now) ≤ levels + 1
-        → (e : Data) → get key.now (view json.now) ≡ Some e → AllSuit question.entry (key_want keyed key.now) e) }
+        → (e : Data) → get key.now (view json.now) ≡ Some e
+        → AllSuit question.entry (key_want keyed key.now) e) }
 {
     let Some(value) = json.get(key) else {
         return Ok(None);

@@ -3,7 +3,8 @@
 ghost use Rattle.std.specs.Prelude.{◌≡◌};
 ghost use Rattle.serde_json.specs.View.{view, items_view};
 ghost use Rattle.serde_json.specs.Find.{as_str, as_array};
-ghost use Rattle.dv_why.specs.Fits.{value_fits, begins_well, parts_fit, array_fits, are_two, word_fits, has_keys, fits};
+ghost use Rattle.dv_why.specs.Fits.{value_fits, begins_well, parts_fit, array_fits, are_two};
+ghost use Rattle.dv_why.specs.Fits.{word_fits, has_keys, fits};
 
 use crate::leaf::leaf_fits;
 use dv_forms::want::{Call, Keyed, Want};
@@ -88,7 +89,8 @@ fn has_keys(keyed: Keyed, json: &Json) -> bool
     }
 }
 
-/// Whether what stands at a place has the shape that the place asks for in a script of this version, its parts apart.
+/// Whether what stands at a place has the shape that the place asks for in a script of this
+/// version, its parts apart.
 pub fn fits(version: u32, want: Want, json: &Json) -> bool
     ensures { result ≡ fits version want (view json.now) }
 {

@@ -1,4 +1,5 @@
-//! Why a script is refused: the place in it that is wrong, what is expected there, and what stands there.
+//! Why a script is refused: the place in it that is wrong, what is expected there, and what stands
+//! there.
 #![tactic(auto)]
 
 mod classes;

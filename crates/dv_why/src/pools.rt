@@ -3,7 +3,8 @@
 ghost use Rattle.std.specs.Prelude.{◌≡◌, ◌∷◌, true, false, [], None, Some, IfOk, IfSome, codes};
 ghost use Rattle.serde_json.specs.Find.{as_array, as_str, at};
 ghost use Rattle.serde_json.specs.View.{view};
-ghost use Rattle.dv_why.specs.Documents.{AreDistinct, PoolsDistinct, first_text, list_in, or_no_items, script_in};
+ghost use Rattle.dv_why.specs.Documents.{AreDistinct, PoolsDistinct, first_text, list_in};
+ghost use Rattle.dv_why.specs.Documents.{or_no_items, script_in};
 ghost use Rattle.dv_why.specs.Finds.{Leads};
 ghost use Rattle.dv_why.specs.Fits.{is_given};
 ghost use Rattle.dv_why.specs.Places.{to_key};
@@ -17,10 +18,13 @@ use dv_forms::want::{Leaf, Object, Want};
 use serde_json::Value as Json;
 use std::alloc::{AllocError, Global};
 
-/// The first name of a pool of a document that one before it has; a script of version 1 has no pools.
+/// The first name of a pool of a document that one before it has; a script of version 1 has no
+/// pools.
 pub fn second_pool(alloc: Global, json: &Json) -> Result<Option<Misfit<'_>>, AllocError>
-    ensures leads { IfOk result (λ found. IfSome found (λ misfit. Leads (script_in (view json.now)) (view json.now) misfit)) }
-    ensures wrong { IfOk result (λ found. IfSome found (λ misfit. IsGivenTwice (list_in (codes "pools") (view json.now)) (to_key (codes "pools") ∷ []) misfit)) }
+    ensures leads { IfOk result (λ found.
+        IfSome found (λ misfit. Leads (script_in (view json.now)) (view json.now) misfit)) }
+    ensures wrong { IfOk result (λ found. IfSome found (λ misfit. IsGivenTwice
+        (list_in (codes "pools") (view json.now)) (to_key (codes "pools") ∷ []) misfit)) }
     ensures none { IfOk result (λ found. found ≡ None → PoolsDistinct (view json.now)) }
 {
     if version_of(json) == 1 {
@@ -36,9 +40,12 @@ pub fn second_pool(alloc: Global, json: &Json) -> Result<Option<Misfit<'_>>, All
 }
 
 fn in_pools(alloc: Global, pools: &Json) -> Result<Option<Misfit<'_>>, AllocError>
-    ensures leads { IfOk result (λ found. IfSome found (λ misfit. Leads all_pools (view pools.now) misfit)) }
-    ensures wrong { IfOk result (λ found. IfSome found (λ misfit. IsGivenTwice (or_no_items (as_array (view pools.now))) [] misfit)) }
-    ensures none { IfOk result (λ found. found ≡ None → AreDistinct (or_no_items (as_array (view pools.now)))) }
+    ensures leads { IfOk result
+        (λ found. IfSome found (λ misfit. Leads all_pools (view pools.now) misfit)) }
+    ensures wrong { IfOk result (λ found.
+        IfSome found (λ misfit. IsGivenTwice (or_no_items (as_array (view pools.now))) [] misfit)) }
+    ensures none { IfOk result (λ found. found ≡ None
+        → AreDistinct (or_no_items (as_array (view pools.now)))) }
 {
     let Json::Array(items) = pools else {
         return Ok(None);

@@ -1,7 +1,8 @@
 ghost use Rattle.std.specs.Prelude.{◌≡◌, option_and_then};
 ghost use Rattle.serde_json.specs.View.{view};
 ghost use Rattle.serde_json.specs.Find.{as_str, at};
-ghost use Rattle.dv_why.specs.Fits.{has_name, is_declared, name_suits, leaf_suits, names_suit, suits};
+ghost use Rattle.dv_why.specs.Fits.{has_name, is_declared, name_suits, leaf_suits, names_suit};
+ghost use Rattle.dv_why.specs.Fits.{suits};
 
 use crate::fits::fits;
 use dv_forms::want::{Leaf, Want};

@@ -3,11 +3,14 @@ ghost use Rattle.std.specs.Str.Lossy.{utf8_lossy};
 ghost use Rattle.serde_json.specs.Data.{depth};
 ghost use Rattle.serde_json.specs.View.{view, items_view};
 ghost use Rattle.dv_reader.specs.Refusal.{Refuses};
-ghost use Rattle.dv_reader.specs.declared.error.ScriptFault.TheVariants.{NotJson, BadVersion, BadShape, BadName, BadClass, BadPool};
+ghost use Rattle.dv_reader.specs.declared.error.ScriptFault.TheVariants.{NotJson, BadVersion};
+ghost use Rattle.dv_reader.specs.declared.error.ScriptFault.TheVariants.{BadShape, BadName};
+ghost use Rattle.dv_reader.specs.declared.error.ScriptFault.TheVariants.{BadClass, BadPool};
 ghost use Rattle.dv_why.specs.Documents.{PoolsDistinct, list_in, script_in};
 ghost use Rattle.dv_why.specs.Finds.{IsTableOf, Leads, Misfits};
 ghost use Rattle.dv_why.specs.Reasons.{IsRefusedFor};
-ghost use Rattle.dv_why.specs.Why.{accepted, first_characters, refused, refused_text, Shows, Explains, TellsOf, TellsOfJson, TellsOfText, IsToldOf, Answers};
+ghost use Rattle.dv_why.specs.Why.{accepted, first_characters, refused, refused_text, Shows};
+ghost use Rattle.dv_why.specs.Why.{Explains, TellsOf, TellsOfJson, TellsOfText, IsToldOf, Answers};
 ghost use Rattle.dv_why.specs.Wrong.{IsAtVersion, IsWrong};
 
 use crate::classes::{Table, make_table};
@@ -87,7 +90,8 @@ fn sentence(alloc: Global, expected: Expected) -> Result<String, AllocError> {
     Ok(text)
 }
 
-/// What is reported about a refusal with this place, this that is expected there, and this that stands there.
+/// What is reported about a refusal with this place, this that is expected there, and this that
+/// stands there.
 fn refused(
     alloc: Global,
     fault: ScriptFault,
@@ -113,7 +117,8 @@ fn of_text(
     expected: Expected,
     bytes: &[u8],
 ) -> Result<Json, AllocError>
-    ensures { IfOk result (λ told. (expected : List ℕ) × (view told ≡ refused fault [] expected (first_characters (utf8_lossy bytes.now)))) }
+    ensures { IfOk result (λ told. (expected : List ℕ)
+        × (view told ≡ refused fault [] expected (first_characters (utf8_lossy bytes.now)))) }
 {
     let expected = sentence(alloc, expected)?;
     let found = shown_bytes(alloc, bytes)?;
@@ -150,7 +155,8 @@ fn of_place(
     expected: &str,
     found: &str,
 ) -> Result<Json, AllocError>
-    ensures { IfOk result (λ told. view told ≡ refused_text NotJson line column expected.now found.now) }
+    ensures { IfOk result
+        (λ told. view told ≡ refused_text NotJson line column expected.now found.now) }
 {
     json!(in alloc; {
         "refusal": refusal_number(ScriptFault::NotJson),
@@ -194,7 +200,8 @@ fn at_part(
     expected: &str,
     part: &Json,
 ) -> Result<Json, AllocError>
-    ensures { IfOk result (λ told. (found : List ℕ) × Shows found (view part.now) × (view told ≡ refused fault at.now expected.now found)) }
+    ensures { IfOk result (λ told. (found : List ℕ) × Shows found (view part.now)
+        × (view told ≡ refused fault at.now expected.now found)) }
 {
     let found = shown_json(alloc, part)?;
     refused(alloc, fault, at, expected, found.as_str())
@@ -242,7 +249,8 @@ fn in_script<'j>(
     question: Question<'_>,
     json: &'j Json,
 ) -> Result<(Misfit<'j>, Expected), AllocError>
-    ensures leads { IfOk result (λ found. Leads (script_in (view json.now)) (view json.now) found.0) }
+    ensures leads { IfOk result (λ found. Leads (script_in (view json.now))
+        (view json.now) found.0) }
     ensures wrong { IfOk result (λ found. Misfits question.entry (view json.now) found.0) }
 {
     match find(alloc, question, script_of(json), MOST_LEVELS, json)? {

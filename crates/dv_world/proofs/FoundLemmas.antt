@@ -15,6 +15,7 @@ none_before (All ds) = refl
 none_before (Unbound name) = refl
 
 -- one more is looked up
-pub one_more : (front : List ℕ) (d : ℕ) (found : Found) → with_front (front ++ d ∷ []) found ≡ with_front front (with_first d found)
+pub one_more : (front : List ℕ) (d : ℕ) (found : Found)
+    → with_front (front ++ d ∷ []) found ≡ with_front front (with_first d found)
 one_more front d (All ds) = ap All (append_assoc front (d ∷ []) ds)
 one_more front d (Unbound name) = refl

@@ -20,7 +20,8 @@ end_of t w = end_in t w.objects.cooperator.tasks
 pub data Becomes (w : World) : World → Type 0 where
   Same : Becomes w w
   Elsewhere : (v u : World) → u.objects.cooperator.tasks ≡ v.objects.cooperator.tasks → Becomes w v → Becomes w u
-  Makes : (v : World) (name : List ℕ) (bodies : List Body) → Becomes w v → Becomes w (aside (entry.Task name) (cooperating (with_new_task name bodies)) v)
+  Makes : (v : World) (name : List ℕ) (bodies : List Body) → Becomes w v
+      → Becomes w (aside (entry.Task name) (cooperating (with_new_task name bodies)) v)
   Steps : (v : World) → Becomes w v → Becomes w (take_step v).1
   Pauses : (v : World) (t : ℕ) → Becomes w v → Becomes w (pause_task t v)
   Resumes : (v : World) (t : ℕ) → Becomes w v → Becomes w (resume_task t v)
@@ -34,4 +35,5 @@ TasksEndOnce = (w u : World) (t : ℕ) (end : TaskEnd) → end_of t w ≡ Some e
 
 -- and where it is to end again, nothing is logged, and nobody is answered
 abbrev pub EndedTasksAreLeftAlone : Type 0
-EndedTasksAreLeftAlone = (w : World) (t : ℕ) (end again : TaskEnd) → end_of t w ≡ Some end → end_task t again w ≡ ([], w)
+EndedTasksAreLeftAlone =
+    (w : World) (t : ℕ) (end again : TaskEnd) → end_of t w ≡ Some end → end_task t again w ≡ ([], w)

@@ -1,7 +1,9 @@
 -- The world of a run: its Deferreds, their names, the classes of failures and the journal, and one step of each kind.
-use Rattle.std.specs.Prelude.{ℕ, ◌+◌, min, Bool, true, false, not, if◌then◌else◌, List, [], ◌∷◌, ◌++◌, length, Option, None, Some, Result, Ok, Err, slice_get, bytes_eq, codes}
+use Rattle.std.specs.Prelude.{ℕ, ◌+◌, min, Bool, true, false, not, if◌then◌else◌, List, [], ◌∷◌, ◌++◌, length, Option}
+use Rattle.std.specs.Prelude.{None, Some, Result, Ok, Err, slice_get, bytes_eq, codes}
 use Rattle.std.specs.Option.{option_map_or}
-use Rattle.dv_value.specs.Builtin.{assertion_error, runtime_error, already_called, already_cancelled, not_paused as paused_not}
+use Rattle.dv_value.specs.Builtin.{assertion_error, runtime_error, already_called, already_cancelled}
+use Rattle.dv_value.specs.Builtin.{not_paused as paused_not}
 use Rattle.dv_value.specs.Failure.{plain_failure}
 use Rattle.dv_value.specs.declared.classes.Class.{Class}
 use Rattle.dv_value.specs.declared.failure.Failure.{Failure}
@@ -42,12 +44,15 @@ use Rattle.dv_store.specs.declared.store.Fired.{Fired}
 use Rattle.dv_store.specs.declared.store.Fired.TheVariants.{Set, Swallowed}
 use Rattle.dv_store.specs.declared.store.Step.{Step}
 use Rattle.dv_store.specs.declared.store.Step.TheVariants.{Nothing}
-use Rattle.dv_objects.specs.Cooperator.{Cooperator, with_step, with_pause, with_resume, with_end, with_waiting, result_of, unended, wants_tick, idle_tick}
+use Rattle.dv_objects.specs.Cooperator.{Cooperator, with_step, with_pause, with_resume, with_end, with_waiting}
+use Rattle.dv_objects.specs.Cooperator.{result_of, unended, wants_tick, idle_tick}
 use Rattle.dv_inline.specs.Position.{Position}
 use Rattle.dv_objects.specs.Inlines.{come_to, end_adding, now_waiting, awaited_by}
 use Rattle.dv_objects.specs.Looping.{next_due, with_turn, with_stopped, with_ended}
 use Rattle.dv_objects.specs.Names.{number_of}
-use Rattle.dv_objects.specs.Objects.{Objects, no_objects, naming_where, with_list, with_new_call, with_delivery, with_timer, with_ended_call, with_time, with_lock, lock_changed, with_queue, queue_changed, cooperating, with_tick, without_tick, inlining, with_new_inline}
+use Rattle.dv_objects.specs.Objects.{Objects, no_objects, naming_where, with_list, with_new_call, with_delivery}
+use Rattle.dv_objects.specs.Objects.{with_timer, with_ended_call, with_time, with_lock, lock_changed, with_queue}
+use Rattle.dv_objects.specs.Objects.{queue_changed, cooperating, with_tick, without_tick, inlining, with_new_inline}
 use Rattle.dv_objects.specs.Pair.{passes}
 use Rattle.dv_objects.specs.Reached.{reached_at}
 use Rattle.dv_objects.specs.Refusals.{cancelled, refused_firing, refused_unpausing}
@@ -84,7 +89,15 @@ pub record World : Type 0 where
 
 -- nothing is made and nothing is logged at first
 abbrev pub first_world : List Class → ℕ → Settings → World
-first_world classes limit settings = record { classes = classes; objects = no_objects settings; works = []; pools = []; records = []; journal = empty limit; stopped = false }
+first_world classes limit settings = record {
+  classes = classes;
+  objects = no_objects settings;
+  works = [];
+  pools = [];
+  records = [];
+  journal = empty limit;
+  stopped = false;
+}
 
 -- the Deferreds and the journal
 abbrev pub state_of : World → State Pair Canceller
@@ -224,11 +237,13 @@ cancel d w =
     then (reached_from d w.records, record w { journal = with_entry w.journal (entry.Cancel d) })
     else (reached.Nothing, with_stop w)
 
--- an entry is written by which no Deferred changes, and what stands beside the Deferreds changes; one that doesn't fit stops the run
+-- an entry is written by which no Deferred changes, and what stands beside the Deferreds changes; one that doesn't fit
+-- stops the run
 unfoldable pub aside : Entry → (Objects → Objects) → World → World
 aside entry change w =
     if w.stopped then w else
-    if fits w.journal entry then record w { objects = change w.objects; journal = with_entry w.journal entry } else with_stop w
+    if fits w.journal entry then record w { objects = change w.objects; journal = with_entry w.journal entry }
+    else with_stop w
 
 -- what stands beside the Deferreds changes, which isn't logged
 unfoldable pub arrange : (Objects → Objects) → World → World
@@ -268,7 +283,8 @@ unless_stopped answer w = (if w.stopped then None else answer, w)
 abbrev pub put_into_found : ℕ → Value → Option Queue → World → Option (ℕ × Value) × World
 put_into_found k value None w = (None, w)
 put_into_found k value (Some q) w =
-    if may_put q then unless_stopped (receiver q.waiting value) (aside (entry.Put q.name value) (with_queue k (put_to q.waiting value q)) w) else (None, w)
+    if may_put q then unless_stopped (receiver q.waiting value)
+    (aside (entry.Put q.name value) (with_queue k (put_to q.waiting value q)) w) else (None, w)
 
 -- a value is put into a queue
 abbrev pub put_into : ℕ → Value → World → Option (ℕ × Value) × World
@@ -277,7 +293,8 @@ put_into k value w = put_into_found k value (slice_get w.objects.queues k) w
 -- d asks the queue that is found for a value, and which it gets is answered, if it doesn't wait
 abbrev pub get_from_found : ℕ → ℕ → Option Queue → World → Option Value × World
 get_from_found k d None w = (None, w)
-get_from_found k d (Some q) w = unless_stopped (slice_get q.stored 0) (aside (entry.Get q.name d) (with_queue k (got_from q.stored d q)) w)
+get_from_found k d (Some q) w =
+    unless_stopped (slice_get q.stored 0) (aside (entry.Get q.name d) (with_queue k (got_from q.stored d q)) w)
 
 -- d asks a queue for a value
 abbrev pub get_from : ℕ → ℕ → World → Option Value × World
@@ -294,31 +311,41 @@ came_to_found l i v (Some g) w = ((came i v g).0, arrange (with_list l (came i v
 
 -- a child reports to a list with its value, which isn't logged; in a stopped run none does
 unfoldable pub came_to : ℕ → ℕ → Value → World → Came × World
-came_to l i v w = if w.stopped then (record { fire = None; pass = v }, w) else came_to_found l i v (slice_get w.objects.lists l) w
+came_to l i v w =
+    if w.stopped then (record { fire = None; pass = v }, w) else came_to_found l i v (slice_get w.objects.lists l) w
 
--- a job is submitted to a pool, whose result is for d, and logged; one more than a run has isn't, and one that can't be logged stops the run
+-- a job is submitted to a pool, whose result is for d, and logged; one more than a run has isn't, and one that can't be
+-- logged stops the run
 unfoldable pub submit : ℕ → Option (List ℕ) → Work → World → World
 submit d pool work w =
     if w.stopped then w else
     if is_full w.works then w else
     let told = entry.Job (length w.works) d in
-    if fits w.journal told then record w { works = w.works ++ work ∷ []; pools = w.pools ++ pool ∷ []; journal = with_entry w.journal told } else with_stop w
+    if fits w.journal told
+    then record w { works = w.works ++ work ∷ []; pools = w.pools ++ pool ∷ []; journal = with_entry w.journal told }
+    else with_stop w
 
 -- what the submitting of a job raises that is one more than a run has
 abbrev pub too_many_jobs : Failure
 too_many_jobs = plain_failure runtime_error (codes "too many jobs")
 
--- the delivery of a job's result to d is scheduled, which is due so much later than now, and no later than calls are delayed by
+-- the delivery of a job's result to d is scheduled, which is due so much later than now, and no later than calls are
+-- delayed by
 abbrev pub deliver_later : ℕ → ℕ → ℕ → World → World
-deliver_later job d delay w = let due = w.objects.clock.time + min delay MOST_DELAY in aside (entry.LaterJob job due) (with_delivery job d due) w
+deliver_later job d delay w =
+    let due = w.objects.clock.time + min delay MOST_DELAY in aside (entry.LaterJob job due) (with_delivery job d due) w
 
--- a delayed call of this body is scheduled, which is due so much later than now, and no later than calls are delayed by, and its name is bound to it
+-- a delayed call of this body is scheduled, which is due so much later than now, and no later than calls are delayed
+-- by, and its name is bound to it
 abbrev pub call_later : List ℕ → ℕ → Body → World → World
-call_later name delay body w = let due = w.objects.clock.time + min delay MOST_DELAY in aside (entry.LaterCall name due) (with_new_call name due body) w
+call_later name delay body w =
+    let due = w.objects.clock.time + min delay MOST_DELAY in
+    aside (entry.LaterCall name due) (with_new_call name due body) w
 
 -- a timer of d is started, whose time comes so much later than now, and no later than calls are delayed by
 abbrev pub start_timer : ℕ → ℕ → World → World
-start_timer d delay w = let due = w.objects.clock.time + min delay MOST_DELAY in aside (entry.LaterTimeout d due) (with_timer d due) w
+start_timer d delay w =
+    let due = w.objects.clock.time + min delay MOST_DELAY in aside (entry.LaterTimeout d due) (with_timer d due) w
 
 -- whether the time of a timer has come
 abbrev pub has_timed_out : ℕ → World → Bool
@@ -330,12 +357,14 @@ end_timer t w = arrange (with_ended_call t call_state.Dropped) w
 
 -- time goes on by so much, and no further than clocks go
 abbrev pub advance : ℕ → World → World
-advance ticks w = let time = min (w.objects.clock.time + ticks) MOST_TICKS in aside (entry.Advance time) (with_time time) w
+advance ticks w =
+    let time = min (w.objects.clock.time + ticks) MOST_TICKS in aside (entry.Advance time) (with_time time) w
 
 -- what runs next, where something is due, has been called from now on
 abbrev pub come_due_found : Option Upcoming → World → Option Due × World
 come_due_found None w = (None, w)
-come_due_found (Some call) w = unless_stopped (Some call.what) (aside (coming_due call.what) (with_ended_call call.number call_state.Called) w)
+come_due_found (Some call) w =
+    unless_stopped (Some call.what) (aside (coming_due call.what) (with_ended_call call.number call_state.Called) w)
 
 abbrev pub come_due : World → Option Due × World
 come_due w = come_due_found (next_call w.objects.clock) w
@@ -350,7 +379,8 @@ was_cancelled = plain_failure already_cancelled []
 
 -- a delayed call of the script waits no longer; what else waits is left alone
 abbrev pub waiting_cancelled : ℕ → Due → World → World
-waiting_cancelled number (what.Call name key) w = aside (entry.Uncall name) (with_ended_call number call_state.Cancelled) w
+waiting_cancelled number (what.Call name key) w =
+    aside (entry.Uncall name) (with_ended_call number call_state.Cancelled) w
 waiting_cancelled number (what.Turn name key) w = w
 waiting_cancelled number what.Tick w = w
 waiting_cancelled number (what.Delivery job key) w = w
@@ -415,12 +445,14 @@ hold_task t e w = task_told (λ x. entry.Hold x.name e) (with_pause t) (slice_ge
 
 -- d waits for the end of a task, unless that has ended
 abbrev pub await_task : ℕ → ℕ → World → World
-await_task t d w = task_told (λ x. entry.WhenDone x.name d) (with_waiting t d) (slice_get w.objects.cooperator.tasks t) w
+await_task t d w =
+    task_told (λ x. entry.WhenDone x.name d) (with_waiting t d) (slice_get w.objects.cooperator.tasks t) w
 
 -- the task that is found takes the next step, and is answered with its next body
 abbrev pub step_taken : ℕ → Option Task → World → Option (ℕ × Option Body) × World
 step_taken t None w = (None, w)
-step_taken t (Some x) w = unless_stopped (Some (t, slice_get x.bodies 0)) (aside (entry.Step x.name) (cooperating (with_step t x)) w)
+step_taken t (Some x) w =
+    unless_stopped (Some (t, slice_get x.bodies 0)) (aside (entry.Step x.name) (cooperating (with_step t x)) w)
 
 -- the task whose turn it is takes the next step
 abbrev pub turn_taken : Option ℕ → World → Option (ℕ × Option Body) × World
@@ -437,7 +469,8 @@ all_unless_stopped ds w = (if w.stopped then [] else ds, w)
 -- the task that is found ends, and who waits for that is answered
 abbrev pub task_ended : ℕ → TaskEnd → Option Task → World → List ℕ × World
 task_ended t end None w = ([], w)
-task_ended t end (Some x) w = all_unless_stopped x.waiting (aside (entry.End x.name (result_of x.name end)) (cooperating (with_end t end x)) w)
+task_ended t end (Some x) w =
+    all_unless_stopped x.waiting (aside (entry.End x.name (result_of x.name end)) (cooperating (with_end t end x)) w)
 
 -- a task ends, unless it has ended
 abbrev pub end_task : ℕ → TaskEnd → World → List ℕ × World
@@ -445,7 +478,8 @@ end_task t end w = task_ended t end (unended (slice_get w.objects.cooperator.tas
 
 -- the next tick is scheduled
 abbrev pub schedule_tick : World → World
-schedule_tick w = let due = w.objects.clock.time + w.objects.cooperator.delay in aside (entry.LaterTick due) (with_tick due) w
+schedule_tick w =
+    let due = w.objects.clock.time + w.objects.cooperator.delay in aside (entry.LaterTick due) (with_tick due) w
 
 -- a tick is dropped, where there is one
 abbrev pub tick_dropped : Option ℕ → World → World
@@ -454,7 +488,8 @@ tick_dropped (Some number) w = arrange (without_tick number) w
 
 -- outside of ticks, a tick is scheduled while a task takes turns, and none while none does
 abbrev pub keep_tick : World → World
-keep_tick w = if wants_tick w.objects.cooperator then schedule_tick w else tick_dropped (idle_tick w.objects.cooperator) w
+keep_tick w =
+    if wants_tick w.objects.cooperator then schedule_tick w else tick_dropped (idle_tick w.objects.cooperator) w
 
 -- a tick is under way, or none is any more
 abbrev pub begin_tick : World → World
@@ -477,11 +512,16 @@ begin_await i e w = aside (entry.Await i.of e) (inlining (now_waiting i.id Addin
 
 -- what an inline body awaits has come; the body is answered with it, where it goes on now
 unfoldable pub come_to_inline : ℕ → Value → World → Option (Position × Value) × World
-come_to_inline i v w = if w.stopped then (None, w) else let t = come_to i v w.objects.inlines in (t.0, arrange (inlining (λ inlines. t.1)) w)
+come_to_inline i v w =
+    if w.stopped then (None, w) else let t = come_to i v w.objects.inlines in
+    (t.0, arrange (inlining (λ inlines. t.1)) w)
 
--- the pair has been added by which an inline body awaits e; the body is answered with what came meanwhile, or else it awaits from now on
+-- the pair has been added by which an inline body awaits e; the body is answered with what came meanwhile, or else it
+-- awaits from now on
 unfoldable pub end_await : ℕ → ℕ → Position → World → Option (Position × Value) × World
-end_await i e p w = if w.stopped then (None, w) else let t = end_adding i e p w.objects.inlines in (t.0, arrange (inlining (λ inlines. t.1)) w)
+end_await i e p w =
+    if w.stopped then (None, w) else let t = end_adding i e p w.objects.inlines in
+    (t.0, arrange (inlining (λ inlines. t.1)) w)
 
 -- what an inline body awaits
 abbrev pub awaited_in : ℕ → World → Option ℕ

@@ -17,7 +17,8 @@ pub enum Found<'s> {
     Unbound(TextRef<'s>),
 }
 
-/// The Deferreds that names stand for, looked up from left to right; `@` is the one that is given, where one is.
+/// The Deferreds that names stand for, looked up from left to right; `@` is the one that is given,
+/// where one is.
 #[tactic(auto, using(crate::proofs::FoundLemmas::none_before, crate::proofs::FoundLemmas::one_more))]
 pub fn find_all<'s>(
     alloc: Global,

@@ -46,12 +46,13 @@ pub mod inlining;
 pub mod jobs;
 pub mod looping;
 
-/// The world of a run: its Deferreds, locks, queues, lists, delayed calls, loops and tasks with their names, what inline
-/// bodies wait for, the works of its jobs, the classes of failures and the journal. Once an entry doesn't fit into the
-/// journal the run has stopped: from then on nothing changes.
+/// The world of a run: its Deferreds, locks, queues, lists, delayed calls, loops and tasks with
+/// their names, what inline bodies wait for, the works of its jobs, the classes of failures and the
+/// journal. Once an entry doesn't fit into the journal the run has stopped: from then on nothing
+/// changes.
 ///
-/// Where a call answers AllocError, nothing is promised of what the world holds then: its clauses speak of the other
-/// answers only. An engine that is out of memory asks no more of its world.
+/// Where a call answers AllocError, nothing is promised of what the world holds then: its clauses
+/// speak of the other answers only. An engine that is out of memory asks no more of its world.
 #[derive(Drop)]
 pub struct World<'s> {
     alloc: Global,
@@ -109,21 +110,56 @@ impl<'s> Model for World<'s> {
 
     ghost Value = { Seen };
 
-    ghost coded = { Prim.hlevel (codes, body_contract.the_row.coded, statement_contract.the_row.coded, work_contract.the_row.coded, class_contract.the_row.coded, failure_contract.the_row.coded, value_contract.the_row.coded) };
+    ghost coded = { Prim.hlevel (
+      codes,
+      body_contract.the_row.coded,
+      statement_contract.the_row.coded,
+      work_contract.the_row.coded,
+      class_contract.the_row.coded,
+      failure_contract.the_row.coded,
+      value_contract.the_row.coded,
+    ) };
 
-    ghost view = { λ w. record { classes = w.classes.now; objects = record { names = w.names; locks = w.locks; semaphores = w.semaphores.items; queue_names = w.queue_names; queues = w.queues.items; lists = w.lists.items; clock = w.clock; call_names = w.call_names; bodies = w.bodies.items; loop_names = w.loop_names; loops = w.loops.items; cooperator = w.cooperator; inlines = w.inlines }; works = w.works.works; pools = w.works.pools; records = w.store; journal = w.journal; stopped = w.stopped } };
+    ghost view = { λ w. record {
+      classes = w.classes.now;
+      objects = record {
+        names = w.names;
+        locks = w.locks;
+        semaphores = w.semaphores.items;
+        queue_names = w.queue_names;
+        queues = w.queues.items;
+        lists = w.lists.items;
+        clock = w.clock;
+        call_names = w.call_names;
+        bodies = w.bodies.items;
+        loop_names = w.loop_names;
+        loops = w.loops.items;
+        cooperator = w.cooperator;
+        inlines = w.inlines;
+      };
+      works = w.works.works;
+      pools = w.works.pools;
+      records = w.store;
+      journal = w.journal;
+      stopped = w.stopped;
+    } };
 }
 
 impl<'s> World<'s> {
     ghost use Rattle.dv_store.specs.Pausing.{pauses_of};
-    ghost use Rattle.dv_world.specs.World.{first_world, value_of, deferred_at, step, put, put_deferred, append, make, fire, fire_guarded, is_unfired, reached_from, cancel, pause, unpause, aside, arrange, tell, ask, release, forget, put_into, get_from, withdraw, came_to, with_stop};
-    ghost use Rattle.dv_objects.specs.Objects.{naming, naming_where, with_new_list, with_new_lock, with_added_lock, with_new_queue, with_added_queue};
+    ghost use Rattle.dv_world.specs.World.{first_world, value_of, deferred_at, step, put};
+    ghost use Rattle.dv_world.specs.World.{put_deferred, append, make, fire, fire_guarded};
+    ghost use Rattle.dv_world.specs.World.{is_unfired, reached_from, cancel, pause, unpause, aside};
+    ghost use Rattle.dv_world.specs.World.{arrange, tell, ask, release, forget, put_into, get_from};
+    ghost use Rattle.dv_world.specs.World.{withdraw, came_to, with_stop};
+    ghost use Rattle.dv_objects.specs.Objects.{naming, naming_where, with_new_list, with_new_lock};
+    ghost use Rattle.dv_objects.specs.Objects.{with_added_lock, with_new_queue, with_added_queue};
     ghost use Rattle.dv_objects.specs.Names.{number_of};
     ghost use Rattle.std.specs.Option.{option_copied};
     ghost use Rattle.dv_journal.specs.declared.entry.Entry.TheVariants as entry;
 
-    /// A world in which nothing is made, whose journal takes so much weight, and whose Cooperator takes its steps so. Names are hashed with
-    /// these keys.
+    /// A world in which nothing is made, whose journal takes so much weight, and whose Cooperator
+    /// takes its steps so. Names are hashed with these keys.
     pub fn new(
         alloc: Global,
         keys: RandomState,
@@ -266,8 +302,8 @@ impl<'s> World<'s> {
         }
     }
 
-    /// Makes a Deferred, which may have a canceller, and binds its name to it, where it has one, also where that was
-    /// bound to another.
+    /// Makes a Deferred, which may have a canceller, and binds its name to it, where it has one,
+    /// also where that was bound to another.
     #[tactic(auto, unfolding(crate::specs::World::make))]
     pub fn make(
         &mut self,
@@ -293,7 +329,9 @@ impl<'s> World<'s> {
 
     /// Binds a name to a Deferred, where there is one.
     fn bind_where(&mut self, name: Option<TextRef<'s>>, id: DeferredId) -> Result<(), AllocError>
-        ensures { OnOk result (self.new ≡ record self.old { objects = naming_where name.entry id self.old.objects }) }
+        ensures { OnOk result (self.new ≡ record self.old {
+          objects = naming_where name.entry id self.old.objects;
+        }) }
     {
         match name {
             None => Ok(()),
@@ -301,8 +339,8 @@ impl<'s> World<'s> {
         }
     }
 
-    /// Fires a Deferred, and doesn't settle. A further firing raises AlreadyCalledError, unless a cancel has asked for it
-    /// to be swallowed, and the value is dropped.
+    /// Fires a Deferred, and doesn't settle. A further firing raises AlreadyCalledError, unless a
+    /// cancel has asked for it to be swallowed, and the value is dropped.
     #[tactic(auto, unfolding(crate::specs::World::fire))]
     pub fn fire(&mut self, id: DeferredId, value: Value) -> Result<Follow, AllocError>
         ensures { IfOk result (λ follow. (follow, self.new) ≡ fire id value self.old) }
@@ -323,8 +361,8 @@ impl<'s> World<'s> {
         }
     }
 
-    /// Fires a Deferred with CancelledError, has its next firing swallowed, and doesn't settle. It is for one that is
-    /// cancelled, unfired, and without a canceller (Twisted: `Deferred.cancel`).
+    /// Fires a Deferred with CancelledError, has its next firing swallowed, and doesn't settle. It
+    /// is for one that is cancelled, unfired, and without a canceller (Twisted: `Deferred.cancel`).
     #[tactic(auto, unfolding(crate::specs::World::fire_guarded))]
     pub fn fire_guarded(&mut self, id: DeferredId) -> Result<(), AllocError>
         ensures { OnOk result (self.new ≡ fire_guarded id self.old) }
@@ -357,8 +395,8 @@ impl<'s> World<'s> {
         }
     }
 
-    /// Tells of a cancel, and answers whom it reaches: the first Deferred that doesn't wait, on the walk along those that
-    /// are waited for, where there is one and it is unfired.
+    /// Tells of a cancel, and answers whom it reaches: the first Deferred that doesn't wait, on the
+    /// walk along those that are waited for, where there is one and it is unfired.
     #[tactic(auto, unfolding(crate::specs::World::cancel))]
     pub fn cancel(&mut self, id: DeferredId) -> Result<Reached<'s>, AllocError>
         ensures { IfOk result (λ reached. (reached, self.new) ≡ cancel id self.old) }
@@ -400,7 +438,8 @@ impl<'s> World<'s> {
         }
     }
 
-    /// Pauses a Deferred once less, and doesn't settle. One that isn't paused raises AssertionError.
+    /// Pauses a Deferred once less, and doesn't settle. One that isn't paused raises
+    /// AssertionError.
     #[tactic(auto, unfolding(crate::specs::World::unpause))]
     pub fn unpause(&mut self, id: DeferredId) -> Result<Follow, AllocError>
         ensures { IfOk result (λ follow. (follow, self.new) ≡ unpause id self.old) }
@@ -437,7 +476,8 @@ impl<'s> World<'s> {
     /// Binds a name to a Deferred that was made already, and logs it.
     #[tactic(auto, unfolding(crate::specs::World::aside))]
     pub fn rename(&mut self, name: &str, id: DeferredId) -> Result<(), AllocError>
-        ensures { OnOk result (self.new ≡ aside (entry.Name id (Some name.now)) (naming name.now id) self.old) }
+        ensures { OnOk result (self.new ≡ aside (entry.Name id (Some name.now))
+            (naming name.now id) self.old) }
     {
         if self.stopped {
             return Ok(());
@@ -449,10 +489,12 @@ impl<'s> World<'s> {
         }
     }
 
-    /// Makes a lock, and binds its name to it, also where that was bound to another (Twisted: `DeferredLock`).
+    /// Makes a lock, and binds its name to it, also where that was bound to another (Twisted:
+    /// `DeferredLock`).
     #[tactic(auto, unfolding(crate::specs::World::aside))]
     pub fn make_lock(&mut self, name: &str) -> Result<(), AllocError>
-        ensures { OnOk result (self.new ≡ aside (entry.Lock name.now) (with_new_lock name.now 1) self.old) }
+        ensures { OnOk result (self.new ≡ aside (entry.Lock name.now)
+            (with_new_lock name.now 1) self.old) }
     {
         if self.stopped {
             return Ok(());
@@ -467,7 +509,8 @@ impl<'s> World<'s> {
     /// `DeferredSemaphore`).
     #[tactic(auto, unfolding(crate::specs::World::aside))]
     pub fn make_semaphore(&mut self, name: &str, tokens: u32) -> Result<(), AllocError>
-        ensures { OnOk result (self.new ≡ aside (entry.Semaphore name.now tokens) (with_new_lock name.now tokens) self.old) }
+        ensures { OnOk result (self.new ≡ aside (entry.Semaphore name.now tokens)
+            (with_new_lock name.now tokens) self.old) }
     {
         if self.stopped {
             return Ok(());
@@ -480,7 +523,9 @@ impl<'s> World<'s> {
 
     /// Adds a lock that was logged, and binds its name to it.
     fn add_lock(&mut self, name: &str, lock: Semaphore) -> Result<(), AllocError>
-        ensures { OnOk result (self.new ≡ record self.old { objects = with_added_lock name.now lock self.old.objects }) }
+        ensures { OnOk result (self.new ≡ record self.old {
+          objects = with_added_lock name.now lock self.old.objects;
+        }) }
     {
         self.locks.bind(name, LockId::new(self.semaphores.len()))?;
         self.semaphores.push(lock)?;
@@ -560,7 +605,8 @@ impl<'s> World<'s> {
         }
     }
 
-    /// Makes a queue, and binds its name to it, also where that was bound to another (Twisted: `DeferredQueue`).
+    /// Makes a queue, and binds its name to it, also where that was bound to another (Twisted:
+    /// `DeferredQueue`).
     #[tactic(auto, unfolding(crate::specs::World::aside))]
     pub fn make_queue(
         &mut self,
@@ -568,7 +614,8 @@ impl<'s> World<'s> {
         size: Option<u32>,
         backlog: Option<u32>,
     ) -> Result<(), AllocError>
-        ensures { OnOk result (self.new ≡ aside (entry.Queue name.now size backlog) (with_new_queue name.now size backlog) self.old) }
+        ensures { OnOk result (self.new ≡ aside (entry.Queue name.now size backlog)
+            (with_new_queue name.now size backlog) self.old) }
     {
         if self.stopped {
             return Ok(());
@@ -581,7 +628,9 @@ impl<'s> World<'s> {
 
     /// Adds a queue that was logged, and binds its name to it.
     fn add_queue(&mut self, name: &str, queue: Queue) -> Result<(), AllocError>
-        ensures { OnOk result (self.new ≡ record self.old { objects = with_added_queue name.now queue self.old.objects }) }
+        ensures { OnOk result (self.new ≡ record self.old {
+          objects = with_added_queue name.now queue self.old.objects;
+        }) }
     {
         self.queue_names
             .bind(name, QueueId::new(self.queues.len()))?;
@@ -603,7 +652,8 @@ impl<'s> World<'s> {
         self.queues.get(queue.number())
     }
 
-    /// Puts a value into a queue, where it may be: the first that waits gets it, and both are returned, or it is stored.
+    /// Puts a value into a queue, where it may be: the first that waits gets it, and both are
+    /// returned, or it is stored.
     #[tactic(auto, unfolding(crate::specs::World::aside))]
     pub fn put_into(
         &mut self,
@@ -629,7 +679,8 @@ impl<'s> World<'s> {
         }
     }
 
-    /// A Deferred asks a queue for a value: the first that is stored is answered, or the Deferred waits.
+    /// A Deferred asks a queue for a value: the first that is stored is answered, or the Deferred
+    /// waits.
     #[tactic(auto, unfolding(crate::specs::World::aside))]
     pub fn get_from(&mut self, queue: QueueId, id: DeferredId) -> Result<Option<Value>, AllocError>
         ensures { IfOk result (λ value. (value, self.new) ≡ get_from queue id self.old) }
@@ -695,7 +746,8 @@ impl<'s> World<'s> {
         }
     }
 
-    /// Returns this for a change that couldn't be logged, and stops the run; AllocError where memory was refused.
+    /// Returns this for a change that couldn't be logged, and stops the run; AllocError where
+    /// memory was refused.
     fn stopped_by<T: Drop>(&mut self, stop: Stop, otherwise: T) -> Result<T, AllocError>
         ensures stopped { OnOk result ((stop ≡ Stop.Limit) × (self.new ≡ with_stop self.old)) }
         ensures value { IfOk result (λ x. x ≡ otherwise) }

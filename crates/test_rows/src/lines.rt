@@ -35,8 +35,8 @@ fn push_line(lines: &mut String, times: u64, line: &str) -> Result<(), AllocErro
 /// The line of an expected text that stands for any lines.
 const ANY_LINES: &str = "...";
 
-/// Tells the first line in which what was printed isn't what is expected, if it isn't; after a line that stands for any lines,
-/// the first from the end.
+/// Tells the first line in which what was printed isn't what is expected, if it isn't; after a line
+/// that stands for any lines, the first from the end.
 pub fn first_difference(
     alloc: Global,
     printed: &str,
@@ -72,7 +72,8 @@ fn is_ended(text: &str) -> bool {
     text.is_empty() || text.ends_with('\n')
 }
 
-/// Tells the first line from the end in which what was printed isn't what is expected, as far as that goes.
+/// Tells the first line from the end in which what was printed isn't what is expected, as far as
+/// that goes.
 fn last_difference(
     alloc: Global,
     printed: Lines<'_>,

@@ -1,4 +1,5 @@
-//! Runs the rows of the files that its words name, and prints each run that differs from its row, and a line a file.
+//! Runs the rows of the files that its words name, and prints each run that differs from its row,
+//! and a line a file.
 #![tactic(auto)]
 
 mod findings;

@@ -18,7 +18,8 @@ const WHY: &str = "why";
 #[derive(Drop)]
 pub struct Row<'a> {
     pub name: &'a str,
-    /// The lines of the script; or frames, which are lines `:: FRAME`, and the lines that are put into each.
+    /// The lines of the script; or frames, which are lines `:: FRAME`, and the lines that are put
+    /// into each.
     pub script: &'a str,
     /// The exit status, and after a space the text for standard error where there is one; or `WHY`.
     ending: &'a str,
@@ -27,7 +28,8 @@ pub struct Row<'a> {
 }
 
 impl<'a> Row<'a> {
-    /// Reads a row: its name in a line, the script's lines, a line `-- ENDING`, and the output's lines.
+    /// Reads a row: its name in a line, the script's lines, a line `-- ENDING`, and the output's
+    /// lines.
     pub fn read(text: &'a str) -> Row<'a> {
         let (head, tail) = text.split_once("\n-- ").unwrap_or((text, ""));
         let (name, script) = head.split_once('\n').unwrap_or((head, ""));

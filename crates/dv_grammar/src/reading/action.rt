@@ -3,8 +3,11 @@ ghost use Rattle.serde_json.specs.View.{view, items_view};
 ghost use Rattle.dv_clock.specs.declared.limits.TheConstants.{MOST_DELAY};
 ghost use Rattle.dv_forms.specs.Answer.{Reads};
 ghost use Rattle.dv_script.specs.declared.limits.TheConstants.{MOST_PLACES};
-ghost use Rattle.dv_forms.specs.Parts.{text_at, number_at, bound_at, value_at, class_at, list_flag_at, gather_flag_at, list_at, one_of, two_of, three_of, each, if_there};
-ghost use Rattle.dv_grammar.specs.Shape.{action_at, new_deferred_of, loop_of, body_at, statement_at, with_body};
+ghost use Rattle.dv_forms.specs.Parts.{text_at, number_at, bound_at, value_at, class_at};
+ghost use Rattle.dv_forms.specs.Parts.{list_flag_at, gather_flag_at, list_at, one_of, two_of};
+ghost use Rattle.dv_forms.specs.Parts.{three_of, each, if_there};
+ghost use Rattle.dv_grammar.specs.Shape.{action_at, new_deferred_of, loop_of, body_at};
+ghost use Rattle.dv_grammar.specs.Shape.{statement_at, with_body};
 
 use crate::reading::body::{bodies, body};
 use crate::reading::statement::statements;
@@ -36,7 +39,8 @@ pub enum WithBody {
 
 /// An action, in which bodies and statements nest to `levels`.
 ///
-/// Each word has a reader of its own, which isn't inlined: the room of what all of them read would be cleared here for every action.
+/// Each word has a reader of its own, which isn't inlined: the room of what all of them read would
+/// be cleared here for every action.
 #[cycle(shape)]
 #[tactic(auto, unfolding(crate::specs::Shape::action_by, crate::specs::Shape::action_of))]
 pub fn action(alloc: Global, classes: &Classes, levels: u32, json: &Json) -> Result<Action, Stop>
@@ -124,7 +128,8 @@ fn deferred(
     levels: u32,
     arguments: &[Json],
 ) -> Result<Action, Stop>
-    ensures { Reads result (new_deferred_of (body_at classes.now levels) (items_view arguments.now)) }
+    ensures { Reads result (new_deferred_of (body_at classes.now levels)
+        (items_view arguments.now)) }
 {
     let (name, json) = one_or_two(arguments)?;
     let name = text(alloc, name)?;
@@ -139,7 +144,8 @@ fn canceller(
     levels: u32,
     json: Option<&Json>,
 ) -> Result<Option<Body>, Stop>
-    ensures { Reads result (if_there (body_at classes.now levels) (option_map (λ d. view d.now) json.entry)) }
+    ensures { Reads result (if_there (body_at classes.now levels)
+        (option_map (λ d. view d.now) json.entry)) }
 {
     match json {
         None => Ok(None),
@@ -158,7 +164,8 @@ fn with_body(
     word: WithBody,
     arguments: &[Json],
 ) -> Result<Action, Stop>
-    ensures { Reads result (two_of text_at (body_at classes.now levels) (with_body word) (items_view arguments.now)) }
+    ensures { Reads result (two_of text_at (body_at classes.now levels) (with_body word)
+        (items_view arguments.now)) }
 {
     let (name, json) = two(arguments)?;
     let name = text(alloc, name)?;
@@ -180,7 +187,8 @@ fn add_callbacks(
     levels: u32,
     arguments: &[Json],
 ) -> Result<Action, Stop>
-    ensures { Reads result (three_of text_at (body_at classes.now levels) (body_at classes.now levels) Action.AddCallbacks (items_view arguments.now)) }
+    ensures { Reads result (three_of text_at (body_at classes.now levels)
+        (body_at classes.now levels) Action.AddCallbacks (items_view arguments.now)) }
 {
     let (name, callback, errback) = three(arguments)?;
     let name = text(alloc, name)?;
@@ -198,7 +206,8 @@ fn run_with(
     levels: u32,
     arguments: &[Json],
 ) -> Result<Action, Stop>
-    ensures { Reads result (three_of text_at text_at (body_at classes.now levels) Action.RunWith (items_view arguments.now)) }
+    ensures { Reads result (three_of text_at text_at (body_at classes.now levels) Action.RunWith
+        (items_view arguments.now)) }
 {
     let (name, lock, json) = three(arguments)?;
     let name = text(alloc, name)?;
@@ -211,7 +220,8 @@ fn run_with(
 #[inline(never)]
 #[tactic(auto, unfolding(dv_forms::specs::Parts::triple))]
 fn later(alloc: Global, classes: &Classes, levels: u32, arguments: &[Json]) -> Result<Action, Stop>
-    ensures { Reads result (three_of text_at (number_at 0 MOST_DELAY) (body_at classes.now levels) Action.Later (items_view arguments.now)) }
+    ensures { Reads result (three_of text_at (number_at 0 MOST_DELAY)
+        (body_at classes.now levels) Action.Later (items_view arguments.now)) }
 {
     let (name, delay, json) = three(arguments)?;
     let name = text(alloc, name)?;
@@ -249,7 +259,8 @@ fn cooperate(
     levels: u32,
     arguments: &[Json],
 ) -> Result<Action, Stop>
-    ensures { Reads result (two_of text_at (list_at (body_at classes.now levels)) Action.Cooperate (items_view arguments.now)) }
+    ensures { Reads result (two_of text_at (list_at (body_at classes.now levels)) Action.Cooperate
+        (items_view arguments.now)) }
 {
     let (name, json) = two(arguments)?;
     let name = text(alloc, name)?;
@@ -261,7 +272,8 @@ fn cooperate(
 #[inline(never)]
 #[tactic(auto, unfolding(dv_forms::specs::Parts::pair))]
 fn inline(alloc: Global, classes: &Classes, levels: u32, arguments: &[Json]) -> Result<Action, Stop>
-    ensures { Reads result (two_of text_at (list_at (statement_at classes.now levels)) Action.Inline (items_view arguments.now)) }
+    ensures { Reads result (two_of text_at (list_at (statement_at classes.now levels)) Action.Inline
+        (items_view arguments.now)) }
 {
     let (name, json) = two(arguments)?;
     let name = text(alloc, name)?;
@@ -279,7 +291,8 @@ fn callback(alloc: Global, arguments: &[Json]) -> Result<Action, Stop>
 
 #[inline(never)]
 fn errback(alloc: Global, classes: &Classes, arguments: &[Json]) -> Result<Action, Stop>
-    ensures { Reads result (three_of text_at (class_at classes.now) text_at Action.Errback (items_view arguments.now)) }
+    ensures { Reads result (three_of text_at (class_at classes.now) text_at Action.Errback
+        (items_view arguments.now)) }
 {
     let (name, class, message) = named_failure(alloc, classes, arguments)?;
     Ok(Action::Errback(name, class, message))
@@ -316,7 +329,8 @@ fn cancel(alloc: Global, arguments: &[Json]) -> Result<Action, Stop>
 
 #[inline(never)]
 fn add_timeout(alloc: Global, arguments: &[Json]) -> Result<Action, Stop>
-    ensures { Reads result (two_of text_at (number_at 0 MOST_DELAY) Action.AddTimeout (items_view arguments.now)) }
+    ensures { Reads result
+        (two_of text_at (number_at 0 MOST_DELAY) Action.AddTimeout (items_view arguments.now)) }
 {
     let (name, delay) = named_delay(alloc, arguments)?;
     Ok(Action::AddTimeout(name, delay))
@@ -331,7 +345,8 @@ fn note(alloc: Global, arguments: &[Json]) -> Result<Action, Stop>
 
 #[inline(never)]
 fn list(alloc: Global, arguments: &[Json]) -> Result<Action, Stop>
-    ensures { Reads result (three_of text_at (list_at text_at) (list_at list_flag_at) Action.List (items_view arguments.now)) }
+    ensures { Reads result (three_of text_at (list_at text_at)
+        (list_at list_flag_at) Action.List (items_view arguments.now)) }
 {
     let (name, children, flags) = named_list(alloc, arguments)?;
     Ok(Action::List(name, children, flags))
@@ -339,7 +354,8 @@ fn list(alloc: Global, arguments: &[Json]) -> Result<Action, Stop>
 
 #[inline(never)]
 fn gather(alloc: Global, arguments: &[Json]) -> Result<Action, Stop>
-    ensures { Reads result (three_of text_at (list_at text_at) (list_at gather_flag_at) Action.Gather (items_view arguments.now)) }
+    ensures { Reads result (three_of text_at (list_at text_at)
+        (list_at gather_flag_at) Action.Gather (items_view arguments.now)) }
 {
     let (name, children, flags) = named_gathering(alloc, arguments)?;
     Ok(Action::Gather(name, children, flags))
@@ -354,7 +370,8 @@ fn lock(alloc: Global, arguments: &[Json]) -> Result<Action, Stop>
 
 #[inline(never)]
 fn semaphore(alloc: Global, arguments: &[Json]) -> Result<Action, Stop>
-    ensures { Reads result (two_of text_at (number_at 1 MOST_PLACES) Action.Semaphore (items_view arguments.now)) }
+    ensures { Reads result
+        (two_of text_at (number_at 1 MOST_PLACES) Action.Semaphore (items_view arguments.now)) }
 {
     let (name, places) = named_places(alloc, arguments)?;
     Ok(Action::Semaphore(name, places))
@@ -377,7 +394,8 @@ fn release(alloc: Global, arguments: &[Json]) -> Result<Action, Stop>
 
 #[inline(never)]
 fn queue(alloc: Global, arguments: &[Json]) -> Result<Action, Stop>
-    ensures { Reads result (three_of text_at bound_at bound_at Action.Queue (items_view arguments.now)) }
+    ensures { Reads result
+        (three_of text_at bound_at bound_at Action.Queue (items_view arguments.now)) }
 {
     let (name, size, backlog) = named_bounds(alloc, arguments)?;
     Ok(Action::Queue(name, size, backlog))

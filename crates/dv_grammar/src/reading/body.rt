@@ -56,7 +56,8 @@ fn performed(
     levels: u32,
     json: Option<&Json>,
 ) -> Result<Items<Action>, Stop>
-    ensures { Reads result (field [] (list_at (action_at classes.now levels)) (option_map (λ d. view d.now) json.entry)) }
+    ensures { Reads result (field [] (list_at (action_at classes.now levels))
+        (option_map (λ d. view d.now) json.entry)) }
 {
     match json {
         None => Ok(Items::new(alloc)),
@@ -66,7 +67,8 @@ fn performed(
 
 /// How a body ends that may not say it.
 fn last(alloc: Global, classes: &Classes, json: Option<&Json>) -> Result<End, Stop>
-    ensures { Reads result (field Pass (end_at classes.now) (option_map (λ d. view d.now) json.entry)) }
+    ensures { Reads result (field Pass (end_at classes.now)
+        (option_map (λ d. view d.now) json.entry)) }
 {
     match json {
         None => Ok(End::Pass),

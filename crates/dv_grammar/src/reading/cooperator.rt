@@ -16,7 +16,8 @@ use serde_json::Value as Json;
 
 /// A cooperator that a script may leave out.
 pub fn cooperator_or_plain(json: Option<&Json>) -> Result<Cooperator, Stop>
-    ensures { Reads result (field plain_cooperator cooperator_at (option_map (λ d. view d.now) json.entry)) }
+    ensures { Reads result
+        (field plain_cooperator cooperator_at (option_map (λ d. view d.now) json.entry)) }
 {
     match json {
         None => Ok(Cooperator { units: 1, delay: 1 }),
@@ -35,7 +36,8 @@ fn cooperator(json: &Json) -> Result<Cooperator, Stop>
 }
 
 fn units(json: Option<&Json>) -> Result<u32, Stop>
-    ensures { Reads result (option_and_then (number_at 1 MOST_UNITS) (option_map (λ d. view d.now) json.entry)) }
+    ensures { Reads result (option_and_then (number_at 1 MOST_UNITS)
+        (option_map (λ d. view d.now) json.entry)) }
 {
     match json {
         None => Err(Stop::BadShape),
@@ -44,7 +46,8 @@ fn units(json: Option<&Json>) -> Result<u32, Stop>
 }
 
 fn delay(json: Option<&Json>) -> Result<u64, Stop>
-    ensures { Reads result (option_and_then (number_at 1 MOST_DELAY) (option_map (λ d. view d.now) json.entry)) }
+    ensures { Reads result (option_and_then (number_at 1 MOST_DELAY)
+        (option_map (λ d. view d.now) json.entry)) }
 {
     match json {
         None => Err(Stop::BadShape),

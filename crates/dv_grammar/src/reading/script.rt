@@ -23,7 +23,8 @@ use serde_json::Value as Json;
 use std::alloc::Global;
 
 fn limit(json: Option<&Json>) -> Result<u64, Stop>
-    ensures { Reads result (field USUAL_LIMIT (number_at 0 MOST_LIMIT) (option_map (λ d. view d.now) json.entry)) }
+    ensures { Reads result (field USUAL_LIMIT (number_at 0 MOST_LIMIT)
+        (option_map (λ d. view d.now) json.entry)) }
 {
     match json {
         None => Ok(USUAL_LIMIT),
@@ -36,7 +37,8 @@ fn callers(
     classes: &Classes,
     json: Option<&Json>,
 ) -> Result<Items<Items<Body>>, Stop>
-    ensures { Reads result (field [] (list_at (caller_at classes.now)) (option_map (λ d. view d.now) json.entry)) }
+    ensures { Reads result (field [] (list_at (caller_at classes.now))
+        (option_map (λ d. view d.now) json.entry)) }
 {
     match json {
         None => Ok(Items::new(alloc)),
@@ -61,7 +63,8 @@ fn caller(alloc: Global, classes: &Classes, json: &Json) -> Result<Items<Body>, 
 }
 
 fn all_events(alloc: Global, classes: &Classes, json: Option<&Json>) -> Result<Items<Event>, Stop>
-    ensures { Reads result (option_and_then (list_at (event_at classes.now)) (option_map (λ d. view d.now) json.entry)) }
+    ensures { Reads result (option_and_then (list_at (event_at classes.now))
+        (option_map (λ d. view d.now) json.entry)) }
 {
     match json {
         None => Err(Stop::BadShape),
@@ -71,7 +74,8 @@ fn all_events(alloc: Global, classes: &Classes, json: Option<&Json>) -> Result<I
 
 /// The version of a script.
 fn version(json: Option<&Json>) -> Result<u32, Stop>
-    ensures { Reads result (option_and_then (number_at 1 2) (option_map (λ d. view d.now) json.entry)) }
+    ensures { Reads result (option_and_then (number_at 1 2)
+        (option_map (λ d. view d.now) json.entry)) }
 {
     match json {
         None => Err(Stop::BadShape),

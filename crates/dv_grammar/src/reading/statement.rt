@@ -46,7 +46,8 @@ fn statement_of(
     word: StatementWord,
     arguments: &[Json],
 ) -> Result<Statement, Stop>
-    ensures { Reads result (statement_of classes.now (action_at classes.now levels) (statement_at classes.now levels) word (items_view arguments.now)) }
+    ensures { Reads result (statement_of classes.now (action_at classes.now levels)
+        (statement_at classes.now levels) word (items_view arguments.now)) }
 {
     match word {
         StatementWord::Do => Ok(Statement::Do(action(alloc, classes, levels, one(arguments)?)?)),
@@ -68,7 +69,9 @@ fn tried(
     levels: u32,
     arguments: &[Json],
 ) -> Result<(Items<Statement>, Items<ClassId>, Items<Statement>), Stop>
-    ensures { Reads result (triple (list_at (statement_at classes.now levels)) (list_at (class_at classes.now)) (list_at (statement_at classes.now levels)) (items_view arguments.now)) }
+    ensures { Reads result (triple (list_at (statement_at classes.now levels))
+        (list_at (class_at classes.now)) (list_at (statement_at classes.now levels))
+        (items_view arguments.now)) }
 {
     let (body, names, handler) = three(arguments)?;
     let body = statements(alloc, classes, levels, array(body)?)?;

@@ -51,7 +51,8 @@ fn work_of(
 #[inline(never)]
 #[tactic(auto, unfolding(dv_forms::specs::Parts::triple))]
 pub fn thread(alloc: Global, classes: &Classes, arguments: &[Json]) -> Result<Action, Stop>
-    ensures { Reads result (three_of text_at (number_at 0 MOST_DELAY) (work_at classes.now) Action.Thread (items_view arguments.now)) }
+    ensures { Reads result (three_of text_at (number_at 0 MOST_DELAY)
+        (work_at classes.now) Action.Thread (items_view arguments.now)) }
 {
     let (name, delay, json) = three(arguments)?;
     let name = text(alloc, name)?;

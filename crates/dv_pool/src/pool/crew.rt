@@ -31,8 +31,8 @@ impl Drop for Crew {
 }
 
 impl Crew {
-    /// Starts so many workers with tokens of the owner's, numbered from the first number on. One whose thread can't be started is
-    /// left out, and nobody has its number.
+    /// Starts so many workers with tokens of the owner's, numbered from the first number on. One
+    /// whose thread can't be started is left out, and nobody has its number.
     pub fn start<'s, E, R: Wait + Sync, G: Gate + Sync>(
         rt: &'s R,
         alloc: Global,
@@ -51,7 +51,8 @@ impl Crew {
         ensures same { IsSamePool parts.old parts.new }
         ensures ours { IfOk result (λ crew. arc_value crew.shared ≡ arc_value parts.new.shared) }
         ensures handles { IfOk result (λ crew. AreOf (arc_value crew.shared) crew.handles.items) }
-        ensures whole { IfOk result (λ crew. (worker_view parts.new.jobs).parts + length crew.handles.items ≡ all_parts) }
+        ensures whole { IfOk result
+            (λ crew. (worker_view parts.new.jobs).parts + length crew.handles.items ≡ all_parts) }
     {
         let mut handles = Vec::with_capacity(alloc, workers as usize)?;
         let shared = Arc::try_clone(&parts.shared)?;
@@ -78,7 +79,8 @@ impl Crew {
         ensures orderly { IsOrderly parts.new }
         ensures placed { StaysPlaced parts.old parts.new }
         ensures same { IsSamePool parts.old parts.new }
-        ensures parts { (worker_view parts.new.jobs).parts ≡ (worker_view parts.old.jobs).parts + length self.handles.items }
+        ensures parts { (worker_view parts.new.jobs).parts
+            ≡ (worker_view parts.old.jobs).parts + length self.handles.items }
     {
         let Crew { shared, handles } = self;
         shared.leaving.store(EVERYBODY, Ordering::SeqCst);

@@ -1,4 +1,5 @@
-ghost use Rattle.std.specs.Prelude.{◌≡◌, ◌↔◌, ◌<◌, ◌≤◌, ◌+◌, ◌++◌, ◌∷◌, [], length, replicate, IfOk, IfSome, IsTrue, IsFalse};
+ghost use Rattle.std.specs.Prelude.{◌≡◌, ◌↔◌, ◌<◌, ◌≤◌, ◌+◌, ◌++◌, ◌∷◌, [], length, replicate};
+ghost use Rattle.std.specs.Prelude.{IfOk, IfSome, IsTrue, IsFalse};
 ghost use Rattle.std.specs.Arc.{arc_value};
 ghost use Rattle.crossbeam_deque.specs.Handles.{worker_index, worker_view};
 ghost use Rattle.crossbeam_queue.specs.Passes.{view};
@@ -6,7 +7,9 @@ ghost use Rattle.dv_pool.specs.Rules.{all_parts, FindsEmptied, IsEmptied};
 ghost use Rattle.dv_script.specs.declared.work.TheConstants.{MOST_JOBS};
 ghost use Rattle.dv_jobs.specs.Sources.{IsSubmitted, IsValueUnder};
 ghost use Rattle.dv_pool.specs.Worker.{IsEndOf, IsFresh, HasServed};
-ghost use Rattle.dv_pool.specs.Parts.{empty_place, no_work, jobs_in, MayBeOf, MayStay, TakesIn, Awaits, IsOrderly, HasPlaced, StaysPlaced, HasSubmitted, IsSamePool, Keeps};
+ghost use Rattle.dv_pool.specs.Parts.{empty_place, no_work, jobs_in, MayBeOf, MayStay, TakesIn};
+ghost use Rattle.dv_pool.specs.Parts.{Awaits, IsOrderly, HasPlaced, StaysPlaced, HasSubmitted};
+ghost use Rattle.dv_pool.specs.Parts.{IsSamePool, Keeps};
 
 use crate::answer_queue::AnswerToken;
 use crate::job_deque::Owner;
@@ -21,7 +24,8 @@ use std::alloc::{AllocError, Global};
 use std::sync::atomic::AtomicU32;
 use std::sync::{Arc, Wait};
 
-/// What the owner of a pool holds: its end of the deque, its token of the queue, and a place for the answer of each number.
+/// What the owner of a pool holds: its end of the deque, its token of the queue, and a place for
+/// the answer of each number.
 #[derive(Drop)]
 pub struct Parts {
     pub shared: Arc<Shared>,
@@ -40,8 +44,8 @@ fn may_be_of(work: &Option<Work>, answer: &Answer) -> bool
     }
 }
 
-/// Puts an answer to its number. It is put aside where there is one already, and where it is of another work than the job of
-/// its number.
+/// Puts an answer to its number. It is put aside where there is one already, and where it is of
+/// another work than the job of its number.
 fn place(works: &[Option<Work>], places: &mut Vec<Option<Answer>>, answer: Answer)
     requires { length works.now ≡ length places.old.items }
     ensures takes { TakesIn works.now places.old.items answer places.new.items }
@@ -74,7 +78,8 @@ fn may_stay(place: &Option<Answer>, work: &Work) -> bool
     }
 }
 
-/// Makes the place of a number that of the job of this work: an answer that is there, of another work, is put aside.
+/// Makes the place of a number that of the job of this work: an answer that is there, of another
+/// work, is put aside.
 pub fn await_work(places: &mut Vec<Option<Answer>>, number: usize, work: &Work)
     requires { number < length places.old.items }
     ensures awaits { Awaits places.old.items number work.now places.new.items }
@@ -113,7 +118,8 @@ impl Parts {
         ensures orderly { IfOk result IsOrderly }
         ensures placed { IfOk result (HasPlaced (replicate MOST_JOBS no_work)) }
         ensures whole { IfOk result (λ parts. (worker_view parts.jobs).parts ≡ all_parts) }
-        ensures fresh { IfOk result (λ parts. ((worker_view parts.jobs).put ≡ []) × (worker_index parts.jobs ≡ 0)) }
+        ensures fresh { IfOk result (λ parts. ((worker_view parts.jobs).put ≡ [])
+            × (worker_index parts.jobs ≡ 0)) }
     {
         let places = empty_places(alloc)?;
         let jobs = job_deque::open(alloc)?;
@@ -172,7 +178,8 @@ impl Parts {
         ensures placed { StaysPlaced self.old self.new }
         ensures shared { arc_value self.new.shared ≡ arc_value self.old.shared }
         ensures parts { (worker_view self.new.jobs).parts ≡ (worker_view self.old.jobs).parts }
-        ensures put { (worker_view self.new.jobs).put ≡ (worker_view self.old.jobs).put ++ job ∷ [] }
+        ensures put { (worker_view self.new.jobs).put
+            ≡ (worker_view self.old.jobs).put ++ job ∷ [] }
         ensures index { worker_index self.new.jobs ≡ worker_index self.old.jobs + 1 }
     {
         job_deque::put(&mut self.jobs, job);
@@ -215,8 +222,8 @@ impl Parts {
         }
     }
 
-    /// Answers one job, if there is one. Returns whether there was. Who has every part and finds no job knows that all were
-    /// taken.
+    /// Answers one job, if there is one. Returns whether there was. Who has every part and finds no
+    /// job knows that all were taken.
     pub fn help<G: Gate>(&mut self, alloc: Global, works: &[Option<Work>], gate: &G) -> bool
         requires orderly { IsOrderly self.old }
         requires placed { HasPlaced works.now self.old }
@@ -234,7 +241,8 @@ impl Parts {
         }
     }
 
-    /// Returns the value of a job, where it was answered. AllocError where its gate, or this call, was out of memory.
+    /// Returns the value of a job, where it was answered. AllocError where its gate, or this call,
+    /// was out of memory.
     pub fn value(
         &self,
         alloc: Global,

@@ -14,7 +14,8 @@ use std::alloc::{AllocError, AllocGlobal, Global};
 use std::random::RandomSource;
 use std::sync::Wait;
 
-/// The value of one job, as a future. It owns what the owner of the pool holds, and gives it back with the value.
+/// The value of one job, as a future. It owns what the owner of the pool holds, and gives it back
+/// with the value.
 #[derive(Drop)]
 pub struct JobReply<'a, G> {
     alloc: Global,
@@ -62,7 +63,8 @@ where
     requires orderly { IsOrderly parts }
     requires placed { HasPlaced works.now parts }
     requires known { IsSubmitted number (jobs_in 0 works.now) }
-    ensures parts { IfSome result.0 (λ left. IsOrderly left × HasPlaced works.now left × Keeps parts left) }
+    ensures parts { IfSome result.0 (λ left. IsOrderly left × HasPlaced works.now left
+        × Keeps parts left) }
     ensures value { IfOk result.1 (IsValueUnder number (jobs_in 0 works.now)) }
     ensures there { OnOk result.1 (is_some result.0 ≡ true) }
 {

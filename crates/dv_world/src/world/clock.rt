@@ -18,12 +18,14 @@ use dv_value::text::Text;
 use std::alloc::{AllocError, Global};
 
 impl<'s> World<'s> {
-    ghost use Rattle.dv_world.specs.World.{call_later, start_timer, has_timed_out, end_timer, advance, come_due, cancel_call};
+    ghost use Rattle.dv_world.specs.World.{call_later, start_timer, has_timed_out, end_timer};
+    ghost use Rattle.dv_world.specs.World.{advance, come_due, cancel_call};
     ghost use Rattle.dv_objects.specs.Names.{number_of, with_name};
 
-    /// Schedules a delayed call of a body, which is due so many ticks later than now, and no later than calls are delayed
-    /// by, as none is that a script which is read schedules; binds its name to it, also where that was bound to another
-    /// (Twisted: `Clock.callLater`). AllocError where there are more calls than numbers of 32 bits.
+    /// Schedules a delayed call of a body, which is due so many ticks later than now, and no later
+    /// than calls are delayed by, as none is that a script which is read schedules; binds its name
+    /// to it, also where that was bound to another (Twisted: `Clock.callLater`). AllocError where
+    /// there are more calls than numbers of 32 bits.
     #[tactic(auto, unfolding(crate::specs::World::aside))]
     pub fn call_later(
         &mut self,
@@ -52,7 +54,12 @@ impl<'s> World<'s> {
 
     /// Keeps the body of a call that was logged, and binds its name to it.
     fn add_call(&mut self, name: &str, call: CallId, body: BodyRef<'s>) -> Result<(), AllocError>
-        ensures { OnOk result (self.new ≡ record self.old { objects = record self.old.objects { call_names = with_name name.now call self.old.objects.call_names; bodies = self.old.objects.bodies ++ body.entry ∷ [] } }) }
+        ensures { OnOk result (self.new ≡ record self.old {
+          objects = record self.old.objects {
+            call_names = with_name name.now call self.old.objects.call_names;
+            bodies = self.old.objects.bodies ++ body.entry ∷ [];
+          };
+        }) }
     {
         self.call_names.bind(name, call)?;
         self.bodies.push(body)?;
@@ -76,8 +83,8 @@ impl<'s> World<'s> {
         }
     }
 
-    /// Cancels a delayed call (Twisted: `DelayedCall.cancel`). One that was called raises AlreadyCalled, and one that was
-    /// cancelled or dropped AlreadyCancelled.
+    /// Cancels a delayed call (Twisted: `DelayedCall.cancel`). One that was called raises
+    /// AlreadyCalled, and one that was cancelled or dropped AlreadyCancelled.
     #[tactic(auto, unfolding(crate::specs::World::cancel_call, crate::specs::World::aside))]
     pub fn cancel_call(&mut self, call: CallId) -> Result<Performed<'s>, AllocError>
         ensures { IfOk result (λ performed. (performed, self.new) ≡ cancel_call call self.old) }
@@ -97,8 +104,9 @@ impl<'s> World<'s> {
         }
     }
 
-    /// Starts a timer of a Deferred, whose time comes so many ticks later than now, and no later than calls are delayed by,
-    /// as none does that a script which is read starts (Twisted: `Deferred.addTimeout`).
+    /// Starts a timer of a Deferred, whose time comes so many ticks later than now, and no later
+    /// than calls are delayed by, as none does that a script which is read starts (Twisted:
+    /// `Deferred.addTimeout`).
     #[tactic(auto, unfolding(crate::specs::World::aside))]
     pub fn start_timer(&mut self, id: DeferredId, delay: u64) -> Result<CallId, AllocError>
         ensures started { OnOk result (self.new ≡ start_timer id delay self.old) }
@@ -136,8 +144,9 @@ impl<'s> World<'s> {
         let _ = self.clock.drop_call(timer);
     }
 
-    /// Time goes on by so many ticks, and no further than clocks go, to which no script gets that is read (Twisted:
-    /// `Clock.advance`, of which this is the first part: what is due is to be run then).
+    /// Time goes on by so many ticks, and no further than clocks go, to which no script gets that
+    /// is read (Twisted: `Clock.advance`, of which this is the first part: what is due is to be run
+    /// then).
     #[tactic(auto, unfolding(crate::specs::World::aside))]
     pub fn advance(&mut self, ticks: u64) -> Result<(), AllocError>
         ensures { OnOk result (self.new ≡ advance ticks self.old) }

@@ -24,13 +24,16 @@ impl<'s> World<'s> {
     ghost use Rattle.dv_objects.specs.Cooperator.{with_new_task};
     ghost use Rattle.dv_objects.specs.Names.{number_of};
     ghost use Rattle.dv_objects.specs.Objects.{cooperating, without_tick};
-    ghost use Rattle.dv_world.specs.World.{aside, arrange, take_step, pause_task, resume_task, hold_task, end_task, await_task, keep_tick, schedule_tick, begin_tick, end_tick};
+    ghost use Rattle.dv_world.specs.World.{aside, arrange, take_step, pause_task, resume_task};
+    ghost use Rattle.dv_world.specs.World.{hold_task, end_task, await_task, keep_tick};
+    ghost use Rattle.dv_world.specs.World.{schedule_tick, begin_tick, end_tick};
 
-    /// Makes a task of bodies, and binds its name to it, also where that was bound to another; it takes turns, last
-    /// (Twisted: `Cooperator.cooperate`).
+    /// Makes a task of bodies, and binds its name to it, also where that was bound to another; it
+    /// takes turns, last (Twisted: `Cooperator.cooperate`).
     #[tactic(auto, unfolding(crate::specs::World::aside))]
     pub fn make_task(&mut self, name: TextRef<'s>, bodies: BodiesRef<'s>) -> Result<(), AllocError>
-        ensures { OnOk result (self.new ≡ aside (entry.Task name.entry) (cooperating (with_new_task name.entry bodies.entry)) self.old) }
+        ensures { OnOk result (self.new ≡ aside (entry.Task name.entry)
+            (cooperating (with_new_task name.entry bodies.entry)) self.old) }
     {
         if self.stopped {
             return Ok(());
@@ -56,8 +59,8 @@ impl<'s> World<'s> {
         self.cooperator.task(id)
     }
 
-    /// Logs the next step, and returns the task that takes it with its next body, where one is left; None where
-    /// nobody takes turns.
+    /// Logs the next step, and returns the task that takes it with its next body, where one is
+    /// left; None where nobody takes turns.
     #[tactic(auto, unfolding(crate::specs::World::aside))]
     pub fn take_step(&mut self) -> Result<Option<(TaskId, Option<BodyRef<'s>>)>, AllocError>
         ensures { IfOk result (λ step. (step, self.new) ≡ take_step self.old) }
@@ -158,7 +161,8 @@ impl<'s> World<'s> {
         }
     }
 
-    /// A Deferred waits for the end of a task, unless that has ended (Twisted: `CooperativeTask.whenDone`).
+    /// A Deferred waits for the end of a task, unless that has ended (Twisted:
+    /// `CooperativeTask.whenDone`).
     #[tactic(auto, unfolding(crate::specs::World::aside))]
     pub fn await_task(&mut self, id: TaskId, waiting: DeferredId) -> Result<(), AllocError>
         ensures { OnOk result (self.new ≡ await_task id waiting self.old) }
@@ -176,8 +180,8 @@ impl<'s> World<'s> {
         }
     }
 
-    /// Outside of ticks, a tick is scheduled while somebody takes turns, and none while nobody does (Twisted:
-    /// `Cooperator._reschedule`).
+    /// Outside of ticks, a tick is scheduled while somebody takes turns, and none while nobody does
+    /// (Twisted: `Cooperator._reschedule`).
     pub fn keep_tick(&mut self) -> Result<(), AllocError>
         ensures { OnOk result (self.new ≡ keep_tick self.old) }
     {

@@ -9,10 +9,11 @@ use dv_value::value::Value;
 use std::alloc::AllocError;
 
 impl<'s> World<'s> {
-    ghost use Rattle.dv_world.specs.World.{add_inline, begin_await, come_to_inline, end_await, awaited_in};
+    ghost use Rattle.dv_world.specs.World.{add_inline, begin_await, come_to_inline, end_await};
+    ghost use Rattle.dv_world.specs.World.{awaited_in};
 
-    /// Makes an inline body, which waits for nothing (Twisted: `inlineCallbacks`). It isn't logged, and in a run that
-    /// has stopped none is made.
+    /// Makes an inline body, which waits for nothing (Twisted: `inlineCallbacks`). It isn't logged,
+    /// and in a run that has stopped none is made.
     #[tactic(auto, unfolding(crate::specs::World::arrange))]
     pub fn add_inline(&mut self) -> Result<InlineId, AllocError>
         ensures added { OnOk result (self.new ≡ add_inline self.old) }
@@ -25,8 +26,8 @@ impl<'s> World<'s> {
         Ok(id)
     }
 
-    /// Tells that an inline body is to await a Deferred (Twisted: `yield` under `inlineCallbacks`). What comes before
-    /// `end_await` is kept for that.
+    /// Tells that an inline body is to await a Deferred (Twisted: `yield` under `inlineCallbacks`).
+    /// What comes before `end_await` is kept for that.
     #[tactic(auto, unfolding(crate::specs::World::aside))]
     pub fn begin_await(&mut self, inline: Inline, awaited: DeferredId) -> Result<(), AllocError>
         ensures { OnOk result (self.new ≡ begin_await inline awaited self.old) }
@@ -43,8 +44,8 @@ impl<'s> World<'s> {
         }
     }
 
-    /// What an inline body awaits comes. Where the body awaits it, it comes back with it, to go on; where the pair by which
-    /// it awaits is being added still, that is kept for `end_await`.
+    /// What an inline body awaits comes. Where the body awaits it, it comes back with it, to go on;
+    /// where the pair by which it awaits is being added still, that is kept for `end_await`.
     #[tactic(auto, unfolding(crate::specs::World::come_to_inline, crate::specs::World::arrange))]
     pub fn come_to_inline(
         &mut self,
@@ -60,8 +61,8 @@ impl<'s> World<'s> {
         self.inlines.come(inline.number(), value)
     }
 
-    /// The pair by which an inline body awaits a Deferred has been added. Where that came meanwhile, the body comes back
-    /// with it, to go on; else it is parked, and awaits from now on.
+    /// The pair by which an inline body awaits a Deferred has been added. Where that came
+    /// meanwhile, the body comes back with it, to go on; else it is parked, and awaits from now on.
     #[tactic(auto, unfolding(crate::specs::World::end_await, crate::specs::World::arrange))]
     pub fn end_await(
         &mut self,
@@ -69,7 +70,8 @@ impl<'s> World<'s> {
         awaited: DeferredId,
         body: InlineBody<'s>,
     ) -> Result<Option<(InlineBody<'s>, Value)>, AllocError>
-        ensures { IfOk result (λ gone_on. (gone_on, self.new) ≡ end_await inline awaited body.entry self.old) }
+        ensures { IfOk result
+            (λ gone_on. (gone_on, self.new) ≡ end_await inline awaited body.entry self.old) }
     {
         if self.stopped {
             drop(body);

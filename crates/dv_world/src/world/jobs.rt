@@ -25,8 +25,8 @@ impl<'s> World<'s> {
         &self.works
     }
 
-    /// Submits a job to the pool of this name, or to the default one, whose result is for this Deferred, unless as many were as a
-    /// run has (Twisted: `deferToThreadPool`, `deferToThread`).
+    /// Submits a job to the pool of this name, or to the default one, whose result is for this
+    /// Deferred, unless as many were as a run has (Twisted: `deferToThreadPool`, `deferToThread`).
     #[tactic(auto, unfolding(crate::specs::World::submit))]
     pub fn submit(
         &mut self,
@@ -46,8 +46,9 @@ impl<'s> World<'s> {
         }
     }
 
-    /// Schedules the delivery of a job's result to a Deferred, which is due so many ticks later than now, and no later than
-    /// calls are delayed by, as none is that a script which is read schedules.
+    /// Schedules the delivery of a job's result to a Deferred, which is due so many ticks later
+    /// than now, and no later than calls are delayed by, as none is that a script which is read
+    /// schedules.
     #[tactic(auto, unfolding(crate::specs::World::aside))]
     pub fn deliver_later(&mut self, job: u32, id: DeferredId, delay: u64) -> Result<(), AllocError>
         ensures { OnOk result (self.new ≡ deliver_later job id delay self.old) }

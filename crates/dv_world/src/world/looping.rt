@@ -24,9 +24,9 @@ impl<'s> World<'s> {
     ghost use Rattle.dv_objects.specs.Looping.{with_new_loop, with_added_loop, with_stopped};
     ghost use Rattle.dv_world.specs.World.{aside, schedule_turn, stop_loop, end_loop};
 
-    /// Makes a loop that is started now, whose Deferred this is, and binds its name to it, also where that was bound to
-    /// another (Twisted: `LoopingCall.start`). No turn is scheduled yet. AllocError where there are more loops than
-    /// numbers of 32 bits.
+    /// Makes a loop that is started now, whose Deferred this is, and binds its name to it, also
+    /// where that was bound to another (Twisted: `LoopingCall.start`). No turn is scheduled yet.
+    /// AllocError where there are more loops than numbers of 32 bits.
     #[tactic(auto, unfolding(crate::specs::World::aside))]
     pub fn make_loop(
         &mut self,
@@ -35,7 +35,8 @@ impl<'s> World<'s> {
         interval: u64,
         body: BodyRef<'s>,
     ) -> Result<LoopId, AllocError>
-        ensures made { OnOk result (self.new ≡ aside (entry.Loop name.entry of) (with_new_loop name.entry of interval body.entry) self.old) }
+        ensures made { OnOk result (self.new ≡ aside (entry.Loop name.entry of)
+            (with_new_loop name.entry of interval body.entry) self.old) }
         ensures id { IfOk result (λ id. id ≡ length self.old.objects.loops) }
     {
         let Ok(number) = u32::try_from(self.loops.len()) else {
@@ -64,7 +65,9 @@ impl<'s> World<'s> {
     /// Adds a loop that was logged, and binds its name to it.
     fn add_loop(&mut self, id: LoopId, looping: LoopingCall<'s>) -> Result<LoopId, AllocError>
         requires next { id ≡ length self.old.objects.loops }
-        ensures added { OnOk result (self.new ≡ record self.old { objects = with_added_loop looping.entry self.old.objects }) }
+        ensures added { OnOk result (self.new ≡ record self.old {
+          objects = with_added_loop looping.entry self.old.objects;
+        }) }
         ensures id { IfOk result (λ added. added ≡ id) }
     {
         self.loop_names.bind(looping.name.as_str(), id)?;
@@ -96,8 +99,8 @@ impl<'s> World<'s> {
         }
     }
 
-    /// Schedules the next turn of a loop: at the first time later than now that is a whole number of intervals after its
-    /// start (Twisted: `LoopingCall._scheduleFrom`).
+    /// Schedules the next turn of a loop: at the first time later than now that is a whole number
+    /// of intervals after its start (Twisted: `LoopingCall._scheduleFrom`).
     #[tactic(auto, unfolding(crate::specs::World::aside))]
     pub fn schedule_turn(&mut self, id: LoopId) -> Result<(), AllocError>
         ensures { OnOk result (self.new ≡ schedule_turn id self.old) }
@@ -127,7 +130,8 @@ impl<'s> World<'s> {
         }
     }
 
-    /// A loop is stopped, and its next turn, where it is scheduled, is dropped (Twisted: `LoopingCall.stop`).
+    /// A loop is stopped, and its next turn, where it is scheduled, is dropped (Twisted:
+    /// `LoopingCall.stop`).
     #[tactic(auto, unfolding(crate::specs::World::aside))]
     pub fn stop_loop(&mut self, id: LoopId) -> Result<(), AllocError>
         ensures { OnOk result (self.new ≡ stop_loop id self.old) }
@@ -152,7 +156,8 @@ impl<'s> World<'s> {
     /// A loop doesn't run any more, and its turn that was scheduled last is dropped.
     fn drop_turn(&mut self, place: usize)
         requires { place < length self.old.objects.loops }
-        ensures { IfSome (slice_get self.old.objects.loops place) (λ x. self.new ≡ record self.old { objects = with_stopped place x self.old.objects }) }
+        ensures { IfSome (slice_get self.old.objects.loops place)
+            (λ x. self.new ≡ record self.old { objects = with_stopped place x self.old.objects }) }
     {
         let looping = &mut self.loops[place];
         looping.running = false;

@@ -96,7 +96,8 @@ fn counts(report: Result<Report, EngineFault>) -> Result<(usize, usize), EngineF
     Ok(counts)
 }
 
-/// Makes calls of an engine with this script, and adds their answers and how many entries and batches its report has.
+/// Makes calls of an engine with this script, and adds their answers and how many entries and
+/// batches its report has.
 fn add_run<R>(rt: &R, script: &Script, calls: &[Call], lines: &mut String) -> Result<(), Fail>
 where
     R: Threads + Wait + RandomSource + AllocGlobal,

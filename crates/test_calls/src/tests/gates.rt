@@ -5,7 +5,8 @@ use std::alloc::{AllocError, Global};
 use std::sync::atomic::{AtomicU32, Ordering};
 use std::thread;
 
-/// How often one thread looks for what another one does, and lets others run in between. This is some seconds.
+/// How often one thread looks for what another one does, and lets others run in between. This is
+/// some seconds.
 pub const MOST_LOOKS: u32 = 2_000_000;
 
 /// Holds each job until so many have come.
@@ -97,8 +98,8 @@ impl Gate for Counting {
     }
 }
 
-/// Lets others run before each answer, once more than before the last one, until a sum has come. So it soon has waited long enough,
-/// also where others run for long.
+/// Lets others run before each answer, once more than before the last one, until a sum has come. So
+/// it soon has waited long enough, also where others run for long.
 #[derive(Drop)]
 pub struct Yielding {
     jobs: AtomicU32,

@@ -12,8 +12,8 @@ use std::sync::atomic::Ordering;
 use std::test::Fail;
 use std::thread::Threads;
 
-/// Runs a script whose jobs hold each other, so many at a time: the worker that answered one of them last, and how many were held in
-/// vain.
+/// Runs a script whose jobs hold each other, so many at a time: the worker that answered one of
+/// them last, and how many were held in vain.
 fn worker_of<S>(rt: &S, script: &str, workers: u32, jobs: u32) -> Result<(u32, u32), Fail>
 where
     S: Threads + Wait + RandomSource + AllocGlobal + Sync,
@@ -103,7 +103,8 @@ fn no_job_of_a_pool_is_answered_by_a_worker_of_another(rt: HostRuntime) -> Resul
     let (_, report) = run_text(&rt, text.as_str(), 0, &gate)?;
     let done = report.ran.dones().len();
     report.discard();
-    // The jobs of `io` have the even numbers, and its worker is 1; those of `net` the odd ones, and its worker is 2.
+    // The jobs of `io` have the even numbers, and its worker is 1; those of `net` the odd ones, and
+    // its worker is 2.
     assert_eq!(rt;
         (done, gate.is_none_of(0, 2), gate.is_none_of(1, 1)),
         (2_000, true, true)
@@ -138,7 +139,8 @@ fn each_job_of_a_run_reaches_its_gate_once_and_one_more_raises(
 fn a_run_is_out_of_memory_where_a_job_is_given_back_and_the_workers_leave(
     rt: HostRuntime,
 ) -> Result<(), Fail> {
-    // The run ends where it waits for the first job. Then it drops the pool, in which others wait for the workers.
+    // The run ends where it waits for the first job. Then it drops the pool, in which others wait
+    // for the workers.
     let text = repeated(rt.alloc(), 4_096, JOB, r#"["advance",0]"#)?;
     let gate = Counting::new(rt.alloc(), 4_096, true)?;
     let fault = fault_of(&rt, text.as_str(), 16, &gate)?;

@@ -92,7 +92,8 @@ fn what_a_thread_posts_is_taken_in_order_without_its_end(rt: HostRuntime) -> Res
 /// A drain of one post, and a job for whose result the run waits.
 const ONE_DRAIN: &str = r#"["drain",1],["thread","j",0,["value",0]],["advance",0],"#;
 
-/// A caller of two posts, of which the second submits a sum, and a thousand drains of one post each, with a job after each.
+/// A caller of two posts, of which the second submits a sum, and a thousand drains of one post
+/// each, with a job after each.
 fn many_drains(alloc: Global) -> Result<String, AllocError> {
     let mut text = String::from_str(
         alloc,
@@ -120,7 +121,8 @@ fn batch_of_the_second(report: &Report) -> Option<usize> {
 
 #[test]
 fn a_post_is_taken_while_events_are_performed(rt: HostRuntime) -> Result<(), Fail> {
-    // The first drain takes no second post. At the gate the caller's thread is let run until the second one was taken.
+    // The first drain takes no second post. At the gate the caller's thread is let run until the
+    // second one was taken.
     let text = many_drains(rt.alloc())?;
     let (_, report) = run_text(&rt, text.as_str(), 0, &Yielding::new())?;
     let place = batch_of_the_second(&report);

@@ -197,8 +197,8 @@ where
     Ok(true)
 }
 
-/// Jobs whose results are delivered in another order than they were submitted in, of one pool and of three; the posts of one caller; and two callers whose
-/// posts meet at drains, and submit jobs.
+/// Jobs whose results are delivered in another order than they were submitted in, of one pool and
+/// of three; the posts of one caller; and two callers whose posts meet at drains, and submit jobs.
 const SCRIPTS: [&str; 4] = [
     r#"{"version":1,"events":[["thread","a",5,["sum",10]],["thread","b",5,["raise","ValueError","no"]],["thread","c",2,["value",7]],["advance",5]]}"#,
     r#"{"version":2,"pools":[["io",2],["cpu",0]],"events":[["threadIn","a","io",5,["sum",10]],["threadIn","b","cpu",5,["raise","ValueError","no"]],["thread","c",2,["value",7]],["advance",5]]}"#,

@@ -19,7 +19,8 @@ loop-posted-preserved g c =
     let came = c.in_ok-come_if_there.ensures in
     record {
       leads = λ v runs. c.loop-posted.invariant.leads v
-          (subst (λ l. Runs (comings callers l) old v) (sym (drop_at batch i p c.loop-posted-test.true (get_or_default batch i none p c.loop-posted-test.true)))
+          (subst (λ l. Runs (comings callers l) old v)
+          (sym (drop_at batch i p c.loop-posted-test.true (get_or_default batch i none p c.loop-posted-test.true)))
           (runs_joined (coming callers p) (comings callers (drop (i + 1) batch)) old next v came.runs runs));
       bounded = run_bounded (coming callers p) old next came.runs c.loop-posted.invariant.bounded;
       jobs = came.jobs;

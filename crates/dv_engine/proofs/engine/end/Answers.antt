@@ -4,4 +4,5 @@ use Rattle.dv_engine.proofs.engine.end.Goals as goal
 
 pub returns-clause-next : goal.returns-clause-next
 returns-clause-next g c =
-    subst (λ (batches : List Batch). AreNext c.args.batches.callers (joined batches)) (sym c.into_items-batches.ensures.same) c.into_items-batches.ensures.next
+    subst (λ (batches : List Batch). AreNext c.args.batches.callers (joined batches))
+    (sym c.into_items-batches.ensures.same) c.into_items-batches.ensures.next

@@ -5,4 +5,6 @@ use Rattle.dv_forms.specs.Parts.{each, class_at}
 use Rattle.dv_forms.proofs.leaf.classes_in.Given as goal
 
 abbrev pub invariant-loop-item : goal.invariant-loop-item
-invariant-loop-item l = with_front l.listed (each (class_at l.classes) (items_view (drop l.item-index l.items))) ≡ each (class_at l.classes) (items_view l.items)
+invariant-loop-item l =
+    with_front l.listed (each (class_at l.classes) (items_view (drop l.item-index l.items)))
+    ≡ each (class_at l.classes) (items_view l.items)

@@ -5,4 +5,6 @@ use Rattle.dv_forms.specs.Parts.{each, gather_flag_at}
 use Rattle.dv_forms.proofs.leaf.gather_flags_in.Given as goal
 
 abbrev pub invariant-loop-item : goal.invariant-loop-item
-invariant-loop-item l = with_front l.flags (each gather_flag_at (items_view (drop l.item-index l.items))) ≡ each gather_flag_at (items_view l.items)
+invariant-loop-item l =
+    with_front l.flags (each gather_flag_at (items_view (drop l.item-index l.items)))
+    ≡ each gather_flag_at (items_view l.items)

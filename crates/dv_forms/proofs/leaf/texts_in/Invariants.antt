@@ -5,4 +5,5 @@ use Rattle.dv_forms.specs.Parts.{each, text_at}
 use Rattle.dv_forms.proofs.leaf.texts_in.Given as goal
 
 abbrev pub invariant-loop-item : goal.invariant-loop-item
-invariant-loop-item l = with_front l.texts (each text_at (items_view (drop l.item-index l.items))) ≡ each text_at (items_view l.items)
+invariant-loop-item l =
+    with_front l.texts (each text_at (items_view (drop l.item-index l.items))) ≡ each text_at (items_view l.items)

@@ -5,4 +5,6 @@ use Rattle.dv_forms.specs.Parts.{each, declaration_at}
 use Rattle.dv_forms.proofs.table.each_declaration.Given as goal
 
 abbrev pub invariant-loop-item : goal.invariant-loop-item
-invariant-loop-item l = with_front l.declarations (each declaration_at (items_view (drop l.item-index l.items))) ≡ each declaration_at (items_view l.items)
+invariant-loop-item l =
+    with_front l.declarations (each declaration_at (items_view (drop l.item-index l.items)))
+    ≡ each declaration_at (items_view l.items)

@@ -13,10 +13,12 @@ returns-then-eq-clause-wants g c =
     let form = c.in_ok-form.form.now in
     let lookup = c.in_ok-form.ensures.lookup in
     let given : nat_eq (length form.2.now) c.args.given ≡ true = rw c.if-form-given.true (same_number c.args.given) in
-    row_wants seen c.args.forms.now c.args.row form c.args.word.now c.args.given c.requires.apart (ltb-true c.args.row (length c.args.forms.now) (sym lookup.0)) lookup.1 (rw (← c.if-eq.ensures, given) refl)
+    row_wants seen c.args.forms.now c.args.row form c.args.word.now c.args.given c.requires.apart
+    (ltb-true c.args.row (length c.args.forms.now) (sym lookup.0)) lookup.1 (rw (← c.if-eq.ensures, given) refl)
 
 pub returns-then-eq-clause-since : goal.returns-then-eq-clause-since
 returns-then-eq-clause-since g c =
     let form = c.in_ok-form.form.now in
     let lookup = c.in_ok-form.ensures.lookup in
-    λ version late. row_stands seen c.args.forms.now c.args.row form c.args.word.now version (ltb-true c.args.row (length c.args.forms.now) (sym lookup.0)) lookup.1 (sym c.if-eq.ensures) late
+    λ version late. row_stands seen c.args.forms.now c.args.row form c.args.word.now version
+    (ltb-true c.args.row (length c.args.forms.now) (sym lookup.0)) lookup.1 (sym c.if-eq.ensures) late

@@ -61,12 +61,15 @@ decreases-statement::tried l = 16 * l.levels + 2
 
 abbrev pub invariant-action::actions-loop-item : goal.invariant-action::actions-loop-item
 invariant-action::actions-loop-item l =
-    with_front l.actions (each (action_at l.classes l.levels) (items_view (drop l.item-index l.items))) ≡ each (action_at l.classes l.levels) (items_view l.items)
+    with_front l.actions (each (action_at l.classes l.levels) (items_view (drop l.item-index l.items)))
+    ≡ each (action_at l.classes l.levels) (items_view l.items)
 
 abbrev pub invariant-body::bodies-loop-item : goal.invariant-body::bodies-loop-item
 invariant-body::bodies-loop-item l =
-    with_front l.bodies (each (body_at l.classes l.levels) (items_view (drop l.item-index l.items))) ≡ each (body_at l.classes l.levels) (items_view l.items)
+    with_front l.bodies (each (body_at l.classes l.levels) (items_view (drop l.item-index l.items)))
+    ≡ each (body_at l.classes l.levels) (items_view l.items)
 
 abbrev pub invariant-statement::statements-loop-item : goal.invariant-statement::statements-loop-item
 invariant-statement::statements-loop-item l =
-    with_front l.statements (each (statement_at l.classes l.levels) (items_view (drop l.item-index l.items))) ≡ each (statement_at l.classes l.levels) (items_view l.items)
+    with_front l.statements (each (statement_at l.classes l.levels) (items_view (drop l.item-index l.items)))
+    ≡ each (statement_at l.classes l.levels) (items_view l.items)

@@ -6,6 +6,7 @@ use Rattle.dv_json.proofs.printing.print_left.Given as goal
 -- the lines so far were gathered, and the sink hasn't failed
 abbrev pub invariant-loop-thing : goal.invariant-loop-thing
 invariant-loop-thing g l = record {
-  lines : GathersLines (AreSoMany l.thing-index) (g.W.Sink.taken l.initial.sink) (string_bytes l.initial.gathered) (g.W.Sink.taken l.sink) (string_bytes l.gathered);
+  lines : GathersLines (AreSoMany l.thing-index) (g.W.Sink.taken l.initial.sink) (string_bytes l.initial.gathered)
+      (g.W.Sink.taken l.sink) (string_bytes l.gathered);
   kept : g.W.Sink.failures l.sink ≡ g.W.Sink.failures l.initial.sink;
 }

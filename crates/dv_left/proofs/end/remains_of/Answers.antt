@@ -18,7 +18,8 @@ returns c =
     let queues : c.in_ok-queues.queues.items ≡ map queue_of o.queues = search rules in
     let entries : c.entries.result.now ≡ w.journal.entries = search rules in
     let whole =
-    told_in_turn w links _ _ _ _ _ _ _ _ _ _ _ c.in_ok-add_unhandled.ensures c.in_ok-add_rest.ensures c.in_ok-add_deferreds.ensures c.new-left.ensures standings calls loops tasks locks queues entries in
+    told_in_turn w links _ _ _ _ _ _ _ _ _ _ _ c.in_ok-add_unhandled.ensures c.in_ok-add_rest.ensures
+    c.in_ok-add_deferreds.ensures c.new-left.ensures standings calls loops tasks locks queues entries in
     record {
       journal = c.into_all-journal.ensures.journal;
       stopped = c.into_all-journal.ensures.stopped;

@@ -9,4 +9,5 @@ abbrev pub invariant-loop-record : goal.invariant-loop-record
 invariant-loop-record l =
     (l.outcomes ≡ map outcome_of l.yielded)
     × (l.standings ≡ map standing_of l.yielded)
-    × (l.links ≡ with_links (by_records hung_by 0 l.yielded) (by_records turn_held_by 0 l.yielded) (by_records task_held_by 0 l.yielded) l.initial.links)
+    × (l.links ≡ with_links (by_records hung_by 0 l.yielded) (by_records turn_held_by 0 l.yielded)
+    (by_records task_held_by 0 l.yielded) l.initial.links)

@@ -14,14 +14,18 @@ submit_all-requires g c =
     subst (λ (works : List Work). GoesOn c.args.jobs.now works) (sym c.works.ensures.works)
     (subst (λ (works : List Work). GoesOn works c.begin_post.new.turn.world.works) (sym c.requires.jobs)
     (subst (λ (turn : Turn). GoesOn turn.world.works c.begin_post.new.turn.world.works) c.begin_anew.ensures
-    (happening_goes_on (Comes c.args.posted.now c.args.body.now) c.begin_anew.new.turn c.begin_post.new.turn c.in_ok-begin_post.ensures)))
+    (happening_goes_on
+    (Comes c.args.posted.now c.args.body.now) c.begin_anew.new.turn c.begin_post.new.turn c.in_ok-begin_post.ensures)))
 
 pub run-requires : goal.run-requires
 run-requires g c = record {
-  bounded = happening_bounded (Comes c.args.posted.now c.args.body.now) c.begin_anew.new.turn c.begin_post.new.turn c.in_ok-begin_post.ensures
+  bounded =
+      happening_bounded
+      (Comes c.args.posted.now c.args.body.now) c.begin_anew.new.turn c.begin_post.new.turn c.in_ok-begin_post.ensures
       (subst (λ (turn : Turn). Bounded turn.world) (sym c.begin_anew.ensures) c.requires.bounded);
   jobs = c.in_ok-submit_all.ensures ∙ c.works.ensures.works;
 }
 
 pub returns-then-is_stopped-clause-happens : goal.returns-then-is_stopped-clause-happens
-returns-then-is_stopped-clause-happens g c = happens_stopped (Comes c.args.posted.now c.args.body.now) c.args.turn.now.world (search rules)
+returns-then-is_stopped-clause-happens g c =
+    happens_stopped (Comes c.args.posted.now c.args.body.now) c.args.turn.now.world (search rules)

@@ -14,14 +14,18 @@ submit_all-requires g c =
     subst (λ (works : List Work). GoesOn c.args.jobs.now works) (sym c.works.ensures.works)
     (subst (λ (works : List Work). GoesOn works c.begin_event.new.turn.world.works) (sym c.requires.jobs)
     (subst (λ (turn : Turn). GoesOn turn.world.works c.begin_event.new.turn.world.works) c.begin_anew.ensures
-    (happening_goes_on (Occurs c.args.event.now) c.begin_anew.new.turn c.begin_event.new.turn c.in_ok-begin_event.ensures)))
+    (happening_goes_on
+    (Occurs c.args.event.now) c.begin_anew.new.turn c.begin_event.new.turn c.in_ok-begin_event.ensures)))
 
 pub run-requires : goal.run-requires
 run-requires g c = record {
-  bounded = happening_bounded (Occurs c.args.event.now) c.begin_anew.new.turn c.begin_event.new.turn c.in_ok-begin_event.ensures
+  bounded =
+      happening_bounded
+      (Occurs c.args.event.now) c.begin_anew.new.turn c.begin_event.new.turn c.in_ok-begin_event.ensures
       (subst (λ (turn : Turn). Bounded turn.world) (sym c.begin_anew.ensures) c.requires.bounded);
   jobs = c.in_ok-submit_all.ensures ∙ c.works.ensures.works;
 }
 
 pub returns-then-is_stopped-clause-happens : goal.returns-then-is_stopped-clause-happens
-returns-then-is_stopped-clause-happens g c = happens_stopped (Occurs c.args.event.now) c.args.turn.now.world (search rules)
+returns-then-is_stopped-clause-happens g c =
+    happens_stopped (Occurs c.args.event.now) c.args.turn.now.world (search rules)

@@ -9,7 +9,8 @@ use Rattle.dv_objects.specs.declared.performed.Performed.{Performed}
 -- what the stack leads to from here, it led to at first; and the works of all jobs so far are submitted
 abbrev pub invariant-turns : goal.invariant-turns
 invariant-turns g l = record {
-  leads : (q : Performed) (v : World) → Gives l.turn.stack l.turn.performed l.turn.world q v → Gives l.fn.turn.stack l.fn.turn.performed l.fn.turn.world q v;
+  leads : (q : Performed) (v : World) → Gives l.turn.stack l.turn.performed l.turn.world q v
+      → Gives l.fn.turn.stack l.fn.turn.performed l.fn.turn.world q v;
   bounded : Bounded l.turn.world;
   jobs : l.jobs ≡ l.turn.world.works;
 }

@@ -12,7 +12,8 @@ returns-then-not-count_one-clause-strange c =
     let i = c.loop-place.place in
     let p = slice_index_or batch i none in (
       c.loop-place-test.true,
-      λ before was. strange_here c.args.callers.now c.args.counts.now.items c.loop-place.counts.items before batch i p c.loop-place-test.true (get_or_default batch i none p c.loop-place-test.true)
+      λ before was. strange_here c.args.callers.now c.args.counts.now.items c.loop-place.counts.items before batch i p
+          c.loop-place-test.true (get_or_default batch i none p c.loop-place-test.true)
           (sym c.if-not-count_one.ensures.next) (c.loop-place.invariant.counted before was),
     )
 
@@ -25,10 +26,13 @@ loop-place-preserved c =
     let set = c.if-not-count_one.ensures.counted in
     record {
       len = ap length set ∙ length-set c.loop-place.counts.items p.caller (p.index + 1) ∙ c.loop-place.invariant.len;
-      counted = λ before was. counted_here c.args.callers.now c.loop-place.counts.items c.count_one.new.counts.items before batch i p c.loop-place-test.true (get_or_default batch i none p c.loop-place-test.true)
+      counted =
+          λ before was. counted_here c.args.callers.now c.loop-place.counts.items c.count_one.new.counts.items before
+          batch i p c.loop-place-test.true (get_or_default batch i none p c.loop-place-test.true)
           (sym c.if-not-count_one.ensures.next) set (c.loop-place.invariant.counted before was);
     }
 
 pub returns-clause-strange : goal.returns-clause-strange
 returns-clause-strange c before was =
-    subst (λ l. Counted c.args.callers.now c.loop-place.counts.items (before ++ l)) (take_all c.loop-place.place c.args.batch.now c.loop-place-test.false) (c.loop-place.invariant.counted before was)
+    subst (λ l. Counted c.args.callers.now c.loop-place.counts.items (before ++ l))
+    (take_all c.loop-place.place c.args.batch.now c.loop-place-test.false) (c.loop-place.invariant.counted before was)

@@ -7,5 +7,6 @@ use Rattle.dv_orders.proofs.checking.first_strange.Given as goal
 abbrev pub invariant-loop-place : goal.invariant-loop-place
 invariant-loop-place l = record {
   len : length l.counts.items ≡ length l.callers;
-  counted : (before : Batch) → Counted l.callers l.initial.counts.items before → Counted l.callers l.counts.items (before ++ take l.place l.batch);
+  counted : (before : Batch) → Counted l.callers l.initial.counts.items before
+      → Counted l.callers l.counts.items (before ++ take l.place l.batch);
 }

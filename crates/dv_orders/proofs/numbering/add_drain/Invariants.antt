@@ -8,7 +8,8 @@ abbrev pub invariant-loop-place : goal.invariant-loop-place
 invariant-loop-place l = record {
   within : l.place ≤ length l.line.items;
   len : length l.line.items ≡ length l.initial.line.items;
-  next : (number : ℕ → ℕ) → IsLine number l.cap l.initial.line.items → (k : ℕ) → l.place ≤ k → k < length l.line.items → slice_index l.line.items k ≡ min (sum_over_splits number l.most k) l.cap;
+  next : (number : ℕ → ℕ) → IsLine number l.cap l.initial.line.items → (k : ℕ) → l.place ≤ k → k < length l.line.items
+      → slice_index l.line.items k ≡ min (sum_over_splits number l.most k) l.cap;
   after : (k : ℕ) → k < l.place → slice_index l.line.items k ≡ slice_index l.initial.line.items k;
 }
 

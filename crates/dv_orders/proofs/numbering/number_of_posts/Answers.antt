@@ -10,7 +10,10 @@ loop-caller-preserved c =
     let callers = c.args.callers.now in
     let i = c.loop-caller.caller-index in
     let own = c.caller-item.result in
-    let next : take (i + 1) callers ≡ take i callers ++ own ∷ [] = take_more callers i own c.loop-caller-test.true ∙ ap (λ (l : List Body). take i callers ++ l ∷ []) (sym c.caller-item.is) in
+    let next : take (i + 1) callers ≡ take i callers ++ own ∷ [] = take_more callers i own c.loop-caller-test.true
+    ∙ ap (λ (l : List Body). take i callers ++ l ∷ []) (sym c.caller-item.is) in
     let more = ap (λ (l : List (List Body)). total (counts_of l)) next ∙ total_more (take i callers) own in
-    let same = ap (λ (l : List Body). length l) c.as_slice-count.ensures in
-    (omega (arith, c.loop-caller.invariant.0, more, same), omega (arith, c.loop-caller.invariant.1, c.if-count-posts.false))
+    let same = ap (λ (l : List Body). length l) c.as_slice-count.ensures in (
+      omega (arith, c.loop-caller.invariant.0, more, same),
+      omega (arith, c.loop-caller.invariant.1, c.if-count-posts.false),
+    )

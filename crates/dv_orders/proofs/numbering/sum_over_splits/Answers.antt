@@ -15,7 +15,8 @@ loop-left-preserved c =
           let more = others_more number most left c.if-most-gt0.true c.loop-left-test.true in (
             omega (arith, c.capped_sum-total.ensures),
             ap (λ n. min (n + sum_of_others number (most - 1) (left - 1)) cap) c.capped_sum-total.ensures
-                ∙ sum_step total (slice_index c.args.line.now (left - 1)) (number (left - 1)) (sum_of_others number (most - 1) (left - 1)) _ cap value
+                ∙ sum_step total (slice_index c.args.line.now (left - 1)) (number (left - 1))
+                (sum_of_others number (most - 1) (left - 1)) _ cap value
                 (ap (λ n. min (total + n) cap) (sym more) ∙ (c.loop-left.invariant.whole number line).1),
           );
     }

@@ -8,7 +8,9 @@ use Rattle.dv_orders.proofs.numbering.sum_over_splits.Given as goal
 abbrev pub invariant-loop-left : goal.invariant-loop-left
 invariant-loop-left l = record {
   within : l.left ≤ l.count;
-  whole : (number : ℕ → ℕ) → StartsWith number l.cap l.line (l.count + 1) → (l.total ≤ l.cap) × (min (l.total + sum_of_others number l.most l.left) l.cap ≡ min (sum_over_splits number l.initial.most l.count) l.cap);
+  whole : (number : ℕ → ℕ) → StartsWith number l.cap l.line (l.count + 1)
+      → (l.total ≤ l.cap) × (min (l.total + sum_of_others number l.most l.left) l.cap
+      ≡ min (sum_over_splits number l.initial.most l.count) l.cap);
 }
 
 abbrev pub decreases-loop-left : goal.decreases-loop-left

@@ -15,13 +15,17 @@ returns c =
     let invariant = c.loop-posts.invariant in
     let len = invariant.len in
     let so_far : slice_index line others ≡ min (ways posts others) cap = invariant.line others (omega (arith, len)) in
-    let result : c.index-2.result.now ≡ min (ways posts others) cap = c.index-2.ensures ∙ get_or_default_zero line others c.index-2.result.now (omega (arith, len)) ∙ so_far in
+    let result : c.index-2.result.now ≡ min (ways posts others) cap =
+    c.index-2.ensures ∙ get_or_default_zero line others c.index-2.result.now (omega (arith, len)) ∙ so_far in
     elim c.loop-posts-test.branch [
       | then-loop-posts-test+else-index-cap w ↦
-          let tested : w.index.result.now ≡ min (ways posts others) cap = w.index.ensures ∙ get_or_default_zero line others w.index.result.now (omega (arith, len)) ∙ so_far in
+          let tested : w.index.result.now ≡ min (ways posts others) cap =
+          w.index.ensures ∙ get_or_default_zero line others w.index.result.now (omega (arith, len)) ∙ so_far in
           let all : posts + (own - posts) ≡ own = omega (arith, invariant.within) in
-          let grows : ways posts others ≤ ways own others = subst (λ (n : ℕ). ways posts others ≤ ways n others) all (ways_grow posts (own - posts) others) in
-          at_cap c.index-2.result.now (ways posts others) (ways own others) cap result (omega (arith, w.if-index-cap.false, tested, result)) grows
+          let grows : ways posts others ≤ ways own others =
+          subst (λ (n : ℕ). ways posts others ≤ ways n others) all (ways_grow posts (own - posts) others) in
+          at_cap c.index-2.result.now (ways posts others) (ways own others) cap result
+          (omega (arith, w.if-index-cap.false, tested, result)) grows
       | else-loop-posts-test w ↦
           let all : posts ≡ own = omega (arith, invariant.within, w.loop-posts-test.false) in
           result ∙ ap (λ (n : ℕ). min (ways n others) cap) all

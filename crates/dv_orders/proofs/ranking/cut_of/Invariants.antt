@@ -7,5 +7,6 @@ abbrev pub invariant-loop-place : goal.invariant-loop-place
 invariant-loop-place l = record {
   fits : length l.rest + 1 < 2 ^ 64;
   small : l.number + 1 < 2 ^ 64;
-  same : slice_get (cuts l.events l.sequence) l.initial.number ≡ option_map (λ cut. l.batches ++ cut) (slice_get (cuts (drop l.place l.events) l.rest) l.number);
+  same : slice_get (cuts l.events l.sequence) l.initial.number ≡ option_map (λ cut. l.batches ++ cut)
+      (slice_get (cuts (drop l.place l.events) l.rest) l.number);
 }

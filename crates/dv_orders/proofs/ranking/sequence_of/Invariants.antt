@@ -10,7 +10,8 @@ invariant-loop-alloc l = record {
   counts : l.sequence.counts.items ≡ counts_of l.callers;
   path : IsPath l.sequence.counts.items l.sequence.taken.items l.sequence.posts.items;
   same : slice_get (sequences (total (counts_of l.callers)) (posts_from 0 l.callers)) l.initial.number
-      ≡ option_map (λ sequence. l.sequence.posts.items ++ sequence) (slice_get (sequences_on l.sequence.counts.items (left_over l.sequence.counts.items l.sequence.taken.items) l.sequence.taken.items) l.number);
+      ≡ option_map (λ sequence. l.sequence.posts.items ++ sequence) (slice_get (sequences_on l.sequence.counts.items
+      (left_over l.sequence.counts.items l.sequence.taken.items) l.sequence.taken.items) l.number);
 }
 
 abbrev pub decreases-loop-alloc : goal.decreases-loop-alloc

@@ -5,4 +5,5 @@ use Rattle.dv_orders.proofs.ranking.taken_of.Given as goal
 
 -- the number is past the cuts in which fewer are taken
 abbrev pub invariant-loop-taken : goal.invariant-loop-taken
-invariant-loop-taken l = l.initial.number ≡ length_before (λ taken. number_of_cuts l.events (l.posts - taken)) l.taken + l.number
+invariant-loop-taken l =
+    l.initial.number ≡ length_before (λ taken. number_of_cuts l.events (l.posts - taken)) l.taken + l.number

@@ -7,4 +7,5 @@ use Rattle.dv_orders.proofs.reading.batches.Given as goal
 
 -- the batches so far are in front of what the others read as
 abbrev pub invariant-loop-item : goal.invariant-loop-item
-invariant-loop-item l = with_front l.batches (each batch_at (items_view (drop l.item-index l.items))) ≡ each batch_at (items_view l.items)
+invariant-loop-item l =
+    with_front l.batches (each batch_at (items_view (drop l.item-index l.items))) ≡ each batch_at (items_view l.items)

@@ -1,4 +1,5 @@
-use Rattle.std.proofs.Common.{arith, ◌≡◌, ◌<◌, ◌%◌, ◌∙◌, [], Some, None, length, slice_get, slice_index_or, ap, subst, sym}
+use Rattle.std.proofs.Common.{arith, ◌≡◌, ◌<◌, ◌%◌, ◌∙◌, [], Some, None, length, slice_get, slice_index_or, ap, subst}
+use Rattle.std.proofs.Common.{sym}
 use Rattle.std.proofs.lemmas.Option.{get_or_from_slice_get}
 use Rattle.dv_orders.specs.Listed.{AreOrder}
 use Rattle.dv_orders.specs.Orders.{orders}
@@ -15,7 +16,8 @@ unreachable-requires c =
     let script = c.args.script.now in
     let n = c.below-number.result in
     let low : n < length (orders script) = omega (arith, c.below-number.ensures.below, c.requires.number) in
-    let both : None ≡ Some (slice_index_or (orders script) n []) = sym c.in-Ok-None.field-0-is ∙ c.in-Ok-None.ensures ∙ some_there (orders script) n [] low in
+    let both : None ≡ Some (slice_index_or (orders script) n []) =
+    sym c.in-Ok-None.field-0-is ∙ c.in-Ok-None.ensures ∙ some_there (orders script) n [] low in
     grind (arith, both)
 
 pub returns-in-Ok-Some-clause-drawn : goal.returns-in-Ok-Some-clause-drawn
@@ -24,7 +26,8 @@ returns-in-Ok-Some-clause-drawn c =
     let n = c.below-number.result in
     let batches = c.in-Ok-Some.batches in
     sym (get_or_from_slice_get (orders script) n batches [] (sym c.in-Ok-Some.ensures ∙ c.in-Ok-Some.field-0-is))
-    ∙ ap (λ k. slice_index_or (orders script) k []) (c.below-number.ensures.number ∙ ap (λ count. number_of c.below-number.new.self % count) c.requires.number)
+    ∙ ap (λ k. slice_index_or (orders script) k [])
+    (c.below-number.ensures.number ∙ ap (λ count. number_of c.below-number.new.self % count) c.requires.number)
 
 pub returns-in-Ok-Some-clause-order : goal.returns-in-Ok-Some-clause-order
 returns-in-Ok-Some-clause-order c =
@@ -32,4 +35,5 @@ returns-in-Ok-Some-clause-order c =
     let n = c.below-number.result in
     let batches = c.in-Ok-Some.batches in
     let low : n < length (orders script) = omega (arith, c.below-number.ensures.below, c.requires.number) in
-    subst (λ b. AreOrder script b) (get_or_from_slice_get (orders script) n batches [] (sym c.in-Ok-Some.ensures ∙ c.in-Ok-Some.field-0-is)) (order_there script n low)
+    subst (λ b. AreOrder script b) (get_or_from_slice_get (orders script) n batches []
+    (sym c.in-Ok-Some.ensures ∙ c.in-Ok-Some.field-0-is)) (order_there script n low)

@@ -18,7 +18,10 @@ loop-order-preserved g c =
       same = c.in_ok-visit.ensures.same ∙ c.loop-order.invariant.same;
       seen = (
         seen.0 ++ batches ∷ [],
-        seen.1 ∙ ap (λ l. seen.0 ++ batches ∷ l) next ∙ sym (append_assoc seen.0 (batches ∷ []) (batches_of c.advance.new.self ∷ later_orders c.advance.new.self)),
-        λ mark before has. subst (g.V.Visitor.has_seen c.visit.new.visitor mark) (append_assoc before seen.0 (batches ∷ [])) (c.in_ok-visit.ensures.ok mark (before ++ seen.0) (seen.2 mark before has)),
+        seen.1 ∙ ap (λ l. seen.0 ++ batches ∷ l) next ∙ sym (append_assoc seen.0 (batches ∷ [])
+            (batches_of c.advance.new.self ∷ later_orders c.advance.new.self)),
+        λ mark before has. subst (g.V.Visitor.has_seen c.visit.new.visitor mark)
+            (append_assoc before seen.0 (batches ∷ []))
+            (c.in_ok-visit.ensures.ok mark (before ++ seen.0) (seen.2 mark before has)),
       );
     }

@@ -10,7 +10,8 @@ abbrev pub invariant-loop-order : goal.invariant-loop-order
 invariant-loop-order g l = record {
   whole : IsWhole l.order;
   same : g.V.Visitor.script_of l.visitor ≡ g.V.Visitor.script_of l.initial.visitor;
-  seen : (done : List (List Batch)) × (orders l.script ≡ done ++ batches_of l.order ∷ later_orders l.order) × SeesMore g.V.Visitor.has_seen l.initial.visitor l.visitor done;
+  seen : (done : List (List Batch)) × (orders l.script ≡ done ++ batches_of l.order ∷ later_orders l.order)
+      × SeesMore g.V.Visitor.has_seen l.initial.visitor l.visitor done;
 }
 
 abbrev pub decreases-loop-order : goal.decreases-loop-order

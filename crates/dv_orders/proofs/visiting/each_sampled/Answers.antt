@@ -17,8 +17,10 @@ loop-left-preserved g c =
       seen = (
         seen.0 ++ drawn ∷ [],
         append_assoc seen.0 (drawn ∷ []) rest
-            ∙ ap (λ l. seen.0 ++ l) (sym (sampled_next script left c.loop-left.generator c.args.count next c.loop-left-test.true c.requires.number visited.state))
+            ∙ ap (λ l. seen.0 ++ l) (sym (sampled_next script left c.loop-left.generator c.args.count next
+            c.loop-left-test.true c.requires.number visited.state))
             ∙ seen.1,
-        λ mark before has. subst (g.V.Visitor.has_seen c.visit_drawn.new.visitor mark) (append_assoc before seen.0 (drawn ∷ [])) (visited.ok mark (before ++ seen.0) (seen.2 mark before has)),
+        λ mark before has. subst (g.V.Visitor.has_seen c.visit_drawn.new.visitor mark)
+            (append_assoc before seen.0 (drawn ∷ [])) (visited.ok mark (before ++ seen.0) (seen.2 mark before has)),
       );
     }

@@ -8,7 +8,8 @@ use Rattle.dv_orders.proofs.visiting.each_sampled.Given as goal
 abbrev pub invariant-loop-left : goal.invariant-loop-left
 invariant-loop-left g l = record {
   same : g.V.Visitor.script_of l.visitor ≡ g.V.Visitor.script_of l.initial.visitor;
-  seen : (done : List (List Batch)) × (done ++ sampled l.script l.left l.generator ≡ sampled l.script l.size l.seed) × SeesMore g.V.Visitor.has_seen l.initial.visitor l.visitor done;
+  seen : (done : List (List Batch)) × (done ++ sampled l.script l.left l.generator ≡ sampled l.script l.size l.seed)
+      × SeesMore g.V.Visitor.has_seen l.initial.visitor l.visitor done;
 }
 
 abbrev pub decreases-loop-left : goal.decreases-loop-left

@@ -19,7 +19,8 @@ pub returns-clause-placed : goal.returns-clause-placed
 returns-clause-placed c =
     let low : c.args.number < length c.args.works.now.items = search rules in
     let job = set_job c.args.number c.args.works.now.items c.args.copy low c.requires.above in
-    c.put.ensures.placed _ (awaited _ _ _ c.args.number c.args.copy c.requires.placed refl refl refl job.0 c.await_work.ensures.awaits)
+    c.put.ensures.placed _
+    (awaited _ _ _ c.args.number c.args.copy c.requires.placed refl refl refl job.0 c.await_work.ensures.awaits)
 
 pub returns-clause-submitted : goal.returns-clause-submitted
 returns-clause-submitted c =
@@ -27,8 +28,14 @@ returns-clause-submitted c =
     let job = set_job c.args.number c.args.works.now.items c.args.copy low c.requires.above in
     let index = c.put.ensures.index in
     let before = c.requires.submitted.1 in (
-      one_more_put c.args.works.now.items (set c.args.works.now.items c.args.number (Some c.args.copy)) _ _ _ c.args.number c.args.work c.args.copy job.1 c.requires.copy c.requires.submitted.0 c.put.ensures.put c.new.ensures,
-      omega (arith, ap length job.1, length-append (jobs_in 0 c.args.works.now.items) (numbered c.args.number c.args.copy ∷ [])),
+      one_more_put c.args.works.now.items
+          (set c.args.works.now.items c.args.number (Some c.args.copy)) _ _ _ c.args.number c.args.work c.args.copy
+          job.1 c.requires.copy c.requires.submitted.0 c.put.ensures.put c.new.ensures,
+      omega (
+        arith,
+        ap length job.1,
+        length-append (jobs_in 0 c.args.works.now.items) (numbered c.args.number c.args.copy ∷ []),
+      ),
     )
 
 pub returns-clause-count : goal.returns-clause-count
@@ -36,7 +43,8 @@ returns-clause-count c =
     let low : c.args.number < length c.args.works.now.items = search rules in
     let job = set_job c.args.number c.args.works.now.items c.args.copy low c.requires.above in
     let count = c.requires.count in
-    omega (arith, ap length job.1, length-append (jobs_in 0 c.args.works.now.items) (numbered c.args.number c.args.copy ∷ []))
+    omega
+    (arith, ap length job.1, length-append (jobs_in 0 c.args.works.now.items) (numbered c.args.number c.args.copy ∷ []))
 
 pub returns-clause-jobs : goal.returns-clause-jobs
 returns-clause-jobs c =

@@ -7,4 +7,5 @@ use Rattle.dv_posts.proofs.batches.count_all.Given as goal
 abbrev pub invariant-loop-posted : goal.invariant-loop-posted
 invariant-loop-posted l =
     (length l.counts.items ≡ length l.initial.counts.items)
-    × ((before : List Posted) → Counted l.callers l.initial.counts.items before → Counted l.callers l.counts.items (before ++ take l.posted-index l.batch))
+    × ((before : List Posted) → Counted l.callers l.initial.counts.items before
+    → Counted l.callers l.counts.items (before ++ take l.posted-index l.batch))

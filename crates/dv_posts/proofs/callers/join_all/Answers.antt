@@ -12,6 +12,7 @@ loop-caller-preserved g c =
     record {
       made = subst (Made Ended (done ++ c.in-Some.caller ∷ [])) (sym c.push_reserved.ensures.items)
           (made_more Ended done made c.in-Some.caller c.finish.result c.finish.ensures i.made);
-      all = append_assoc done (c.in-Some.caller ∷ []) rest ∙ ap (λ l. done ++ l) (sym c.in-Some.ensures.steps.0) ∙ i.all;
+      all =
+          append_assoc done (c.in-Some.caller ∷ []) rest ∙ ap (λ l. done ++ l) (sym c.in-Some.ensures.steps.0) ∙ i.all;
       room = let r = i.room in let k = c.push_reserved.ensures.capacity in omega (arith, r, k);
     }

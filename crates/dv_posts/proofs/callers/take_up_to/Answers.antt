@@ -13,6 +13,8 @@ loop-preserved c =
       same = c.take.ensures.same ∙ i.same;
       count = ap length pushed ∙ (let n = i.count in omega (arith, n, length-append c.loop.batch (posted ∷ [])));
       took = λ before took.
-          subst (λ (posts : Batch). TookBatches c.take.new.self posts) (append_assoc before c.loop.batch (posted ∷ []) ∙ ap (λ (l : Batch). before ++ l) (sym pushed))
-          (took_more c.loop.inbox c.take.new.self posted (before ++ c.loop.batch) c.in-Some.ensures.some (i.took before took));
+          subst (λ (posts : Batch). TookBatches c.take.new.self posts)
+          (append_assoc before c.loop.batch (posted ∷ []) ∙ ap (λ (l : Batch). before ++ l) (sym pushed))
+          (took_more c.loop.inbox c.take.new.self posted (before ++ c.loop.batch) c.in-Some.ensures.some
+          (i.took before took));
     }

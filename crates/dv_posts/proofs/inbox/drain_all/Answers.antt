@@ -10,8 +10,13 @@ drain-requires c =
     let n = c.loop-caller.caller in
     let r = c.index_mut.result.now in
     let p = c.index_mut-in-loop-caller.result.now in
-    let low : n < length c.args.receivers.items = (let t = c.loop-caller-test.true in let l = c.len-caller-end.ensures in omega (arith, t, l)) in
-    record { pair = (pair_at (inbox_of c.args.receivers.items) c.args.posters.items n r p c.requires low (c.index_mut.ensures.value ∙ i.2 n r (omega arith)) (c.index_mut-in-loop-caller.ensures.value ∙ i.3 n p (omega arith))).1 }
+    let low : n < length c.args.receivers.items =
+    (let t = c.loop-caller-test.true in let l = c.len-caller-end.ensures in omega (arith, t, l)) in
+    record {
+      pair = (pair_at (inbox_of c.args.receivers.items) c.args.posters.items n r p c.requires low
+          (c.index_mut.ensures.value ∙ i.2 n r (omega arith))
+          (c.index_mut-in-loop-caller.ensures.value ∙ i.3 n p (omega arith))).1;
+    }
 
 pub loop-caller-preserved : goal.loop-caller-preserved
 loop-caller-preserved c =
@@ -19,10 +24,15 @@ loop-caller-preserved c =
     let n = c.loop-caller.caller in
     let r = c.index_mut.result.now in
     let p = c.index_mut-in-loop-caller.result.now in
-    let low : n < length c.args.receivers.items = (let t = c.loop-caller-test.true in let l = c.len-caller-end.ensures in omega (arith, t, l)) in (
+    let low : n < length c.args.receivers.items =
+    (let t = c.loop-caller-test.true in let l = c.len-caller-end.ensures in omega (arith, t, l)) in (
       length-set _ _ _ ∙ i.0,
       length-set _ _ _ ∙ i.1,
-      (λ k d more. get_or-set_other c.loop-caller.receivers.items n k c.drain.new.self d (omega (arith, more)) ∙ i.2 k d (omega (arith, more))),
-      (λ k d more. get_or-set_other c.loop-caller.posters.items n k c.drain.new.poster d (omega (arith, more)) ∙ i.3 k d (omega (arith, more))),
-      drained_more (inbox_of c.args.receivers.items) c.args.posters.items n r p c.loop-caller.rest c.drain.new.rest c.requires low (c.index_mut.ensures.value ∙ i.2 n r (omega arith)) (c.index_mut-in-loop-caller.ensures.value ∙ i.3 n p (omega arith)) c.in_ok-drain.ensures i.4,
+      (λ k d more. get_or-set_other c.loop-caller.receivers.items n k c.drain.new.self d (omega (arith, more))
+          ∙ i.2 k d (omega (arith, more))),
+      (λ k d more. get_or-set_other c.loop-caller.posters.items n k c.drain.new.poster d (omega (arith, more))
+          ∙ i.3 k d (omega (arith, more))),
+      drained_more (inbox_of c.args.receivers.items) c.args.posters.items n r p c.loop-caller.rest c.drain.new.rest
+          c.requires low (c.index_mut.ensures.value ∙ i.2 n r (omega arith))
+          (c.index_mut-in-loop-caller.ensures.value ∙ i.3 n p (omega arith)) c.in_ok-drain.ensures i.4,
     )

@@ -7,4 +7,5 @@ use Rattle.dv_questions.proofs.asking.+ask.Goals as goal
 pub one_for_one-returns-in_default : goal.one_for_one-returns-in_default
 one_for_one-returns-in_default t c =
     let none : length c.loop-want.rest.now ≡ 0 = c.in_default.ensures.cases in
-    sym (none_left (all_suit (asked_by c.args.question.now) c.args.levels) (drop c.loop-want.want-index c.args.wants.now) c.loop-want.rest.now none) ∙ c.loop-want.invariant
+    sym (none_left (all_suit (asked_by c.args.question.now) c.args.levels)
+    (drop c.loop-want.want-index c.args.wants.now) c.loop-want.rest.now none) ∙ c.loop-want.invariant

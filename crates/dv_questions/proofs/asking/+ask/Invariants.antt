@@ -37,5 +37,6 @@ invariant-one_for_one-loop-want l =
 
 abbrev pub invariant-keys_suit-loop-key : goal.invariant-keys_suit-loop-key
 invariant-keys_suit-loop-key l =
-    keys_suit (all_suit (asked_by l.question) l.levels) l.keyed (view l.json) (map (λ k. k.now) (drop l.key-index l.keys))
+    keys_suit (all_suit (asked_by l.question) l.levels) l.keyed (view l.json)
+    (map (λ k. k.now) (drop l.key-index l.keys))
     ≡ keys_suit (all_suit (asked_by l.question) l.levels) l.keyed (view l.json) (map (λ k. k.now) l.keys)

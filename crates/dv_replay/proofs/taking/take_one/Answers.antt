@@ -11,7 +11,8 @@ returns-in-Ok g c =
     let batches : List Batch = c.args.batches.now in
     let n = c.args.number in
     let batch = c.in_ok-batch.batch in
-    let is : batch ≡ slice_index_or batches n [] = c.in_ok-batch.ensures ∙ c.as_slice.ensures ∙ c.index-batches-number.is ∙ get_or_default batches n c.index-batches-number.result [] c.requires.there in
+    let is : batch ≡ slice_index_or batches n [] = c.in_ok-batch.ensures ∙ c.as_slice.ensures
+    ∙ c.index-batches-number.is ∙ get_or_default batches n c.index-batches-number.result [] c.requires.there in
     took_one c.args.engine.now c.drain.new.self batches n batch c.requires.there c.requires.before is c.in-Ok.ensures
 
 pub unreachable-requires-in-Err-Stranger : goal.unreachable-requires-in-Err-Stranger
@@ -20,7 +21,10 @@ unreachable-requires-in-Err-Stranger g c =
     let batches : List Batch = c.args.batches.now in
     let n = c.args.number in
     let batch = c.in_ok-batch.batch in
-    let is : batch ≡ slice_index_or batches n [] = c.in_ok-batch.ensures ∙ c.as_slice.ensures ∙ c.index-batches-number.is ∙ get_or_default batches n c.index-batches-number.result [] c.requires.there in
+    let is : batch ≡ slice_index_or batches n [] = c.in_ok-batch.ensures ∙ c.as_slice.ensures
+    ∙ c.index-batches-number.is ∙ get_or_default batches n c.index-batches-number.result [] c.requires.there in
     let strange : IsStrange batch e c.drain.new.self =
-    subst (λ (fault : EngineFault). Drained (Err fault) batch e c.drain.new.self) c.in-Err-Stranger.field-0-is c.in-Err-Stranger.ensures in
-    none_is_strange e c.drain.new.self batches n batch c.requires.there c.requires.before is c.requires.waits c.requires.next strange
+    subst (λ (fault : EngineFault). Drained (Err fault) batch e c.drain.new.self) c.in-Err-Stranger.field-0-is
+    c.in-Err-Stranger.ensures in
+    none_is_strange e c.drain.new.self batches n batch c.requires.there c.requires.before is c.requires.waits
+    c.requires.next strange

@@ -13,7 +13,8 @@ returns-in-Ok-clause-yes g c lawful =
     let batch = c.in_ok-batch.batch in
     let got = c.in_ok-batch.ensures in
     let takes = c.in-Ok.ensures in
-    let all : joined c.drain.new.self.batches ≡ joined e.batches ++ batch = ap joined (ap (λ x. x.batches) takes.same) ∙ joined_more e.batches batch in
+    let all : joined c.drain.new.self.batches ≡ joined e.batches ++ batch =
+    ap joined (ap (λ x. x.batches) takes.same) ∙ joined_more e.batches batch in
     record {
       script = ap (λ x. x.script) takes.same;
       left = ap (λ x. x.left) takes.same;
@@ -27,9 +28,12 @@ returns-in-Err-Stranger-clause-no g c unlawful =
     let batch = c.in_ok-batch.batch in
     let got = c.in_ok-batch.ensures in
     let strange : IsStrange batch e c.drain.new.self =
-    subst (λ (fault : EngineFault). Drained (Err fault) batch e c.drain.new.self) c.in-Err-Stranger.field-0-is c.in-Err-Stranger.ensures in
+    subst (λ (fault : EngineFault). Drained (Err fault) batch e c.drain.new.self) c.in-Err-Stranger.field-0-is
+    c.in-Err-Stranger.ensures in
     record {
       posts = joined e.batches ++ batch;
       took = got.taken (joined e.batches) c.requires.agree;
-      strange = λ next. strange.strange (subst (λ (phase : Phase). IsWithin phase batch) (sym c.requires.draining) got.few, next);
+      strange =
+          λ next.
+          strange.strange (subst (λ (phase : Phase). IsWithin phase batch) (sym c.requires.draining) got.few, next);
     }

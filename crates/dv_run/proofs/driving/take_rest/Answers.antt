@@ -12,11 +12,14 @@ returns-in-Ok g c =
     let e = c.args.engine.now in
     let rest = c.args.rest in
     let takes = c.in-Ok.ensures in
-    let all : joined c.drain.new.self.batches ≡ joined e.batches ++ rest = ap joined (ap (λ x. x.batches) takes.same) ∙ joined_more e.batches rest in
+    let all : joined c.drain.new.self.batches ≡ joined e.batches ++ rest =
+    ap joined (ap (λ x. x.batches) takes.same) ∙ joined_more e.batches rest in
     record {
       script = ap (λ x. x.script) takes.same;
       over = ap (λ x. x.phase) takes.same ∙ ap phase_after c.requires.ended;
-      complete = λ caller. ap (of caller) all ∙ c.requires.all caller ∙ sym (ap (λ x. posts_of x.script.callers caller) takes.same);
+      complete =
+          λ caller. ap (of caller) all ∙ c.requires.all caller
+          ∙ sym (ap (λ x. posts_of x.script.callers caller) takes.same);
     }
 
 pub unreachable-requires-in-Err-Stranger : goal.unreachable-requires-in-Err-Stranger
@@ -24,5 +27,9 @@ unreachable-requires-in-Err-Stranger g c =
     let e = c.args.engine.now in
     let rest = c.args.rest in
     let strange : IsStrange rest e c.drain.new.self =
-    subst (λ (fault : EngineFault). Drained (Err fault) rest e c.drain.new.self) c.in-Err-Stranger.field-0-is c.in-Err-Stranger.ensures in
-    strange.strange (subst (λ (phase : Phase). IsWithin phase rest) (sym c.requires.ended) tt, all_next e.script.callers (joined e.batches ++ rest) c.requires.all)
+    subst (λ (fault : EngineFault). Drained (Err fault) rest e c.drain.new.self) c.in-Err-Stranger.field-0-is
+    c.in-Err-Stranger.ensures in
+    strange.strange (
+      subst (λ (phase : Phase). IsWithin phase rest) (sym c.requires.ended) tt,
+      all_next e.script.callers (joined e.batches ++ rest) c.requires.all,
+    )

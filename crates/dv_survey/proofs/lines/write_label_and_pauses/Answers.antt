@@ -12,4 +12,5 @@ returns c =
     let first = codes "\"deferred\":" in
     let label = c.args.label.now in
     let upto_label = with_piece old n1 n2 first label c.in_ok-write_text.ensures c.in_ok-write_text-2.ensures in
-    on_ok c.write_paused_json.result c.write_paused_json.ensures (λ e. with_piece old n2 n3 (first ++ label) (paused_json c.args.pauses) upto_label e)
+    on_ok c.write_paused_json.result c.write_paused_json.ensures
+    (λ e. with_piece old n2 n3 (first ++ label) (paused_json c.args.pauses) upto_label e)

@@ -5,4 +5,6 @@ use Rattle.dv_survey.proofs.text.write_batches.Given as goal
 
 -- the batches that are left follow what is written
 abbrev pub invariant-loop-batch : goal.invariant-loop-batch
-invariant-loop-batch l = string_bytes l.out ++ rest_text l.later (map batch_text (drop l.batch-index l.batches)) ≡ string_bytes l.fn.out ++ batches_text l.batches
+invariant-loop-batch l =
+    string_bytes l.out ++ rest_text l.later (map batch_text (drop l.batch-index l.batches))
+    ≡ string_bytes l.fn.out ++ batches_text l.batches

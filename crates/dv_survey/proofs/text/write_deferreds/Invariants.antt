@@ -6,4 +6,5 @@ use Rattle.dv_survey.proofs.text.write_deferreds.Given as goal
 -- the lines of the Deferreds below this one are written
 abbrev pub invariant-loop-deferred : goal.invariant-loop-deferred
 invariant-loop-deferred l =
-    string_bytes l.out ≡ string_bytes l.initial.out ++ flat_map (λ deferred. deferred_text l.survey deferred) (below l.deferred)
+    string_bytes l.out
+    ≡ string_bytes l.initial.out ++ flat_map (λ deferred. deferred_text l.survey deferred) (below l.deferred)

@@ -12,4 +12,5 @@ returns c =
     let first = codes ",\"stopped\":" in
     let number = decimal c.args.stopped in
     let upto_number = with_piece old n1 n2 first number c.in_ok-write_text.ensures c.in_ok-write_u64.ensures in
-    on_ok c.write_text-2.result c.write_text-2.ensures (λ e. with_piece old n2 n3 (first ++ number) (codes ",\"type\":\"end\"}\n") upto_number e)
+    on_ok c.write_text-2.result c.write_text-2.ensures
+    (λ e. with_piece old n2 n3 (first ++ number) (codes ",\"type\":\"end\"}\n") upto_number e)

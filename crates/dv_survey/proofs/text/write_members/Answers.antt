@@ -16,7 +16,9 @@ returns c =
     let batches = batches_text c.args.tally.now.first in
     let key = codes ",\"count\":" in
     let count = decimal c.args.tally.now.count in
-    let upto_batches = with_piece old n1 n2 first batches c.in_ok-write_text.ensures (c.in_ok-write_batches.ensures ∙ ap (λ l. n1 ++ batches_text l) c.as_slice.ensures) in
+    let upto_batches = with_piece old n1 n2 first batches c.in_ok-write_text.ensures
+    (c.in_ok-write_batches.ensures ∙ ap (λ l. n1 ++ batches_text l) c.as_slice.ensures) in
     let upto_key = with_piece old n2 n3 (first ++ batches) key upto_batches c.in_ok-write_text-2.ensures in
     let upto_count = with_piece old n3 n4 (first ++ batches ++ key) count upto_key c.in_ok-write_u64.ensures in
-    on_ok c.write_text-3.result c.write_text-3.ensures (λ e. with_piece old n4 n5 (first ++ batches ++ key ++ count) (codes ",") upto_count e)
+    on_ok c.write_text-3.result c.write_text-3.ensures
+    (λ e. with_piece old n4 n5 (first ++ batches ++ key ++ count) (codes ",") upto_count e)

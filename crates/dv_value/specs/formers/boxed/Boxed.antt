@@ -44,16 +44,27 @@ module _ (A B : RattleType) (h : A.Denot → B.Denot) where
   unfolding part_of
   box_places alike = record {
     mir_same = λ i. (box_of (one_value A (alike.mir_same i) (λ _. ftrue) (λ _ _. nothing) gnil)).mir;
-    own_same = λ b i. (box_of (one_value A (alike.mir_same i) (alike.own_same b.value i) (alike.shr_same b.value i) gnil)).own_val (holding b tt);
-    shr_same = λ b i. (box_of (one_value A (alike.mir_same i) (alike.own_same b.value i) (alike.shr_same b.value i) gnil)).shr_at (holding b tt);
+    own_same =
+        λ b i.
+        (box_of (one_value A (alike.mir_same i) (alike.own_same b.value i) (alike.shr_same b.value i) gnil)).own_val
+        (holding b tt);
+    shr_same =
+        λ b i.
+        (box_of (one_value A (alike.mir_same i) (alike.own_same b.value i) (alike.shr_same b.value i) gnil)).shr_at
+        (holding b tt);
   }
 
   pub the_places : Alike A B h → Alike (boxed.the_row A) (boxed.the_row B) ((the_former this).map A.Denot B.Denot h)
   the_places alike =
-      view_places field this view (λ X Y k u. refl) (λ X u. refl) A.Denot B.Denot h (boxed.the_row A).coded (boxed.the_row B).coded
+      view_places field this view (λ X Y k u. refl) (λ X u. refl) A.Denot B.Denot h (boxed.the_row A).coded
+      (boxed.the_row B).coded
       (invariant A.Denot) (invariant B.Denot) (λ u p q. refl) (λ u p q. refl) (λ u e. tt) (λ u e. tt)
       (over (inside.the_row A)) (over (inside.the_row B))
-      (struct_places (inside.the_type A) (inside.the_type B) ((λ b. holding b (h b.value)), tt) _ (λ d. refl) refl (laid _ _ _ (box_places alike), tt))
+      (struct_places (inside.the_type A) (inside.the_type B) ((λ b. holding b (h b.value)), tt) _ (λ d. refl) refl (
+        laid _ _ _ (box_places alike),
+        tt,
+      ))
 
-  pub the_codes_placed : Recodes A B h → Recodes (boxed.the_row A) (boxed.the_row B) ((the_former this).map A.Denot B.Denot h)
+  pub the_codes_placed : Recodes A B h
+      → Recodes (boxed.the_row A) (boxed.the_row B) ((the_former this).map A.Denot B.Denot h)
   the_codes_placed recodes b = recodes b

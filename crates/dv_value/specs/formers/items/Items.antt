@@ -36,15 +36,21 @@ the_items_listed X xs = list-listed X xs
 
 -- the one field, a `Vec`
 abbrev field : Former {0}
-field = via (vec.the_former this Global) Inside (λ X a. a.items) (λ X v. record { items = v }) (λ X a. refl) (λ X v. refl)
+field =
+    via (vec.the_former this Global) Inside (λ X a. a.items) (λ X v. record { items = v }) (λ X a. refl) (λ X v. refl)
 
 module _ (A B : RattleType) (h : A.Denot → B.Denot) where
   pub the_places : Alike A B h → Alike (items.the_row A) (items.the_row B) ((the_former this).map A.Denot B.Denot h)
   the_places alike =
-      view_places field (list this) view (λ X Y k u. refl) (λ X u. refl) A.Denot B.Denot h (items.the_row A).coded (items.the_row B).coded
+      view_places field (list this) view (λ X Y k u. refl) (λ X u. refl) A.Denot B.Denot h (items.the_row A).coded
+      (items.the_row B).coded
       (invariant A.Denot) (invariant B.Denot) (λ u p q. refl) (λ u p q. refl) (λ u e. tt) (λ u e. tt)
       (over (inside.the_row A)) (over (inside.the_row B))
-      (struct_places (inside.the_type A) (inside.the_type B) (vec.mapped h, tt) _ (λ d. refl) refl (laid _ _ _ (vec.the_places global.the_row ghosts A B h alike), tt))
+      (struct_places (inside.the_type A) (inside.the_type B) (vec.mapped h, tt) _ (λ d. refl) refl (
+        laid _ _ _ (vec.the_places global.the_row ghosts A B h alike),
+        tt,
+      ))
 
-  pub the_codes_placed : Recodes A B h → Recodes (items.the_row A) (items.the_row B) ((the_former this).map A.Denot B.Denot h)
+  pub the_codes_placed : Recodes A B h
+      → Recodes (items.the_row A) (items.the_row B) ((the_former this).map A.Denot B.Denot h)
   the_codes_placed recodes xs = sym (code_map A.coded.code B.coded.code h (λ x. sym (recodes x)) xs)

@@ -1,4 +1,5 @@
-use Rattle.std.proofs.Common.{◌≡◌, Some, None, option_and_then, codes, length, ap, sym, ◌∙◌, add-one, below_more, arith, rules}
+use Rattle.std.proofs.Common.{◌≡◌, Some, None, option_and_then, codes, length, ap, sym, ◌∙◌, add-one, below_more, arith}
+use Rattle.std.proofs.Common.{rules}
 use Rattle.serde_json.specs.Find.{as_array, at, get}
 use Rattle.serde_json.specs.View.{view}
 use Rattle.dv_value.specs.Builtin.{builtin}
@@ -25,9 +26,13 @@ returns-in-Some-2 c =
     let under = c.in_ok-under.ensures in
     let part = rw c.in-Some-2.is at c.in_ok-part.ensures.wrong in
     let value : get (codes "classes") (view c.args.json.now) ≡ Some (view c.in-Some.declared.now) = search rules in
-    let list : list_in (codes "classes") (view c.args.json.now) ≡ or_no_items (as_array (view c.in-Some.declared.now)) = ap (λ o. or_no_items (option_and_then as_array o)) value in
-    let table = ap (λ ds. table_before ds c.loop-number.number) list in
-    (search rules, undeclarable c.loop-number.number (undeclarable_under _ _ (step.Key _) c.in-Some-2.part _ (record { steps = under.steps; found = under.found }) (rw (table, ← c.loop-number.invariant.table) part)))
+    let list : list_in (codes "classes") (view c.args.json.now) ≡ or_no_items (as_array (view c.in-Some.declared.now)) =
+    ap (λ o. or_no_items (option_and_then as_array o)) value in
+    let table = ap (λ ds. table_before ds c.loop-number.number) list in (
+      search rules,
+      undeclarable c.loop-number.number (undeclarable_under _ _ (step.Key _) c.in-Some-2.part _
+          (record { steps = under.steps; found = under.found }) (rw (table, ← c.loop-number.invariant.table) part)),
+    )
 
 pub loop-number-preserved : goal.loop-number-preserved
 loop-number-preserved c =
@@ -38,7 +43,9 @@ loop-number-preserved c =
     let may = c.in_ok-part.ensures.may none in
     record {
       room = omega (arith, c.in_ok-part.ensures.grows);
-      table = rw add-one (c.in_ok-part.ensures.table none ∙ ap (λ t. class_after t (at n d)) c.loop-number.invariant.table ∙ ap (class_after (table_before ds n)) (items_at n d) ∙ sym (table_next ds n));
+      table =
+          rw add-one (c.in_ok-part.ensures.table none ∙ ap (λ t. class_after t (at n d)) c.loop-number.invariant.table
+          ∙ ap (class_after (table_before ds n)) (items_at n d) ∙ sym (table_next ds n));
       may = below_more _ _ c.loop-number.invariant.may (rw (← items_at n d, ← c.loop-number.invariant.table) may);
     }
 
@@ -46,9 +53,13 @@ pub returns : goal.returns
 returns c = elim c.match-get.branch [
   | in-Some+else-loop-number-test w ↦
       let value : get (codes "classes") (view c.args.json.now) ≡ Some (view w.in-Some.declared.now) = search rules in
-      let list : list_in (codes "classes") (view c.args.json.now) ≡ or_no_items (as_array (view w.in-Some.declared.now)) = ap (λ o. or_no_items (option_and_then as_array o)) value in
+      let list : list_in (codes "classes") (view c.args.json.now)
+      ≡ or_no_items (as_array (view w.in-Some.declared.now)) =
+      ap (λ o. or_no_items (option_and_then as_array o)) value in
       let all : w.loop-number.number ≡ MOST_CLASSES = omega arith in (
-        w.classes-is ∙ w.loop-number.invariant.table ∙ ap (table_before (or_no_items (as_array (view w.in-Some.declared.now)))) all ∙ sym (ap (λ ds. table_before ds MOST_CLASSES) list),
+        w.classes-is ∙ w.loop-number.invariant.table
+            ∙ ap (table_before (or_no_items (as_array (view w.in-Some.declared.now)))) all
+            ∙ sym (ap (λ ds. table_before ds MOST_CLASSES) list),
         λ n less. rw list (w.loop-number.invariant.may n (omega (arith, less))),
       )
   | in_default w ↦

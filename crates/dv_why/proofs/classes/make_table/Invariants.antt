@@ -10,5 +10,6 @@ abbrev pub invariant-loop-number : goal.invariant-loop-number
 invariant-loop-number l = record {
   room : length l.classes ≤ 21 + l.number;
   table : l.classes ≡ table_before (or_no_items (as_array (view l.declared))) l.number;
-  may : (k : ℕ) → k < l.number → MayDeclare (table_before (or_no_items (as_array (view l.declared))) k) (get_item k (or_no_items (as_array (view l.declared))));
+  may : (k : ℕ) → k < l.number → MayDeclare (table_before (or_no_items (as_array (view l.declared))) k)
+      (get_item k (or_no_items (as_array (view l.declared))));
 }

@@ -35,9 +35,11 @@ decreases-at_other_key l = 8 * l.levels + 9
 -- each item before answers well
 abbrev pub invariant-in_array-loop-number : goal.invariant-in_array-loop-number
 invariant-in_array-loop-number l = (k : ℕ) → k < l.number → depth (view l.json) ≤ l.levels + 1
-    → (v : Want) (e : Data) → part_want l.want (view l.json) k ≡ Some v → at k (view l.json) ≡ Some e → AllSuit l.question v e
+    → (v : Want) (e : Data) → part_want l.want (view l.json) k ≡ Some v → at k (view l.json) ≡ Some e
+    → AllSuit l.question v e
 
 -- the value of each key before does
 abbrev pub invariant-in_object-loop-key : goal.invariant-in_object-loop-key
 invariant-in_object-loop-key l = (k : ℕ) → k < l.key-index → depth (view l.json) ≤ l.levels + 1
-    → (e : Data) → get (get_or (keys_in l.keyed) k []) (view l.json) ≡ Some e → AllSuit l.question (key_want l.keyed (get_or (keys_in l.keyed) k [])) e
+    → (e : Data) → get (get_or (keys_in l.keyed) k []) (view l.json) ≡ Some e
+    → AllSuit l.question (key_want l.keyed (get_or (keys_in l.keyed) k [])) e

@@ -13,5 +13,7 @@ loop-step-preserved c = (
 
 pub returns-clause-leads : goal.returns-clause-leads
 returns-clause-leads c = λ d part is.
-    let whole : take c.loop-step.step-index c.args.steps.now ≡ c.args.steps.now = take_all _ _ (c.loop-step-test.false) in
-    ap (λ t. pointer t d) (c.loop-step.invariant.0 ∙ ap pointer_text whole) ∙ pointer_leads c.args.steps.now d part (subst HaveIndices whole c.loop-step.invariant.1) is
+    let whole : take c.loop-step.step-index c.args.steps.now ≡ c.args.steps.now =
+    take_all _ _ (c.loop-step-test.false) in
+    ap (λ t. pointer t d) (c.loop-step.invariant.0 ∙ ap pointer_text whole)
+    ∙ pointer_leads c.args.steps.now d part (subst HaveIndices whole c.loop-step.invariant.1) is

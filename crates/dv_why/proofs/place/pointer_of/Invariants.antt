@@ -4,4 +4,5 @@ use Rattle.dv_why.proofs.place.pointer_of.Given as goal
 
 -- the pointer has each step before
 abbrev pub invariant-loop-step : goal.invariant-loop-step
-invariant-loop-step l = (string_bytes l.pointer ≡ pointer_text (take l.step-index l.steps)) × HaveIndices (take l.step-index l.steps)
+invariant-loop-step l =
+    (string_bytes l.pointer ≡ pointer_text (take l.step-index l.steps)) × HaveIndices (take l.step-index l.steps)

@@ -1,4 +1,5 @@
-use Rattle.std.proofs.Common.{Some, arith, rules, refl, None, false, below_more, subst, ◌≡◌, true, take, ap, sym, ◌∙◌, []}
+use Rattle.std.proofs.Common.{Some, arith, rules, refl, None, false, below_more, subst, ◌≡◌, true, take, ap, sym, ◌∙◌}
+use Rattle.std.proofs.Common.{[]}
 use Rattle.serde_json.specs.Find.{as_array, as_str, at, get_item}
 use Rattle.serde_json.specs.Data.{array}
 use Rattle.serde_json.specs.View.{view, items_view}
@@ -15,19 +16,24 @@ use Rattle.dv_why.proofs.pools.in_pools.Goals.{in_default-via-in-None-1, in_defa
 pub returns-in-loop-number-clause-wrong : goal.returns-in-loop-number-clause-wrong
 returns-in-loop-number-clause-wrong c =
     let vs = c.in-Array.items.items in
-    let same : or_no_items (as_array (view c.args.pools.now)) ≡ items_view vs = ap (λ d. or_no_items (as_array d)) (ap view c.in-Array.is ∙ view-Array c.in-Array.items) in
-    let given : is_given (take c.loop-number.number vs) (as_str (view c.in-Some-second_name.name.now)) ≡ true = rw c.deref.ensures.value at c.in-Some-second_name.ensures.given in
+    let same : or_no_items (as_array (view c.args.pools.now)) ≡ items_view vs =
+    ap (λ d. or_no_items (as_array d)) (ap view c.in-Array.is ∙ view-Array c.in-Array.items) in
+    let given : is_given (take c.loop-number.number vs) (as_str (view c.in-Some-second_name.name.now)) ≡ true =
+    rw c.deref.ensures.value at c.in-Some-second_name.ensures.given in
     let before = given_some vs c.loop-number.number _ given in
     let here = c.here-misfit.ensures in
     let under = c.in_ok-under.ensures in
     let over = c.in_ok-under-2.ensures in
-    let name = at_under (step.Item 0) c.here-misfit.result c.in_ok-under.field-0 [] (record { steps = under.steps; found = under.found }) (ap path_of here.steps) in
+    let name = at_under (step.Item 0) c.here-misfit.result c.in_ok-under.field-0 []
+    (record { steps = under.steps; found = under.found }) (ap path_of here.steps) in
     record {
       first = before.first;
       second = c.loop-number.number;
       order = before.order;
       name = before.name;
-      place = at_under (step.Item c.loop-number.number) c.in_ok-under.field-0 c.in_ok-under-2.field-0 _ (record { steps = over.steps; found = over.found }) name;
+      place =
+          at_under (step.Item c.loop-number.number) c.in_ok-under.field-0 c.in_ok-under-2.field-0 _
+          (record { steps = over.steps; found = over.found }) name;
       found = ap (λ f. as_str (view f.now)) (over.found ∙ under.found ∙ here.found) ∙ before.text;
       same = ap (name_in before.first) same ∙ before.same;
     }
@@ -53,5 +59,7 @@ loop-number-preserved c =
 pub returns-clause-none : goal.returns-clause-none
 returns-clause-none c = λ none.
     let vs = c.in-Array.items.items in
-    let same : or_no_items (as_array (view c.args.pools.now)) ≡ items_view vs = ap (λ d. or_no_items (as_array d)) (ap view c.in-Array.is ∙ view-Array c.in-Array.items) in
-    subst AreDistinct (sym same) (all_new vs (λ n less. c.loop-number.invariant n (omega (arith, less, c.len-number-end.ensures))))
+    let same : or_no_items (as_array (view c.args.pools.now)) ≡ items_view vs =
+    ap (λ d. or_no_items (as_array d)) (ap view c.in-Array.is ∙ view-Array c.in-Array.items) in
+    subst AreDistinct (sym same)
+    (all_new vs (λ n less. c.loop-number.invariant n (omega (arith, less, c.len-number-end.ensures))))

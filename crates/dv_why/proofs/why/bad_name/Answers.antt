@@ -6,4 +6,7 @@ use Rattle.dv_why.proofs.why.bad_name.Goals as goal
 pub returns : goal.returns
 returns c =
     let d = view c.args.json.now in
-    both_ok c.in_script.result _ _ _ (λ x leads wrong. record { leads = leads; wrong = found_name d _ c.requires.refused c.requires.shallow wrong }) c.in_script.ensures.leads c.in_script.ensures.wrong
+    both_ok c.in_script.result _ _ _ (λ x leads wrong. record {
+      leads = leads;
+      wrong = found_name d _ c.requires.refused c.requires.shallow wrong;
+    }) c.in_script.ensures.leads c.in_script.ensures.wrong

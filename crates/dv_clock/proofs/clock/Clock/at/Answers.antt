@@ -10,7 +10,10 @@ pub invariant_of-self-2 : goal.invariant_of-self-2
 invariant_of-self-2 c =
     let call : Call = record { due = c.args.due; state = Waiting c.args.what } in
     let number : c.len-number.result ≡ length c.self.inside.calls.items = grind (arith, common_steps) in
-    let joined = subst (λ (n : ℕ). Joins c.self.inside.waiting c.schedule.new.waiting (c.args.due, n)) number c.in_ok-schedule.ensures.joined in
-    let grown : IsIndexOf c.schedule.new.waiting (c.self.inside.calls.items ++ call ∷ []) = index_with c.self.inside.waiting c.schedule.new.waiting c.self.inside.calls.items call refl c.self.invariant.1 joined in
-    let items : c.self.inside.calls.items ++ call ∷ [] ≡ c.add.new.calls.items = sym (ap (λ (xs : List Call). xs ++ call ∷ []) c.in_ok-make_room.ensures.kept) ∙ sym c.add.ensures in
+    let joined = subst (λ (n : ℕ). Joins c.self.inside.waiting c.schedule.new.waiting (c.args.due, n)) number
+    c.in_ok-schedule.ensures.joined in
+    let grown : IsIndexOf c.schedule.new.waiting (c.self.inside.calls.items ++ call ∷ []) = index_with
+    c.self.inside.waiting c.schedule.new.waiting c.self.inside.calls.items call refl c.self.invariant.1 joined in
+    let items : c.self.inside.calls.items ++ call ∷ [] ≡ c.add.new.calls.items =
+    sym (ap (λ (xs : List Call). xs ++ call ∷ []) c.in_ok-make_room.ensures.kept) ∙ sym c.add.ensures in
     (c.self.invariant.0, subst (λ (xs : List Call). IsIndexOf c.schedule.new.waiting xs) items grown)

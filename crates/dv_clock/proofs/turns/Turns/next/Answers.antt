@@ -5,20 +5,30 @@ use Rattle.dv_clock.proofs.turns.Turns.next.Goals as goal
 
 pub overflow_add-self : goal.overflow_add-self
 overflow_add-self c =
-    let given = turn_given c.self.inside.given c.self.inside.order.entries c.self.inside.next (c.in_ok-number.number, c.in_ok-number.task) c.self.invariant.below c.in_ok-number.ensures in
+    let given = turn_given c.self.inside.given c.self.inside.order.entries c.self.inside.next
+    (c.in_ok-number.number, c.in_ok-number.task) c.self.invariant.below c.in_ok-number.ensures in
     omega (arith, given)
 
 pub invariant_of-self : goal.invariant_of-self
 invariant_of-self c =
-    let given = turn_given c.self.inside.given c.self.inside.order.entries c.self.inside.next (c.in_ok-number.number, c.in_ok-number.task) c.self.invariant.below c.in_ok-number.ensures in
-    record { ascends = c.self.invariant.ascends; below = c.self.invariant.below; once = c.self.invariant.once; found = c.self.invariant.found; begun = omega (arith, given) }
+    let given = turn_given c.self.inside.given c.self.inside.order.entries c.self.inside.next
+    (c.in_ok-number.number, c.in_ok-number.task) c.self.invariant.below c.in_ok-number.ensures in
+    record {
+      ascends = c.self.invariant.ascends;
+      below = c.self.invariant.below;
+      once = c.self.invariant.once;
+      found = c.self.invariant.found;
+      begun = omega (arith, given);
+    }
 
 pub returns-clause-turn : goal.returns-clause-turn
 returns-clause-turn c =
-    let turn = turn_is c.self.inside.order.entries c.self.inside.next (c.in_ok-number.number, c.in_ok-number.task) c.self.invariant.ascends c.in_ok-number.ensures in
+    let turn = turn_is c.self.inside.order.entries c.self.inside.next
+    (c.in_ok-number.number, c.in_ok-number.task) c.self.invariant.ascends c.in_ok-number.ensures in
     ap Some c.new.ensures ∙ sym turn.turn ∙ ap turn_of c.self.view_is
 
 pub returns-clause-rest : goal.returns-clause-rest
 returns-clause-rest c =
-    let turn = turn_is c.self.inside.order.entries c.self.inside.next (c.in_ok-number.number, c.in_ok-number.task) c.self.invariant.ascends c.in_ok-number.ensures in
+    let turn = turn_is c.self.inside.order.entries c.self.inside.next
+    (c.in_ok-number.number, c.in_ok-number.task) c.self.invariant.ascends c.in_ok-number.ensures in
     sym turn.rest ∙ ap gone_on c.self.view_is

@@ -11,7 +11,13 @@ returns g c =
     let e = c.self.inside in
     let r = c.in_ok-end-in-Over.field-0 in
     let told = c.in_ok-end-in-Over.ensures in
-    let before : Engine = record { script = e.script.now; left = e.left; batches = e.batches.batches; world = e.turn.world; phase = e.phase } in
+    let before : Engine = record {
+      script = e.script.now;
+      left = e.left;
+      batches = e.batches.batches;
+      world = e.turn.world;
+      phase = e.phase;
+    } in
     let stands : Stands Over before = subst (λ (p : Phase). Stands p before) c.in-Over.is c.self.invariant.0 in
     subst (λ (x : Engine). Comes x r) c.self.view_is (record {
       over = c.in-Over.is;

@@ -15,7 +15,8 @@ invariant_of-result g c =
     Follows (record { script = script; left = left; batches = batches; world = turn.world; phase = phase.Going })
     × (c.new-3.result ≡ turn.world.works) × (c.in_ok-batches.batches.callers ≡ script.callers))
     (sym c.new-5.ensures) (
-      first_follows script left batches c.new-world.result (search rules) (search rules) (search rules) c.requires.limited,
+      first_follows script left batches c.new-world.result (search rules) (search rules)
+          (search rules) c.requires.limited,
       c.new-3.ensures ∙ sym (ap (λ (w : World). w.works) c.new-world.ensures),
       search rules,
     )

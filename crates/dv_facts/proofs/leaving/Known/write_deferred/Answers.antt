@@ -5,4 +5,6 @@ use Rattle.dv_facts.proofs.leaving.Known.write_deferred.Goals as goal
 pub returns : goal.returns
 returns c =
     adds_end c.write_text.result _ _ _ _ c.write_text.ensures
-    (adds_next _ (adds_next _ (adds_next _ (adds_both _ _ _ (adds_next _ (adds_nothing _) c.in_ok-id.ensures refl) c.in_ok-write_hangs.ensures) c.in_ok-write_number.ensures.part refl) c.in_ok-write_bool.ensures.part refl) c.in_ok-write_quoted.ensures.part refl) refl
+    (adds_next _ (adds_next _ (adds_next _ (adds_both _ _ _ (adds_next _ (adds_nothing _) c.in_ok-id.ensures refl)
+    c.in_ok-write_hangs.ensures) c.in_ok-write_number.ensures.part refl) c.in_ok-write_bool.ensures.part refl)
+    c.in_ok-write_quoted.ensures.part refl) refl

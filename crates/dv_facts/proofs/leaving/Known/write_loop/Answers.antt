@@ -5,4 +5,5 @@ use Rattle.dv_facts.proofs.leaving.Known.write_loop.Goals as goal
 pub returns : goal.returns
 returns c =
     adds_end c.write_text.result _ _ _ _ c.write_text.ensures
-    (adds_next _ (adds_next _ (adds_next _ (adds_next _ (adds_nothing _) c.in_ok-id.ensures refl) c.in_ok-write_number_or_null.ensures.part refl) c.in_ok-object.ensures refl) c.in_ok-ids.ensures refl) refl
+    (adds_next _ (adds_next _ (adds_next _ (adds_next _ (adds_nothing _) c.in_ok-id.ensures refl)
+    c.in_ok-write_number_or_null.ensures.part refl) c.in_ok-object.ensures refl) c.in_ok-ids.ensures refl) refl

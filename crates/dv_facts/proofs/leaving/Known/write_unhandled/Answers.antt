@@ -5,4 +5,5 @@ use Rattle.dv_facts.proofs.leaving.Known.write_unhandled.Goals as goal
 pub returns : goal.returns
 returns c =
     adds_end c.write_text-2.result _ _ _ _ c.write_text-2.ensures
-    (adds_both _ _ _ (adds_both _ _ _ (adds_next _ (adds_nothing _) c.in_ok-write_number.ensures.part refl) (adds_text _ _ _ c.in_ok-write_text.ensures refl)) c.in_ok-write_failure_at.ensures) refl
+    (adds_both _ _ _ (adds_both _ _ _ (adds_next _ (adds_nothing _) c.in_ok-write_number.ensures.part refl)
+    (adds_text _ _ _ c.in_ok-write_text.ensures refl)) c.in_ok-write_failure_at.ensures) refl

@@ -5,4 +5,5 @@ use Rattle.dv_facts.proofs.values.Deferreds.write.Goals as goal
 pub returns : goal.returns
 returns c =
     adds_end c.write_text.result _ _ _ _ c.write_text.ensures
-    (adds_next _ (adds_next _ (adds_nothing _) c.in_ok-write_quoted_or_null.ensures refl) c.in_ok-write_number.ensures.part refl) refl
+    (adds_next _ (adds_next _ (adds_nothing _) c.in_ok-write_quoted_or_null.ensures refl)
+    c.in_ok-write_number.ensures.part refl) refl

@@ -6,4 +6,6 @@ use Rattle.dv_grammar.specs.Shape.{caller_at}
 use Rattle.dv_grammar.proofs.reading.script.each_caller.Given as goal
 
 abbrev pub invariant-loop-item : goal.invariant-loop-item
-invariant-loop-item l = with_front l.callers (each (caller_at l.classes) (items_view (drop l.item-index l.items))) ≡ each (caller_at l.classes) (items_view l.items)
+invariant-loop-item l =
+    with_front l.callers (each (caller_at l.classes) (items_view (drop l.item-index l.items)))
+    ≡ each (caller_at l.classes) (items_view l.items)

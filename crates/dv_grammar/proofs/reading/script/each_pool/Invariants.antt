@@ -6,4 +6,5 @@ use Rattle.dv_grammar.specs.Shape.{pool_at}
 use Rattle.dv_grammar.proofs.reading.script.each_pool.Given as goal
 
 abbrev pub invariant-loop-item : goal.invariant-loop-item
-invariant-loop-item l = with_front l.pools (each pool_at (items_view (drop l.item-index l.items))) ≡ each pool_at (items_view l.items)
+invariant-loop-item l =
+    with_front l.pools (each pool_at (items_view (drop l.item-index l.items))) ≡ each pool_at (items_view l.items)

@@ -4,5 +4,6 @@ use Rattle.dv_left.proofs.linking.Links.add_locks.Goals as goal
 
 pub loop-number-preserved : goal.loop-number-preserved
 loop-number-preserved c =
-    line_kept hang.Lock (λ x. x.waiting) c.loop-number.number c.args.locks.now c.index-locks-number.result _ c.loop-number.self _ _
+    line_kept hang.Lock
+    (λ x. x.waiting) c.loop-number.number c.args.locks.now c.index-locks-number.result _ c.loop-number.self _ _
     c.loop-number-test.true c.index-locks-number.is c.as_slice.ensures c.in_ok-hang_all.ensures c.loop-number.invariant

@@ -6,16 +6,24 @@ use Rattle.dv_objects.proofs.inlines.Inlines.begin.Goals as goal
 
 pub invariant_of-self-in-Some-begin : goal.invariant_of-self-in-Some-begin
 invariant_of-self-in-Some-begin c =
-    let found = found_at c.self.inside.kept.items c.args.place c.in-Some.waiting.now c.in-Some.ensures.item.3.0 c.in-Some.ensures.value in
-    rw c.begin.ensures.rest (kept_begun c.self.inside.parked c.discard.new.self c.args.place c.in-Some-begin.key c.self.inside.kept.items c.in-Some.waiting.now c.self.invariant found c.in-Some-begin.ensures.body c.discard.ensures)
+    let found = found_at c.self.inside.kept.items c.args.place c.in-Some.waiting.now c.in-Some.ensures.item.3.0
+    c.in-Some.ensures.value in
+    rw c.begin.ensures.rest
+    (kept_begun c.self.inside.parked c.discard.new.self c.args.place c.in-Some-begin.key c.self.inside.kept.items
+    c.in-Some.waiting.now c.self.invariant found c.in-Some-begin.ensures.body c.discard.ensures)
 
 pub invariant_of-self-in_default-begin : goal.invariant_of-self-in_default-begin
-invariant_of-self-in_default-begin c = rw c.begin.ensures.rest (kept_put c.self.inside.parked c.self.inside.kept.items c.args.place Adding tt c.self.invariant)
+invariant_of-self-in_default-begin c =
+    rw c.begin.ensures.rest
+    (kept_put c.self.inside.parked c.self.inside.kept.items c.args.place Adding tt c.self.invariant)
 
 pub returns-in-Some-begin : goal.returns-in-Some-begin
 returns-in-Some-begin c =
-    let found = found_at c.self.inside.kept.items c.args.place c.in-Some.waiting.now c.in-Some.ensures.item.3.0 c.in-Some.ensures.value in
-    let seen = seen_begun c.self.inside.parked c.discard.new.self c.args.place c.in-Some-begin.key c.self.inside.kept.items c.in-Some.waiting.now c.self.invariant found c.in-Some-begin.ensures.body c.discard.ensures in
+    let found = found_at c.self.inside.kept.items c.args.place c.in-Some.waiting.now c.in-Some.ensures.item.3.0
+    c.in-Some.ensures.value in
+    let seen =
+    seen_begun c.self.inside.parked c.discard.new.self c.args.place c.in-Some-begin.key c.self.inside.kept.items
+    c.in-Some.waiting.now c.self.invariant found c.in-Some-begin.ensures.body c.discard.ensures in
     rw c.begin.ensures.rest (seen ∙ ap (λ (xs : Inlines). slice_set xs c.args.place Adding) c.self.view_is)
 
 pub returns-in_default-begin : goal.returns-in_default-begin

@@ -9,7 +9,8 @@ invariant-loop-place l = record {
   len : length l.self.lengths.items ≡ length l.drains;
   same : sum l.self.lengths.items + l.self.left ≡ sum l.initial.self.lengths.items + l.initial.self.left;
   zeros : drop l.place l.self.lengths.items ≡ replicate (length l.drains - l.place) 0;
-  later : later_lengths l.drains l.initial.self.left l.initial.self.lengths.items ≡ later_lengths l.drains l.self.left (take l.place l.self.lengths.items);
+  later : later_lengths l.drains l.initial.self.left l.initial.self.lengths.items
+      ≡ later_lengths l.drains l.self.left (take l.place l.self.lengths.items);
 }
 
 abbrev pub decreases-loop-place : goal.decreases-loop-place

@@ -2,7 +2,8 @@ use Rattle.std.proofs.Common.{arith, ◌≡◌, ◌-◌, ◌≤◌, ◌∙◌, �
 use Rattle.dv_orders.specs.Sampling.{number_of, number_used, state_used}
 use Rattle.dv_orders.proofs.SamplingLemmas.{last_state, next_one, this_state}
 use Rattle.dv_orders.proofs.sampling.Generator.below.Goals as goal
-use Rattle.dv_orders.proofs.sampling.Generator.below.Goals.{then-loop-others-test+else-number-last, else-loop-others-test}
+use Rattle.dv_orders.proofs.sampling.Generator.below.Goals.{then-loop-others-test+else-number-last}
+use Rattle.dv_orders.proofs.sampling.Generator.below.Goals.{else-loop-others-test}
 
 pub loop-others-init : goal.loop-others-init
 loop-others-init c = record {
@@ -15,7 +16,8 @@ loop-others-preserved c =
     let n = c.args.n in
     let others = c.loop-others.others in
     let state = c.loop-others.self in
-    let past : number_used n ≤ number_of state = omega (arith, c.if-number-last.true, c.loop-others.invariant.number, c.last_used-last.ensures) in
+    let past : number_used n ≤ number_of state =
+    omega (arith, c.if-number-last.true, c.loop-others.invariant.number, c.last_used-last.ensures) in
     record {
       number = c.draw-number-in-loop-others.ensures.number;
       state =
@@ -30,7 +32,9 @@ returns-clause-state c =
     let others = c.loop-others.others in
     let state = c.loop-others.self in
     let here : state_used n others state ≡ state = elim c.loop-others-test.branch [
-      | then-loop-others-test+else-number-last w ↦ this_state n others state (omega (arith, w.if-number-last.false, c.loop-others.invariant.number, c.last_used-last.ensures))
-      | else-loop-others-test w ↦ let none : others ≡ 0 = omega (arith, w.loop-others-test.false) in ap (λ (k : ℕ). state_used n k state) none ∙ last_state n state
+      | then-loop-others-test+else-number-last w ↦ this_state n others state
+          (omega (arith, w.if-number-last.false, c.loop-others.invariant.number, c.last_used-last.ensures))
+      | else-loop-others-test w ↦ let none : others ≡ 0 = omega (arith, w.loop-others-test.false) in
+          ap (λ (k : ℕ). state_used n k state) none ∙ last_state n state
     ] in
     sym here ∙ c.loop-others.invariant.state

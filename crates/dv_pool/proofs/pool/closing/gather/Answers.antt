@@ -6,13 +6,16 @@ use Rattle.dv_pool.proofs.pool.closing.gather.Goals as goal
 
 pub loop-place-init : goal.loop-place-init
 loop-place-init c =
-    let all = all_gathered c.args.works.now c.args.parts c.requires.placed c.requires.submitted c.requires.jobs c.requires.answers in
+    let all = all_gathered c.args.works.now c.args.parts c.requires.placed c.requires.submitted c.requires.jobs
+    c.requires.answers in
     let ran : c.new-ran.result.dones ≡ [] = search rules in
     let places : into_iter_items c.into_iter-place-iterator.result ≡ c.args.parts.places.items = search rules in
-    ap (λ l. jobs_of l ++ placed_jobs (into_iter_items c.into_iter-place-iterator.result)) ran ∙ ap placed_jobs places ∙ all
+    ap (λ l. jobs_of l ++ placed_jobs (into_iter_items c.into_iter-place-iterator.result)) ran ∙ ap placed_jobs places
+    ∙ all
 
 pub loop-place-preserved-in-None-place : goal.loop-place-preserved-in-None-place
-loop-place-preserved-in-None-place c = skipped _ _ _ c.in-Some.place _ c.in-Some.ensures.steps.0 c.in-None-place.is c.loop-place.invariant
+loop-place-preserved-in-None-place c =
+    skipped _ _ _ c.in-Some.place _ c.in-Some.ensures.steps.0 c.in-None-place.is c.loop-place.invariant
 
 pub loop-place-preserved : goal.loop-place-preserved
 loop-place-preserved c =

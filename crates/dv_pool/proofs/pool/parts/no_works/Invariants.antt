@@ -4,4 +4,5 @@ use Rattle.dv_script.specs.declared.work.TheConstants.{MOST_JOBS}
 use Rattle.dv_pool.proofs.pool.parts.no_works.Given as goal
 
 abbrev pub invariant-loop : goal.invariant-loop
-invariant-loop l = (l.works.items ≡ replicate l.counter None) × (vec_len l.works ≡ l.counter) × (MOST_JOBS ≤ vec_capacity l.works)
+invariant-loop l =
+    (l.works.items ≡ replicate l.counter None) × (vec_len l.works ≡ l.counter) × (MOST_JOBS ≤ vec_capacity l.works)

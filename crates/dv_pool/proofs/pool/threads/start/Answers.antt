@@ -16,4 +16,5 @@ spawn_with-requires-send-F g c = λ κs h.
     let s : IsSync (param 2 g.row.G) = c.type_bounds.sync-G in
     param_send 2 (lts.arg-3-2 g.row.E g.row.R g.row.G g.E.laws g.R.laws g.G.laws g.R.Wait-dict g.G.Gate-dict κs)
     (arg_send _ yes _
-    (six-send _ _ _ _ _ _ _ End-send (shr_send (named 6) κs.1.1.1.1.1.1.0 (param 1 g.row.R) r) send Arc-of_shared-send (shr_send (named 7) κs.1.1.1.1.1.1.1.0 (param 2 g.row.G) s) number-send))
+    (six-send _ _ _ _ _ _ _ End-send (shr_send (named 6) κs.1.1.1.1.1.1.0 (param 1 g.row.R) r) send Arc-of_shared-send
+    (shr_send (named 7) κs.1.1.1.1.1.1.1.0 (param 2 g.row.G) s) number-send))

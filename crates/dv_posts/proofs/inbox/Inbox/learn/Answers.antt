@@ -10,7 +10,8 @@ returns-clause-same c =
     let new : Inbox = record { receivers = slice_set old.receivers n c.learn.new.self; next = old.next } in
     let p = c.args.poster.now in
     let low = within_of old p n c.caller-caller.ensures (subst (λ i. IsOf i p) (sym c.self.view_is) c.requires.of) in
-    subst (λ i. SameInbox i new) c.self.view_is (same_learned old.receivers n _ _ low c.index_mut-receiver.ensures.value c.learn.ensures.ring)
+    subst (λ i. SameInbox i new) c.self.view_is
+    (same_learned old.receivers n _ _ low c.index_mut-receiver.ensures.value c.learn.ensures.ring)
 
 pub returns-clause-known : goal.returns-clause-known
 returns-clause-known c =
@@ -20,6 +21,8 @@ returns-clause-known c =
     let s = c.learn.new.self in
     let at = c.caller-caller.ensures in
     let low = within_of old p p.caller refl (subst (λ i. IsOf i p) (sym c.self.view_is) c.requires.of) in
-    let is : r ≡ slice_index_or old.receivers p.caller r = subst (λ n. r ≡ slice_index_or old.receivers n r) at c.index_mut-receiver.ensures.value in
+    let is : r ≡ slice_index_or old.receivers p.caller r =
+    subst (λ n. r ≡ slice_index_or old.receivers n r) at c.index_mut-receiver.ensures.value in
     subst (λ n. Learns c.args.self.now p (record { receivers = slice_set old.receivers n s; next = old.next })) (sym at)
-    (subst (λ i. Learns i p (record { receivers = slice_set old.receivers p.caller s; next = old.next })) c.self.view_is (learns_at old p r s low is c.learn.ensures.taken c.learn.ensures.all))
+    (subst (λ i. Learns i p (record { receivers = slice_set old.receivers p.caller s; next = old.next })) c.self.view_is
+    (learns_at old p r s low is c.learn.ensures.taken c.learn.ensures.all))

@@ -15,12 +15,16 @@ loop-caller-preserved c =
     let p = c.new-in-loop-caller-2.result in
     let is = c.new-in-loop-caller.ensures in
     let are = c.new-in-loop-caller-2.ensures in
-    let ring : p.ring ≡ r.ring = ap (λ p. p.ring) are ∙ pair_ring c.in_ok-producer.producer.end c.in_ok-producer.consumer.end c.in_ok-producer.ensures.pair ∙ sym (ap (λ r. r.ring) is) in
+    let ring : p.ring ≡ r.ring = ap (λ p. p.ring) are
+    ∙ pair_ring c.in_ok-producer.producer.end c.in_ok-producer.consumer.end c.in_ok-producer.ensures.pair
+    ∙ sym (ap (λ r. r.ring) is) in
     let inbox_is = c.push_reserved.ensures.items in
     let posters_is = c.push_reserved-in-loop-caller.ensures.items in (
-      subst (λ l. IsNew (n + 1) (inbox_of l)) (sym inbox_is) (new_more n inbox r i.0 (ap (λ r. r.taken) is) (ap known is)),
+      subst (λ l. IsNew (n + 1) (inbox_of l)) (sym inbox_is)
+          (new_more n inbox r i.0 (ap (λ r. r.taken) is) (ap known is)),
       rw (inbox_is, posters_is) (of_more inbox posters r p i.1 (ap (λ p. p.caller) are ∙ sym i.0.count) ring),
-      rw posters_is (All-append (IsFresh c.args.capacity) posters (p ∷ []) i.2 (one_fresh c.args.capacity p (ap (λ p. p.posts) are, search rules))),
+      rw posters_is (All-append (IsFresh c.args.capacity) posters (p ∷ []) i.2
+          (one_fresh c.args.capacity p (ap (λ p. p.posts) are, search rules))),
       search rules,
       search rules,
       search rules,

@@ -10,7 +10,8 @@ returns-in_err-posted-clause-none c =
 
 pub returns-clause-same : goal.returns-clause-same
 returns-clause-same c =
-    let new : Inbox = record { receivers = c.take_round.new.receivers.items; next = c.in_ok-posted.posted.caller + 1 } in
+    let new : Inbox =
+    record { receivers = c.take_round.new.receivers.items; next = c.in_ok-posted.posted.caller + 1 } in
     subst (λ i. SameInbox i new) c.self.view_is (same_taken _ _ _ c.in_ok-posted.ensures.some)
 
 pub returns-clause-some : goal.returns-clause-some
@@ -18,4 +19,5 @@ returns-clause-some c =
     let posted = c.in_ok-posted.posted in
     let old : Inbox = record { receivers = c.self.inside.receivers.items; next = c.self.inside.next } in
     let new : Inbox = record { receivers = c.take_round.new.receivers.items; next = posted.caller + 1 } in
-    subst (λ i. Takes i new posted) c.self.view_is (takes_at old new posted c.in_ok-posted.ensures.some c.in_ok-posted.ensures.passed refl)
+    subst (λ i. Takes i new posted) c.self.view_is
+    (takes_at old new posted c.in_ok-posted.ensures.some c.in_ok-posted.ensures.passed refl)

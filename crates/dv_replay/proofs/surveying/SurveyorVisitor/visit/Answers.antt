@@ -10,7 +10,9 @@ returns-clause-ok g c =
     let batches = c.args.batches.now in
     let outcomes = c.as_slice.result.now in
     on_ok c.add-added.result c.add-added.ensures
-    (λ added mark. visited (format_of mark) c.args.script.now c.args.self.now.script.now c.args.self.now.survey c.add-added.new.self batches report (run_of batches outcomes report.stopped)
+    (λ added mark. visited (format_of mark) c.args.script.now c.args.self.now.script.now c.args.self.now.survey
+    c.add-added.new.self batches report (run_of batches outcomes report.stopped)
     c.requires.known c.in-Ok.ensures.ends c.in-Ok.ensures.took
-    (ap (λ l. run_of batches l report.stopped) c.as_slice.ensures ∙ ap (λ b. run_of b report.outcomes report.stopped) (sym c.in-Ok.ensures.took))
+    (ap (λ l. run_of batches l report.stopped) c.as_slice.ensures
+    ∙ ap (λ b. run_of b report.outcomes report.stopped) (sym c.in-Ok.ensures.took))
     added)

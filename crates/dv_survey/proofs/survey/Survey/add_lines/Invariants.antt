@@ -7,5 +7,6 @@ use Rattle.dv_survey.proofs.survey.Survey.add_lines.Given as goal
 abbrev pub invariant-loop-line : goal.invariant-loop-line
 invariant-loop-line l = record {
   added : with_lines l.batches (drop l.line-index l.lines) l.self ≡ with_lines l.batches l.lines l.initial.self;
-  places : l.places.items ++ places_after l.self.lines (drop l.line-index l.lines) ≡ places_after l.initial.self.lines l.lines;
+  places : l.places.items ++ places_after l.self.lines (drop l.line-index l.lines)
+      ≡ places_after l.initial.self.lines l.lines;
 }

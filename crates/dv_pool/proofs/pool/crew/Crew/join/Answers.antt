@@ -9,5 +9,10 @@ loop-handle-preserved g c =
     let len = ap length steps in
     let sum = i.2 in
     let s = c.absorb.ensures.same in
-    let grown = c.absorb.ensures.parts in
-    (c.absorb.ensures.orderly, (s.0 ∙ i.1.0, s.1 ∙ i.1.1, (let a = s.2 in let b = i.1.2 in omega arith)), omega arith, (λ k d low. all (suc k) d (omega (arith, low))), λ ws h. c.absorb.ensures.placed ws (i.4 ws h))
+    let grown = c.absorb.ensures.parts in (
+      c.absorb.ensures.orderly,
+      (s.0 ∙ i.1.0, s.1 ∙ i.1.1, (let a = s.2 in let b = i.1.2 in omega arith)),
+      omega arith,
+      (λ k d low. all (suc k) d (omega (arith, low))),
+      λ ws h. c.absorb.ensures.placed ws (i.4 ws h),
+    )

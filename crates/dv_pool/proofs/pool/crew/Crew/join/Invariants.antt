@@ -10,6 +10,7 @@ abbrev pub invariant-loop-handle : goal.invariant-loop-handle
 invariant-loop-handle g l =
     IsOrderly l.parts
     × IsSamePool l.initial.parts l.parts
-    × ((worker_view l.parts.jobs).parts + length (into_iter_items l.handle-iterator) ≡ (worker_view l.initial.parts.jobs).parts + length l.fn.self.handles.items)
+    × ((worker_view l.parts.jobs).parts + length (into_iter_items l.handle-iterator)
+    ≡ (worker_view l.initial.parts.jobs).parts + length l.fn.self.handles.items)
     × AreOf (arc_value l.fn.self.shared) (into_iter_items l.handle-iterator)
     × StaysPlaced l.initial.parts l.parts
