@@ -151,13 +151,7 @@ fn is_pooled(pools: &[NamedPool], leaf: Leaf, name: &str) -> bool
 
 /// Whether a text at the place of a leaf may stand there in a script of this version, is well
 /// named, and is found if a class or a pool is looked up there.
-fn suits_every(
-    version: u32,
-    classes: &Classes,
-    pools: &[NamedPool],
-    leaf: Leaf,
-    name: &str,
-) -> bool
+fn suits_every(version: u32, classes: &Classes, pools: &[NamedPool], leaf: Leaf, name: &str) -> bool
     ensures { result ≡ (stands version leaf && is_named version leaf name.now
         && is_known classes.now leaf name.now && is_pooled pools.now leaf name.now) }
 {
