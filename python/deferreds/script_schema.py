@@ -1,8 +1,8 @@
 """`make_schema`: prints the JSON Schema of scripts (draft 2020-12), made from `language.json`.
 
 An editor that has it completes and checks a script while it is typed. It says what the program refuses as BadShape, BadName and
-TooMany, as far as a schema can. Left to the program are: which names are bound or declared; that `1.0` is no integer; words that
-the version of the script doesn't have; all advances together; the size of the whole text.
+TooMany, as far as a schema can. Left to the program are: which names are bound or declared; that `1.0` is no integer; words,
+comments of bodies and marks in names that the version of the script doesn't have; all advances together; the size of the whole text.
 """
 
 from __future__ import annotations
@@ -68,7 +68,7 @@ class _Maker:
 
     def names(self) -> Dict[str, Schema]:
         """Names, and values."""
-        name = f"[A-Za-z0-9_]{{1,{self._language.limits['name']}}}"
+        name = f"[A-Za-z0-9_][A-Za-z0-9_.:-]{{0,{self._language.limits['name'] - 1}}}"
         scalars: List[Schema] = [
             {"type": ["null", "boolean", "string"]},
             {"type": "integer", "minimum": _LEAST, "maximum": _MOST},

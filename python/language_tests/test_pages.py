@@ -86,7 +86,8 @@ class OfTheLanguage(unittest.TestCase):
         self.assertEqual(set(told), {key.key for key in keys})
         for key in keys:
             self.assertEqual(told[key.key][2] == "it has to be there", key.needed, key.key)
-            self.assertEqual("in version 2 alone" in told[key.key][1], key.since == 2, key.key)
+            told_since = re.match(r"from version (\d+) on: ", told[key.key][1])
+            self.assertEqual(int(told_since[1]) if told_since else 1, key.since, key.key)
 
     def test_the_classes(self) -> None:
         told = {

@@ -72,9 +72,13 @@ class OfTheSchema(unittest.TestCase):
 
 
 def _is_unsaid(script: Any) -> bool:
-    """Whether a script may be refused for what a schema can't say: a number as `1.0` is an integer there, and each version has all words."""
+    """Whether a script may be refused for what a schema can't say: a number as `1.0` is an integer there, and each version has all words
+    and all comments."""
     words = {word.word for word in LANGUAGE.words if word.since > script["version"]}
-    return _has_whole_float(script) or any(f'["{word}"' in json.dumps(script) for word in words)
+    keys = {key.key for key in LANGUAGE.keys if key.since > script["version"]}
+    text = json.dumps(script)
+    later = [f'["{word}"' for word in words] + [f'"{key}":' for key in keys]
+    return _has_whole_float(script) or any(part in text for part in later)
 
 
 def _has_whole_float(value: Any) -> bool:

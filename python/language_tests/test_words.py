@@ -18,7 +18,7 @@ from deferreds.program import NotRun, built
 Json = Any
 
 _LAST = LANGUAGE.versions[-1]
-_BODY = {"do": [["pause", "a"]], "end": ["plus", -2]}
+_BODY = {"do": [["pause", "a"]], "end": ["plus", -2], "comment": "why"}
 
 #: for each place a word with its arguments; the other words stand there in cases of their own
 _SAMPLES: Dict[str, Json] = {
@@ -45,7 +45,7 @@ _FITTING: Dict[str, Callable[[Form], List[Json]]] = {
     "boolean": lambda form: [True, False],
     "number": lambda form: [form["least"], form["most"]],
     "bound": lambda form: [None, form["least"], form["most"]],
-    "new": lambda form: ["a", "b_1", "n" * LANGUAGE.limits["name"]],
+    "new": lambda form: ["a", "b_1", "0-.:", "n" * LANGUAGE.limits["name"]],
     "found": lambda form: {"class": ["ValueError", "Mine"], "pool": ["io"], "deferred": ["a", "@"]}.get(form["of"], ["a"]),
     "flag": lambda form: list(form["words"]),
     "object": lambda form: [_BODY, {}],
@@ -75,7 +75,7 @@ _MISSHAPEN: Dict[str, Callable[[Form], List[Json]]] = {
     "new": lambda form: [1, None, ["a"]],
     "found": lambda form: [1, None, ["a"]],
     "flag": lambda form: ["never", 1, None],
-    "object": lambda form: [[], None, {"do": {}}, {"more": 1}, {"end": ["never"]}],
+    "object": lambda form: [[], None, {"do": {}}, {"more": 1}, {"comment": 1}, {"end": ["never"]}],
     "words": lambda form: [[], {}, ["never"], "pass", [["pass"]]],
     "array": lambda form: [{}, None, "a", *([_first(form["of"]), bad] for bad in _misshapen(form["of"]))],
     "pair": lambda form: [[], {}, [_first(part) for part in form["parts"]] * 2],
@@ -91,7 +91,7 @@ def _misnamed(form: Form) -> List[Case]:
     """Names in another form, and classes and pools that aren't there."""
     kind, of = form["type"], form.get("of")
     long = "n" * (LANGUAGE.limits["name"] + 1)
-    bad = [Case(name, "BadName") for name in ("", "a b", "é", "@@", long)]
+    bad = [Case(name, "BadName") for name in ("", "a b", "é", "@@", "-a", long)]
     if kind == "new" or kind == "found" and of not in ("class", "deferred", "pool"):
         return [*bad, Case("@", "BadName")]
     if kind == "found":

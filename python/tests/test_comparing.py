@@ -130,6 +130,8 @@ class Comparing(unittest.TestCase):
         self.assertFalse(is_of_level(script(["maybe", "d", {"do": [["lock", "l"]]}]), "lists"))
         self.assertFalse(is_of_level(script(["note", "x"], version=2), "posts"))
         self.assertTrue(is_of_level(script(["drain", 1], version=2), "pools"))
+        self.assertFalse(is_of_level(script(["note", "x"], version=3), "pools"))
+        self.assertTrue(is_of_level(script(["drain", 1], version=3), "version-3"))
 
 
 class Cutting(unittest.TestCase):
@@ -174,10 +176,13 @@ class Random(unittest.TestCase):
             self.assertEqual('["advance"' in text, grammar.has(level, "clock"), level)
             self.assertEqual('"callers"' in text, grammar.has(level, "posts"), level)
             self.assertEqual('"version":2' in text, grammar.has(level, "pools"), level)
+            self.assertEqual('"version":3' in text, grammar.has(level, "version-3"), level)
+            self.assertEqual('"comment":' in text, grammar.has(level, "version-3"), level)
+            self.assertEqual('-1.a:"' in text, grammar.has(level, "version-3"), level)
             self.assertIn('"version":1', text, level)
 
     def test_all_actions_come_up(self) -> None:
-        scripts = Scripts(1, "pools")
+        scripts = Scripts(1, "version-3")
         text = "".join(scripts.script(number) for number in range(300))
         self.assertEqual([word for word in grammar.ACTIONS if f'["{word}"' not in text], [])
 

@@ -56,11 +56,11 @@ class Refusals(unittest.TestCase):
         self.assertEqual(refusal("[" * 128 + "]" * 128), 2)
         self.assertEqual(refusal('["' + "[" * 200 + '"]'), 3)
 
-    def test_a_version_is_the_integer_1_or_2(self) -> None:
-        for version in ("1.0", "2.0", "true", "-0", "0", '"1"', "[1]", "3"):
+    def test_a_version_is_the_integer_1_2_or_3(self) -> None:
+        for version in ("1.0", "2.0", "true", "-0", "0", '"1"', "[1]", "4"):
             with self.subTest(version):
                 self.assertEqual(refusal(f'{{"version":{version},"events":[]}}'), 3)
-        for version in ("1", "2"):
+        for version in ("1", "2", "3"):
             self.assertEqual(refusal(f'{{"version":{version},"events":[]}}'), 0)
 
     def test_numbers_outside_their_ranges(self) -> None:
@@ -94,6 +94,28 @@ class Refusals(unittest.TestCase):
         self.assertEqual(refusal(with_events(["deferred", "n" * 32])), 0)
         self.assertEqual(refusal(with_events(["deferred", "n" * 33])), 6)
         self.assertEqual(refusal(with_events(["deferred", "\u0661"])), 6)
+
+    def test_names_of_version_3_have_marks_after_the_first(self) -> None:
+        for name in ("a-b", "a.b", "a:b", "0-.:"):
+            for version, number in ((1, 6), (2, 6), (3, 0)):
+                with self.subTest(name, version=version):
+                    script = json.dumps({"version": version, "events": [["deferred", name]]})
+                    self.assertEqual(refusal(script), number)
+        for name in ("-", "-a", ".a", ":a", "a/b", "n" * 32 + "-"):
+            with self.subTest(name):
+                self.assertEqual(refusal(json.dumps({"version": 3, "events": [["deferred", name]]})), 6)
+
+    def test_comments_are_texts_of_version_3(self) -> None:
+        commented = (
+            '"comment":%s,"events":[]',
+            '"cooperator":{"units":1,"delay":1,"comment":%s},"events":[]',
+            '"callers":[[{"comment":%s}]],"events":[]',
+            '"events":[["deferred","d",{"do":[["maybe","m",{"comment":%s}]]}]]',
+        )
+        for frame in commented:
+            for version, comment, number in ((1, '"x"', 4), (2, '"x"', 4), (3, '"x"', 0), (3, "1", 4), (3, "[]", 4)):
+                with self.subTest(frame, version=version, comment=comment):
+                    self.assertEqual(refusal(f'{{"version":{version},{frame % comment}}}'), number)
 
     def test_classes(self) -> None:
         self.assertEqual(refusal(with_events(["errback", "d", "Zed", ""])), 7)

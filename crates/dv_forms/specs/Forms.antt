@@ -1,10 +1,10 @@
 -- Forms of JSON that the rules of the grammar share: calls, lists, keys, numbers, classes and values.
-use Rattle.std.specs.Prelude.{◌≡◌, ◌≤◌, ℕ, ℤ, Bool, true, ◌&&◌, List, [], ◌∷◌, length, Option, Some, None, unwrap_or}
-use Rattle.std.specs.Prelude.{bytes_eq}
+use Rattle.std.specs.Prelude.{◌≡◌, ◌≤◌, ℕ, ℤ, Bool, true, ◌&&◌, ◌||◌, List, [], ◌∷◌, length, Option, Some, None}
+use Rattle.std.specs.Prelude.{unwrap_or, is_some, bytes_eq, codes}
 use Rattle.std.specs.List.{list_any}
 use Rattle.serde_json.specs.Data.{Num, unsigned, Data, null, boolean, number, string, array, Items, no_items, item}
 use Rattle.serde_json.specs.Data.{Members, no_members, member}
-use Rattle.serde_json.specs.Find.{as_i64}
+use Rattle.serde_json.specs.Find.{as_i64, as_str, get_member}
 use Rattle.dv_value.specs.declared.value.Value.{Value, Null, Bool as Flag, Int, Text, List as Values}
 use Rattle.dv_value.specs.declared.classes.Class.{Class}
 use Rattle.dv_value.specs.Classes.{find_class}
@@ -39,10 +39,20 @@ abbrev pub Key : {X : Type 0} → (Data → X → Type 0) → Option Data → X 
 Key Is None x = ⊥
 Key Is (Some d) x = Is d x
 
--- whether an object has no other keys than these
+-- whether an object has no other keys than these and that of a comment
 unfoldable pub has_only : List (List ℕ) → Members → Bool
 has_only keys no_members = true
-has_only keys (member key d ms) = list_any (λ k. bytes_eq key k) keys && has_only keys ms
+has_only keys (member key d ms) =
+    (list_any (λ k. bytes_eq key k) keys || bytes_eq key (codes "comment")) && has_only keys ms
+
+-- whether a comment is a text, where there is one
+abbrev pub is_comment : Option Data → Bool
+is_comment None = true
+is_comment (Some d) = is_some (as_str d)
+
+-- whether an object has no other keys than these, but maybe a comment, which is a text
+abbrev pub is_keyed_by : List (List ℕ) → Members → Bool
+is_keyed_by keys ms = has_only keys ms && is_comment (get_member (codes "comment") ms)
 
 -- a JSON text
 abbrev pub IsText : Data → List ℕ → Type 0

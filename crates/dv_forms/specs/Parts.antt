@@ -12,7 +12,7 @@ use Rattle.dv_script.specs.declared.action.GatherFlag.{GatherFlag}
 use Rattle.dv_script.specs.declared.action.GatherFlag.TheVariants as gather_flag
 use Rattle.dv_script.specs.declared.limits.TheConstants.{MOST_PLACES}
 use Rattle.dv_forms.specs.declared.declaration.Declaration.{Declaration}
-use Rattle.dv_forms.specs.Forms.{has_only, place_of}
+use Rattle.dv_forms.specs.Forms.{is_keyed_by, place_of}
 use Rattle.dv_forms.specs.Table.{table_of, all_declared}
 
 infixl 10 ◌>>=◌
@@ -188,9 +188,9 @@ abbrev pub three_of : {A B C X : Type 0} → (Data → Option A) → (Data → O
     → Items → Option X
 three_of at bt ct make ds = option_map (λ p. make p.0 p.1 p.2) (triple at bt ct ds)
 
--- an object with no other keys than these
+-- an object with no other keys than these, but maybe a comment
 unfoldable pub fields_at : List (List ℕ) → Data → Option ⊤
-fields_at keys (object ms) = if has_only keys ms then Some tt else None
+fields_at keys (object ms) = if is_keyed_by keys ms then Some tt else None
 fields_at keys _ = None
 
 -- a key's value as it is read, or the default where the key is absent

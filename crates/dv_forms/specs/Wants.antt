@@ -13,6 +13,7 @@ use Rattle.dv_forms.specs.declared.want.Want.{Want}
 use Rattle.dv_forms.specs.declared.want.Want.TheVariants as want
 use Rattle.dv_clock.specs.declared.limits.TheConstants.{MOST_DELAY}
 use Rattle.dv_script.specs.declared.limits.TheConstants.{MOST_LIMIT, MOST_UNITS, MOST_WORKERS}
+use Rattle.dv_forms.specs.declared.versions.TheConstants.{LAST_VERSION}
 
 -- the name of a Deferred that is looked up
 abbrev pub a_deferred : Want
@@ -29,6 +30,10 @@ a_class = want.Leaf (leaf.Found object.Class)
 -- any text
 abbrev pub a_text : Want
 a_text = want.Leaf leaf.Text
+
+-- a text that is read past
+abbrev pub a_comment : Want
+a_comment = want.Leaf leaf.Comment
 
 -- a body
 abbrev pub a_body : Want
@@ -52,7 +57,7 @@ item_want item.Pool = want.Pair pair.Pool
 -- what the value of a script's key is
 abbrev pub script_want : ℕ → List ℕ → Want
 script_want version key =
-    if bytes_eq key (codes "version") then want.Leaf (leaf.Number 1 2) else
+    if bytes_eq key (codes "version") then want.Leaf (leaf.Number 1 LAST_VERSION) else
     if bytes_eq key (codes "events") then want.Array item.Event else
     if bytes_eq key (codes "limit") then want.Leaf (leaf.Number 0 MOST_LIMIT) else
     if bytes_eq key (codes "classes") then want.Array item.Declaration else
@@ -60,19 +65,21 @@ script_want version key =
     if bytes_eq key (codes "callers") then want.Array item.Caller else
     if bytes_eq key (codes "pools")
     then (if nat_eq version 1 then want.Other (keyed.Script version) else want.Array item.Pool) else
-    want.Other (keyed.Script version)
+    if bytes_eq key (codes "comment") then a_comment else want.Other (keyed.Script version)
 
 -- what the value of a cooperator's key is
 abbrev pub cooperator_want : List ℕ → Want
 cooperator_want key =
     if bytes_eq key (codes "units") then want.Leaf (leaf.Number 1 MOST_UNITS) else
-    if bytes_eq key (codes "delay") then want.Leaf (leaf.Number 1 MOST_DELAY) else want.Other keyed.Cooperator
+    if bytes_eq key (codes "delay") then want.Leaf (leaf.Number 1 MOST_DELAY) else
+    if bytes_eq key (codes "comment") then a_comment else want.Other keyed.Cooperator
 
 -- what the value of a body's key is
 abbrev pub body_want : List ℕ → Want
 body_want key =
     if bytes_eq key (codes "do") then want.Array item.Action else
-    if bytes_eq key (codes "end") then want.Call call.End else want.Other keyed.Body
+    if bytes_eq key (codes "end") then want.Call call.End else
+    if bytes_eq key (codes "comment") then a_comment else want.Other keyed.Body
 
 -- what the value of an object's key is
 abbrev pub key_want : Keyed → List ℕ → Want
@@ -84,10 +91,10 @@ key_want keyed.Body key = body_want key
 abbrev pub keys_in : Keyed → List (List ℕ)
 keys_in (keyed.Script version) =
     codes "version" ∷ codes "limit" ∷ codes "cooperator"
-    ∷ (if nat_eq version 1 then codes "classes" ∷ codes "callers" ∷ codes "events" ∷ []
-    else codes "pools" ∷ codes "classes" ∷ codes "callers" ∷ codes "events" ∷ [])
-keys_in keyed.Cooperator = codes "units" ∷ codes "delay" ∷ []
-keys_in keyed.Body = codes "do" ∷ codes "end" ∷ []
+    ∷ (if nat_eq version 1 then codes "classes" ∷ codes "callers" ∷ codes "events" ∷ codes "comment" ∷ []
+    else codes "pools" ∷ codes "classes" ∷ codes "callers" ∷ codes "events" ∷ codes "comment" ∷ [])
+keys_in keyed.Cooperator = codes "units" ∷ codes "delay" ∷ codes "comment" ∷ []
+keys_in keyed.Body = codes "do" ∷ codes "end" ∷ codes "comment" ∷ []
 
 -- the parts of a pair
 abbrev pub pair_wants : Pair → List Want

@@ -2,7 +2,7 @@ ghost use Rattle.std.specs.Prelude.{◌≡◌, ◌≤◌, map, option_map, bytes
 ghost use Rattle.std.specs.List.{list_any};
 ghost use Rattle.serde_json.specs.View.{view, items_view, members_view};
 ghost use Rattle.serde_json.specs.Find.{as_array, as_bool};
-ghost use Rattle.dv_forms.specs.Forms.{has_only};
+ghost use Rattle.dv_forms.specs.Forms.{has_only, is_comment};
 ghost use Rattle.dv_forms.specs.Answer.{Reads, Gives};
 ghost use Rattle.dv_forms.specs.Parts.{text_at, integer_at, number_at, bound_at, class_at};
 ghost use Rattle.dv_forms.specs.Parts.{list_flag, list_flag_at, gather_flag_named, gather_flag_at};
@@ -301,7 +301,7 @@ pub fn five(items: &[Json]) -> Result<(&Json, &Json, &Json, &Json, &Json), Stop>
     Ok((json, second, third, fourth, last))
 }
 
-/// An object with no other keys than these.
+/// An object with no other keys than these, but maybe a comment, which is a text.
 #[tactic(auto, unfolding(crate::specs::Parts::fields_at))]
 pub fn fields(json: &Json, keys: &[&str]) -> Result<(), Stop>
     ensures { Gives (λ _. tt) result (fields_at (map (λ k. k.now) keys.now) (view json.now)) }
@@ -309,7 +309,7 @@ pub fn fields(json: &Json, keys: &[&str]) -> Result<(), Stop>
     let Json::Object(members) = json else {
         return Err(Stop::BadShape);
     };
-    if has_only(members, keys) {
+    if has_only(members, keys) && is_comment(json.get("comment")) {
         Ok(())
     } else {
         Err(Stop::BadShape)
@@ -321,11 +321,20 @@ fn has_only(members: &Map<String, Json>, keys: &[&str]) -> bool
     ensures { result ≡ has_only (map (λ k. k.now) keys.now) (members_view members.now.entries) }
 {
     for (key, _) in members.iter() {
-        if !is_among(key.as_str(), keys) {
+        if !is_among(key.as_str(), keys) && key.as_str() != "comment" {
             return false;
         }
     }
     true
+}
+
+fn is_comment(json: Option<&Json>) -> bool
+    ensures { result ≡ is_comment (option_map (λ d. view d.now) json.entry) }
+{
+    match json {
+        Some(json) => json.as_str().is_some(),
+        None => true,
+    }
 }
 
 fn is_among(key: &str, keys: &[&str]) -> bool

@@ -9,5 +9,6 @@ pub mod leaving;
 pub mod stop;
 pub mod table;
 pub mod value;
+pub mod versions;
 pub mod want;
 pub mod words;

@@ -4,6 +4,7 @@ ghost use Rattle.std.specs.Prelude.{◌≡◌, map};
 ghost use Rattle.dv_forms.specs.Wants.{item_want, key_want, keys_in, script_want, cooperator_want};
 ghost use Rattle.dv_forms.specs.Wants.{body_want, pair_wants};
 
+use crate::versions::LAST_VERSION;
 use dv_clock::limits::MOST_DELAY;
 use dv_script::limits::{MOST_LIMIT, MOST_UNITS, MOST_WORKERS};
 
@@ -40,6 +41,8 @@ pub enum Leaf {
     Bound,
     ListFlag,
     GatherFlag,
+    /// A text that is read past.
+    Comment,
 }
 
 /// What an array of a word and its arguments may be.
@@ -143,7 +146,7 @@ fn script_want(version: u32, key: &str) -> Want
     ensures { result ≡ script_want version key.now }
 {
     match key {
-        "version" => Want::Leaf(Leaf::Number(1, 2)),
+        "version" => Want::Leaf(Leaf::Number(1, u64::from(LAST_VERSION))),
         "events" => Want::Array(Item::Event),
         "limit" => Want::Leaf(Leaf::Number(0, MOST_LIMIT)),
         "classes" => Want::Array(Item::Declaration),
@@ -154,6 +157,7 @@ fn script_want(version: u32, key: &str) -> Want
         } else {
             Want::Array(Item::Pool)
         },
+        "comment" => Want::Leaf(Leaf::Comment),
         _ => Want::Other(Keyed::Script(version)),
     }
 }
@@ -164,6 +168,7 @@ fn cooperator_want(key: &str) -> Want
     match key {
         "units" => Want::Leaf(Leaf::Number(1, u64::from(MOST_UNITS))),
         "delay" => Want::Leaf(Leaf::Number(1, MOST_DELAY)),
+        "comment" => Want::Leaf(Leaf::Comment),
         _ => Want::Other(Keyed::Cooperator),
     }
 }
@@ -174,6 +179,7 @@ fn body_want(key: &str) -> Want
     match key {
         "do" => Want::Array(Item::Action),
         "end" => Want::Call(Call::End),
+        "comment" => Want::Leaf(Leaf::Comment),
         _ => Want::Other(Keyed::Body),
     }
 }
@@ -202,6 +208,7 @@ impl Keyed {
                 "classes",
                 "callers",
                 "events",
+                "comment",
             ],
             Keyed::Script(_) => &[
                 "version",
@@ -211,9 +218,10 @@ impl Keyed {
                 "classes",
                 "callers",
                 "events",
+                "comment",
             ],
-            Keyed::Cooperator => &["units", "delay"],
-            Keyed::Body => &["do", "end"],
+            Keyed::Cooperator => &["units", "delay", "comment"],
+            Keyed::Body => &["do", "end", "comment"],
         }
     }
 }

@@ -15,7 +15,7 @@ use Rattle.dv_script.specs.declared.work.Work.{Work}
 use Rattle.dv_script.specs.declared.action.ListFlag.{ListFlag}
 use Rattle.dv_script.specs.declared.action.GatherFlag.{GatherFlag}
 use Rattle.dv_script.specs.declared.limits.TheConstants.{MOST_PLACES, MOST_SUM}
-use Rattle.dv_forms.specs.Forms.{Each, IsList, Field, Key, has_only, IsText, IsInteger, IsNumber, IsClass, IsValue}
+use Rattle.dv_forms.specs.Forms.{Each, IsList, Field, Key, is_keyed_by, IsText, IsInteger, IsNumber, IsClass, IsValue}
 use Rattle.dv_forms.specs.Forms.{a_null, a_bool, an_int, a_text, a_list, AreValues, no_values, more_values}
 use Rattle.dv_forms.specs.Leaving.{may_leave}
 use Rattle.dv_forms.specs.declared.words.EndWord.{EndWord}
@@ -248,9 +248,9 @@ sound_key x Is at one None e = cc
 sound_key x Is at one (Some d) e = one d x e
 
 pub fields_is : (keys : List (List ℕ)) (ms : Members) (t : ⊤) → fields_at keys (object ms) ≡ Some t
-    → has_only keys ms ≡ true
+    → is_keyed_by keys ms ≡ true
 unfolding fields_at
-fields_is keys ms t e = elim (chosen (has_only keys ms) (Some tt) None (Some t) e) [
+fields_is keys ms t e = elim (chosen (is_keyed_by keys ms) (Some tt) None (Some t) e) [
   | inl h ↦ h.0
   | inr h ↦ cc
 ]

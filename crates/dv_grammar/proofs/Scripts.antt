@@ -15,6 +15,7 @@ use Rattle.dv_script.specs.declared.limits.TheConstants.{MOST_DRAINED, MOST_LIMI
 use Rattle.dv_script.specs.declared.limits.TheConstants.{USUAL_LIMIT}
 use Rattle.dv_clock.specs.declared.limits.TheConstants.{MOST_DELAY, MOST_TICKS}
 use Rattle.dv_forms.specs.declared.declaration.Declaration.{Declaration}
+use Rattle.dv_forms.specs.declared.versions.TheConstants.{LAST_VERSION}
 use Rattle.dv_grammar.specs.declared.draft.Draft.{Draft}
 use Rattle.dv_forms.specs.Forms.{Each, IsList, Field, Key, IsNumber}
 use Rattle.dv_forms.specs.Table.{table_of}
@@ -110,7 +111,7 @@ sound_caller table = sound_list (IsBody table) (body_at table max_depth) (sound_
 pub sound_script : (d : Data) (draft : Draft) → script_at d ≡ Some draft → IsScript d draft
 unfolding script_at fields_at table_for
 sound_script (object ms) draft e =
-    bind (option_and_then (number_at 1 2) (get_member (codes "version") ms)) _ draft e (λ v v_is v_then.
+    bind (option_and_then (number_at 1 LAST_VERSION) (get_member (codes "version") ms)) _ draft e (λ v v_is v_then.
     bind (fields_at (keys_of v) (object ms)) _ draft v_then (λ t t_is t_then.
     bind (field USUAL_LIMIT (number_at 0 MOST_LIMIT) (get_member (codes "limit") ms)) _ draft t_then (λ l l_is l_then.
     bind (field plain_cooperator cooperator_at (get_member (codes "cooperator") ms)) _ draft l_then (λ o o_is o_then.
@@ -123,7 +124,7 @@ sound_script (object ms) draft e =
     rw (← some_injective y_then) (record {
       members = ms;
       whole = refl;
-      version = sound_key v (IsNumber 1 2) (number_at 1 2) (number_is 1 2) (get_member (codes "version") ms) v_is;
+      version = sound_key v (IsNumber 1 LAST_VERSION) (number_at 1 LAST_VERSION) (number_is 1 LAST_VERSION) (get_member (codes "version") ms) v_is;
       only = fields_is (keys_of v) ms t t_is;
       declared =
           sound_field [] c (IsList IsDeclaration) (list_at declaration_at)
@@ -246,7 +247,7 @@ complete_script d draft deep h =
     ≡ Some draft.script.events =
     complete_events (table_of draft.declared) draft.script.events (get_member (codes "events") h.members)
     (within (codes "events")) (rw h.table at h.events) in
-    let version = complete_key draft.version (IsNumber 1 2) (number_at 1 2) (complete_number 1 2)
+    let version = complete_key draft.version (IsNumber 1 LAST_VERSION) (number_at 1 LAST_VERSION) (complete_number 1 LAST_VERSION)
     (get_member (codes "version") h.members) h.version in
     rw h.whole (rw version (rw h.only (rw (
       complete_field USUAL_LIMIT draft.script.limit (IsNumber 0 MOST_LIMIT) (number_at 0 MOST_LIMIT)

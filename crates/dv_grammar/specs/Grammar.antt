@@ -27,9 +27,10 @@ use Rattle.dv_script.specs.declared.limits.TheConstants.{MOST_DRAINED, MOST_LIMI
 use Rattle.dv_script.specs.declared.limits.TheConstants.{MOST_WORKERS, USUAL_LIMIT}
 use Rattle.dv_clock.specs.declared.limits.TheConstants.{MOST_DELAY, MOST_TICKS}
 use Rattle.dv_forms.specs.declared.declaration.Declaration.{Declaration}
+use Rattle.dv_forms.specs.declared.versions.TheConstants.{LAST_VERSION}
 use Rattle.dv_grammar.specs.declared.draft.Draft.{Draft}
 use Rattle.dv_forms.specs.Leaving.{may_leave}
-use Rattle.dv_forms.specs.Forms.{call, IsList, Field, Key, has_only, IsText, IsInteger, IsNumber, IsClass, IsValue}
+use Rattle.dv_forms.specs.Forms.{call, IsList, Field, Key, is_keyed_by, IsText, IsInteger, IsNumber, IsClass, IsValue}
 use Rattle.dv_forms.specs.Table.{table_of, all_declared}
 use Rattle.std.specs.List.{list_all}
 use Rattle.dv_script.specs.declared.action.Action.TheFolds.{fold-Action, fold-Body, fold-Statement}
@@ -39,7 +40,7 @@ use Rattle.dv_script.specs.declared.action.ListFlag.TheVariants as flag
 use Rattle.dv_script.specs.declared.action.GatherFlag.TheVariants as gather_flag
 use Rattle.dv_script.specs.declared.event.Event.TheVariants as event
 
--- the keys of a body
+-- the keys of a body, besides that of a comment
 abbrev pub body_keys : List (List ℕ)
 body_keys = codes "do" ∷ codes "end" ∷ []
 
@@ -52,7 +53,7 @@ abbrev pub script_keys : List (List ℕ)
 script_keys =
     codes "version" ∷ codes "events" ∷ codes "limit" ∷ codes "classes" ∷ codes "cooperator" ∷ codes "callers" ∷ []
 
--- the keys of a script of this version: the second has one more
+-- the keys of a script of this version: from the second on there is one more
 abbrev pub keys_of : ℕ → List (List ℕ)
 keys_of version = if nat_eq version 1 then script_keys else codes "pools" ∷ script_keys
 
@@ -228,9 +229,10 @@ mutual
     does_nothing : IsDo table None []
     does : (ds : Items) (actions : List Action) → AreActions table ds actions → IsDo table (Some (array ds)) actions
 
-  -- BODY: an object of the keys `do` and `end`, without which it performs nothing and passes its input on
+  -- BODY: an object of the keys `do` and `end`, without which it performs nothing and passes its input on; as each
+  -- object of the language it may have a comment, a text that says nothing
   pub data IsBody (table : List Class) : Data → Body → Type 0 where
-    body : (ms : Members) (actions : List Action) (end : End) → has_only body_keys ms ≡ true
+    body : (ms : Members) (actions : List Action) (end : End) → is_keyed_by body_keys ms ≡ true
         → IsDo table (get_member (codes "do") ms) actions → Field Pass (IsEnd table) (get_member (codes "end") ms) end
         → IsBody table (object ms) (record { actions = actions; end = end })
 
@@ -281,11 +283,11 @@ pub data IsPool : Data → NamedPool → Type 0 where
   pools : (name : List ℕ) (d : Data) (workers : ℕ) → IsNumber 0 MOST_WORKERS d workers
       → IsPool (array (item (string name) (item d no_items))) (record { name = name; workers = workers })
 
--- an object with exactly the keys `units` and `delay`
+-- an object with exactly the keys `units` and `delay`, but for a comment
 pub record IsCooperator (d : Data) (c : Cooperator) : Type 0 where
   pub members : Members
   pub whole : d ≡ object members
-  pub only : has_only cooperator_keys members ≡ true
+  pub only : is_keyed_by cooperator_keys members ≡ true
   pub units : Key (IsNumber 1 MOST_UNITS) (get_member (codes "units") members) c.units
   pub delay : Key (IsNumber 1 MOST_DELAY) (get_member (codes "delay") members) c.delay
 
@@ -298,8 +300,8 @@ plain_cooperator = record { units = 1; delay = 1 }
 pub record IsScript (d : Data) (draft : Draft) : Type 0 where
   pub members : Members
   pub whole : d ≡ object members
-  pub version : Key (IsNumber 1 2) (get_member (codes "version") members) draft.version
-  pub only : has_only (keys_of draft.version) members ≡ true
+  pub version : Key (IsNumber 1 LAST_VERSION) (get_member (codes "version") members) draft.version
+  pub only : is_keyed_by (keys_of draft.version) members ≡ true
   pub declared : Field [] (IsList IsDeclaration) (get_member (codes "classes") members) draft.declared
   pub all_declared : draft.all_declared ≡ all_declared draft.declared
   pub table : draft.script.classes ≡ table_of draft.declared

@@ -24,6 +24,7 @@ use Rattle.dv_script.specs.declared.script.NamedPool.{NamedPool}
 use Rattle.dv_script.specs.declared.limits.TheConstants.{MOST_DRAINED, MOST_LIMIT, MOST_PLACES, MOST_SUM, MOST_UNITS}
 use Rattle.dv_script.specs.declared.limits.TheConstants.{MOST_WORKERS, USUAL_LIMIT}
 use Rattle.dv_clock.specs.declared.limits.TheConstants.{MOST_DELAY, MOST_TICKS}
+use Rattle.dv_forms.specs.declared.versions.TheConstants.{LAST_VERSION}
 use Rattle.dv_grammar.specs.declared.draft.Draft.{Draft}
 use Rattle.dv_grammar.specs.declared.reading.action.WithBody.{WithBody}
 use Rattle.dv_grammar.specs.declared.reading.action.WithBody.TheVariants as with
@@ -261,7 +262,7 @@ caller_at table = list_at (body_at table max_depth)
 -- a script, with the classes that it declares
 unfoldable pub script_at : Data → Option Draft
 script_at d = do
-  version ← get (codes "version") d >>= number_at 1 2
+  version ← get (codes "version") d >>= number_at 1 LAST_VERSION
   _ ← fields_at (keys_of version) d
   limit ← field USUAL_LIMIT (number_at 0 MOST_LIMIT) (get (codes "limit") d)
   cooperator ← field plain_cooperator cooperator_at (get (codes "cooperator") d)

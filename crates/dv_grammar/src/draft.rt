@@ -7,7 +7,7 @@ use dv_value::items::Items;
 /// What a document says by its shape alone.
 #[derive(Drop)]
 pub struct Draft {
-    /// The version of the grammar that it is in, 1 or 2.
+    /// The version of the grammar that it is in, from 1 to the last.
     pub version: u32,
     /// The classes that it declares, whether they may be declared or not.
     pub declared: Items<Declaration>,

@@ -1,7 +1,11 @@
 -- The keys of objects, as JSON.
-use Rattle.std.specs.Prelude.{ℕ, Bool, true, false, ◌||◌, bytes_eq, List, [], ◌∷◌, ◌++◌, map, codes}
+use Rattle.std.specs.Prelude.{ℕ, Bool, true, false, not, if◌then◌else◌, ◌||◌, bytes_eq, List, [], ◌∷◌, ◌++◌, map}
+use Rattle.std.specs.Prelude.{codes}
 use Rattle.serde_json.specs.Data.{Data, unsigned, number, boolean, string, array, object, member, no_members}
 use Rattle.serde_json.specs.View.{items_of}
+use Rattle.dv_forms.specs.declared.versions.TheConstants.{COMMENTS_SINCE, LAST_VERSION}
+use Rattle.dv_forms.specs.declared.want.Leaf.{Leaf}
+use Rattle.dv_forms.specs.declared.want.Leaf.TheVariants as leaf
 use Rattle.dv_forms.specs.declared.want.Keyed.{Keyed}
 use Rattle.dv_forms.specs.declared.want.Keyed.TheVariants as keyed
 use Rattle.dv_forms.specs.declared.want.Want.{Want}
@@ -12,12 +16,25 @@ use Rattle.dv_language.specs.Wants.{keyed_name, want_data}
 -- whether an object has to have a key
 abbrev pub is_needed : Keyed → List ℕ → Bool
 is_needed (keyed.Script version) key = bytes_eq key (codes "version") || bytes_eq key (codes "events")
-is_needed keyed.Cooperator key = true
+is_needed keyed.Cooperator key = not (bytes_eq key (codes "comment"))
 is_needed keyed.Body key = false
 
--- 1, or 2 where a script of version 1 may not have the key
+-- whether a leaf is a comment
+abbrev pub is_comment : Leaf → Bool
+is_comment leaf.Text = false
+is_comment (leaf.New o) = false
+is_comment (leaf.Found o) = false
+is_comment leaf.Integer = false
+is_comment (leaf.Number low high) = false
+is_comment leaf.Boolean = false
+is_comment leaf.Bound = false
+is_comment leaf.ListFlag = false
+is_comment leaf.GatherFlag = false
+is_comment leaf.Comment = true
+
+-- 1, or that of comments, or 2 where a script of version 1 may not have the key
 abbrev pub since_by : Want → ℕ
-since_by (want.Leaf l) = 1
+since_by (want.Leaf l) = if is_comment l then COMMENTS_SINCE else 1
 since_by want.Value = 1
 since_by (want.Call c) = 1
 since_by (want.Pair p) = 1
@@ -29,8 +46,8 @@ since_by (want.Other k) = 2
 -- the first version in which an object may have a key
 abbrev pub since : Keyed → List ℕ → ℕ
 since (keyed.Script version) key = since_by (key_want (keyed.Script 1) key)
-since keyed.Cooperator key = 1
-since keyed.Body key = 1
+since keyed.Cooperator key = since_by (key_want keyed.Cooperator key)
+since keyed.Body key = since_by (key_want keyed.Body key)
 
 -- a key
 abbrev pub key_data : Keyed → List ℕ → Data
@@ -46,4 +63,4 @@ keys_of k = map (key_data k) (keys_in k)
 
 -- the keys of a script, of its cooperator and of a body, as the last version has them
 abbrev pub keys_data : Data
-keys_data = array (items_of (keys_of (keyed.Script 2) ++ (keys_of keyed.Cooperator ++ keys_of keyed.Body)))
+keys_data = array (items_of (keys_of (keyed.Script LAST_VERSION) ++ (keys_of keyed.Cooperator ++ keys_of keyed.Body)))

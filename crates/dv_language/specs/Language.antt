@@ -13,7 +13,7 @@ use Rattle.dv_language.specs.Beside.{classes_data, limits_data, usual_data, refu
 
 -- the versions of the language
 abbrev pub versions_data : Data
-versions_data = array (item (count 1) (item (count 2) no_items))
+versions_data = array (item (count 1) (item (count 2) (item (count 3) no_items)))
 
 -- the language, with these lines of the journal
 abbrev pub language_with : Data → Data

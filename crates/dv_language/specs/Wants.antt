@@ -80,6 +80,7 @@ leaf_data leaf.Boolean = of_type (codes "boolean")
 leaf_data leaf.Bound = numbers (codes "bound") (unsigned 0) MOST_PLACES
 leaf_data leaf.ListFlag = flags list_words
 leaf_data leaf.GatherFlag = flags gather_words
+leaf_data leaf.Comment = of_type (codes "text")
 
 -- what a place asks for, without what the parts of an array or a pair ask for
 abbrev pub flat_data : Want → Data

@@ -2,10 +2,11 @@
 
 ghost use Rattle.std.specs.Prelude.{◌≡◌, ◌++◌, IfOk, OnOk, map};
 ghost use Rattle.serde_json.specs.View.{view};
-ghost use Rattle.dv_language.specs.Keys.{is_needed, since, key_data, keys_of, keys_data};
+ghost use Rattle.dv_language.specs.Keys.{is_needed, since, since_by, key_data, keys_of, keys_data};
 
 use crate::wants::{keyed_name, want_json};
-use dv_forms::want::{Keyed, Want};
+use dv_forms::versions::{COMMENTS_SINCE, LAST_VERSION};
+use dv_forms::want::{Keyed, Leaf, Want};
 use serde_json::{Value as Json, json, push};
 use std::alloc::{AllocError, Global};
 
@@ -15,8 +16,29 @@ fn is_needed(keyed: Keyed, key: &str) -> bool
 {
     match keyed {
         Keyed::Script(_) => key == "version" || key == "events",
-        Keyed::Cooperator => true,
+        Keyed::Cooperator => key != "comment",
         Keyed::Body => false,
+    }
+}
+
+/// The first version in which a place may ask for this, where an earlier one asks for the value of
+/// a key that may not be there.
+fn since_by(want: Want) -> u32
+    ensures { result ≡ since_by want }
+{
+    match want {
+        Want::Leaf(leaf) => if matches!(leaf, Leaf::Comment) {
+            COMMENTS_SINCE
+        } else {
+            1
+        },
+        Want::Value
+        | Want::Call(_)
+        | Want::Pair(_)
+        | Want::Keyed(_)
+        | Want::Array(_)
+        | Want::Word(_) => 1,
+        Want::Other(_) => 2,
     }
 }
 
@@ -25,14 +47,8 @@ fn since(keyed: Keyed, key: &str) -> u32
     ensures { result ≡ since keyed key.now }
 {
     match keyed {
-        Keyed::Script(_) => {
-            if matches!(Keyed::Script(1).want(key), Want::Other(_)) {
-                2
-            } else {
-                1
-            }
-        }
-        Keyed::Cooperator | Keyed::Body => 1,
+        Keyed::Script(_) => since_by(Keyed::Script(1).want(key)),
+        Keyed::Cooperator | Keyed::Body => since_by(keyed.want(key)),
     }
 }
 
@@ -64,7 +80,7 @@ pub fn keys_json(alloc: Global) -> Result<Json, AllocError>
     ensures { IfOk result (λ json. view json ≡ keys_data) }
 {
     let mut rows = Vec::new(alloc);
-    push_keys(alloc, &mut rows, Keyed::Script(2))?;
+    push_keys(alloc, &mut rows, Keyed::Script(LAST_VERSION))?;
     push_keys(alloc, &mut rows, Keyed::Cooperator)?;
     push_keys(alloc, &mut rows, Keyed::Body)?;
     Ok(Json::Array(rows))

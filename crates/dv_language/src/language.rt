@@ -50,7 +50,7 @@ const FORM: u32 = 1;
 fn versions_json(alloc: Global) -> Result<Json, AllocError>
     ensures { IfOk result (λ json. view json ≡ versions_data) }
 {
-    json!(in alloc; [1u32, 2u32])
+    json!(in alloc; [1u32, 2u32, 3u32])
 }
 
 /// The language, with these lines of the journal.

@@ -78,7 +78,7 @@ fn leaf_json(alloc: Global, leaf: Leaf) -> Result<Json, AllocError>
     ensures { IfOk result (λ json. view json ≡ leaf_data leaf) }
 {
     match leaf {
-        Leaf::Text => json!(in alloc; {"type": "text"}),
+        Leaf::Text | Leaf::Comment => json!(in alloc; {"type": "text"}),
         Leaf::New(object) => json!(in alloc; {"type": "new", "of": object_name(object)}),
         Leaf::Found(object) => json!(in alloc; {"type": "found", "of": object_name(object)}),
         Leaf::Integer => number_json(alloc, i64::MIN, i64::MAX as u64),

@@ -12,7 +12,8 @@ use Rattle.dv_forms.specs.declared.want.Call.{Call}
 use Rattle.dv_forms.specs.declared.want.Keyed.{Keyed}
 use Rattle.dv_forms.specs.Wants.{item_want, key_want, keys_in, pair_wants}
 use Rattle.dv_forms.specs.Words.{wants_of}
-use Rattle.dv_questions.specs.Questions.{Asked, words, names, classes, pools, every, is_named, is_known, is_pooled}
+use Rattle.dv_questions.specs.Questions.{Asked, words, names, classes, pools, every, stands, is_named}
+use Rattle.dv_questions.specs.Questions.{is_known, is_pooled}
 use Rattle.dv_questions.specs.Asking.{count, if_there, each_item, one_for_one, arguments_suit, word_suits, call_suits}
 use Rattle.dv_questions.specs.Asking.{keys_suit, in_parts, all_suit}
 
@@ -91,29 +92,38 @@ weaker a b weak (suc n) w d h = parts_too a b (all_suit a n) (all_suit b n) weak
 
 -- ---- each of the four is weaker than all
 
-pub words_too : (v : ℕ) (table : List Class) (declared : List NamedPool) → IsWeaker (every v table declared) (words v)
-words_too v table declared = record { leaf = λ l x h. refl; word = λ c x h. h }
+-- what answers all four well at the place of a leaf answers each
+four_parts : (v : ℕ) (table : List Class) (declared : List NamedPool) (l : Leaf) (x : List ℕ)
+    → (every v table declared).of_leaf l x ≡ true
+    → (stands v l ≡ true) × (is_named v l x ≡ true) × (is_known table l x ≡ true) × (is_pooled declared l x ≡ true)
+four_parts v table declared l x h =
+    let three = and_parts (stands v l && is_named v l x && is_known table l x) (is_pooled declared l x) h in
+    let two = and_parts (stands v l && is_named v l x) (is_known table l x) three.0 in
+    let one = and_parts (stands v l) (is_named v l x) two.0 in
+    (one.0, one.1, two.1, three.1)
 
-pub names_too : (v : ℕ) (table : List Class) (declared : List NamedPool) → IsWeaker (every v table declared) names
+pub words_too : (v : ℕ) (table : List Class) (declared : List NamedPool) → IsWeaker (every v table declared) (words v)
+words_too v table declared = record {
+  leaf = λ l x h. (four_parts v table declared l x h).0;
+  word = λ c x h. h;
+}
+
+pub names_too : (v : ℕ) (table : List Class) (declared : List NamedPool) → IsWeaker (every v table declared) (names v)
 names_too v table declared = record {
-  leaf =
-      λ l x h. (and_parts (is_named l x) (is_known table l x)
-      (and_parts (is_named l x && is_known table l x) (is_pooled declared l x) h).0).0;
+  leaf = λ l x h. (four_parts v table declared l x h).1;
   word = λ c x h. refl;
 }
 
 pub classes_too : (v : ℕ) (table : List Class) (declared : List NamedPool)
     → IsWeaker (every v table declared) (classes table)
 classes_too v table declared = record {
-  leaf =
-      λ l x h. (and_parts (is_named l x) (is_known table l x)
-      (and_parts (is_named l x && is_known table l x) (is_pooled declared l x) h).0).1;
+  leaf = λ l x h. (four_parts v table declared l x h).2;
   word = λ c x h. refl;
 }
 
 pub pools_too : (v : ℕ) (table : List Class) (declared : List NamedPool)
     → IsWeaker (every v table declared) (pools declared)
 pools_too v table declared = record {
-  leaf = λ l x h. (and_parts (is_named l x && is_known table l x) (is_pooled declared l x) h).1;
+  leaf = λ l x h. (four_parts v table declared l x h).3;
   word = λ c x h. refl;
 }

@@ -1,5 +1,5 @@
 -- What may be asked of the texts of a script, each at a place that asks for a leaf or for a word.
-use Rattle.std.specs.Prelude.{ℕ, Bool, true, false, not, ◌&&◌, ◌||◌, List, is_some, bytes_eq}
+use Rattle.std.specs.Prelude.{ℕ, Bool, true, false, not, ◌&&◌, ◌||◌, nat_le, List, is_some, bytes_eq}
 use Rattle.std.specs.List.{list_any}
 use Rattle.dv_value.specs.declared.classes.Class.{Class}
 use Rattle.dv_value.specs.Classes.{find_class}
@@ -10,32 +10,48 @@ use Rattle.dv_forms.specs.declared.want.Leaf.{Leaf}
 use Rattle.dv_forms.specs.declared.want.Leaf.TheVariants as leaf
 use Rattle.dv_forms.specs.declared.want.Call.{Call}
 use Rattle.dv_forms.specs.Words.{may_stand}
+use Rattle.dv_forms.specs.declared.versions.TheConstants.{COMMENTS_SINCE}
 use Rattle.dv_questions.specs.declared.question.Question.{Question}
 use Rattle.dv_questions.specs.declared.question.Question.TheVariants as question
 use Rattle.dv_questions.specs.Names.{is_name, names_one}
 
--- whether a name that is looked up has the form that its place asks for
-abbrev pub is_found_named : Object → List ℕ → Bool
-is_found_named object.Deferred name = names_one name
-is_found_named object.Lock name = is_name name
-is_found_named object.Queue name = is_name name
-is_found_named object.Call name = is_name name
-is_found_named object.Loop name = is_name name
-is_found_named object.Task name = is_name name
-is_found_named object.Pool name = is_name name
-is_found_named object.Class name = true
+-- whether a name that is looked up has the form that its place asks for in a script of this version
+abbrev pub is_found_named : ℕ → Object → List ℕ → Bool
+is_found_named version object.Deferred name = names_one version name
+is_found_named version object.Lock name = is_name version name
+is_found_named version object.Queue name = is_name version name
+is_found_named version object.Call name = is_name version name
+is_found_named version object.Loop name = is_name version name
+is_found_named version object.Task name = is_name version name
+is_found_named version object.Pool name = is_name version name
+is_found_named version object.Class name = true
 
--- whether a name has the form that its place asks for
-abbrev pub is_named : Leaf → List ℕ → Bool
-is_named leaf.Text name = true
-is_named (leaf.New o) name = is_name name
-is_named (leaf.Found o) name = is_found_named o name
-is_named leaf.Integer name = true
-is_named (leaf.Number low high) name = true
-is_named leaf.Boolean name = true
-is_named leaf.Bound name = true
-is_named leaf.ListFlag name = true
-is_named leaf.GatherFlag name = true
+-- whether a name has the form that its place asks for in a script of this version
+abbrev pub is_named : ℕ → Leaf → List ℕ → Bool
+is_named version leaf.Text name = true
+is_named version (leaf.New o) name = is_name version name
+is_named version (leaf.Found o) name = is_found_named version o name
+is_named version leaf.Integer name = true
+is_named version (leaf.Number low high) name = true
+is_named version leaf.Boolean name = true
+is_named version leaf.Bound name = true
+is_named version leaf.ListFlag name = true
+is_named version leaf.GatherFlag name = true
+is_named version leaf.Comment name = true
+
+-- whether a text may stand at such a place in a script of this version, whatever it says: only a comment needs a later
+-- one
+abbrev pub stands : ℕ → Leaf → Bool
+stands version leaf.Text = true
+stands version (leaf.New o) = true
+stands version (leaf.Found o) = true
+stands version leaf.Integer = true
+stands version (leaf.Number low high) = true
+stands version leaf.Boolean = true
+stands version leaf.Bound = true
+stands version leaf.ListFlag = true
+stands version leaf.GatherFlag = true
+stands version leaf.Comment = nat_le COMMENTS_SINCE version
 
 -- whether a class is looked up there
 abbrev pub is_class : Leaf → Bool
@@ -55,6 +71,7 @@ is_class leaf.Boolean = false
 is_class leaf.Bound = false
 is_class leaf.ListFlag = false
 is_class leaf.GatherFlag = false
+is_class leaf.Comment = false
 
 -- whether a pool is looked up there
 abbrev pub is_pool : Leaf → Bool
@@ -74,6 +91,7 @@ is_pool leaf.Boolean = false
 is_pool leaf.Bound = false
 is_pool leaf.ListFlag = false
 is_pool leaf.GatherFlag = false
+is_pool leaf.Comment = false
 
 -- whether a class that is looked up is in this table
 abbrev pub is_known : List Class → Leaf → List ℕ → Bool
@@ -92,13 +110,13 @@ pub record Asked : Type 0 where
   pub of_leaf : Leaf → List ℕ → Bool
   pub of_word : Call → List ℕ → Bool
 
--- whether each word is one of this version
+-- whether each word is one of this version, and each comment
 abbrev pub words : ℕ → Asked
-words version = record { of_leaf = λ l name. true; of_word = λ c word. may_stand c word version }
+words version = record { of_leaf = λ l text. stands version l; of_word = λ c word. may_stand c word version }
 
--- whether each name has its form
-abbrev pub names : Asked
-names = record { of_leaf = is_named; of_word = λ c word. true }
+-- whether each name has the form of one of this version
+abbrev pub names : ℕ → Asked
+names version = record { of_leaf = is_named version; of_word = λ c word. true }
 
 -- whether each class that is used is in this table
 abbrev pub classes : List Class → Asked
@@ -111,14 +129,14 @@ pools declared = record { of_leaf = is_pooled declared; of_word = λ c word. tru
 -- all four
 abbrev pub every : ℕ → List Class → List NamedPool → Asked
 every version table declared = record {
-  of_leaf = λ l name. is_named l name && is_known table l name && is_pooled declared l name;
+  of_leaf = λ l name. stands version l && is_named version l name && is_known table l name && is_pooled declared l name;
   of_word = λ c word. may_stand c word version;
 }
 
 -- the question, as the code has it
 abbrev pub asked_by : Question → Asked
 asked_by (question.Words version) = words version
-asked_by question.Names = names
+asked_by (question.Names version) = names version
 asked_by (question.Classes table) = classes table.now
 asked_by (question.Pools declared) = pools declared.now
 asked_by (question.Every version table declared) = every version table.now declared.now

@@ -2,10 +2,11 @@
 
 ghost use Rattle.std.specs.Prelude.{◌≡◌, ◌≤◌, ◌&&◌, ℕ, true};
 ghost use Rattle.dv_forms.specs.Words.{may_stand};
-ghost use Rattle.dv_questions.specs.Questions.{is_found_named, is_named, is_class, is_pool};
+ghost use Rattle.dv_questions.specs.Questions.{is_found_named, is_named, is_class, is_pool, stands};
 ghost use Rattle.dv_questions.specs.Questions.{is_known, is_among, is_pooled, asked_by};
 
 use crate::names::{is_name, names_one};
+use dv_forms::versions::COMMENTS_SINCE;
 use dv_forms::want::{Call, Leaf, Object};
 use dv_forms::words::may_stand;
 use dv_script::script::NamedPool;
@@ -14,10 +15,10 @@ use dv_value::classes::Classes;
 /// What is asked of the texts of a script.
 #[derive(Clone, Copy, Drop)]
 pub enum Question<'q> {
-    /// Whether each word is one of this version.
+    /// Whether each word is one of this version, and each comment.
     Words(u32),
-    /// Whether each name has its form.
-    Names,
+    /// Whether each name has the form of one of this version.
+    Names(u32),
     /// Whether each class that is used is in this table.
     Classes(&'q Classes),
     /// Whether each pool that is used is one of these.
@@ -26,25 +27,44 @@ pub enum Question<'q> {
     Every(u32, &'q Classes, &'q [NamedPool]),
 }
 
-fn is_found_named(object: Object, name: &str) -> bool
-    ensures { result ≡ is_found_named object name.now }
+fn is_found_named(version: u32, object: Object, name: &str) -> bool
+    ensures { result ≡ is_found_named version object name.now }
 {
     match object {
-        Object::Deferred => names_one(name),
+        Object::Deferred => names_one(version, name),
         Object::Class => true,
         Object::Lock | Object::Queue | Object::Call | Object::Loop | Object::Task | Object::Pool =>
-            is_name(name),
+            is_name(version, name),
     }
 }
 
-/// Whether a name has the form that its place asks for.
-pub fn is_named(leaf: Leaf, name: &str) -> bool
-    ensures { result ≡ is_named leaf name.now }
+/// Whether a name has the form that its place asks for in a script of this version.
+pub fn is_named(version: u32, leaf: Leaf, name: &str) -> bool
+    ensures { result ≡ is_named version leaf name.now }
 {
     match leaf {
-        Leaf::New(_) => is_name(name),
-        Leaf::Found(object) => is_found_named(object, name),
+        Leaf::New(_) => is_name(version, name),
+        Leaf::Found(object) => is_found_named(version, object, name),
         Leaf::Text
+        | Leaf::Integer
+        | Leaf::Number(_, _)
+        | Leaf::Boolean
+        | Leaf::Bound
+        | Leaf::ListFlag
+        | Leaf::GatherFlag
+        | Leaf::Comment => true,
+    }
+}
+
+/// Whether a text may stand at such a place in a script of this version, whatever it says.
+fn stands(version: u32, leaf: Leaf) -> bool
+    ensures { result ≡ stands version leaf }
+{
+    match leaf {
+        Leaf::Comment => COMMENTS_SINCE <= version,
+        Leaf::Text
+        | Leaf::New(_)
+        | Leaf::Found(_)
         | Leaf::Integer
         | Leaf::Number(_, _)
         | Leaf::Boolean
@@ -76,7 +96,8 @@ pub fn is_class(leaf: Leaf) -> bool
         | Leaf::Boolean
         | Leaf::Bound
         | Leaf::ListFlag
-        | Leaf::GatherFlag => false,
+        | Leaf::GatherFlag
+        | Leaf::Comment => false,
     }
 }
 
@@ -102,7 +123,8 @@ pub fn is_pool(leaf: Leaf) -> bool
         | Leaf::Boolean
         | Leaf::Bound
         | Leaf::ListFlag
-        | Leaf::GatherFlag => false,
+        | Leaf::GatherFlag
+        | Leaf::Comment => false,
     }
 }
 
@@ -127,19 +149,26 @@ fn is_pooled(pools: &[NamedPool], leaf: Leaf, name: &str) -> bool
     !is_pool(leaf) || is_among(name, pools)
 }
 
-/// Whether a text at the place of a leaf is well named, and is found if a class or a pool is looked
-/// up there.
-fn suits_every(classes: &Classes, pools: &[NamedPool], leaf: Leaf, name: &str) -> bool
-    ensures { result ≡ (is_named leaf name.now && is_known classes.now leaf name.now
-        && is_pooled pools.now leaf name.now) }
+/// Whether a text at the place of a leaf may stand there in a script of this version, is well
+/// named, and is found if a class or a pool is looked up there.
+fn suits_every(
+    version: u32,
+    classes: &Classes,
+    pools: &[NamedPool],
+    leaf: Leaf,
+    name: &str,
+) -> bool
+    ensures { result ≡ (stands version leaf && is_named version leaf name.now
+        && is_known classes.now leaf name.now && is_pooled pools.now leaf name.now) }
 {
     match leaf {
-        Leaf::Found(Object::Deferred) => names_one(name),
+        Leaf::Found(Object::Deferred) => names_one(version, name),
         Leaf::Found(Object::Class) => classes.find(name).is_some(),
-        Leaf::Found(Object::Pool) => is_name(name) && is_among(name, pools),
+        Leaf::Found(Object::Pool) => is_name(version, name) && is_among(name, pools),
         Leaf::New(_)
         | Leaf::Found(Object::Lock | Object::Queue | Object::Call | Object::Loop | Object::Task) =>
-            is_name(name),
+            is_name(version, name),
+        Leaf::Comment => COMMENTS_SINCE <= version,
         Leaf::Text
         | Leaf::Integer
         | Leaf::Number(_, _)
@@ -156,11 +185,13 @@ impl Question<'_> {
         ensures { result ≡ (asked_by self.now).of_leaf leaf name.now }
     {
         match self {
-            Question::Words(_) => true,
-            Question::Names => is_named(leaf, name),
+            Question::Words(version) => stands(*version, leaf),
+            Question::Names(version) => is_named(*version, leaf, name),
             Question::Classes(classes) => is_known(classes, leaf, name),
             Question::Pools(pools) => is_pooled(pools, leaf, name),
-            Question::Every(_, classes, pools) => suits_every(classes, pools, leaf, name),
+            Question::Every(version, classes, pools) => {
+                suits_every(*version, classes, pools, leaf, name)
+            }
         }
     }
 
@@ -172,7 +203,7 @@ impl Question<'_> {
             Question::Words(version) | Question::Every(version, _, _) => {
                 may_stand(call, word, *version)
             }
-            Question::Names | Question::Classes(_) | Question::Pools(_) => true,
+            Question::Names(_) | Question::Classes(_) | Question::Pools(_) => true,
         }
     }
 
@@ -185,7 +216,7 @@ impl Question<'_> {
             Question::Words(version) | Question::Every(version, _, _) => {
                 since <= *version || may_stand(call, word, *version)
             }
-            Question::Names | Question::Classes(_) | Question::Pools(_) => true,
+            Question::Names(_) | Question::Classes(_) | Question::Pools(_) => true,
         }
     }
 }

@@ -20,7 +20,7 @@ sound d draft h =
     λ a weak. weaker (every v table ps) a weak (suc MOST_LEVELS) (want.Keyed (keyed.Script v)) d h in
     record {
       words_suit = each (words v) (words_too v table ps);
-      names_suit = each names (names_too v table ps);
+      names_suit = each (names v) (names_too v table ps);
       classes_suit = each (classes table) (classes_too v table ps);
       pools_suit = each (pools ps) (pools_too v table ps);
     }

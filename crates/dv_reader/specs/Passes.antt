@@ -1,6 +1,6 @@
 -- What the passes of the reader find, by the functions that they compute.
-use Rattle.std.specs.Prelude.{◌≡◌, ◌≤◌, ◌<◌, ℕ, Bool, true, false, ◌||◌, if◌then◌else◌, List, length, Option, Some}
-use Rattle.std.specs.Prelude.{None, option_and_then, nat_eq, IsUtf8, codes, Result, Ok, Err, ⊤}
+use Rattle.std.specs.Prelude.{◌≡◌, ◌≤◌, ◌<◌, ℕ, Bool, true, false, ◌&&◌, if◌then◌else◌, List, length, Option, Some}
+use Rattle.std.specs.Prelude.{None, option_and_then, nat_le, IsUtf8, codes, Result, Ok, Err, ⊤}
 use Rattle.serde_json.specs.Data.{Data}
 use Rattle.serde_json.specs.Find.{get, as_number, as_u64}
 use Rattle.serde_json.specs.Read.{read}
@@ -9,6 +9,7 @@ use Rattle.dv_script.specs.declared.limits.TheConstants.{MOST_BYTES}
 use Rattle.dv_reader.specs.declared.error.ScriptFault.{ScriptFault}
 use Rattle.dv_reader.specs.declared.error.ScriptFault.TheVariants.{TooLong, NotJson, BadVersion, BadShape, TooMany}
 use Rattle.dv_reader.specs.declared.error.ScriptFault.TheVariants.{BadName, BadClass, OutOfMemory, BadPool}
+use Rattle.dv_forms.specs.declared.versions.TheConstants.{LAST_VERSION}
 use Rattle.dv_forms.specs.declared.stop.Stop.{Stop}
 use Rattle.dv_forms.specs.declared.stop.Stop.TheVariants as stop
 use Rattle.dv_grammar.specs.declared.draft.Draft.{Draft}
@@ -22,14 +23,14 @@ abbrev pub script_fault_of : Stop → ScriptFault
 script_fault_of stop.BadShape = BadShape
 script_fault_of stop.OutOfMemory = OutOfMemory
 
--- there is a number, and it is 1 or 2
-abbrev pub is_one_or_two : Option ℕ → Bool
-is_one_or_two None = false
-is_one_or_two (Some n) = nat_eq n 1 || nat_eq n 2
+-- there is a number, and it is from 1 to the last version
+abbrev pub is_of_language : Option ℕ → Bool
+is_of_language None = false
+is_of_language (Some n) = nat_le 1 n && nat_le n LAST_VERSION
 
--- the version is the integer 1 or 2
+-- the version is an integer from 1 to the last version
 abbrev pub is_version : Data → Bool
-is_version d = is_one_or_two (option_and_then as_u64 (option_and_then as_number (get (codes "version") d)))
+is_version d = is_of_language (option_and_then as_u64 (option_and_then as_number (get (codes "version") d)))
 
 -- the draft that a JSON value is, where it keeps to its version
 abbrev pub shape_at : Data → Option Draft
@@ -38,7 +39,7 @@ shape_at d = option_and_then (λ draft. if keeps_version d draft then Some draft
 -- the document answers each of the four questions well
 pub record IsSound (d : Data) (draft : Draft) : Type 0 where
   pub words_suit : answers (words draft.version) d draft ≡ true
-  pub names_suit : answers names d draft ≡ true
+  pub names_suit : answers (names draft.version) d draft ≡ true
   pub classes_suit : answers (classes draft.script.classes) d draft ≡ true
   pub pools_suit : answers (pools draft.script.pools) d draft ≡ true
 

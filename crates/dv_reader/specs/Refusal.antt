@@ -1,5 +1,5 @@
 -- What the bytes of a script say, and when they are refused: by the condition of the least number that holds.
-use Rattle.std.specs.Prelude.{◌≡◌, ◌≤◌, ◌<◌, ◌⊎◌, ℕ, suc, Bool, true, false, not, ◌&&◌, List, [], ◌∷◌, length, Some}
+use Rattle.std.specs.Prelude.{◌≡◌, ◌≤◌, ◌<◌, ℕ, suc, Bool, true, false, not, ◌&&◌, List, [], ◌∷◌, length, Some}
 use Rattle.std.specs.Prelude.{None, IsUtf8, codes, ⊤}
 use Rattle.serde_json.specs.Data.{Data, number, unsigned}
 use Rattle.serde_json.specs.Find.{get}
@@ -7,6 +7,7 @@ use Rattle.serde_json.specs.Read.{read}
 use Rattle.dv_script.specs.declared.script.NamedPool.{NamedPool}
 use Rattle.dv_script.specs.declared.script.Script.{Script}
 use Rattle.dv_script.specs.declared.limits.TheConstants.{MOST_BYTES, MOST_LEVELS}
+use Rattle.dv_forms.specs.declared.versions.TheConstants.{LAST_VERSION}
 use Rattle.dv_forms.specs.declared.want.Want.TheVariants as want
 use Rattle.dv_forms.specs.declared.want.Keyed.TheVariants as keyed
 use Rattle.dv_grammar.specs.declared.draft.Draft.{Draft}
@@ -24,16 +25,17 @@ pub record IsDocument (bytes : List ℕ) (d : Data) : Type 0 where
   pub text : IsUtf8 bytes
   pub is : read bytes ≡ Some d
 
--- an object whose `version` is the integer 1 or 2
+-- an object whose `version` is an integer from 1 to the last version
 abbrev pub HasVersion : Data → Type 0
 HasVersion d =
-    (get (codes "version") d ≡ Some (number (unsigned 1))) ⊎ (get (codes "version") d ≡ Some (number (unsigned 2)))
+    (version : ℕ) × (get (codes "version") d ≡ Some (number (unsigned version))) × (1 ≤ version)
+    × (version ≤ LAST_VERSION)
 
 -- each text of the document answers the question well, as one of a script of its version
 abbrev pub answers : Asked → Data → Draft → Bool
 answers asked d draft = all_suit asked (suc MOST_LEVELS) (want.Keyed (keyed.Script draft.version)) d
 
--- each word of the document is one of its version
+-- each word of the document is one of its version, and so is each comment
 abbrev pub keeps_version : Data → Draft → Bool
 keeps_version d draft = answers (words draft.version) d draft
 
@@ -48,9 +50,9 @@ pub record HasShape (bytes : List ℕ) (d : Data) (draft : Draft) : Type 0 where
   pub shape : IsScript d draft
   pub plain : keeps_version d draft ≡ true
 
--- each name of the document has its form
+-- each name of the document has the form of one of its version
 abbrev pub are_named : Data → Draft → Bool
-are_named d draft = answers names d draft
+are_named d draft = answers (names draft.version) d draft
 
 -- each class of the script may be declared, and each that the document uses is in its table
 abbrev pub are_known : Data → Draft → Bool

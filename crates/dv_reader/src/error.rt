@@ -12,7 +12,7 @@ pub enum ScriptFault {
     TooLong,
     /// It isn't JSON in UTF-8, or it nests too deeply.
     NotJson,
-    /// It isn't an object, or its `version` is absent or isn't the integer 1 or 2.
+    /// It isn't an object, or its `version` is absent or isn't the integer 1, 2 or 3.
     BadVersion,
     /// It is outside the grammar, or a number is outside its range.
     BadShape,
@@ -20,7 +20,8 @@ pub enum ScriptFault {
     /// 8 callers or 256 posts of a caller, or its advances sum to more than 10^15.
     TooMany,
     /// A name of an object, of a pool or of a declared class isn't of 1 to 32 of A to Z, a to z, 0
-    /// to 9 and `_`, nor `@` where a Deferred that is there is named.
+    /// to 9 and `_`, and in version 3 `-`, `.` and `:` after the first, nor `@` where a Deferred
+    /// that is there is named.
     BadName,
     /// A declared class has a name that is taken; or a parent, or a class that is used, isn't in
     /// the table.

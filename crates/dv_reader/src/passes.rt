@@ -10,6 +10,7 @@ ghost use Rattle.dv_reader.specs.Passes.{is_version, Accepts, IsSound, Judged, P
 
 use crate::error::ScriptFault;
 use crate::limits::is_small;
+use dv_forms::versions::LAST_VERSION;
 use dv_forms::want::{Keyed, Want};
 use dv_grammar::draft::Draft;
 use dv_grammar::reading::script::shape;
@@ -24,7 +25,10 @@ fn is_version(json: &Json) -> bool
     ensures { result ≡ is_version (view json.now) }
 {
     match json.get("version") {
-        Some(version) => matches!(version.as_u64(), Some(1 | 2)),
+        Some(version) => match version.as_u64() {
+            Some(n) => 1 <= n && n <= u64::from(LAST_VERSION),
+            None => false,
+        },
         None => false,
     }
 }
@@ -57,7 +61,7 @@ fn are_named(sound: bool, json: &Json, draft: &Draft) -> bool
     requires { sound ≡ true → IsSound (view json.now) draft.now }
     ensures { result ≡ are_named (view json.now) draft.now }
 {
-    sound || answers(&Question::Names, json, draft)
+    sound || answers(&Question::Names(draft.version), json, draft)
 }
 
 fn are_known(sound: bool, json: &Json, draft: &Draft) -> bool

@@ -148,20 +148,23 @@ body_key : (P : List ℕ → Type 0) (key : List ℕ) → EachKey P (keys_in key
 body_key P key all other =
     either key (codes "do") (λ t e. subst P e all.0) (λ f0.
     either key (codes "end") (λ t e. subst P e all.1.0) (λ f1.
-    other (rw (f0, f1) refl)))
+    either key (codes "comment") (λ t e. subst P e all.1.1.0) (λ f2.
+    other (rw (f0, f1, f2) refl))))
 
 cooperator_key : (P : List ℕ → Type 0) (key : List ℕ) → EachKey P (keys_in keyed.Cooperator)
     → (cooperator_want key ≡ want.Other keyed.Cooperator → P key) → P key
 cooperator_key P key all other =
     either key (codes "units") (λ t e. subst P e all.0) (λ f0.
     either key (codes "delay") (λ t e. subst P e all.1.0) (λ f1.
-    other (rw (f0, f1) refl)))
+    either key (codes "comment") (λ t e. subst P e all.1.1.0) (λ f2.
+    other (rw (f0, f1, f2) refl))))
 
 script_key : (P : List ℕ → Type 0) (version : ℕ) (b : Bool) → nat_eq version 1 ≡ b → (key : List ℕ)
     → EachKey P (keys_in (keyed.Script version)) → (script_want version key ≡ want.Other (keyed.Script version) → P key)
     → P key
 script_key P version true one key all other =
-    let rest : EachKey P (codes "classes" ∷ codes "callers" ∷ codes "events" ∷ []) = rw one at all.1.1.1 in
+    let rest : EachKey P (codes "classes" ∷ codes "callers" ∷ codes "events" ∷ codes "comment" ∷ []) =
+    rw one at all.1.1.1 in
     either key (codes "version") (λ t e. subst P e all.0) (λ f0.
     either key (codes "events") (λ t e. subst P e rest.1.1.0) (λ f1.
     either key (codes "limit") (λ t e. subst P e all.1.0) (λ f2.
@@ -169,9 +172,10 @@ script_key P version true one key all other =
     either key (codes "cooperator") (λ t e. subst P e all.1.1.0) (λ f4.
     either key (codes "callers") (λ t e. subst P e rest.1.0) (λ f5.
     either key (codes "pools") (λ t e. other (rw (f0, f1, f2, f3, f4, f5, t, one) refl)) (λ f6.
-    other (rw (f0, f1, f2, f3, f4, f5, f6) refl))))))))
+    either key (codes "comment") (λ t e. subst P e rest.1.1.1.0) (λ f7.
+    other (rw (f0, f1, f2, f3, f4, f5, f6, f7) refl)))))))))
 script_key P version false two key all other =
-    let rest : EachKey P (codes "pools" ∷ codes "classes" ∷ codes "callers" ∷ codes "events" ∷ []) =
+    let rest : EachKey P (codes "pools" ∷ codes "classes" ∷ codes "callers" ∷ codes "events" ∷ codes "comment" ∷ []) =
     rw two at all.1.1.1 in
     either key (codes "version") (λ t e. subst P e all.0) (λ f0.
     either key (codes "events") (λ t e. subst P e rest.1.1.1.0) (λ f1.
@@ -180,7 +184,8 @@ script_key P version false two key all other =
     either key (codes "cooperator") (λ t e. subst P e all.1.1.0) (λ f4.
     either key (codes "callers") (λ t e. subst P e rest.1.1.0) (λ f5.
     either key (codes "pools") (λ t e. subst P e rest.0) (λ f6.
-    other (rw (f0, f1, f2, f3, f4, f5, f6) refl))))))))
+    either key (codes "comment") (λ t e. subst P e rest.1.1.1.1.0) (λ f7.
+    other (rw (f0, f1, f2, f3, f4, f5, f6, f7) refl)))))))))
 
 -- a key is one that the object may have, or its value is another
 pub known_key : (P : List ℕ → Type 0) (k : Keyed) (key : List ℕ) → EachKey P (keys_in k)
@@ -217,8 +222,8 @@ other_wants : (q : Question) (w u : Want) (d e : Data) → is_other w ≡ true �
     → suits q u e ≡ true
 other_wants (question.Shape v) (want.Other k) u d e ow ou h = cc
 other_wants (question.Shape v) w u d e ow ou h = cc
-other_wants question.Names w (want.Other k) d e ow ou h = refl
-other_wants question.Names w u d e ow ou h = cc
+other_wants (question.Names v) w (want.Other k) d e ow ou h = refl
+other_wants (question.Names v) w u d e ow ou h = cc
 other_wants (question.Classes classes) w (want.Other k) d e ow ou h = refl
 other_wants (question.Classes classes) w u d e ow ou h = cc
 other_wants (question.Pools ps) w (want.Other k) d e ow ou h = refl

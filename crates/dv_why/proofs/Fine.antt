@@ -26,7 +26,7 @@ use Rattle.dv_forms.specs.Wants.{item_want}
 use Rattle.dv_forms.specs.Words.{may_stand, wants_of}
 use Rattle.dv_why.specs.Places.{nth, part_want, value_want}
 use Rattle.dv_questions.specs.Asking.{count}
-use Rattle.dv_why.specs.declared.fits.TheConstants.{LAST_VERSION}
+use Rattle.dv_forms.specs.declared.versions.TheConstants.{LAST_VERSION}
 use Rattle.dv_why.specs.Fits.{fits, word_fits}
 use Rattle.dv_why.specs.AllSuit.{AllSuit}
 use Rattle.dv_why.proofs.Asked.{item_below, value_below}

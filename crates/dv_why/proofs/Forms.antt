@@ -11,7 +11,7 @@ use Rattle.dv_forms.specs.declared.want.Want.{Want}
 use Rattle.dv_forms.specs.Words.{Form, or_else, own_forms, narrower, wants_in, wants_of, has_word, has_word_at}
 use Rattle.dv_forms.specs.Words.{may_stand, named_in}
 use Rattle.dv_grammar.proofs.Steps.{some_injective, chosen}
-use Rattle.dv_why.specs.declared.fits.TheConstants.{LAST_VERSION}
+use Rattle.dv_forms.specs.declared.versions.TheConstants.{LAST_VERSION}
 
 -- it is so of the word of each form, and of what its arguments have to be
 abbrev pub EachForm : (List ℕ → List Want → Type 0) → List Form → Type 0

@@ -1,11 +1,11 @@
 -- Where each class and each pool is as a question asks, the script knows its classes and its pools.
-use Rattle.std.proofs.Common.{◌≡◌, ◌≢◌, ℕ, zero, suc, ◌≤◌, Bool, true, false, not, ◌||◌, nat_eq, List, [], ◌∷◌, length}
-use Rattle.std.proofs.Common.{Option, Some, None, option_and_then, bytes_eq, refl, sym, ap, subst, ◌∙◌, arith, codes}
+use Rattle.std.proofs.Common.{◌≡◌, ◌≢◌, ℕ, zero, suc, ◌≤◌, Bool, true, false, not, ◌||◌, nat_eq, nat_le, List, [], ◌∷◌}
+use Rattle.std.proofs.Common.{length, Option, Some, None, option_and_then, bytes_eq, refl, sym, ap, subst, ◌∙◌, arith, codes}
 use Rattle.std.proofs.Common.{inl, inr}
 use Rattle.std.proofs.lemmas.Bool.{and_parts, leb-true}
 use Rattle.std.proofs.Math.Bool.{or-true}
 use Rattle.std.proofs.lemmas.Slice.Eq.{bytes_eq-Decides}
-use Rattle.serde_json.specs.Data.{Data, Items, no_items, item, depth}
+use Rattle.serde_json.specs.Data.{Data, string, Items, no_items, item, depth}
 use Rattle.serde_json.specs.Find.{as_array, get, get_member}
 use Rattle.dv_value.specs.declared.classes.Class.{Class}
 use Rattle.dv_script.specs.declared.script.NamedPool.{NamedPool}
@@ -15,11 +15,14 @@ use Rattle.dv_grammar.specs.declared.draft.Draft.{Draft}
 use Rattle.dv_grammar.specs.Grammar.{IsPool, pools, IsScript}
 use Rattle.dv_grammar.proofs.Steps.{some_injective}
 use Rattle.dv_questions.specs.Questions.{Asked, words, names, classes, pools as pools_asked, is_known, is_pool}
-use Rattle.dv_questions.specs.Questions.{is_among}
+use Rattle.dv_questions.specs.Questions.{is_among, stands}
+use Rattle.dv_forms.specs.declared.versions.TheConstants.{COMMENTS_SINCE}
+use Rattle.dv_forms.specs.declared.want.Leaf.{Leaf}
+use Rattle.dv_forms.specs.declared.want.Leaf.TheVariants as leaf
 use Rattle.dv_reader.specs.Limits.{is_small}
 use Rattle.dv_reader.specs.Refusal.{answers, are_named, are_known, are_distinct, are_pooled}
 use Rattle.dv_reader.specs.declared.error.ScriptFault.TheVariants.{BadShape, BadName, BadClass, BadPool}
-use Rattle.dv_why.specs.Fits.{is_declared}
+use Rattle.dv_why.specs.Fits.{is_declared, leaf_fits}
 use Rattle.dv_why.specs.declared.question.Question.{Question}
 use Rattle.dv_why.specs.declared.question.Question.TheVariants as question
 use Rattle.dv_why.specs.AllSuit.{AllSuit}
@@ -51,15 +54,15 @@ answered {a = a} d draft t g h =
 
 -- ---- names
 
-names_asked : Tells question.Names names
-names_asked = record { leaf = λ l x h. h; word = λ c x h. refl }
+names_asked : (v w : ℕ) → v ≡ w → Tells (question.Names v) (names w)
+names_asked v w same = record { leaf = λ l x h. rw (← same) h; word = λ c x h. refl }
 
 -- ---- classes
 
 classes_asked : (q : Question) (d : Data) (table : List Class) → IsOfClasses d q → table_in d ≡ table
     → Tells q (classes table)
 classes_asked (question.Shape version) d table of same = absurd of
-classes_asked question.Names d table of same = absurd of
+classes_asked (question.Names version) d table of same = absurd of
 classes_asked (question.Classes given) d table of same =
     record { leaf = λ l x h. ap (λ t. is_known t l x) (sym (of ∙ same)) ∙ h; word = λ c x h. refl }
 classes_asked (question.Pools ps) d table of same = absurd of
@@ -153,7 +156,7 @@ among_declared d draft ps of g x h =
 pools_tell : (q : Question) (d : Data) (draft : Draft) → IsOfPools d q → IsScript d draft
     → Tells q (pools_asked draft.script.pools)
 pools_tell (question.Shape version) d draft of g = absurd of
-pools_tell question.Names d draft of g = absurd of
+pools_tell (question.Names version) d draft of g = absurd of
 pools_tell (question.Classes given) d draft of g = absurd of
 pools_tell (question.Pools ps) d draft of g = record {
   leaf =
@@ -186,11 +189,13 @@ differs true is isnt = cc
 differs false is isnt = cc
 
 -- refused for a name, a name is found
-pub found_name : (d : Data) (m : Misfit) → IsRefusedFor BadName d → depth d ≤ MOST_LEVELS → Misfits question.Names d m
-    → IsMisnamed m
-found_name d m h shallow (inl bad) = misnamed m bad
+pub found_name : (d : Data) (m : Misfit) → IsRefusedFor BadName d → depth d ≤ MOST_LEVELS
+    → Misfits (question.Names (version_in d)) d m → IsMisnamed d m
+found_name d m h shallow (inl bad) = misnamed d m bad
 found_name d m h shallow (inr whole) =
-    differs (are_named d h.0) (answered d h.0 names_asked h.1.shape (whole.1 shallow)) h.3
+    let same : version_in d ≡ h.0.version = same_version d h.0 h.1.shape in
+    differs (are_named d h.0) (answered d h.0 (names_asked (version_in d) h.0.version same) h.1.shape (whole.1 shallow))
+    h.3
 
 -- refused for a class, a class is found, where each may be declared
 pub found_class : (q : Question) (d : Data) (m : Misfit) → IsOfClasses d q → AllMayDeclare (list_in (codes "classes") d)
@@ -208,8 +213,22 @@ found_pool q d m of once h shallow (inr whole) =
 
 -- ---- shapes
 
+-- a leaf that fits may stand in its version
+leaf_stands : (v : ℕ) (l : Leaf) (x : List ℕ) → leaf_fits v l (string x) ≡ true → stands v l ≡ true
+leaf_stands v leaf.Comment x h = (and_parts (nat_le COMMENTS_SINCE v) true h).0
+leaf_stands v leaf.Text x h = refl
+leaf_stands v (leaf.New o) x h = refl
+leaf_stands v (leaf.Found o) x h = refl
+leaf_stands v leaf.Integer x h = refl
+leaf_stands v (leaf.Number low high) x h = refl
+leaf_stands v leaf.Boolean x h = refl
+leaf_stands v leaf.Bound x h = refl
+leaf_stands v leaf.ListFlag x h = refl
+leaf_stands v leaf.GatherFlag x h = refl
+
 shape_asked : (v w : ℕ) → v ≡ w → Tells (question.Shape v) (words w)
-shape_asked v w same = record { leaf = λ l x h. refl; word = λ c x h. rw (← same) h }
+shape_asked v w same =
+    record { leaf = λ l x h. rw (← same) (leaf_stands v l x h); word = λ c x h. rw (← same) h }
 
 -- refused for its shape, a part is found that doesn't fit
 pub found_shape : (d : Data) (m : Misfit) → IsRefusedFor BadShape d → depth d ≤ MOST_LEVELS

@@ -1,6 +1,6 @@
 -- Where each part of a value fits, it reads.
-use Rattle.std.proofs.Common.{Ordering, Less, Equal, Greater, is_eq, nat_cmp, ◌≡◌, ℕ, zero, suc, ◌≤◌, nat_eq, Bool}
-use Rattle.std.proofs.Common.{true, false, List, [], ◌∷◌, Option, Some, None, is_some, option_and_then, bytes_eq, refl}
+use Rattle.std.proofs.Common.{Ordering, Less, Equal, Greater, is_eq, nat_cmp, ◌≡◌, ℕ, zero, suc, ◌≤◌, nat_eq, nat_le}
+use Rattle.std.proofs.Common.{Bool, true, false, ◌||◌, List, [], ◌∷◌, Option, Some, None, is_some, option_and_then, bytes_eq, refl}
 use Rattle.std.proofs.Common.{sym, ap, subst, ◌∙◌, arith, codes}
 use Rattle.std.specs.List.{list_any}
 use Rattle.std.specs.Ordering.{match_ordering}
@@ -33,7 +33,8 @@ use Rattle.dv_script.specs.declared.limits.TheConstants.{MOST_DRAINED, MOST_LIMI
 use Rattle.dv_script.specs.declared.limits.TheConstants.{MOST_WORKERS, USUAL_LIMIT}
 use Rattle.dv_clock.specs.declared.limits.TheConstants.{MOST_DELAY, MOST_TICKS}
 use Rattle.dv_forms.specs.declared.declaration.Declaration.{Declaration}
-use Rattle.dv_forms.specs.Forms.{call, IsList, Field, Key, has_only, IsNumber, IsText, IsClass, IsValue, place_of}
+use Rattle.dv_forms.specs.Forms.{call, IsList, Field, Key, has_only, is_comment, is_keyed_by, IsNumber, IsText, IsClass}
+use Rattle.dv_forms.specs.Forms.{IsValue, place_of}
 use Rattle.dv_forms.specs.Leaving.{may_leave}
 use Rattle.dv_forms.specs.Table.{table_of, all_declared}
 use Rattle.dv_grammar.specs.declared.draft.Draft.{Draft}
@@ -50,6 +51,7 @@ use Rattle.dv_grammar.specs.Grammar.{performs, awaits, tries, leaves, AreStateme
 use Rattle.dv_grammar.specs.Grammar.{IsEvent, acts, advances, drains, IsDeclaration, declares, IsPool, pools}
 use Rattle.dv_grammar.specs.Grammar.{IsCooperator, IsScript, IsBound}
 use Rattle.dv_grammar.proofs.WordsLemmas.{◌&◌}
+use Rattle.dv_forms.specs.declared.versions.TheConstants.{COMMENTS_SINCE, LAST_VERSION}
 use Rattle.dv_forms.specs.declared.want.Want.{Want}
 use Rattle.dv_forms.specs.declared.want.Want.TheVariants as want
 use Rattle.dv_forms.specs.declared.want.Leaf.TheVariants as leaf
@@ -60,11 +62,11 @@ use Rattle.dv_forms.specs.declared.want.Item.{Item}
 use Rattle.dv_forms.specs.declared.want.Item.TheVariants as item_of
 use Rattle.dv_why.specs.declared.question.Question.TheVariants as question
 use Rattle.dv_forms.specs.declared.want.Object.TheVariants as object
-use Rattle.dv_forms.specs.Wants.{a_deferred, a_class, a_text, a_body, item_want, key_want, keys_in}
+use Rattle.dv_forms.specs.Wants.{a_deferred, a_class, a_text, a_comment, a_body, item_want, key_want, keys_in}
 use Rattle.dv_forms.specs.Words.{own_forms, wants_in}
 use Rattle.dv_why.specs.Places.{nth}
 use Rattle.dv_questions.specs.Asking.{count}
-use Rattle.dv_why.specs.Documents.{one_or_two, version_in, script_in}
+use Rattle.dv_why.specs.Documents.{version_in, script_in}
 use Rattle.dv_why.specs.Fits.{fits, are_two}
 use Rattle.dv_why.specs.AllSuit.{AllSuit}
 use Rattle.dv_why.proofs.Asked.{EachKey, known_key}
@@ -73,7 +75,7 @@ use Rattle.dv_why.proofs.Fine.{boolean_of, bound_of, list_flag_of, gather_flag_o
 use Rattle.dv_why.proofs.Fine.{AreFine, are_fine, no_args, one_arg, more_args, open_call}
 use Rattle.dv_why.proofs.Forms.{EachForm, either_found, found_form}
 use Rattle.dv_why.proofs.Parts.{both, here, value}
-use Rattle.dv_why.proofs.Versions.{within_two}
+use Rattle.dv_why.proofs.Versions.{version_of}
 
 -- ---- texts and classes
 
@@ -300,9 +302,13 @@ still_there Less rest d e is = (e, is)
 still_there Equal rest d e is = (d, refl)
 still_there Greater rest d e is = (e, is)
 
+-- whether a key is one of these, or that of a comment
+abbrev is_key : List (List ℕ) → List ℕ → Bool
+is_key keys key = list_any (λ k. bytes_eq key k) keys || bytes_eq key (codes "comment")
+
 -- each key that is there is one of these
 only_of : (keys : List (List ℕ)) (ms : Members)
-    → ((key : List ℕ) (e : Data) → get_member key ms ≡ Some e → list_any (λ k. bytes_eq key k) keys ≡ true)
+    → ((key : List ℕ) (e : Data) → get_member key ms ≡ Some e → is_key keys key ≡ true)
     → has_only keys ms ≡ true
 unfolding has_only
 only_of keys no_members h = refl
@@ -320,29 +326,43 @@ not_other v k ms h key e is other =
     let no : fits v (want.Other k) e ≡ true = ap (λ (w : Want). fits v w e) (sym other) ∙ fit in
     cc
 
-body_only : (v : ℕ) (ms : Members) → AllSuit (question.Shape v) a_body (object ms) → has_only body_keys ms ≡ true
-body_only v ms h = only_of body_keys ms (λ key e is.
-    let P : List ℕ → Type 0 = λ x. (list_any (λ k. bytes_eq x k) body_keys ≡ true) in
-    known_key P keyed.Body key (refl, (refl, tt)) (λ other. absurd (not_other v keyed.Body ms h key e is other)))
+comment_fits : (v : ℕ) (o : Option Data) → ((e : Data) → o ≡ Some e → fits v a_comment e ≡ true) → is_comment o ≡ true
+comment_fits v None h = refl
+comment_fits v (Some e) h = (and_parts (nat_le COMMENTS_SINCE v) (is_some (as_str e)) (h e refl)).1
+
+-- a comment that is there is a text
+comment_of : (v : ℕ) (k : Keyed) (ms : Members) → key_want k (codes "comment") ≡ a_comment
+    → AllSuit (question.Shape v) (want.Keyed k) (object ms) → is_comment (get_member (codes "comment") ms) ≡ true
+comment_of v k ms asks h =
+    comment_fits v (get_member (codes "comment") ms) (λ e is. here (value (codes "comment") h (ap Some asks) is))
+
+body_only : (v : ℕ) (ms : Members) → AllSuit (question.Shape v) a_body (object ms) → is_keyed_by body_keys ms ≡ true
+body_only v ms h = both (only_of body_keys ms (λ key e is.
+    let P : List ℕ → Type 0 = λ x. (is_key body_keys x ≡ true) in
+    known_key P keyed.Body key (refl, (refl, (refl, tt)))
+    (λ other. absurd (not_other v keyed.Body ms h key e is other))))
+    (comment_of v keyed.Body ms refl h)
 
 cooperator_only : (v : ℕ) (ms : Members) → AllSuit (question.Shape v) (want.Keyed keyed.Cooperator) (object ms)
-    → has_only cooperator_keys ms ≡ true
-cooperator_only v ms h = only_of cooperator_keys ms (λ key e is.
-    let P : List ℕ → Type 0 = λ x. (list_any (λ k. bytes_eq x k) cooperator_keys ≡ true) in
-    known_key P keyed.Cooperator key (refl, (refl, tt))
-    (λ other. absurd (not_other v keyed.Cooperator ms h key e is other)))
+    → is_keyed_by cooperator_keys ms ≡ true
+cooperator_only v ms h = both (only_of cooperator_keys ms (λ key e is.
+    let P : List ℕ → Type 0 = λ x. (is_key cooperator_keys x ≡ true) in
+    known_key P keyed.Cooperator key (refl, (refl, (refl, tt)))
+    (λ other. absurd (not_other v keyed.Cooperator ms h key e is other))))
+    (comment_of v keyed.Cooperator ms refl h)
 
 each_script_key : (v : ℕ) (b : Bool) → nat_eq v 1 ≡ b
-    → EachKey (λ x. list_any (λ k. bytes_eq x k) (keys_of v) ≡ true) (keys_in (keyed.Script v))
-each_script_key v true one = simp one (refl, (refl, (refl, (refl, (refl, (refl, tt))))))
-each_script_key v false two = simp two (refl, (refl, (refl, (refl, (refl, (refl, (refl, tt)))))))
+    → EachKey (λ x. is_key (keys_of v) x ≡ true) (keys_in (keyed.Script v))
+each_script_key v true one = simp one (refl, (refl, (refl, (refl, (refl, (refl, (refl, tt)))))))
+each_script_key v false two = simp two (refl, (refl, (refl, (refl, (refl, (refl, (refl, (refl, tt))))))))
 
 script_only : (v : ℕ) (ms : Members) → AllSuit (question.Shape v) (want.Keyed (keyed.Script v)) (object ms)
-    → has_only (keys_of v) ms ≡ true
-script_only v ms h = only_of (keys_of v) ms (λ key e is.
-    let P : List ℕ → Type 0 = λ x. (list_any (λ k. bytes_eq x k) (keys_of v) ≡ true) in
+    → is_keyed_by (keys_of v) ms ≡ true
+script_only v ms h = both (only_of (keys_of v) ms (λ key e is.
+    let P : List ℕ → Type 0 = λ x. (is_key (keys_of v) x ≡ true) in
     known_key P (keyed.Script v) key (each_script_key v (nat_eq v 1) refl)
-    (λ other. absurd (not_other v (keyed.Script v) ms h key e is other)))
+    (λ other. absurd (not_other v (keyed.Script v) ms h key e is other))))
+    (comment_of v (keyed.Script v) ms refl h)
 
 -- ---- bodies and statements, by those inside
 
@@ -731,11 +751,6 @@ pools_field v n false two ms h =
     list_field v n item_of.Pool IsPool (pool_pair_fine v n) (get_member (codes "pools") ms)
     (λ e is. value_fine (codes "pools") h (rw two refl) is)
 
-version_number : (o : Option Data) (n : ℕ) → Key (IsNumber 1 2) o n
-    → one_or_two (option_and_then as_u64 (option_and_then as_number o)) ≡ n
-version_number None n h = absurd h
-version_number (Some d) n h = rw (h.0) (within_two n h.1 h.2)
-
 -- a document of which each part fits is a script
 pub script_fine : (d : Data) → AllSuit (question.Shape (version_in d)) (script_in d) d
     → (draft : Draft) × IsScript d draft
@@ -746,8 +761,9 @@ script_fine (object ms) suit =
     let keys =
     and_parts (is_some (get_member (codes "version") ms)) (is_some (get_member (codes "events") ms)) (fits_fine h) in
     let version =
-    number_key v n 1 2 (get_member (codes "version") ms) keys.0 (λ e is. value_fine (codes "version") h refl is) in
-    let same_version : v ≡ version.0 = version_number (get_member (codes "version") ms) version.0 version.1 in
+    number_key v n 1 LAST_VERSION (get_member (codes "version") ms) keys.0
+    (λ e is. value_fine (codes "version") h refl is) in
+    let same_version : v ≡ version.0 = version_of (get_member (codes "version") ms) version.0 version.1 in
     let classes = list_field v n item_of.Declaration IsDeclaration (declaration_fine v n)
     (get_member (codes "classes") ms) (λ e is. value_fine (codes "classes") h refl is) in
     let table = table_of classes.0 in
@@ -777,7 +793,7 @@ script_fine (object ms) suit =
         members = ms;
         whole = refl;
         version = version.1;
-        only = subst (λ (k : ℕ). has_only (keys_of k) ms ≡ true) same_version (script_only v ms suit);
+        only = subst (λ (k : ℕ). is_keyed_by (keys_of k) ms ≡ true) same_version (script_only v ms suit);
         declared = classes.1;
         all_declared = refl;
         table = refl;

@@ -15,7 +15,7 @@ use Rattle.dv_why.specs.declared.misfit.Misfit.{Misfit}
 use Rattle.dv_why.specs.declared.question.Question.{Question}
 use Rattle.dv_why.specs.declared.question.Question.TheVariants as question
 use Rattle.dv_why.specs.Declaring.{table_in}
-use Rattle.dv_why.specs.Documents.{list_in, name_in}
+use Rattle.dv_why.specs.Documents.{list_in, name_in, version_in}
 use Rattle.dv_questions.specs.Questions.{is_class, is_pool}
 use Rattle.dv_why.specs.Fits.{is_declared, leaf_suits, name_suits, names_suit, suits}
 use Rattle.dv_why.specs.Wrong.{IsMisnamed, IsBadClass, unknown_class, IsBadPool, unknown_pool}
@@ -55,15 +55,16 @@ pool_is (leaf.Found object.Pool) h = refl
 pool_is _ h = cc
 
 -- a part that answers badly is a name that hasn't its form
-pub misnamed : (m : Misfit) → suits question.Names m.want (view m.found.now) ≡ false → IsMisnamed m
-misnamed m bad =
-    let b = bad_text question.Names m.want (view m.found.now) bad in
+pub misnamed : (d : Data) (m : Misfit) → suits (question.Names (version_in d)) m.want (view m.found.now) ≡ false
+    → IsMisnamed d m
+misnamed d m bad =
+    let b = bad_text (question.Names (version_in d)) m.want (view m.found.now) bad in
     record { name = b.name; leaf = b.leaf; asks = b.asks; found = b.text; wrong = b.bad }
 
 -- the question asks for the classes of this document
 abbrev pub IsOfClasses : Data → Question → Type 0
 IsOfClasses d (question.Shape version) = ⊥
-IsOfClasses d question.Names = ⊥
+IsOfClasses d (question.Names version) = ⊥
 IsOfClasses d (question.Classes classes) = classes.now ≡ table_in d
 IsOfClasses d (question.Pools pools) = ⊥
 
@@ -71,7 +72,7 @@ IsOfClasses d (question.Pools pools) = ⊥
 pub misused_class : (q : Question) (d : Data) (m : Misfit) → IsOfClasses d q → suits q m.want (view m.found.now) ≡ false
     → IsBadClass d m
 misused_class (question.Shape version) d m of h = absurd of
-misused_class question.Names d m of h = absurd of
+misused_class (question.Names version) d m of h = absurd of
 misused_class (question.Pools pools) d m of h = absurd of
 misused_class (question.Classes classes) d m of bad =
     let b = bad_text (question.Classes classes) m.want (view m.found.now) bad in
@@ -82,7 +83,7 @@ misused_class (question.Classes classes) d m of bad =
 -- the question asks for the pools of this document
 abbrev pub IsOfPools : Data → Question → Type 0
 IsOfPools d (question.Shape version) = ⊥
-IsOfPools d question.Names = ⊥
+IsOfPools d (question.Names version) = ⊥
 IsOfPools d (question.Classes classes) = ⊥
 IsOfPools d (question.Pools pools) = items_view pools.now ≡ list_in (codes "pools") d
 
@@ -90,7 +91,7 @@ IsOfPools d (question.Pools pools) = items_view pools.now ≡ list_in (codes "po
 pub misused_pool : (q : Question) (d : Data) (m : Misfit) → IsOfPools d q → suits q m.want (view m.found.now) ≡ false
     → IsBadPool d m
 misused_pool (question.Shape version) d m of h = absurd of
-misused_pool question.Names d m of h = absurd of
+misused_pool (question.Names version) d m of h = absurd of
 misused_pool (question.Classes classes) d m of h = absurd of
 misused_pool (question.Pools pools) d m of bad =
     let b = bad_text (question.Pools pools) m.want (view m.found.now) bad in

@@ -1,9 +1,9 @@
 -- The version that a document says, and that a script of the first has no pools.
-use Rattle.std.proofs.Common.{is_eq, true≢false, Ordering, Less, Equal, Greater, nat_cmp, ◌≡◌, ℕ, zero, suc, ◌≤◌, Bool}
-use Rattle.std.proofs.Common.{true, false, nat_eq, List, Option, Some, None, option_and_then, bytes_eq, refl, sym, ap}
-use Rattle.std.proofs.Common.{◌∙◌, arith, codes}
+use Rattle.std.proofs.Common.{is_eq, true≢false, Ordering, Less, Equal, Greater, nat_cmp, ◌≡◌, ℕ, ◌≤◌, Bool, true, false}
+use Rattle.std.proofs.Common.{◌||◌, nat_eq, List, Option, Some, None, option_and_then, bytes_eq, refl, sym, ap, ◌∙◌}
+use Rattle.std.proofs.Common.{codes}
 use Rattle.std.specs.List.{list_any}
-use Rattle.std.proofs.lemmas.Bool.{and_parts}
+use Rattle.std.proofs.lemmas.Bool.{and_parts, le-leb}
 use Rattle.std.proofs.lemmas.Map.Text.{is_eq-slice_cmp}
 use Rattle.std.proofs.lemmas.Slice.Eq.{bytes_eq-Decides}
 use Rattle.std.specs.Ordering.{match_ordering}
@@ -11,20 +11,18 @@ use Rattle.std.specs.Cmp.Lexicographic.{slice_cmp}
 use Rattle.serde_json.specs.Data.{Data, Members, no_members, member}
 use Rattle.serde_json.specs.Find.{get_member, as_number, as_u64}
 use Rattle.dv_forms.specs.Forms.{Key, has_only, IsNumber}
+use Rattle.dv_forms.specs.declared.versions.TheConstants.{LAST_VERSION}
 use Rattle.dv_grammar.specs.declared.draft.Draft.{Draft}
 use Rattle.dv_grammar.specs.Grammar.{script_keys, IsScript}
-use Rattle.dv_why.specs.Documents.{version_in, one_or_two}
+use Rattle.dv_why.specs.Documents.{version_in, or_last}
 
-pub within_two : (n : ℕ) → 1 ≤ n → n ≤ 2 → one_or_two (Some n) ≡ n
-within_two zero low high = absurd (omega arith)
-within_two (suc zero) low high = refl
-within_two (suc (suc zero)) low high = refl
-within_two (suc (suc (suc n))) low high = absurd (omega arith)
+within_last : (n : ℕ) → 1 ≤ n → n ≤ LAST_VERSION → or_last (Some n) ≡ n
+within_last n low high = rw (le-leb 1 n low, le-leb n LAST_VERSION high) refl
 
-version_of : (o : Option Data) (n : ℕ) → Key (IsNumber 1 2) o n
-    → one_or_two (option_and_then as_u64 (option_and_then as_number o)) ≡ n
+pub version_of : (o : Option Data) (n : ℕ) → Key (IsNumber 1 LAST_VERSION) o n
+    → or_last (option_and_then as_u64 (option_and_then as_number o)) ≡ n
 version_of None n h = absurd h
-version_of (Some d) n h = rw (h.0) (within_two n h.1 h.2)
+version_of (Some d) n h = rw (h.0) (within_last n h.1 h.2)
 
 pub same_version : (d : Data) (draft : Draft) → IsScript d draft → version_in d ≡ draft.version
 same_version d draft g = rw (g.whole) (version_of (get_member (codes "version") g.members) draft.version g.version)
@@ -43,7 +41,8 @@ no_pools : (ms : Members) → has_only script_keys ms ≡ true → get_member (c
 unfolding has_only
 no_pools no_members h = refl
 no_pools (member key d ms) h =
-    let parts = and_parts (list_any (λ k. bytes_eq key k) script_keys) (has_only script_keys ms) h in
+    let parts = and_parts (list_any (λ k. bytes_eq key k) script_keys || bytes_eq key (codes "comment"))
+    (has_only script_keys ms) h in
     let other : codes "pools" ≡ key → ⊥ = λ e. true≢false (sym (rw (← e) at parts.0)) in
     either_side (slice_cmp nat_cmp (codes "pools") key) _ _
     (is_eq-slice_cmp (codes "pools") key ∙ differ (codes "pools") key _ refl other) ∙ no_pools ms parts.1
@@ -52,4 +51,4 @@ pub first_has_no_pools : (d : Data) (draft : Draft) (g : IsScript d draft) → n
     → get_member (codes "pools") g.members ≡ None
 first_has_no_pools d draft g one =
     let same : nat_eq draft.version 1 ≡ true = ap (λ v. nat_eq v 1) (sym (same_version d draft g)) ∙ one in
-    no_pools g.members (rw same at g.only)
+    no_pools g.members (and_parts _ _ (rw same at g.only)).0

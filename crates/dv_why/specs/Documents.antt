@@ -1,20 +1,21 @@
 -- What a document says as a whole: its version, and the lists of its keys.
-use Rattle.std.specs.Prelude.{◌≡◌, ◌≢◌, ◌<◌, false, ℕ, nat_eq, if◌then◌else◌, List, Option, Some, None, option_and_then}
-use Rattle.std.specs.Prelude.{codes}
+use Rattle.std.specs.Prelude.{◌≡◌, ◌≢◌, ◌<◌, ◌&&◌, false, ℕ, nat_eq, nat_le, if◌then◌else◌, List, Option, Some, None}
+use Rattle.std.specs.Prelude.{option_and_then, codes}
 use Rattle.serde_json.specs.Data.{Data, Items, no_items}
 use Rattle.serde_json.specs.Find.{get, at, get_item, as_array, as_number, as_str, as_u64}
+use Rattle.dv_forms.specs.declared.versions.TheConstants.{LAST_VERSION}
 use Rattle.dv_forms.specs.declared.want.Want.{Want}
 use Rattle.dv_forms.specs.declared.want.Want.TheVariants as want
 use Rattle.dv_forms.specs.declared.want.Keyed.TheVariants as keyed
 
--- 1, or 2 where it is anything else
-abbrev pub one_or_two : Option ℕ → ℕ
-one_or_two None = 2
-one_or_two (Some n) = if nat_eq n 1 then 1 else 2
+-- a version of the language, or the last where it is anything else
+abbrev pub or_last : Option ℕ → ℕ
+or_last None = LAST_VERSION
+or_last (Some n) = if nat_le 1 n && nat_le n LAST_VERSION then n else LAST_VERSION
 
--- the version that a document says, or 2 where it says none
+-- the version that a document says, or the last where it says none
 abbrev pub version_in : Data → ℕ
-version_in d = one_or_two (option_and_then as_u64 (option_and_then as_number (get (codes "version") d)))
+version_in d = or_last (option_and_then as_u64 (option_and_then as_number (get (codes "version") d)))
 
 -- what is asked of a document as a whole
 abbrev pub script_in : Data → Want

@@ -1,5 +1,5 @@
 -- Whether what stands at a place is what the place asks for, its parts apart.
-use Rattle.std.specs.Prelude.{ℕ, if◌then◌else◌, ◌&&◌, ◌||◌, nat_eq, Bool, true, false, not, List, Option, Some, None}
+use Rattle.std.specs.Prelude.{ℕ, if◌then◌else◌, ◌&&◌, ◌||◌, nat_eq, nat_le, Bool, true, false, not, List, Option, Some, None}
 use Rattle.std.specs.Prelude.{is_some, option_and_then, bytes_eq, codes}
 use Rattle.std.specs.List.{list_any}
 use Rattle.serde_json.specs.Data.{Data, null, boolean, number, string, array, object, Items, no_items, item, Members}
@@ -21,19 +21,20 @@ use Rattle.dv_why.specs.declared.question.Question.{Question}
 use Rattle.dv_why.specs.declared.question.Question.TheVariants as question
 use Rattle.dv_forms.specs.Wants.{key_want}
 use Rattle.dv_forms.specs.Words.{may_stand, wants_of}
-use Rattle.dv_why.specs.declared.fits.TheConstants.{LAST_VERSION}
+use Rattle.dv_forms.specs.declared.versions.TheConstants.{COMMENTS_SINCE, LAST_VERSION}
 
--- a leaf reads as the grammar reads it
-abbrev pub leaf_fits : Leaf → Data → Bool
-leaf_fits leaf.Text d = is_some (text_at d)
-leaf_fits (leaf.New o) d = is_some (text_at d)
-leaf_fits (leaf.Found o) d = is_some (text_at d)
-leaf_fits leaf.Integer d = is_some (integer_at d)
-leaf_fits (leaf.Number low high) d = is_some (number_at low high d)
-leaf_fits leaf.Boolean d = is_some (as_bool d)
-leaf_fits leaf.Bound d = is_some (bound_at d)
-leaf_fits leaf.ListFlag d = is_some (list_flag_at d)
-leaf_fits leaf.GatherFlag d = is_some (gather_flag_at d)
+-- a leaf reads as the grammar reads it in a script of this version
+abbrev pub leaf_fits : ℕ → Leaf → Data → Bool
+leaf_fits version leaf.Text d = is_some (text_at d)
+leaf_fits version (leaf.New o) d = is_some (text_at d)
+leaf_fits version (leaf.Found o) d = is_some (text_at d)
+leaf_fits version leaf.Integer d = is_some (integer_at d)
+leaf_fits version (leaf.Number low high) d = is_some (number_at low high d)
+leaf_fits version leaf.Boolean d = is_some (as_bool d)
+leaf_fits version leaf.Bound d = is_some (bound_at d)
+leaf_fits version leaf.ListFlag d = is_some (list_flag_at d)
+leaf_fits version leaf.GatherFlag d = is_some (gather_flag_at d)
+leaf_fits version leaf.Comment d = nat_le COMMENTS_SINCE version && is_some (text_at d)
 
 -- a value, its items apart: no object, and no number but integers of 64 bits
 abbrev pub value_fits : Data → Bool
@@ -77,7 +78,7 @@ has_keys keyed.Body d = true
 
 -- what stands at a place has the shape that the place asks for, its parts apart
 abbrev pub fits : ℕ → Want → Data → Bool
-fits version (want.Leaf leaf) d = leaf_fits leaf d
+fits version (want.Leaf leaf) d = leaf_fits version leaf d
 fits version want.Value d = value_fits d
 fits version (want.Call c) d = array_fits (parts_fit c) (as_array d)
 fits version (want.Pair p) d = array_fits are_two (as_array d)
@@ -119,7 +120,7 @@ is_given pools (Some name) = is_declared pools name
 -- whether a name is what is looked for
 abbrev pub name_suits : Question → Leaf → List ℕ → Bool
 name_suits (question.Shape version) l name = true
-name_suits question.Names l name = is_named l name
+name_suits (question.Names version) l name = is_named version l name
 name_suits (question.Classes classes) l name = is_known classes.now l name
 name_suits (question.Pools pools) l name = not (is_pool l) || is_declared pools.now name
 
@@ -142,6 +143,6 @@ names_suit q (want.Other k) d = true
 -- whether what stands at a place answers the question well, its parts apart
 abbrev pub suits : Question → Want → Data → Bool
 suits (question.Shape version) w d = fits version w d
-suits question.Names w d = names_suit question.Names w d
+suits (question.Names version) w d = names_suit (question.Names version) w d
 suits (question.Classes classes) w d = names_suit (question.Classes classes) w d
 suits (question.Pools pools) w d = names_suit (question.Pools pools) w d

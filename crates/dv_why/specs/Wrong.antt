@@ -50,13 +50,13 @@ pub data IsTooMuch (d : Data) (m : Misfit) : Type 0 where
   -- of ticks that the events advance the clock by
   many_ticks : IsAt (to_key (codes "events") ∷ []) m → MOST_TICKS < ticks_in d → IsTooMuch d m
 
--- BadName: a text stands there, and it hasn't the form of a name that its place asks for
-pub record IsMisnamed (m : Misfit) : Type 0 where
+-- BadName: a text stands there, and it hasn't the form of a name that its place asks for in the document's version
+pub record IsMisnamed (d : Data) (m : Misfit) : Type 0 where
   pub name : List ℕ
   pub leaf : Leaf
   pub asks : m.want ≡ want.Leaf leaf
   pub found : HasText name m
-  pub wrong : is_named leaf name ≡ false
+  pub wrong : is_named (version_in d) leaf name ≡ false
 
 -- the declaration at this path may not be added to this table: its name, part 0 of it, is taken, or its parent, part 1,
 -- isn't there
@@ -97,7 +97,7 @@ IsWrong NotJson d m = ⊤
 IsWrong BadVersion d m = IsAtVersion d m
 IsWrong BadShape d m = IsMisshaped d m
 IsWrong TooMany d m = IsTooMuch d m
-IsWrong BadName d m = IsMisnamed m
+IsWrong BadName d m = IsMisnamed d m
 IsWrong BadClass d m = IsBadClass d m
 IsWrong OutOfMemory d m = ⊤
 IsWrong BadPool d m = IsBadPool d m

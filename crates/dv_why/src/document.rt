@@ -3,22 +3,37 @@
 ghost use Rattle.std.specs.Prelude.{◌≡◌, [], IfOk};
 ghost use Rattle.serde_json.specs.Find.{get};
 ghost use Rattle.serde_json.specs.View.{view};
-ghost use Rattle.dv_why.specs.Documents.{version_in, script_in};
+ghost use Rattle.dv_why.specs.Documents.{or_last, version_in, script_in};
 ghost use Rattle.dv_why.specs.Places.{path_of, path_to};
 ghost use Rattle.dv_why.specs.Finds.{Leads};
 
 use crate::misfit::{Misfit, Step};
+use dv_forms::versions::LAST_VERSION;
 use dv_forms::want::{Keyed, Want};
 use serde_json::Value as Json;
 use std::alloc::{AllocError, Global};
 
-/// The version that a document says, or 2 where it says none.
+/// A version of the language, or the last where it is anything else.
+fn or_last(version: Option<u64>) -> u32
+    ensures { result ≡ or_last version }
+{
+    match version {
+        Some(n) => if 1 <= n && n <= u64::from(LAST_VERSION) {
+            n as u32
+        } else {
+            LAST_VERSION
+        },
+        None => LAST_VERSION,
+    }
+}
+
+/// The version that a document says, or the last where it says none.
 pub fn version_of(json: &Json) -> u32
     ensures { result ≡ version_in (view json.now) }
 {
     match json.get("version") {
-        Some(version) => if version.as_u64() == Some(1) { 1 } else { 2 },
-        None => 2,
+        Some(version) => or_last(version.as_u64()),
+        None => LAST_VERSION,
     }
 }
 

@@ -1,4 +1,5 @@
 use dv_forms::leaf::call as call_in;
+use dv_forms::versions::{COMMENTS_SINCE, MARKS_SINCE};
 use dv_forms::want::{Call, Item, Keyed, Leaf, Object, Pair, Want};
 use dv_forms::words::{
     ACTION_FORMS, END_FORMS, EVENT_FORMS, Form, LEAVING_FORMS, STATEMENT_FORMS, WORK_FORMS,
@@ -17,8 +18,8 @@ pub struct Shown {
 /// What is expected where a script is wrong.
 #[derive(Clone, Copy, Drop)]
 pub enum Expected {
-    /// What the place asks for.
-    Wanted(Want),
+    /// What the place asks for in a script of this version.
+    Wanted(u32, Want),
     /// The word with other arguments, in a form that it has.
     Form(Shown),
     /// This key, which isn't there.
@@ -49,28 +50,56 @@ pub enum Expected {
     FewTicks,
 }
 
-const NAME: &str = "a name: a text of 1 to 32 of A to Z, a to z, 0 to 9 and _";
-
-fn found_text(object: Object) -> &'static str {
-    match object {
-        Object::Deferred => {
-            "the name of a Deferred: a text of 1 to 32 of A to Z, a to z, 0 to 9 and _, or \"@\""
-        }
-        Object::Pool => {
-            "the name of a pool that the key `pools` declares: a text of 1 to 32 of A to Z, a to z, 0 to 9 and _"
-        }
-        Object::Class => {
-            "the name of a class: one that every script has, or one that the key `classes` declares"
-        }
-        Object::Lock | Object::Queue | Object::Call | Object::Loop | Object::Task => NAME,
+fn name_text(version: u32) -> &'static str {
+    if version < MARKS_SINCE {
+        "a name: a text of 1 to 32 of A to Z, a to z, 0 to 9 and _"
+    } else {
+        "a name: a text of 1 to 32 of A to Z, a to z, 0 to 9 and _, and after the first also -, . and :"
     }
 }
 
-fn leaf_text(leaf: Leaf) -> &'static str {
+fn deferred_text(version: u32) -> &'static str {
+    if version < MARKS_SINCE {
+        "the name of a Deferred: a text of 1 to 32 of A to Z, a to z, 0 to 9 and _, or \"@\""
+    } else {
+        "the name of a Deferred: a text of 1 to 32 of A to Z, a to z, 0 to 9 and _, and after the first also -, . and :, or \"@\""
+    }
+}
+
+fn pool_text(version: u32) -> &'static str {
+    if version < MARKS_SINCE {
+        "the name of a pool that the key `pools` declares: a text of 1 to 32 of A to Z, a to z, 0 to 9 and _"
+    } else {
+        "the name of a pool that the key `pools` declares: a text of 1 to 32 of A to Z, a to z, 0 to 9 and _, and after the first also -, . and :"
+    }
+}
+
+fn found_text(version: u32, object: Object) -> &'static str {
+    match object {
+        Object::Deferred => deferred_text(version),
+        Object::Pool => pool_text(version),
+        Object::Class => {
+            "the name of a class: one that every script has, or one that the key `classes` declares"
+        }
+        Object::Lock | Object::Queue | Object::Call | Object::Loop | Object::Task => {
+            name_text(version)
+        }
+    }
+}
+
+fn comment_text(version: u32) -> &'static str {
+    if version < COMMENTS_SINCE {
+        "no such key: a comment stands from version 3 on"
+    } else {
+        "a comment: a text"
+    }
+}
+
+fn leaf_text(version: u32, leaf: Leaf) -> &'static str {
     match leaf {
         Leaf::Text => "a text",
-        Leaf::New(_) => NAME,
-        Leaf::Found(object) => found_text(object),
+        Leaf::New(_) => name_text(version),
+        Leaf::Found(object) => found_text(version, object),
         Leaf::Integer => "an integer of 64 bits",
         Leaf::Number(_, _) => "an integer",
         Leaf::Boolean => "true or false",
@@ -78,6 +107,7 @@ fn leaf_text(leaf: Leaf) -> &'static str {
         Leaf::ListFlag =>
             "a flag: \"fireOnOneCallback\", \"fireOnOneErrback\" or \"consumeErrors\"",
         Leaf::GatherFlag => "the flag \"consumeErrors\"",
+        Leaf::Comment => comment_text(version),
     }
 }
 
@@ -140,9 +170,9 @@ fn array_text(item: Item) -> &'static str {
     }
 }
 
-fn want_text(want: Want) -> &'static str {
+fn want_text(version: u32, want: Want) -> &'static str {
     match want {
-        Want::Leaf(leaf) => leaf_text(leaf),
+        Want::Leaf(leaf) => leaf_text(version, leaf),
         Want::Value =>
             "a value: null, true, false, an integer of 64 bits, a text or an array of values",
         Want::Call(call) => call_text(call),
@@ -150,28 +180,45 @@ fn want_text(want: Want) -> &'static str {
         Want::Keyed(keyed) => keyed_text(keyed),
         Want::Array(item) => array_text(item),
         Want::Word(call) => word_text(call),
-        Want::Other(keyed) => keys_text(keyed),
+        Want::Other(keyed) => keys_text(version, keyed),
     }
 }
 
-fn keys_text(keyed: Keyed) -> &'static str {
+fn keys_text(version: u32, keyed: Keyed) -> &'static str {
     match keyed {
-        Keyed::Script(1) => {
+        Keyed::Script(_) => script_keys_text(version),
+        Keyed::Cooperator => if version < COMMENTS_SINCE {
+            "no such key: a cooperator has units and delay"
+        } else {
+            "no such key: a cooperator has units, delay and comment"
+        },
+        Keyed::Body => if version < COMMENTS_SINCE {
+            "no such key: a body has do and end"
+        } else {
+            "no such key: a body has do, end and comment"
+        },
+    }
+}
+
+fn script_keys_text(version: u32) -> &'static str {
+    match version {
+        1 => {
             "no such key: a script of version 1 has version, events, limit, classes, cooperator and callers"
         }
-        Keyed::Script(_) => {
+        2 => {
             "no such key: a script of version 2 has version, events, limit, classes, cooperator, pools and callers"
         }
-        Keyed::Cooperator => "no such key: a cooperator has units and delay",
-        Keyed::Body => "no such key: a body has do and end",
+        _ => {
+            "no such key: a script of version 3 has version, events, limit, classes, cooperator, pools, callers and comment"
+        }
     }
 }
 
-fn write_want(text: &mut String, want: Want) -> Result<(), AllocError> {
+fn write_want(text: &mut String, version: u32, want: Want) -> Result<(), AllocError> {
     if let Want::Leaf(Leaf::Number(low, high)) = want {
         return write!(text, "an integer from {low} to {high}");
     }
-    text.push_str(want_text(want))
+    text.push_str(want_text(version, want))
 }
 
 fn write_forms(text: &mut String, shown: Shown) -> Result<(), AllocError> {
@@ -186,7 +233,7 @@ impl Expected {
     /// Adds it to the text, as one sentence without its full stop.
     pub fn write(self, text: &mut String) -> Result<(), AllocError> {
         match self {
-            Expected::Wanted(want) => write_want(text, want),
+            Expected::Wanted(version, want) => write_want(text, version, want),
             Expected::Form(shown) => write_forms(text, shown),
             Expected::Key(key) => write!(text, "an object that has the key `{key}`"),
             Expected::FreeClass => text.push_str("the name of a class that no class has yet"),
@@ -275,23 +322,23 @@ fn missing_key(keyed: Keyed, json: &Json) -> Option<&'static str> {
 }
 
 impl Expected {
-    /// What is expected at a place that asks for this, where this stands.
-    pub fn at(want: Want, found: &Json) -> Expected {
+    /// What is expected at a place that asks for this, where this stands in a script of this version.
+    pub fn at(version: u32, want: Want, found: &Json) -> Expected {
         match want {
             Want::Call(call) => match forms_in(call, found) {
                 Some(shown) => Expected::Form(shown),
-                None => Expected::Wanted(want),
+                None => Expected::Wanted(version, want),
             },
             Want::Keyed(keyed) => match (found, missing_key(keyed, found)) {
                 (Json::Object(_), Some(key)) => Expected::Key(key),
-                (_, Some(_) | None) => Expected::Wanted(want),
+                (_, Some(_) | None) => Expected::Wanted(version, want),
             },
             Want::Leaf(_)
             | Want::Value
             | Want::Pair(_)
             | Want::Array(_)
             | Want::Word(_)
-            | Want::Other(_) => Expected::Wanted(want),
+            | Want::Other(_) => Expected::Wanted(version, want),
         }
     }
 }

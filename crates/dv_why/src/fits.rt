@@ -7,12 +7,10 @@ ghost use Rattle.dv_why.specs.Fits.{value_fits, begins_well, parts_fit, array_fi
 ghost use Rattle.dv_why.specs.Fits.{word_fits, has_keys, fits};
 
 use crate::leaf::leaf_fits;
+use dv_forms::versions::LAST_VERSION;
 use dv_forms::want::{Call, Keyed, Want};
 use dv_forms::words::{may_stand, wants_of};
 use serde_json::Value as Json;
-
-/// The last version of the language.
-pub const LAST_VERSION: u32 = 2;
 
 fn value_fits(json: &Json) -> bool
     ensures { result ≡ value_fits (view json.now) }
@@ -95,7 +93,7 @@ pub fn fits(version: u32, want: Want, json: &Json) -> bool
     ensures { result ≡ fits version want (view json.now) }
 {
     match want {
-        Want::Leaf(leaf) => leaf_fits(leaf, json),
+        Want::Leaf(leaf) => leaf_fits(version, leaf, json),
         Want::Value => value_fits(json),
         Want::Call(call) => call_fits(call, json),
         Want::Pair(_) => is_pair(json),

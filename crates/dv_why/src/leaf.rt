@@ -5,6 +5,7 @@ ghost use Rattle.serde_json.specs.View.{view};
 ghost use Rattle.dv_forms.specs.Parts.{number_at, bound_at, list_flag_at, gather_flag_at};
 ghost use Rattle.dv_why.specs.Fits.{leaf_fits};
 
+use dv_forms::versions::COMMENTS_SINCE;
 use dv_forms::want::Leaf;
 use dv_script::limits::MOST_PLACES;
 use serde_json::Value as Json;
@@ -48,9 +49,9 @@ fn is_gather_flag(json: &Json) -> bool
     }
 }
 
-/// Whether it reads as the grammar reads it.
-pub fn leaf_fits(leaf: Leaf, json: &Json) -> bool
-    ensures { result ≡ leaf_fits leaf (view json.now) }
+/// Whether it reads as the grammar reads it in a script of this version.
+pub fn leaf_fits(version: u32, leaf: Leaf, json: &Json) -> bool
+    ensures { result ≡ leaf_fits version leaf (view json.now) }
 {
     match leaf {
         Leaf::Text | Leaf::New(_) | Leaf::Found(_) => json.as_str().is_some(),
@@ -60,5 +61,6 @@ pub fn leaf_fits(leaf: Leaf, json: &Json) -> bool
         Leaf::Bound => is_bound(json),
         Leaf::ListFlag => is_list_flag(json),
         Leaf::GatherFlag => is_gather_flag(json),
+        Leaf::Comment => COMMENTS_SINCE <= version && json.as_str().is_some(),
     }
 }

@@ -15,8 +15,8 @@ use serde_json::Value as Json;
 pub enum Question<'q> {
     /// What isn't of the shape that its place asks for, in a script of this version.
     Shape(u32),
-    /// A name that isn't of its form.
-    Names,
+    /// A name that isn't of its form in a script of this version.
+    Names(u32),
     /// A class that isn't in this table.
     Classes(&'q Classes),
     /// A pool that isn't among these.
@@ -47,7 +47,7 @@ fn name_suits(question: Question<'_>, leaf: Leaf, name: &str) -> bool
 {
     match question {
         Question::Shape(_) => true,
-        Question::Names => is_named(leaf, name),
+        Question::Names(version) => is_named(version, leaf, name),
         Question::Classes(classes) => is_known(classes, leaf, name),
         Question::Pools(pools) => !is_pool(leaf) || is_declared(pools, name),
     }
@@ -83,7 +83,7 @@ pub fn suits(question: Question<'_>, want: Want, json: &Json) -> bool
 {
     match question {
         Question::Shape(version) => fits(version, want, json),
-        Question::Names | Question::Classes(_) | Question::Pools(_) => {
+        Question::Names(_) | Question::Classes(_) | Question::Pools(_) => {
             names_suit(question, want, json)
         }
     }

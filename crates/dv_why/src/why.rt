@@ -226,7 +226,7 @@ fn misfit_of(
         ScriptFault::BadPool => bad_pool(alloc, json),
         ScriptFault::TooLong | ScriptFault::NotJson | ScriptFault::OutOfMemory => Ok((
             whole(alloc, json),
-            Expected::Wanted(script_of(json)),
+            Expected::Wanted(version_of(json), script_of(json)),
         )),
     }
 }
@@ -237,7 +237,7 @@ fn wrong_version(alloc: Global, json: &Json) -> Result<(Misfit<'_>, Expected), A
 {
     let misfit = value_of(alloc, json, "version")?;
     let expected = match json.get("version") {
-        Some(_) => Expected::Wanted(misfit.want),
+        Some(_) => Expected::Wanted(version_of(json), misfit.want),
         None => Expected::Document,
     };
     Ok((misfit, expected))
@@ -253,17 +253,18 @@ fn in_script<'j>(
         (view json.now) found.0) }
     ensures wrong { IfOk result (λ found. Misfits question.entry (view json.now) found.0) }
 {
+    let version = version_of(json);
     match find(alloc, question, script_of(json), MOST_LEVELS, json)? {
-        Some(misfit) => Ok(with_expected(misfit)),
-        None => Ok(with_expected(whole(alloc, json))),
+        Some(misfit) => Ok(with_expected(version, misfit)),
+        None => Ok(with_expected(version, whole(alloc, json))),
     }
 }
 
-/// A misfit, and what is expected at its place.
-fn with_expected(misfit: Misfit<'_>) -> (Misfit<'_>, Expected)
+/// A misfit, and what is expected at its place in a script of this version.
+fn with_expected(version: u32, misfit: Misfit<'_>) -> (Misfit<'_>, Expected)
     ensures { result.0 ≡ misfit.entry }
 {
-    let expected = Expected::at(misfit.want, misfit.found);
+    let expected = Expected::at(version, misfit.want, misfit.found);
     (misfit, expected)
 }
 
@@ -282,7 +283,7 @@ fn bad_name(alloc: Global, json: &Json) -> Result<(Misfit<'_>, Expected), AllocE
     requires shallow { depth (view json.now) ≤ MOST_LEVELS }
     ensures { IfOk result (λ found. Explains BadName (view json.now) found.0) }
 {
-    in_script(alloc, Question::Names, json)
+    in_script(alloc, Question::Names(version_of(json)), json)
 }
 
 fn bad_class(alloc: Global, json: &Json) -> Result<(Misfit<'_>, Expected), AllocError>

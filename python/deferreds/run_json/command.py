@@ -126,7 +126,7 @@ def _check(program: Path, seed: int, randoms: int, each: int) -> int:
         checks.check_row(row)
     for row in read_rows(LEFT_ROWS):
         checks.check_left_row(row)
-    scripts = Scripts(seed, "pools")
+    scripts = Scripts(seed, "version-3")
     found = 0
     for number in range(_MOST_TRIED * randoms):
         if found == randoms:

@@ -211,8 +211,8 @@ def _levels(root: object, words: Set[str]) -> Iterator[str]:
         yield "clock"
     if "drain" in words or "callers" in keys:
         yield "posts"
-    if type(version) is int and version == 2:
-        yield "pools"
+    if type(version) is int and version >= 2:
+        yield "pools" if version == 2 else "version-3"
 
 
 def _words(value: object) -> Set[str]:

@@ -20,6 +20,9 @@ DEEPEST = _LIMITS["depth"]
 LONGEST_TIME = _LIMITS["time"]
 DEFAULT_LIMIT = LANGUAGE.usual["limit"]
 
+#: the first version in which a name may have `-`, `.` and `:`
+MARKS_SINCE = 3
+
 #: the keys that a script has to have, and for each version those that it may have
 NEEDED_KEYS: FrozenSet[str] = frozenset(key.key for key in LANGUAGE.keys_of("script") if key.needed)
 KEYS: Dict[int, FrozenSet[str]] = {

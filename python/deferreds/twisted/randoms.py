@@ -47,6 +47,9 @@ _NAMES: Dict[str, str] = {
 
 _POOLS = ("io", "net", "a")
 
+#: what the names of a script with marks end with
+_MARKS = "-1.a:"
+
 _CLASSES = ("ValueError", "TypeError", "CancelledError", "Exception", "Mine", "AlreadyCalledError")
 _TEXTS = ("x", "", "no")
 _DEEPEST = 3
@@ -62,6 +65,8 @@ class Scripts:
         self._known = grammar.actions_up_to(level)
         self._pools: List[str] = []
         self._paused: List[str] = []
+        self._is_third = False
+        self._marks = ""
         self._makers: Dict[Kind, Callable[[int], Any]] = self._kinds()
         self._take_words()
 
@@ -79,11 +84,13 @@ class Scripts:
         root: Dict[str, Any] = {"version": 1, "classes": [["Mine", "ValueError"]]}
         if self._has("pools"):
             self._version(root)
+        if self._has("version-3"):
+            self._third(root)
         if self._one_in(5):
             root["limit"] = self._random.randint(0, 60)
         if "cooperate" in self._words:
             units, delay = self._random.randint(1, 4), self._random.randint(1, 3)
-            root["cooperator"] = {"units": units, "delay": delay}
+            root["cooperator"] = self._commented({"units": units, "delay": delay})
         if self._has("posts"):
             posts = [self._bodies(0) for _ in range(self._random.randint(1, 3))]
             root["callers"] = posts
@@ -101,10 +108,25 @@ class Scripts:
             root["pools"] = [[name, self._random.randint(0, 2)] for name in self._pools]
         self._take_words()
 
+    def _third(self, root: Dict[str, Any]) -> None:
+        """Has half of the scripts be of version 3, with marks in the names of some, and comments."""
+        self._is_third = self._one_in(2)
+        self._marks = _MARKS if self._is_third and self._one_in(2) else ""
+        if self._is_third:
+            root["version"] = 3
+            self._commented(root)
+
+    def _commented(self, keyed: Dict[str, Any]) -> Dict[str, Any]:
+        """An object, to which a comment is added in some scripts."""
+        if self._is_third and self._one_in(3):
+            keyed["comment"] = self._random.choice(_TEXTS)
+        return keyed
+
     def _beginning(self) -> List[List[Any]]:
         """Deferreds, and some of what else the level has, so that names are bound."""
         events: List[List[Any]] = [
-            ["deferred", name] for name in self._random.sample("abcde", self._random.randint(2, 5))
+            ["deferred", name + self._marks]
+            for name in self._random.sample("abcde", self._random.randint(2, 5))
         ]
         for word in ("lock", "semaphore", "queue", "cooperate", "cooperate", "later", "loop"):
             if word in self._words and self._one_in(3):
@@ -184,7 +206,7 @@ class Scripts:
     def _name(self, kind: str, depth: int) -> str:
         if kind == "DEFERRED" and depth > 0 and self._one_in(5):
             return "@"
-        return self._random.choice(_NAMES[kind])
+        return self._random.choice(_NAMES[kind]) + self._marks
 
     def _flagging(self, flags: List[str]) -> Callable[[int], List[str]]:
         return lambda depth: [flag for flag in flags if self._one_in(2)]
@@ -203,7 +225,7 @@ class Scripts:
             body["do"] = [self._action(depth + 1) for _ in range(self._random.randint(0, 3))]
         if not self._one_in(4):
             body["end"] = self._end(grammar.ENDS, depth + 1)
-        return body
+        return self._commented(body)
 
     def _bodies(self, depth: int) -> List[Dict[str, Any]]:
         return [self._body(depth) for _ in range(self._random.randint(0, 4))]

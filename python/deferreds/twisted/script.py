@@ -12,7 +12,11 @@ from ..language import LANGUAGE
 from . import grammar
 from .grammar import Kind
 
-_NAME = re.compile(rf"[A-Za-z0-9_]{{1,{LANGUAGE.limits['name']}}}", re.ASCII)
+_REST = LANGUAGE.limits["name"] - 1
+_NAME = re.compile(rf"[A-Za-z0-9_][A-Za-z0-9_]{{0,{_REST}}}", re.ASCII)
+
+#: the form of names from the version on that has marks in them
+_MARKED_NAME = re.compile(rf"[A-Za-z0-9_][A-Za-z0-9_.:-]{{0,{_REST}}}", re.ASCII)
 
 #: a refusal: its number and its name
 Reason = Tuple[int, str]
@@ -65,7 +69,7 @@ def read(data: bytes, names_of_classes: Sequence[str]) -> Script:
     root = _json(data)
     if not _has_version(root):
         raise Refused(BAD_VERSION)
-    found = _Shape().root(root)
+    found = _Shape(root["version"]).root(root)
     _refuse_counts(root, found)
     _refuse_names(root, found)
     _refuse_classes(root, found, names_of_classes)
@@ -168,12 +172,13 @@ class _Found:
 class _Shape:
     """Refuses what hasn't the shape of a script, and finds its names and classes."""
 
-    def __init__(self) -> None:
+    def __init__(self, version: int) -> None:
         self.found = _Found()
+        self._version = version
 
     def root(self, root: Dict[str, Any]) -> _Found:
         """What a whole script has."""
-        self._keys(root, grammar.NEEDED_KEYS, grammar.KEYS[root["version"]])
+        self._keys(root, grammar.NEEDED_KEYS, grammar.KEYS[self._version])
         self._number(root.get("limit", 0), grammar.LIMITS)
         for pair in self._array(root.get("classes", [])):
             self._texts(pair, 2)
@@ -185,12 +190,12 @@ class _Shape:
             self._bodies(posts)
         for event in self._array(root["events"]):
             self._event(event)
-        if self.found.pools and "pools" not in grammar.KEYS[root["version"]]:
+        if self.found.pools and "pools" not in grammar.KEYS[self._version]:
             self._refuse(self.found.pools)
         return self.found
 
     def _cooperator(self, value: Any) -> None:
-        self._keys(value, {"units", "delay"}, set())
+        self._keys(value, {"units", "delay"}, self._comment)
         self._number(value["units"], grammar.UNITS)
         self._number(value["delay"], grammar.INTERVALS)
 
@@ -271,7 +276,7 @@ class _Shape:
             self._body(body)
 
     def _body(self, body: Any) -> None:
-        self._keys(body, set(), {"do", "end"})
+        self._keys(body, set(), {"do", "end"} | self._comment)
         for action in self._array(body.get("do", [])):
             self._said(action, grammar.ACTIONS)
         if "end" in body:
@@ -289,9 +294,16 @@ class _Shape:
             if flag not in known:
                 self._refuse(value)
 
+    @property
+    def _comment(self) -> AbstractSet[str]:
+        """The key of a comment, where the version has one in each object."""
+        return grammar.KEYS[self._version] & {"comment"}
+
     def _keys(self, value: Any, needed: AbstractSet[str], known: AbstractSet[str]) -> None:
+        """Refuses what is no object of these keys, and a comment that is no text."""
         if not isinstance(value, dict) or not needed <= value.keys() <= needed | known:
             self._refuse(value)
+        self._text(value.get("comment", ""))
 
     def _number(self, value: Any, numbers: range) -> None:
         if not _is_integer(value) or value not in numbers:
@@ -347,16 +359,17 @@ def nodes(value: Any) -> int:
     return 1
 
 
-def is_name(text: str) -> bool:
-    """Whether a text has the form of names."""
-    return _NAME.fullmatch(text) is not None
+def is_name(text: str, version: int) -> bool:
+    """Whether a text has the form of the names of a version."""
+    form = _NAME if version < grammar.MARKS_SINCE else _MARKED_NAME
+    return form.fullmatch(text) is not None
 
 
 def _refuse_names(root: Mapping[str, Any], found: _Found) -> None:
     declared = [name for name, _ in root.get("classes", [])]
     existing = [name for name in found.deferreds if name != "@"]
     for name in found.names + existing + declared:
-        if not is_name(name):
+        if not is_name(name, root["version"]):
             raise Refused(BAD_NAME, name)
 
 

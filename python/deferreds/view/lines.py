@@ -11,7 +11,7 @@ from typing import Dict, List, NamedTuple, Optional, Pattern, Set, Tuple
 
 from ..language import LANGUAGE, Line
 
-_NAME = rf"[A-Za-z0-9_]{{1,{LANGUAGE.limits['name']}}}"
+_NAME = rf"[A-Za-z0-9_][A-Za-z0-9_.:-]{{0,{LANGUAGE.limits['name'] - 1}}}"
 
 
 class Outcome(NamedTuple):

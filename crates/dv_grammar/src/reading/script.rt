@@ -2,6 +2,7 @@ ghost use Rattle.std.specs.Prelude.{[], option_map, option_and_then};
 ghost use Rattle.serde_json.specs.View.{view, items_view};
 ghost use Rattle.dv_script.specs.declared.limits.TheConstants.{MOST_LIMIT, USUAL_LIMIT};
 ghost use Rattle.dv_forms.specs.Answer.{Reads, Gives};
+ghost use Rattle.dv_forms.specs.declared.versions.TheConstants.{LAST_VERSION};
 ghost use Rattle.dv_forms.specs.Parts.{each, field, fields_at, list_at, number_at};
 ghost use Rattle.dv_grammar.specs.Grammar.{keys_of};
 ghost use Rattle.dv_grammar.specs.Shape.{caller_at, event_at, pool_at, script_at};
@@ -13,6 +14,7 @@ use crate::reading::event::events;
 use dv_forms::leaf::{array, fields, number, small, text, two};
 use dv_forms::stop::Stop;
 use dv_forms::table::{declarations, table};
+use dv_forms::versions::LAST_VERSION;
 use dv_script::body::Body;
 use dv_script::event::Event;
 use dv_script::limits::{MOST_LEVELS, MOST_LIMIT, MOST_WORKERS, USUAL_LIMIT};
@@ -74,16 +76,16 @@ fn all_events(alloc: Global, classes: &Classes, json: Option<&Json>) -> Result<I
 
 /// The version of a script.
 fn version(json: Option<&Json>) -> Result<u32, Stop>
-    ensures { Reads result (option_and_then (number_at 1 2)
+    ensures { Reads result (option_and_then (number_at 1 LAST_VERSION)
         (option_map (λ d. view d.now) json.entry)) }
 {
     match json {
         None => Err(Stop::BadShape),
-        Some(json) => small(json, 1, 2),
+        Some(json) => small(json, 1, LAST_VERSION),
     }
 }
 
-/// An object with no other keys than those of a script of this version.
+/// An object with no other keys than those of a script of this version, but maybe a comment.
 fn fields_of(version: u32, json: &Json) -> Result<(), Stop>
     ensures { Gives (λ _. tt) result (fields_at (keys_of version) (view json.now)) }
 {

@@ -8,5 +8,5 @@ returns c =
     let d = view c.args.json.now in
     both_ok c.in_script.result _ _ _ (λ x leads wrong. record {
       leads = leads;
-      wrong = found_name d _ c.requires.refused c.requires.shallow wrong;
+      wrong = found_name d x.0 c.requires.refused c.requires.shallow (rw c.version_of.ensures at wrong);
     }) c.in_script.ensures.leads c.in_script.ensures.wrong

@@ -1,0 +1,10 @@
+//! What a version of the language has that those before it haven't, words apart.
+
+/// The last version of the language.
+pub const LAST_VERSION: u32 = 3;
+
+/// The first version in which a name may have `-`, `.` and `:`.
+pub const MARKS_SINCE: u32 = 3;
+
+/// The first version in which an object may have a comment.
+pub const COMMENTS_SINCE: u32 = 3;
