@@ -27,8 +27,8 @@ _WEIGHTS: Dict[str, int] = {
     "put": 3,
     "get": 3,
     "later": 3,
-    "resetCall": 3,
-    "delayCall": 2,
+    "resetCall": 8,
+    "delayCall": 6,
     "addTimeout": 3,
     "loop": 2,
     "cooperate": 4,
@@ -133,6 +133,9 @@ class Scripts:
         for word in ("lock", "semaphore", "queue", "cooperate", "cooperate", "later", "loop"):
             if word in self._words and self._one_in(3):
                 events.append([word, *self._arguments(grammar.ACTIONS[word], 0)])
+        if self._is_third and self._one_in(2):
+            # calls to be reset, beside what else is due then
+            events += [["later", name + self._marks, self._delay(), self._body(0)] for name in _NAMES["CALL"]]
         return events
 
     def _one_in(self, number: int) -> bool:
@@ -185,7 +188,7 @@ class Scripts:
             Kind.FLAG: lambda depth: self._one_in(2),
             Kind.TOKENS: lambda depth: self._random.randint(1, 3),
             Kind.BOUND: lambda depth: self._random.choice((None, 0, 1, 2)),
-            Kind.DELAY: lambda depth: self._random.randint(0, 4),
+            Kind.DELAY: lambda depth: self._delay(),
             Kind.INTERVAL: lambda depth: self._random.randint(1, 4),
             Kind.INTEGER: lambda depth: self._random.randint(-1, 3),
             Kind.SUM: lambda depth: self._random.randint(0, 9),
@@ -199,6 +202,9 @@ class Scripts:
         for kind, flags in grammar.FLAGS.items():
             makers[kind] = self._flagging(sorted(flags))
         return makers
+
+    def _delay(self) -> int:
+        return self._random.randint(0, 4)
 
     def _naming(self, kind: Kind) -> Callable[[int], str]:
         made = kind in grammar.MADE
