@@ -123,12 +123,20 @@ class RealReactor(unittest.TestCase):
         # on a loaded machine a turn may come when the next one is due
         recording = self.recorded("loops_that_meet", "turns or ticks ran in another order than they are due in")
         self.assertEqual([event[3] * recording.tick for event in recording.events if event[0] == "loop"], [0.25, 0.5])
+        moves = [(event[0], event[2] * recording.tick) for event in recording.events if event[0] in ("resetCall", "delayCall")]
+        self.assertEqual(moves, [("resetCall", 1), ("delayCall", Fraction(6, 10))])
         self.assertIn('note "True"', recording.lines)
 
     def test_servers(self) -> None:
         for name, note in (("pages", """note "b'at last'\""""), ("idle_clients", 'note "[4, 4, 4]"')):
             with self.subTest(name):
                 self.assertIn(note, self.recorded(name).lines)
+
+    def test_calls_that_are_reset_by_what_comes(self) -> None:
+        recording = self.recorded("idle_clients")
+        resets = [line for line in recording.lines if line.startswith("reset ")]
+        self.assertEqual(len(resets), 6)
+        self.assertEqual(json.loads(recording.script)["version"], 3)
 
     def test_futures_of_asyncio(self) -> None:
         self.assertTrue(any(line.startswith('note "(') for line in self.recorded("futures").lines))

@@ -232,7 +232,7 @@ class Recorded(unittest.TestCase):
         events = self.assert_said(program)
         self.assertEqual([event[0] for event in events], ["loop", "advance", "advance", "stopLoop"])
 
-    def test_a_delayed_call_that_is_moved_is_cancelled_and_made_anew(self) -> None:
+    def test_a_delayed_call_that_is_moved_is_reset(self) -> None:
         def program() -> None:
             clock = task.Clock()
             call = clock.callLater(2, lambda: None)
@@ -242,7 +242,7 @@ class Recorded(unittest.TestCase):
 
         events = self.assert_said(program)
         words = [event[0] for event in events]
-        self.assertEqual(words, ["later", "advance", "cancelCall", "later", "advance"])
+        self.assertEqual(words, ["later", "advance", "resetCall", "advance"])
 
     def test_what_is_not_told_as_such_is_told_as_what_it_is_made_of(self) -> None:
         def program() -> None:

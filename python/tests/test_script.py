@@ -139,6 +139,14 @@ class Refusals(unittest.TestCase):
                 self.assertEqual(refusal(with_pools([["io", 1]], event)), 0)
         self.assertEqual(refusal('{"version":1,"pools":[],"events":[]}'), 4)
 
+    def test_versions_1_and_2_reset_no_calls(self) -> None:
+        for action in (["resetCall", "c", 0], ["delayCall", "c", 10**12]):
+            nested = ["inline", "d", [["try", [], [], [["do", action]]]]]
+            for event in (action, ["deferred", "d", {"do": [action]}], nested):
+                for version, number in ((1, 4), (2, 4), (3, 0)):
+                    with self.subTest(event, version=version):
+                        self.assertEqual(refusal(json.dumps({"version": version, "events": [event]})), number)
+
     def test_what_is_no_pool(self) -> None:
         for pool in ("io", ["io"], ["io", 1, 1], [1, "io"], ["io", 17], ["io", -1], ["io", True]):
             with self.subTest(pool):

@@ -4,7 +4,7 @@ from __future__ import annotations
 
 import random
 import unittest
-from typing import Any, Dict, List, Optional, Tuple
+from typing import Any, Callable, Dict, List, NamedTuple, Optional, Tuple
 
 from twisted.internet import task
 
@@ -39,6 +39,19 @@ class History:
     def turn(self, loop: Loop, number: int) -> Entry:
         """A turn of it is scheduled."""
         return self._make(Entry(self._made, loop=loop, turn=number))
+
+    def reset(self, entry: Entry, delay: float) -> Entry:
+        """A call that waits is due so much later than now."""
+        return self._move(entry, Entry(entry.order, round(delay * MILLISECOND), moved=entry.moved + 1))
+
+    def delay(self, entry: Entry, delay: float) -> Entry:
+        """A call that waits is due so much later than it was."""
+        return self._move(entry, Entry(entry.order, round(delay * MILLISECOND), moved=entry.moved + 1, before=entry))
+
+    def _move(self, before: Entry, entry: Entry) -> Entry:
+        self.steps[-1].make(entry)
+        self.steps[-1].end(before)
+        return entry
 
     def _make(self, entry: Entry) -> Entry:
         self._made += 1
@@ -148,6 +161,54 @@ class Asked(unittest.TestCase):
         self.assertEqual(self.history.settled(), [*before, (True, 15)])
 
 
+class Moved(unittest.TestCase):
+    """Calls that were reset or delayed."""
+
+    def setUp(self) -> None:
+        self.history = History()
+
+    def test_one_that_is_reset_is_due_after_its_new_delay(self) -> None:
+        call = self.history.later(100)
+        self.history.elsewhere(50.4)
+        call = self.history.reset(call, 100)
+        self.history.run(call, 150.9)
+        self.assertEqual(self.history.settled(), [(True, 50), (True, 150)])
+        self.assertEqual((call.at, call.due), (50_000, 150_000))
+
+    def test_one_that_is_delayed_is_due_so_much_later_than_it_was_told_to_be(self) -> None:
+        call = self.history.later(100)
+        self.history.elsewhere(50.4)
+        call = self.history.delay(self.history.reset(call, 70), 30)
+        self.history.run(call, 150.9)
+        self.assertEqual(self.history.settled(), [(True, 50), (True, 150)])
+        self.assertEqual(call.due, 150_000)
+
+    def test_it_keeps_its_place_among_those_that_are_due_with_it(self) -> None:
+        first, second = self.history.later(20), self.history.later(10)
+        first = self.history.reset(first, 10)
+        self.history.run(first, 10.2)
+        self.history.run(second, 10.2)
+        self.assertEqual(self.history.settled(), [(True, 10), (False, 10)])
+        self.assertEqual((first.due, second.due), (10_000, 10_000))
+
+    def test_where_it_ran_after_one_that_was_scheduled_later_it_is_due_after_that(self) -> None:
+        first, second = self.history.later(20), self.history.later(10)
+        first = self.history.reset(first, 10)
+        self.history.run(second, 10.2)
+        self.history.run(first, 10.2)
+        self.history.settled()
+        self.assertEqual(second.due, 10_000)
+        self.assertLess(second.due, first.due)
+
+    def test_before_it_was_reset_it_was_due_after_all_that_ran_meanwhile(self) -> None:
+        never, runs = self.history.later(10), self.history.later(20)
+        self.history.run(runs, 20)
+        again = self.history.reset(never, 5)
+        self.history.run(again, 25)
+        self.assertEqual(self.history.settled(), [(True, 20), (True, 25)])
+        self.assertGreater(never.due, runs.due)
+
+
 class Fixed(unittest.TestCase):
     """Turns of loops, and ticks, which the language works out."""
 
@@ -239,12 +300,13 @@ class Fixed(unittest.TestCase):
 class Simulated:
     """A reactor that runs what is due late, by a seed: calls, loops, cancels, and what comes from elsewhere.
 
-    `blocks`: how many milliseconds a body may block.
+    `blocks`: how many milliseconds a body may block; `moves`: whether calls are reset and delayed, too.
     """
 
-    def __init__(self, seed: int, blocks: float) -> None:
+    def __init__(self, seed: int, blocks: float, moves: bool) -> None:
         self._random = random.Random(seed)
         self.blocks = blocks
+        self.moves = moves
         self.history = History()
         self._now = 0.0
         #: what waits, by when it is due on the reactor
@@ -285,6 +347,17 @@ class Simulated:
             ended = self._random.choice(calls)
             self._waiting.remove(ended)
             self.history.end(ended[2])
+        elif calls and self.moves:
+            self._move(self._random.choice(calls))
+
+    def _move(self, moved: Tuple[float, int, Entry]) -> None:
+        due, order, entry = moved
+        self._waiting.remove(moved)
+        delay = self._random.choice([0, 1, 10, self._random.random() * 30])
+        if self._random.random() < 0.5:
+            self._waiting.append((self._now + delay + 0.001, order, self.history.reset(entry, delay)))
+        else:
+            self._waiting.append((due + delay, order, self.history.delay(entry, delay)))
 
     def _schedule(self) -> None:
         delay = self._random.choice([0, 1, 10, self._random.random() * 30])
@@ -296,12 +369,44 @@ class Simulated:
         self._waiting.append((number * loop.interval / MILLISECOND, entry.order, entry))
 
 
-class OnClock(unittest.TestCase):
-    """What is told, run on Twisted's Clock."""
+class InOrder:
+    """A clock that runs calls as the language does: by when they are due, and then by the order of scheduling, which moved ones keep."""
 
-    def replayed(self, steps: List[Step]) -> List[Entry]:
-        """What the Clock runs, in order, where calls are scheduled with the delays that are told."""
-        clock = task.Clock()
+    def __init__(self) -> None:
+        self._now = 0
+        self._waiting: List[Entry] = []
+
+    def callLater(self, delay: int, run: Callable[[Entry], None], entry: Entry) -> "InOrder._Call":
+        """Schedules a call."""
+        self._run = run
+        self._waiting.append(entry)
+        return InOrder._Call(self, entry)
+
+    class _Call(NamedTuple):
+        clock: "InOrder"
+        entry: Entry
+
+        def cancel(self) -> None:
+            """It doesn't wait any more."""
+            self.clock._waiting.remove(self.entry)
+
+    def advance(self, by: int) -> None:
+        """Time goes on, and what is due runs."""
+        self._now += by
+        while True:
+            first = min(self._waiting, key=lambda entry: (entry.due, entry.order), default=None)
+            if first is None or first.due > self._now:
+                return
+            self._waiting.remove(first)
+            self._run(first)
+
+
+class Replay(unittest.TestCase):
+    """What is told, run on a clock."""
+
+    def replayed(self, steps: List[Step], moves: bool) -> List[Entry]:
+        """What the clock runs, in order, where calls are scheduled with the delays that are told."""
+        clock: Any = InOrder() if moves else task.Clock()
         ran: List[Entry] = []
         calls: Dict[Entry, Any] = {}
         places = iter([step for step in steps if step.entry is not None])
@@ -316,7 +421,7 @@ class OnClock(unittest.TestCase):
                     calls[entry] = clock.callLater(entry.due - entry.at, run, entry)
             for entry, is_inside in step.ended:
                 if is_inside == inside and entry in calls:
-                    calls[entry].cancel()
+                    calls[entry].cancel()  # (what was moved has another call by now)
 
         for step in steps:
             if step.advances:
@@ -325,11 +430,11 @@ class OnClock(unittest.TestCase):
                 happens(step, False)
         return ran
 
-    def settled(self, blocks: float) -> int:
-        """How many of 300 runs are told, each of which the Clock runs in the same order."""
+    def settled(self, blocks: float, moves: bool = False) -> int:
+        """How many of 300 runs are told, each of which the clock runs in the same order."""
         settled = 0
         for seed in range(300):
-            simulated = Simulated(seed, blocks)
+            simulated = Simulated(seed, blocks, moves)
             simulated.run()
             steps = simulated.history.steps
             try:
@@ -337,8 +442,8 @@ class OnClock(unittest.TestCase):
             except Conflict:
                 continue
             settled += 1
-            with self.subTest(seed=seed, blocks=blocks):
-                self.assertEqual(self.replayed(steps), [step.entry for step in steps if step.entry is not None])
+            with self.subTest(seed=seed, blocks=blocks, moves=moves):
+                self.assertEqual(self.replayed(steps, moves), [step.entry for step in steps if step.entry is not None])
         return settled
 
     def test_it_runs_in_the_order_of_the_reactor(self) -> None:
@@ -346,6 +451,10 @@ class OnClock(unittest.TestCase):
 
     def test_so_it_does_where_bodies_block(self) -> None:
         self.assertGreater(self.settled(30), 100)
+
+    def test_so_it_does_where_calls_are_moved(self) -> None:
+        self.assertGreater(self.settled(0.1, moves=True), 270)
+        self.assertGreater(self.settled(30, moves=True), 100)
 
 
 if __name__ == "__main__":

@@ -15,7 +15,7 @@ Json = Dict[str, Any]
 _KINDS = {
     "lock": "lock semaphore acquire release",
     "queue": "queue put get",
-    "call": "uncall call",
+    "call": "uncall reset call",
     "loop": "loop turn stop",
     "task": "task step hold end pausetask resumetask whendone",
 }

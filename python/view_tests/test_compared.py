@@ -87,16 +87,16 @@ class OfRecordings(unittest.TestCase):
 
     def test_neither_times_nor_lines_of_the_program_differ(self) -> None:
         first = recorded(
-            "lock lock_get_7", "new #0 get_7", "acquire lock_get_7 #0", 'fire #0 ok "lock_get_7"', "later call call_get_9 5", "advance 5",
-            "new #1 get_7_2", '#0 get_7 ok "lock_get_7"', "#1 get_7_2 unfired",
+            "lock lock_get_7", "new #0 get_7", "acquire lock_get_7 #0", 'fire #0 ok "lock_get_7"', "later call call_get_9 5",
+            "reset call_get_9 7", "advance 7", "new #1 get_7_2", '#0 get_7 ok "lock_get_7"', "#1 get_7_2 unfired",
         )  # fmt: skip
         second = recorded(
-            "lock lock_get_12", "new #0 get_12", "acquire lock_get_12 #0", 'fire #0 ok "lock_get_12"', "later call call_get_14 6", "advance 4",
-            "advance 6", "new #1 get_12_2", '#0 get_12 ok "lock_get_12"', "#1 get_12_2 unfired",
+            "lock lock_get_12", "new #0 get_12", "acquire lock_get_12 #0", 'fire #0 ok "lock_get_12"', "later call call_get_14 6",
+            "reset call_get_14 8", "advance 4", "advance 8", "new #1 get_12_2", '#0 get_12 ok "lock_get_12"', "#1 get_12_2 unfired",
         )  # fmt: skip
         compared = Compared(first, second)
         self.assertTrue(compared.is_same)
-        self.assertEqual(compared.common, (7, 8))
+        self.assertEqual(compared.common, (8, 9))
         second.tick = ""
         compared = Compared(first, second)
         self.assertEqual((compared.common, compared.apart), ((0, 0), ""), "what isn't recorded is compared as it stands")

@@ -9,7 +9,7 @@ from deferreds.twisted.rows import ANY_LINES, read_rows, row_files
 
 from deferreds.checkout import TOP
 from deferreds.view.phrases import OfDeferred, OfLine, Phrase
-from deferreds.view.records import ArrowKind, Look, State
+from deferreds.view.records import ArrowKind, Bracket, BracketKind, Look, State
 from deferreds.view.run import Run, run_of_facts, run_of_journal
 from deferreds.view.facts import read_facts
 from deferreds.view.scripts import Script
@@ -163,6 +163,20 @@ class Fold(unittest.TestCase):
         self.assertEqual(plain(run.fold.rows[5].cause), "call c")
         self.assertEqual(plain(run.fold.rows[6].cause), "4")
         self.assertEqual([row.depth for row in run.fold.rows], [0, 0, 0, 0, 1, 2, 0])
+
+    def test_a_call_that_was_reset_comes_at_the_new_time(self) -> None:
+        run = run_of("later call c 5", "reset c 9", "reset c 5", "reset c 7", "advance 7", "call c", "reset c 8")
+        causes = [plain(row.cause) for row in run.fold.rows]
+        self.assertEqual(causes[1:4], ["scheduled at 0, was due 5", "scheduled at 0, was due 9", "scheduled at 0, was due 5"])
+        self.assertEqual(causes[5:], ["scheduled at 0, reset at 3, due 7", ""])
+        self.assertEqual(run.fold.brackets, [Bracket(0, 5, BracketKind.CAME)])
+
+    def test_of_two_calls_of_one_name_the_one_comes_that_is_due_first(self) -> None:
+        calls = ["later call c 2", "later call c 9", "advance 1"]
+        later = run_of(*calls, "reset c 5", "advance 5", "call c", "call c")
+        self.assertEqual([(one.start, one.end) for one in later.fold.brackets], [(0, 5), (1, 6)])
+        sooner = run_of(*calls, "reset c 1", "advance 5", "call c", "call c")
+        self.assertEqual([(one.start, one.end) for one in sooner.fold.brackets], [(1, 5), (0, 6)])
 
     def test_a_cancel_of_one_that_waits_reaches_another(self) -> None:
         run = run_of(

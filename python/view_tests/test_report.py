@@ -178,6 +178,15 @@ class OfJournals(unittest.TestCase):
             ],
         )
 
+    def test_a_call_that_was_reset_is_due_at_the_new_time_and_isn_t_cancelled(self) -> None:
+        lines = ["later call c 5", "reset c 9", "reset c 7", "advance 5"]
+        self.assertEqual(
+            of_journal(*lines),
+            ["call delayed call c is due at 7, and time has come to 5 (line 1) | it was reset in line 3"],
+        )
+        self.assertEqual(of_journal(*lines, "advance 7", "call c"), [])
+        self.assertEqual(of_journal(*lines, "uncall c"), [])
+
     def test_a_tick_is_dropped_when_nobody_takes_turns(self) -> None:
         self.assertEqual(
             of_journal("task t", "later tick 1", "pausetask t"), ["task task t is paused (line 1)"]

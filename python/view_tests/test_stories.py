@@ -81,6 +81,12 @@ class Trees(unittest.TestCase):
             for inner in run.stories.inside(step):
                 self.assertEqual(run.fold.rows[inner.row or 0].inside, step.end)
 
+    def test_a_call_that_was_reset_is_told_where_it_was_scheduled(self) -> None:
+        run = of(["new #0 d", "add #0", "fire #0 ok 1", "run #0", "later call c 5", "reset c 7", "set #0 ok 1", "advance 7", "call c", 'note "x"'])
+        side = next(step for step in run.stories.of[0] if step.does is Does.RAN)
+        inner = [(step.does, step.row, step.end) for step in run.stories.inside(side)]
+        self.assertEqual(inner, [(Does.CALLS, 4, 8), (Does.OTHER, 5, None)])
+
     def test_on_what_it_hangs_at_the_end(self) -> None:
         facts = told(
             "new #0 d\nnew #1 e\nlock l\nnew #2 f\n#0 d unfired\n#1 e unfired\n#2 f unfired\n", [0],

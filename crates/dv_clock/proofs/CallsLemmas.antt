@@ -1,7 +1,7 @@
 -- Where a call stands among all, and that those that wait are found by the times that they are due at.
 use Rattle.std.proofs.Common.{◌≡◌, ◌≢◌, ◌⊎◌, ℕ, zero, suc, Bool, true, false, ◌&&◌, cond, if◌then◌else◌, nat_eq, List}
 use Rattle.std.proofs.Common.{[], ◌∷◌, ◌++◌, length, Option, Some, None, slice_get, slice_set, refl, sym, ap, ◌∙◌}
-use Rattle.std.proofs.Common.{arith, subst, get_or, ⊎_elim, inl, inr, eqb}
+use Rattle.std.proofs.Common.{arith, subst, get_or, ⊎_elim, inl, inr, eqb, Result, Ok, Err, OnOk}
 use Rattle.std.proofs.lemmas.Bool.Decides.{eqb_tells}
 use Rattle.std.proofs.lemmas.Map.Lookups.{exact_unsigned, exact_pairs}
 use Rattle.std.proofs.lemmas.Option.{slice_get_past, get_or_from_slice_get}
@@ -13,7 +13,7 @@ use Rattle.std.specs.Ordering.{nat_cmp}
 use Rattle.std.specs.declared.cmp.Ordering.{Ordering}
 use Rattle.std.specs.declared.cmp.Ordering.TheVariants.{Less, Equal, Greater}
 use Rattle.dv_clock.specs.Clock.{by_due, is_waiting, waits_at, IsIndexOf, what_of, what_in, due_in, due_of, with_end}
-use Rattle.dv_clock.specs.Clock.{Leaves}
+use Rattle.dv_clock.specs.Clock.{Clock, Joins, Leaves, with_due, moved}
 use Rattle.dv_clock.specs.declared.call.Call.{Call}
 use Rattle.dv_clock.specs.declared.call.CallState.{CallState}
 
@@ -172,6 +172,74 @@ found_by calls number due call (Some other) h e g =
 pub waits_for : (calls : List Call) (number due : ℕ) (call : Call) → Some due ≡ due_of number calls
     → call ≡ get_or calls number call → WaitsFor calls number due call
 waits_for calls number due call e g = found_by calls number due call (slice_get calls number) refl e g
+
+-- a call that is due at another time: its place leaves the index, and another joins it
+index_of_moved : (index more : BTreeSet (ℕ × ℕ)) (calls : List Call) (number due : ℕ) (call : Call) (q : ℕ × ℕ)
+    → slice_get calls number ≡ Some call → is_waiting call.state ≡ true → (due ≡ call.due → ⊥) → IsIndexOf index calls
+    → Joins index more (due, number) → Places (call.due, number) q → Places (due, number) q
+    → cond (is_at (by_due (call.due, number)) q) false (contains by_due more q)
+    ≡ waits_at q (slice_set calls number (record call { due = due }))
+index_of_moved index more calls number due call q h k ne ok u (inl (t, e)) r =
+    let is = placed_there calls number call (record call { due = due }) h in
+    rw (t, e)
+    (sym (waits_elsewhere (slice_set calls number (record call { due = due })) number call.due
+    (record call { due = due }) is (λ z. ne (sym z))))
+index_of_moved index more calls number due call q h k ne ok u (inr (f, other)) (inl (t, e)) =
+    let is = placed_there calls number call (record call { due = due }) h in
+    rw (f, u q, t, e, is, k) (sym (at_once due))
+index_of_moved index more calls number due call q h k ne ok u (inr (f, other)) (inr (g, another)) = ⊎_elim
+    (λ (t : (eqb q.1 number ≡ true) × (q.1 ≡ number)).
+    let was = waits_elsewhere calls number q.0 call h (λ e. other e t.1) in
+    let is = waits_elsewhere (slice_set calls number (record call { due = due })) number q.0 (record call { due = due })
+    (placed_there calls number call (record call { due = due }) h) (λ e. another e t.1) in
+    rw (f, u q, g, ok q, t.1) (was ∙ sym is))
+    (λ (t : (eqb q.1 number ≡ false) × (q.1 ≢ number)).
+    rw (f, u q, g, ok q, others_stay calls number q.1 (record call { due = due }) t.1) refl)
+    (eqb_tells q.1 number)
+
+pub moved_index : (index more left : BTreeSet (ℕ × ℕ)) (calls : List Call) (number before due : ℕ) (call : Call)
+    → WaitsFor calls number before call → (due ≡ before → ⊥) → IsIndexOf index calls
+    → Joins index more (due, number) → Leaves more left (before, number)
+    → IsIndexOf left (slice_set calls number (record call { due = due }))
+moved_index index more left calls number before due call w ne ok u v q =
+    subst (λ (d : ℕ). Leaves more left (d, number)) (sym w.time) v q
+    ∙ index_of_moved index more calls number due call q w.found w.waits
+    (subst (λ (d : ℕ). due ≡ d → ⊥) (sym w.time) ne) ok u (places (call.due, number) q) (places (due, number) q)
+
+pub moved_calls : (calls : List Call) (number before due : ℕ) (call : Call) → WaitsFor calls number before call
+    → option_map_or (λ c. with_due number due c calls) (slice_get calls number) calls
+    ≡ slice_set calls number (record call { due = due })
+moved_calls calls number before due call w = rw (w.found, w.waits) refl
+
+-- what is put where it stands already changes nothing
+set_same : {X : Type 0} (xs : List X) (i : ℕ) (x : X) → slice_get xs i ≡ Some x → slice_set xs i x ≡ xs
+set_same [] i x h = absurd cc
+set_same (z ∷ zs) zero x h = let same : z ≡ x = cc in ap (λ y. y ∷ zs) (sym same)
+set_same (z ∷ zs) (suc i) x h = ap (λ ys. z ∷ ys) (set_same zs i x h)
+
+same_by : (c : Clock) (number due : ℕ) (call : Call) (w : Bool) → slice_get c.calls number ≡ Some call
+    → Some due ≡ (if w then Some call.due else None)
+    → c ≡ record c { calls = if w then slice_set c.calls number (record call { due = due }) else c.calls }
+same_by c number due call true h e =
+    let same : due ≡ call.due = cc in
+    ap (λ (xs : List Call). let k : Clock = record { time = c.time; calls = xs } in k)
+    (sym (subst (λ (d : ℕ). slice_set c.calls number (record call { due = d }) ≡ c.calls) (sym same)
+    (set_same c.calls number call h)))
+same_by c number due call false h e = refl
+
+same_found : (c : Clock) (number due : ℕ) (o : Option Call) → slice_get c.calls number ≡ o
+    → Some due ≡ option_map_or due_in o None
+    → c ≡ record c { calls = option_map_or (λ call. with_due number due call c.calls) o c.calls }
+same_found c number due None h e = refl
+same_found c number due (Some call) h e = same_by c number due call (is_waiting call.state) h e
+
+-- a call that is due at its own time changes nothing
+pub moved_same : (c : Clock) (number due : ℕ) → Some due ≡ due_of number c.calls → c ≡ moved number due c
+moved_same c number due h = same_found c number due (slice_get c.calls number) refl h
+
+pub on_ok : {A E : Type 0} (r : Result A E) (P : Type 0) → P → OnOk r P
+on_ok (Ok a) P p = p
+on_ok (Err e) P p = tt
 
 -- what is left when it waits no longer
 pub ended_index : (index left : BTreeSet (ℕ × ℕ)) (calls : List Call) (number due : ℕ) (call over : Call)

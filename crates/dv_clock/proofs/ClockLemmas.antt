@@ -10,12 +10,14 @@ use Rattle.dv_journal.specs.declared.entry.Entry.TheVariants as entry
 use Rattle.dv_journal.specs.declared.error.Stop.TheVariants.{Limit}
 use Rattle.dv_clock.specs.Clock.{Clock, Upcoming, is_waiting, next_call, first_from, due_at, due, due_found}
 use Rattle.dv_clock.specs.Clock.{cancel_found, cancel_in, cancel_waiting, ended, with_end, with_call, Cancelling}
+use Rattle.dv_clock.specs.Clock.{moved, new_due, reset_found, reset_in, reset_waiting, with_due}
 use Rattle.dv_journal.specs.Telling.{State, Told, telling}
 use Rattle.dv_clock.specs.Laws.{RunsBeforeOthers, TheFirstRunsNext, WhatIsDueRuns, Becomes, Same, Schedules, Advances}
-use Rattle.dv_clock.specs.Laws.{Runs, Cancels, Drops, TimeNeverGoesBack, EndedCallsNeverRun, CallsRunOnceAtMost}
+use Rattle.dv_clock.specs.Laws.{Runs, Cancels, Resets, Drops, TimeNeverGoesBack, EndedCallsNeverRun, CallsRunOnceAtMost}
 use Rattle.dv_clock.specs.declared.call.Call.{Call}
 use Rattle.dv_clock.specs.declared.call.CallState.{CallState}
 use Rattle.dv_clock.specs.declared.call.CallState.TheVariants.{Waiting, Called, Cancelled, Dropped}
+use Rattle.dv_clock.specs.declared.delay_from.DelayFrom.{DelayFrom}
 use Rattle.dv_clock.specs.declared.due.Due.{Due}
 use Rattle.dv_journal.specs.declared.error.Fault.TheVariants as fault
 use Rattle.dv_clock.specs.Due.{scheduling, coming_due}
@@ -105,6 +107,34 @@ cancel_keeps : (P : Clock → Type 0) (s : State Clock) (n : ℕ) (o : Option Ca
 cancel_keeps P s n None h k = h
 cancel_keeps P s n (Some call) h k = state_keeps P s n call.state h k
 
+-- and of it with a call that is due at another time, of a clock that gives a call a delay anew
+moving_keeps : (P : Clock → Type 0) (s : State Clock) (n : ℕ) (name : List ℕ) (due : ℕ) (b : Bool) → P s.0
+    → P (moved n due s.0) → P (let t : Cancelling =
+    if b then (Ok tt, (moved n due s.0, with_entry s.1 (entry.Reset name due))) else (Err fault.Limit, s) in t.1.0)
+moving_keeps P s n name due true h k = k
+moving_keeps P s n name due false h k = h
+
+waiting_moves : (P : Clock → Type 0) (s : State Clock) (n : ℕ) (from : DelayFrom) (delay due : ℕ) (what : Due) → P s.0
+    → ((due : ℕ) → P (moved n due s.0)) → P (reset_waiting n from delay due what s).1.0
+waiting_moves P s n from delay due (kind.Call name key) h k =
+    let new = new_due from delay due s.0.time in moving_keeps P s n name new (fits s.1 (entry.Reset name new)) h (k new)
+waiting_moves P s n from delay due (kind.Turn name key) h k = h
+waiting_moves P s n from delay due kind.Tick h k = h
+waiting_moves P s n from delay due (kind.Delivery job key) h k = h
+waiting_moves P s n from delay due (kind.Timeout d) h k = h
+
+state_moves : (P : Clock → Type 0) (s : State Clock) (n : ℕ) (from : DelayFrom) (delay due : ℕ) (state : CallState)
+    → P s.0 → ((due : ℕ) → P (moved n due s.0)) → P (reset_in n from delay due state s).1.0
+state_moves P s n from delay due (Waiting what) h k = waiting_moves P s n from delay due what h k
+state_moves P s n from delay due Called h k = h
+state_moves P s n from delay due Cancelled h k = h
+state_moves P s n from delay due Dropped h k = h
+
+reset_keeps : (P : Clock → Type 0) (s : State Clock) (n : ℕ) (from : DelayFrom) (delay : ℕ) (o : Option Call) → P s.0
+    → ((due : ℕ) → P (moved n due s.0)) → P (reset_found n from delay o s).1.0
+reset_keeps P s n from delay None h k = h
+reset_keeps P s n from delay (Some call) h k = state_moves P s n from delay call.due call.state h k
+
 -- time goes on
 pub time_kept : TimeNeverGoesBack
 time_kept c _ Same = omega arith
@@ -118,6 +148,9 @@ time_kept c _ (Runs d j b) =
     due_keeps (λ (k : Clock). c.time ≤ k.time) (d, j) (next_call d) (time_kept c d b) (λ n state. time_kept c d b)
 time_kept c _ (Cancels d j n b) =
     cancel_keeps (λ (k : Clock). c.time ≤ k.time) (d, j) n (slice_get d.calls n) (time_kept c d b) (time_kept c d b)
+time_kept c _ (Resets d j n from delay b) =
+    reset_keeps (λ (k : Clock). c.time ≤ k.time) (d, j) n from delay (slice_get d.calls n) (time_kept c d b)
+    (λ due. time_kept c d b)
 time_kept c _ (Drops d n b) = time_kept c d b
 
 -- a call that stands in a clock
@@ -163,6 +196,25 @@ ended_stays : (d : Clock) (n m : ℕ) (call : Call) (state : CallState) → Stan
     → Stands n call (ended m state d)
 ended_stays d n m call state h k = stays_found d.calls n m call state (slice_get d.calls m) h k refl
 
+-- and when another is due at another time
+moves_by : (calls : List Call) (n m : ℕ) (call other : Call) (due : ℕ) (w : Bool) → slice_get calls n ≡ Some call
+    → is_waiting call.state ≡ false → slice_get calls m ≡ Some other → is_waiting other.state ≡ w
+    → slice_get (if w then slice_set calls m (record other { due = due }) else calls) n ≡ Some call
+moves_by calls n m call other due true h k g w =
+    stays_beside calls n m call other (record other { due = due }) h k g w
+moves_by calls n m call other due false h k g w = h
+
+moves_found : (calls : List Call) (n m : ℕ) (call : Call) (due : ℕ) (o : Option Call)
+    → slice_get calls n ≡ Some call → is_waiting call.state ≡ false → slice_get calls m ≡ o
+    → slice_get (option_map_or (λ other. with_due m due other calls) o calls) n ≡ Some call
+moves_found calls n m call due None h k g = h
+moves_found calls n m call due (Some other) h k g =
+    moves_by calls n m call other due (is_waiting other.state) h k g refl
+
+moved_stays : (d : Clock) (n m : ℕ) (call : Call) (due : ℕ) → Stands n call d → is_waiting call.state ≡ false
+    → Stands n call (moved m due d)
+moved_stays d n m call due h k = moves_found d.calls n m call due (slice_get d.calls m) h k refl
+
 -- one that doesn't wait stays, whatever is done
 stays : (c d : Clock) (n : ℕ) (call : Call) → Stands n call c → is_waiting call.state ≡ false → Becomes c d
     → Stands n call d
@@ -180,6 +232,10 @@ stays c _ n call h k (Runs d j b) =
 stays c _ n call h k (Cancels d j m b) =
     let before = stays c d n call h k b in
     cancel_keeps (Stands n call) (d, j) m (slice_get d.calls m) before (ended_stays d n m call Cancelled before k)
+stays c _ n call h k (Resets d j m from delay b) =
+    let before = stays c d n call h k b in
+    reset_keeps (Stands n call) (d, j) m from delay (slice_get d.calls m) before
+    (λ due. moved_stays d n m call due before k)
 stays c _ n call h k (Drops d m b) = ended_stays d n m call Dropped (stays c d n call h k b) k
 
 -- so it never runs

@@ -1,5 +1,6 @@
 -- Delayed calls, and the time that they wait for (Twisted: `Clock`, `DelayedCall`).
-use Rattle.std.specs.Prelude.{◌≡◌, ◌≢◌, ℕ, ◌+◌, min, Bool, true, false, ◌&&◌, nat_eq, nat_lt, if◌then◌else◌, List, []}
+use Rattle.std.specs.Prelude.{◌≡◌, ◌≢◌, ℕ, ◌+◌, min, max, Bool, true, false, ◌&&◌, nat_eq, nat_lt, if◌then◌else◌, List}
+use Rattle.std.specs.Prelude.{[]}
 use Rattle.std.specs.Prelude.{◌∷◌, ◌++◌, length, Option, Some, None, Result, Ok, Err, slice_get, slice_set}
 use Rattle.std.specs.BTreeMap.{is_at}
 use Rattle.std.specs.BTreeSet.{BTreeSet, contains}
@@ -16,6 +17,9 @@ use Rattle.dv_journal.specs.Telling.{State, Told, untold, telling}
 use Rattle.dv_clock.specs.declared.call.Call.{Call}
 use Rattle.dv_clock.specs.declared.call.CallState.{CallState}
 use Rattle.dv_clock.specs.declared.call.CallState.TheVariants.{Waiting, Called, Cancelled, Dropped}
+use Rattle.dv_clock.specs.declared.delay_from.DelayFrom.{DelayFrom}
+use Rattle.dv_clock.specs.declared.delay_from.DelayFrom.TheVariants as from
+use Rattle.dv_clock.specs.declared.limits.TheConstants.{MOST_DUE}
 use Rattle.dv_clock.specs.declared.due.Due.{Due}
 use Rattle.dv_clock.specs.declared.due.Due.TheVariants as kind
 use Rattle.dv_clock.specs.declared.error.Over.{Over}
@@ -131,7 +135,7 @@ due_found (Some call) s = telling (coming_due call.what) (Some call.what) (ended
 abbrev pub due : State Clock → Told (Option Due) Clock
 due s = due_found (next_call s.0) s
 
--- what a cancelling answers, and what it leaves
+-- what a cancelling or a resetting answers, and what it leaves
 abbrev pub Cancelling : Type 0
 Cancelling = Result Unit (Fault Over) × State Clock
 
@@ -165,8 +169,53 @@ cancel_found number (Some call) s = cancel_in number call.state s
 abbrev pub cancel : ℕ → State Clock → Cancelling
 cancel number s = cancel_found number (slice_get s.0.calls number) s
 
--- a cancelling did what the rule says, or ran out of memory where the rule has no other reason to refuse it, and
--- nothing changed
+-- when a call is due that gets a delay anew: so much later than now, or than it was due before; never before now, and
+-- no later than calls may be due
+abbrev pub new_due : DelayFrom → ℕ → ℕ → ℕ → ℕ
+new_due from.Now delay due now = now + delay
+new_due from.Due delay due now = max (min (due + delay) MOST_DUE) now
+
+-- a call that waits is due then from now on, and keeps its number; one that doesn't wait stays as it is
+abbrev pub with_due : ℕ → ℕ → Call → List Call → List Call
+with_due number due call calls =
+    if is_waiting call.state then slice_set calls number (record call { due = due }) else calls
+
+abbrev pub moved : ℕ → ℕ → Clock → Clock
+moved number due c =
+    record c { calls = option_map_or (λ call. with_due number due call c.calls) (slice_get c.calls number) c.calls }
+
+-- the entry is written and then the call is due at that time, or the entry doesn't fit and nothing changes
+abbrev pub move_call : ℕ → List ℕ → ℕ → State Clock → Cancelling
+move_call number name due s =
+    if fits s.1 (entry.Reset name due)
+    then (Ok tt, (moved number due s.0, with_entry s.1 (entry.Reset name due)))
+    else (Err fault.Limit, s)
+
+-- a call of the script that waits gets a delay anew; what else waits is left alone
+abbrev pub reset_waiting : ℕ → DelayFrom → ℕ → ℕ → Due → State Clock → Cancelling
+reset_waiting number from delay due (kind.Call name key) s = move_call number name (new_due from delay due s.0.time) s
+reset_waiting number from delay due (kind.Turn name key) s = (Ok tt, s)
+reset_waiting number from delay due kind.Tick s = (Ok tt, s)
+reset_waiting number from delay due (kind.Delivery job key) s = (Ok tt, s)
+reset_waiting number from delay due (kind.Timeout d) s = (Ok tt, s)
+
+-- a call that waits no longer gets no delay
+abbrev pub reset_in : ℕ → DelayFrom → ℕ → ℕ → CallState → State Clock → Cancelling
+reset_in number from delay due (Waiting what) s = reset_waiting number from delay due what s
+reset_in number from delay due Called s = (Err (fault.Refused over.Called), s)
+reset_in number from delay due Cancelled s = (Err (fault.Refused over.Cancelled), s)
+reset_in number from delay due Dropped s = (Err (fault.Refused over.Cancelled), s)
+
+-- a call gets a delay anew; a number of no call changes nothing
+abbrev pub reset_found : ℕ → DelayFrom → ℕ → Option Call → State Clock → Cancelling
+reset_found number from delay None s = (Ok tt, s)
+reset_found number from delay (Some call) s = reset_in number from delay call.due call.state s
+
+abbrev pub reset : ℕ → DelayFrom → ℕ → State Clock → Cancelling
+reset number from delay s = reset_found number from delay (slice_get s.0.calls number) s
+
+-- a cancelling or a resetting did what the rule says, or ran out of memory where the rule has no other reason to refuse
+-- it, and nothing changed
 abbrev pub CancelsUnlessMemory : Result Unit (Fault Over) → State Clock → State Clock → Cancelling → Type 0
 CancelsUnlessMemory (Ok done) before after rule = (Ok done, after) ≡ rule
 CancelsUnlessMemory (Err (fault.Refused reason)) before after rule = (Err (fault.Refused reason), after) ≡ rule

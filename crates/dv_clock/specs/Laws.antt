@@ -1,12 +1,14 @@
 -- What holds of every clock.
 use Rattle.std.specs.Prelude.{◌≡◌, ◌≢◌, ◌≤◌, ◌<◌, ℕ, true, false, Some, None, slice_get}
 use Rattle.dv_journal.specs.Journal.{Written, fits}
-use Rattle.dv_clock.specs.Clock.{Clock, Upcoming, is_waiting, next_call, scheduled_at, advance_to, due, cancel, ended}
+use Rattle.dv_clock.specs.Clock.{Clock, Upcoming, is_waiting, next_call, scheduled_at, advance_to, due, cancel, reset}
+use Rattle.dv_clock.specs.Clock.{ended}
 use Rattle.dv_clock.specs.Due.{coming_due}
 use Rattle.dv_clock.specs.LoopingCall.{loop_next, IsNextTurn}
 use Rattle.dv_clock.specs.Turns.{Turns, turn_of, left}
 use Rattle.dv_clock.specs.declared.call.Call.{Call}
 use Rattle.dv_clock.specs.declared.call.CallState.TheVariants.{Waiting, Dropped}
+use Rattle.dv_clock.specs.declared.delay_from.DelayFrom.{DelayFrom}
 use Rattle.dv_clock.specs.declared.due.Due.{Due}
 
 -- a call is due, and of all that wait it is due first, and of those that are due with it, it was scheduled first
@@ -36,6 +38,8 @@ pub data Becomes (c : Clock) : Clock → Type 0 where
   Advances : (d : Clock) (j : Written) (time : ℕ) → d.time ≤ time → Becomes c d → Becomes c (advance_to time (d, j)).1.0
   Runs : (d : Clock) (j : Written) → Becomes c d → Becomes c (due (d, j)).1.0
   Cancels : (d : Clock) (j : Written) (n : ℕ) → Becomes c d → Becomes c (cancel n (d, j)).1.0
+  Resets : (d : Clock) (j : Written) (n : ℕ) (from : DelayFrom) (delay : ℕ) → Becomes c d
+      → Becomes c (reset n from delay (d, j)).1.0
   Drops : (d : Clock) (n : ℕ) → Becomes c d → Becomes c (ended n Dropped d)
 
 -- time never goes back

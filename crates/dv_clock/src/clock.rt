@@ -3,6 +3,7 @@ ghost use Rattle.std.specs.Option.{option_map, option_copied};
 
 use crate::call::{Call, CallState};
 use crate::call_id::CallId;
+use crate::delay_from::DelayFrom;
 use crate::due::Due;
 use crate::error::{CancelFault, Over};
 use crate::interval::Interval;
@@ -46,7 +47,9 @@ impl Model for Clock {
 
 impl Clock {
     ghost use Rattle.dv_clock.specs.Clock.{new_clock, later, next_turn, scheduled_at, advance_to};
-    ghost use Rattle.dv_clock.specs.Clock.{due, cancel, CancelsUnlessMemory, ended, due_of};
+    ghost use Rattle.dv_clock.specs.Clock.{due, cancel, reset, CancelsUnlessMemory, ended, due_of};
+    ghost use Rattle.dv_clock.specs.Clock.{moved};
+    ghost use Rattle.dv_journal.specs.Journal.{fits, with_entry};
     ghost use Rattle.dv_clock.specs.Clock.{what_of, waits, has_run, is_waiting, next_call};
     ghost use Rattle.dv_clock.specs.Clock.{numbered, with_number};
     ghost use Rattle.dv_journal.specs.Telling.{UnlessMemory};
@@ -169,6 +172,43 @@ impl Clock {
         Ok(())
     }
 
+    /// Gives a call of the script that waits a delay anew, in ticks, from now or from when it was
+    /// due (Twisted: `DelayedCall.reset`, `DelayedCall.delay`). It keeps its number, so of what is
+    /// due at one time it still runs in the order of scheduling. What else waits, as a loop's turn,
+    /// is left alone.
+    pub fn reset(
+        &mut self,
+        journal: &mut Journal,
+        id: CallId,
+        from: DelayFrom,
+        delay: u64,
+    ) -> Result<(), CancelFault>
+        requires short { delay ≤ MOST_DELAY }
+        ensures { CancelsUnlessMemory result (self.old, journal.old) (self.new, journal.new)
+            (reset id from delay (self.old, journal.old)) }
+    {
+        let Some(call) = self.calls.get(id.number()) else {
+            return Ok(());
+        };
+        let name = match &call.state {
+            CallState::Waiting(Due::Call(name, _)) => name,
+            CallState::Waiting(
+                Due::Turn(_, _) | Due::Tick | Due::Delivery(_, _) | Due::Timeout(_),
+            ) => return Ok(()),
+            CallState::Called => return Err(Fault::Refused(Over::Called)),
+            CallState::Cancelled | CallState::Dropped => return Err(Fault::Refused(
+                Over::Cancelled,
+            )),
+        };
+        if !journal.fits_plain() {
+            return Err(Fault::Limit);
+        }
+        let due = from.new_due(delay, call.due, self.time);
+        let entry = Entry::Reset(name.copy(self.alloc)?, due);
+        self.move_call(journal, entry, id.number(), due)?;
+        Ok(())
+    }
+
     /// Drops a call, so that it never runs, and answers whether it still waited. That isn't logged.
     pub fn drop_call(&mut self, id: CallId) -> bool
         ensures waited { result ≡ waits id self.old.calls }
@@ -205,6 +245,33 @@ impl Clock {
         let entry = what.coming_due(self.alloc)?;
         journal.write(entry)?;
         Ok(self.end(number, CallState::Called))
+    }
+
+    /// A call that waits is due at this time, and that is logged. On allocation failure it isn't.
+    fn move_call(
+        &mut self,
+        journal: &mut Journal,
+        entry: Entry,
+        number: usize,
+        due: u64,
+    ) -> Result<(), AllocError>
+        requires room { fits journal.old entry ≡ true }
+        ensures moved { OnOk result (self.new ≡ moved number due self.old) }
+        ensures written { OnOk result (journal.new ≡ with_entry journal.old entry) }
+        ensures kept { OnErr result (self.new ≡ self.old) }
+        ensures err { OnErr result (journal.new ≡ journal.old) }
+    {
+        match self.due_time(number) {
+            None => tell(journal, entry),
+            Some(before) => if before == due {
+                tell(journal, entry)
+            } else {
+                join(journal, entry, &mut self.waiting, (due, number))?;
+                self.waiting.remove(&(before, number));
+                self.calls[number].due = due;
+                Ok(())
+            },
+        }
     }
 
     /// Drops it, and returns all calls that were scheduled, in order of number.
@@ -338,6 +405,19 @@ fn schedule(
     join(journal, entry, waiting, place)
 }
 
+/// Logs what fits. On allocation failure it isn't logged.
+fn tell(journal: &mut Journal, entry: Entry) -> Result<(), AllocError>
+    requires room { fits journal.old entry ≡ true }
+    ensures written { OnOk result (journal.new ≡ with_entry journal.old entry) }
+    ensures err { OnErr result (journal.new ≡ journal.old) }
+{
+    match journal.write(entry) {
+        Ok(()) => Ok(()),
+        Err(Stop::Limit) => unreachable!(),
+        Err(Stop::OutOfMemory) => Err(AllocError),
+    }
+}
+
 /// A place joins the index, and that is logged. On allocation failure, it doesn't.
 fn join(
     journal: &mut Journal,
@@ -356,10 +436,9 @@ fn join(
         entry.discard();
         return Err(AllocError);
     };
-    match journal.write(entry) {
+    match tell(journal, entry) {
         Ok(()) => Ok(()),
-        Err(Stop::Limit) => unreachable!(),
-        Err(Stop::OutOfMemory) => {
+        Err(AllocError) => {
             waiting.remove(&place);
             Err(AllocError)
         }

@@ -10,6 +10,7 @@ use Rattle.std.specs.Ordering.{is_gt, nat_cmp, ordering_then}
 use Rattle.dv_clock.specs.Clock.{Clock, Upcoming, upcoming}
 use Rattle.dv_clock.specs.Turns.{Turns}
 use Rattle.dv_clock.specs.declared.call.Call.{Call}
+use Rattle.dv_clock.specs.declared.delay_from.DelayFrom.TheVariants as delay_from
 use Rattle.dv_clock.specs.declared.due.Due.{Due}
 use Rattle.dv_clock.specs.declared.due.Due.TheVariants as what
 use Rattle.dv_definition.specs.Flags.{list_flags, gather_flags}
@@ -20,7 +21,8 @@ use Rattle.dv_definition.specs.Steps.{NewSemaphore, Ask, Release, Forget, NewQue
 use Rattle.dv_definition.specs.Steps.{EndTimer, CallLater, NewLoop, ScheduleTurn, StopLoop, EndLoop, NewTask, AwaitTask}
 use Rattle.dv_definition.specs.Steps.{PauseTask, ResumeTask, HoldTask, KeepTick, BeginTick, EndTick, AddInline}
 use Rattle.dv_definition.specs.Steps.{BeginAwait, Submit, DeliverLater, Put, PutDeferred, ComeDue, Moves, Cancel}
-use Rattle.dv_definition.specs.Steps.{PutInto, GetFrom, CameTo, CancelCall, TakeStep, EndTask, ComeToInline, EndAwait}
+use Rattle.dv_definition.specs.Steps.{PutInto, GetFrom, CameTo, CancelCall, ResetCall, TakeStep, EndTask}
+use Rattle.dv_definition.specs.Steps.{ComeToInline, EndAwait}
 use Rattle.dv_definition.specs.Words.{finished, give, raise, give_end, ◌and◌, calls, places, performs, goes_through}
 use Rattle.dv_definition.specs.Words.{cancels, ends_canceller, makes_deferred, adds, gives, notifies, ends_step}
 use Rattle.dv_definition.specs.Words.{takes_steps, goes_on, goes_on_with_answer, awaits, tells_failure, runs_due}
@@ -639,6 +641,10 @@ carry_out itself (Action-F.Gather name children flags) =
     on_all itself children λ ds. gather name ds (gather_flags flags)
 carry_out itself (Action-F.Later name delay body) = CallLater name delay body next finished
 carry_out itself (Action-F.CancelCall name) = on_call name λ number. Asks (CancelCall number) Ends
+carry_out itself (Action-F.ResetCall name delay) =
+    on_call name λ number. Asks (ResetCall number delay_from.Now delay) Ends
+carry_out itself (Action-F.DelayCall name delay) =
+    on_call name λ number. Asks (ResetCall number delay_from.Due delay) Ends
 carry_out itself (Action-F.Loop name of interval at_once body) = loop name of interval at_once body
 carry_out itself (Action-F.StopLoop name) = on_loop name stop_loop
 carry_out itself (Action-F.Cooperate name bodies) = NewTask name bodies next KeepTick next finished

@@ -39,6 +39,8 @@ pub enum ActionWord {
     Get,
     Later,
     CancelCall,
+    ResetCall,
+    DelayCall,
     Loop,
     StopLoop,
     Cooperate,
@@ -146,7 +148,7 @@ const STATEMENTS: Want = Want::Array(Item::Statement);
 const WORK: Want = Want::Call(Call::Work);
 
 /// The forms of the actions.
-pub const ACTION_FORMS: [Form<ActionWord>; 37] = [
+pub const ACTION_FORMS: [Form<ActionWord>; 39] = [
     (
         ActionWord::Deferred,
         "deferred",
@@ -317,6 +319,20 @@ pub const ACTION_FORMS: [Form<ActionWord>; 37] = [
         &[CALL],
         "[\"cancelCall\",C]",
         1,
+    ),
+    (
+        ActionWord::ResetCall,
+        "resetCall",
+        &[CALL, DELAY],
+        "[\"resetCall\",C,N]",
+        3,
+    ),
+    (
+        ActionWord::DelayCall,
+        "delayCall",
+        &[CALL, DELAY],
+        "[\"delayCall\",C,N]",
+        3,
     ),
     (
         ActionWord::Loop,
@@ -546,11 +562,11 @@ fn form_at<W: Copy>(
 /// The row of `ACTION_FORMS` in which the first form of a word likely stands, by `likely_place`. A
 /// row that is wrong costs time, and nothing else: all rows are searched then.
 const LIKELY_ROWS: [u8; 128] = [
-    0, 0, 0, 0, 0, 0, 0, 0, 0, 7, 0, 16, 33, 0, 0, 32, 13, 0, 0, 12, 0, 5, 0, 4, 0, 15, 0, 0, 27,
-    0, 0, 2, 9, 0, 0, 0, 0, 0, 0, 22, 0, 11, 0, 3, 0, 0, 0, 24, 35, 26, 20, 0, 0, 0, 0, 0, 0, 0,
-    25, 19, 0, 18, 0, 0, 36, 0, 0, 8, 0, 0, 0, 10, 0, 0, 0, 0, 0, 29, 0, 0, 0, 0, 0, 0, 14, 28, 17,
-    30, 0, 0, 0, 0, 21, 0, 0, 0, 0, 0, 0, 0, 0, 6, 0, 0, 0, 0, 0, 0, 0, 0, 23, 0, 0, 34, 0, 0, 0,
-    0, 0, 0, 0, 0, 0, 0, 31, 0, 0, 0,
+    0, 0, 0, 0, 0, 0, 0, 0, 0, 7, 0, 16, 35, 0, 0, 34, 13, 0, 0, 12, 0, 5, 0, 4, 27, 15, 0, 0, 29,
+    0, 0, 2, 9, 0, 0, 0, 0, 0, 0, 22, 0, 11, 0, 3, 0, 0, 0, 24, 37, 26, 20, 0, 0, 0, 28, 0, 0, 0,
+    25, 19, 0, 18, 0, 0, 38, 0, 0, 8, 0, 0, 0, 10, 0, 0, 0, 0, 0, 31, 0, 0, 0, 0, 0, 0, 14, 30, 17,
+    32, 0, 0, 0, 0, 21, 0, 0, 0, 0, 0, 0, 0, 0, 6, 0, 0, 0, 0, 0, 0, 0, 0, 23, 0, 0, 36, 0, 0, 0,
+    0, 0, 0, 0, 0, 0, 0, 33, 0, 0, 0,
 ];
 
 /// The place of a word in `LIKELY_ROWS`, by its length and its first and its last letter: no two
@@ -697,6 +713,8 @@ impl ActionWord {
             "get" => Some(ActionWord::Get),
             "later" => Some(ActionWord::Later),
             "cancelCall" => Some(ActionWord::CancelCall),
+            "resetCall" => Some(ActionWord::ResetCall),
+            "delayCall" => Some(ActionWord::DelayCall),
             "loop" => Some(ActionWord::Loop),
             "stopLoop" => Some(ActionWord::StopLoop),
             "cooperate" => Some(ActionWord::Cooperate),

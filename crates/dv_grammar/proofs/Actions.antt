@@ -13,7 +13,8 @@ use Rattle.dv_script.specs.declared.body.Statement.{out-Statement}
 use Rattle.dv_script.specs.declared.action.Action.{Action, Deferred, Callback, Errback, AddCallback, AddErrback}
 use Rattle.dv_script.specs.declared.action.Action.{AddBoth, AddCallbacks, Chain, Pause, Unpause, Cancel, AddTimeout}
 use Rattle.dv_script.specs.declared.action.Action.{Note, List as ListOf, Gather, Maybe, Lock, Semaphore, Acquire}
-use Rattle.dv_script.specs.declared.action.Action.{Release, RunWith, Queue, Put, Get, Later, CancelCall, StopLoop}
+use Rattle.dv_script.specs.declared.action.Action.{Release, RunWith, Queue, Put, Get, Later, CancelCall, ResetCall}
+use Rattle.dv_script.specs.declared.action.Action.{DelayCall, StopLoop}
 use Rattle.dv_script.specs.declared.action.Action.{Cooperate, WhenDone, PauseTask, StopTask, ResumeTask, Inline, Thread}
 use Rattle.dv_script.specs.declared.action.Action.{map-Action, out-Action, Loop, ThreadIn}
 use Rattle.dv_script.specs.declared.limits.TheConstants.{MOST_PLACES}
@@ -26,7 +27,8 @@ use Rattle.dv_grammar.specs.Grammar.{body_keys, IsEnd, IsWork, IsListFlag, IsGat
 use Rattle.dv_grammar.specs.Grammar.{deferred_with, callback, errback, add_callback, add_errback, add_both}
 use Rattle.dv_grammar.specs.Grammar.{add_callbacks, chain, pause, unpause, cancel, add_timeout, note, list, gather}
 use Rattle.dv_grammar.specs.Grammar.{maybe, lock, semaphore, acquire, release, run_with, queue, put, get, later}
-use Rattle.dv_grammar.specs.Grammar.{cancel_call, loop, stop_loop, cooperate, when_done, pause_task, stop_task}
+use Rattle.dv_grammar.specs.Grammar.{cancel_call, reset_call, delay_call, loop, stop_loop, cooperate, when_done}
+use Rattle.dv_grammar.specs.Grammar.{pause_task, stop_task}
 use Rattle.dv_grammar.specs.Grammar.{resume_task, inline, thread, thread_in, AreActions, no_actions, more_actions, IsDo}
 use Rattle.dv_grammar.specs.Grammar.{does_nothing, does, IsBody, body, AreBodies, no_bodies, more_bodies, IsStatement}
 use Rattle.dv_grammar.specs.Grammar.{performs, awaits, tries, leaves, AreStatements, no_statements, more_statements}
@@ -56,6 +58,7 @@ use Rattle.dv_script.specs.declared.action.Action.TheVariants.{outs-Cancel, outs
 use Rattle.dv_script.specs.declared.action.Action.TheVariants.{outs-Gather, outs-Maybe, outs-Lock, outs-Semaphore}
 use Rattle.dv_script.specs.declared.action.Action.TheVariants.{outs-Acquire, outs-Release, outs-RunWith, outs-Queue}
 use Rattle.dv_script.specs.declared.action.Action.TheVariants.{outs-Put, outs-Get, outs-Later, outs-CancelCall}
+use Rattle.dv_script.specs.declared.action.Action.TheVariants.{outs-ResetCall, outs-DelayCall}
 use Rattle.dv_script.specs.declared.action.Action.TheVariants.{outs-Loop, outs-StopLoop, outs-Cooperate, outs-WhenDone}
 use Rattle.dv_script.specs.declared.action.Action.TheVariants.{outs-PauseTask, outs-StopTask, outs-ResumeTask}
 use Rattle.dv_script.specs.declared.action.Action.TheVariants.{outs-Inline, outs-Thread, outs-ThreadIn}
@@ -236,6 +239,10 @@ module _ (table : List Class) (r : Readers) (sound : AreSound table r) where
       named_with_two table (number_at 0 MOST_DELAY) (IsNumber 0 MOST_DELAY) (number_is 0 MOST_DELAY) r.body
       (IsBody table) sound.body Later (codes "later") later &
       named table CancelCall (codes "cancelCall") cancel_call &
+      named_with table (number_at 0 MOST_DELAY) (IsNumber 0 MOST_DELAY) (number_is 0 MOST_DELAY) ResetCall
+      (codes "resetCall") reset_call &
+      named_with table (number_at 0 MOST_DELAY) (IsNumber 0 MOST_DELAY) (number_is 0 MOST_DELAY) DelayCall
+      (codes "delayCall") delay_call &
       loop_read &
       named table StopLoop (codes "stopLoop") stop_loop &
       named_with table (list_at r.body) (IsBodies table) bodies_in Cooperate (codes "cooperate")
@@ -379,6 +386,8 @@ mutual
   complete_action table n (later name c d delay b g k) h =
       rw (complete_number 0 MOST_DELAY c delay g, complete_body table n k (omega (arith, h))) refl
   complete_action table n (cancel_call name) h = refl
+  complete_action table n (reset_call name d delay g) h = rw (complete_number 0 MOST_DELAY d delay g) refl
+  complete_action table n (delay_call name d delay g) h = rw (complete_number 0 MOST_DELAY d delay g) refl
   complete_action table n (loop name other c interval at_once d b g k) h =
       rw (complete_number 1 MOST_DELAY c interval g, complete_body table n k (omega (arith, h))) refl
   complete_action table n (stop_loop name) h = refl
@@ -512,6 +521,10 @@ mutual
   short_action (later name c d delay b g k) =
       by_action (Later name delay b) (rw (outs-Later name delay b) (rw (delay_is g, short_body k) refl))
   short_action (cancel_call name) = by_action (CancelCall name) (rw (outs-CancelCall name) refl)
+  short_action (reset_call name d delay g) =
+      by_action (ResetCall name delay) (rw (outs-ResetCall name delay) (rw (delay_is g) refl))
+  short_action (delay_call name d delay g) =
+      by_action (DelayCall name delay) (rw (outs-DelayCall name delay) (rw (delay_is g) refl))
   short_action (loop name other c interval at_once d b g k) =
       by_action (Loop name other interval at_once b)
       (rw (outs-Loop name other interval at_once b) (rw (interval_is g, short_body k) refl))

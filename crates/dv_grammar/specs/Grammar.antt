@@ -16,7 +16,8 @@ use Rattle.dv_script.specs.declared.action.GatherFlag.{GatherFlag}
 use Rattle.dv_script.specs.declared.action.Action.{Action, Deferred, Callback, Errback, AddCallback, AddErrback}
 use Rattle.dv_script.specs.declared.action.Action.{AddBoth, AddCallbacks, Chain, Pause, Unpause, Cancel, AddTimeout}
 use Rattle.dv_script.specs.declared.action.Action.{Note, List as ListOf, Gather, Maybe, Lock, Semaphore, Acquire}
-use Rattle.dv_script.specs.declared.action.Action.{Release, RunWith, Queue, Put, Get, Later, CancelCall, Loop, StopLoop}
+use Rattle.dv_script.specs.declared.action.Action.{Release, RunWith, Queue, Put, Get, Later, CancelCall, ResetCall}
+use Rattle.dv_script.specs.declared.action.Action.{DelayCall, Loop, StopLoop}
 use Rattle.dv_script.specs.declared.action.Action.{Cooperate, WhenDone, PauseTask, StopTask, ResumeTask, Inline, Thread}
 use Rattle.dv_script.specs.declared.action.Action.{ThreadIn}
 use Rattle.dv_script.specs.declared.event.Event.{Event}
@@ -179,6 +180,12 @@ mutual
         → IsAction table (call (codes "later") (string name ∷ c ∷ d ∷ [])) (Later name delay body)
     -- ["cancelCall",C]
     cancel_call : (name : List ℕ) → IsAction table (call (codes "cancelCall") (string name ∷ [])) (CancelCall name)
+    -- ["resetCall",C,N]
+    reset_call : (name : List ℕ) (d : Data) (delay : ℕ) → IsNumber 0 MOST_DELAY d delay
+        → IsAction table (call (codes "resetCall") (string name ∷ d ∷ [])) (ResetCall name delay)
+    -- ["delayCall",C,N]
+    delay_call : (name : List ℕ) (d : Data) (delay : ℕ) → IsNumber 0 MOST_DELAY d delay
+        → IsAction table (call (codes "delayCall") (string name ∷ d ∷ [])) (DelayCall name delay)
     -- ["loop",P,D,N,NOW,BODY]
     loop : (name deferred : List ℕ) (c : Data) (interval : ℕ) (at_once : Bool) (d : Data) (body : Body)
         → IsNumber 1 MOST_DELAY c interval → IsBody table d body
@@ -348,6 +355,8 @@ action_step (Action-F.Put name v) = true
 action_step (Action-F.Get name other) = true
 action_step (Action-F.Later name delay b) = is_delay delay && b
 action_step (Action-F.CancelCall name) = true
+action_step (Action-F.ResetCall name delay) = is_delay delay
+action_step (Action-F.DelayCall name delay) = is_delay delay
 action_step (Action-F.Loop name other interval at_once b) = is_interval interval && b
 action_step (Action-F.StopLoop name) = true
 action_step (Action-F.Cooperate name bodies) = list_all (λ b. b) bodies

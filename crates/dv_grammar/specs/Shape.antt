@@ -13,7 +13,8 @@ use Rattle.dv_script.specs.declared.work.Work.TheVariants as job
 use Rattle.dv_script.specs.declared.action.Action.{Action, Deferred, Callback, Errback, AddCallback, AddErrback}
 use Rattle.dv_script.specs.declared.action.Action.{AddBoth, AddCallbacks, Chain, Pause, Unpause, Cancel, AddTimeout}
 use Rattle.dv_script.specs.declared.action.Action.{Note, List as ListOf, Gather, Maybe, Lock, Semaphore, Acquire}
-use Rattle.dv_script.specs.declared.action.Action.{Release, RunWith, Queue, Put, Get, Later, CancelCall, Loop, StopLoop}
+use Rattle.dv_script.specs.declared.action.Action.{Release, RunWith, Queue, Put, Get, Later, CancelCall, ResetCall}
+use Rattle.dv_script.specs.declared.action.Action.{DelayCall, Loop, StopLoop}
 use Rattle.dv_script.specs.declared.action.Action.{Cooperate, WhenDone, PauseTask, StopTask, ResumeTask, Inline, Thread}
 use Rattle.dv_script.specs.declared.action.Action.{ThreadIn}
 use Rattle.dv_script.specs.declared.event.Event.{Event}
@@ -146,6 +147,8 @@ action_of table body statement word.Put ds = two_of text_at value_at Put ds
 action_of table body statement word.Get ds = two_of text_at text_at Get ds
 action_of table body statement word.Later ds = three_of text_at (number_at 0 MOST_DELAY) body Later ds
 action_of table body statement word.CancelCall ds = one_of text_at CancelCall ds
+action_of table body statement word.ResetCall ds = two_of text_at (number_at 0 MOST_DELAY) ResetCall ds
+action_of table body statement word.DelayCall ds = two_of text_at (number_at 0 MOST_DELAY) DelayCall ds
 action_of table body statement word.Loop ds = loop_of body ds
 action_of table body statement word.StopLoop ds = one_of text_at StopLoop ds
 action_of table body statement word.Cooperate ds = two_of text_at (list_at body) Cooperate ds

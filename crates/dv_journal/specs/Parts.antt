@@ -73,6 +73,7 @@ wording_of (entry.LaterTick due) = says (codes "later tick") (Due due ∷ [])
 wording_of (entry.LaterJob job due) = says (codes "later job") (Job job ∷ Due due ∷ [])
 wording_of (entry.LaterTimeout id due) = says (codes "later timeout") (Deferred id ∷ Due due ∷ [])
 wording_of (entry.Uncall name) = says (codes "uncall") (Object object.Call naming.Last name ∷ [])
+wording_of (entry.Reset name due) = says (codes "reset") (Object object.Call naming.Last name ∷ Due due ∷ [])
 wording_of (entry.Call name) = says (codes "call") (Object object.Call naming.Any name ∷ [])
 wording_of entry.Tick = says (codes "tick") []
 wording_of (entry.Deliver job) = says (codes "deliver") (Job job ∷ [])

@@ -33,13 +33,15 @@ pub data Timed : Type 0 where
 
 -- nothing that is asked for below; or what changes of a Deferred; or that something is scheduled, which is due then; or
 -- that a turn of a loop is; or that something waits no longer: it is run, or is a delayed call that is cancelled; or
--- that time goes on to this; or that a failure is unhandled
+-- that it is scheduled anew, and waits no longer for the time before; or that time goes on to this; or that a failure
+-- is unhandled
 pub data Told : Type 0 where
   Other : Told
   Changes : (change : Change) → Told
   Schedules : (timed : Timed) (due : ℕ) → Told
   SchedulesTurn : (due : ℕ) → Told
   Ends : (timed : Timed) → Told
+  Reschedules : (timed : Timed) (due : ℕ) → Told
   Advances : (time : ℕ) → Told
   IsUnhandled : Told
 
@@ -74,6 +76,7 @@ told_of (entry.LaterTick due) = Schedules Ticking due
 told_of (entry.LaterJob job due) = Schedules (Delivered job) due
 told_of (entry.LaterTimeout id due) = Schedules (TimedOut id) due
 told_of (entry.Uncall name) = Ends (Called name)
+told_of (entry.Reset name due) = Reschedules (Called name) due
 told_of (entry.Call name) = Ends (Called name)
 told_of entry.Tick = Ends Ticking
 told_of (entry.Deliver job) = Ends (Delivered job)
@@ -101,6 +104,7 @@ change_in (Changes change) = change
 change_in (Schedules timed due) = Aside
 change_in (SchedulesTurn due) = Aside
 change_in (Ends timed) = Aside
+change_in (Reschedules timed due) = Aside
 change_in (Advances time) = Aside
 change_in IsUnhandled = Aside
 
@@ -114,6 +118,7 @@ is_unhandled_in (Changes change) = false
 is_unhandled_in (Schedules timed due) = false
 is_unhandled_in (SchedulesTurn due) = false
 is_unhandled_in (Ends timed) = false
+is_unhandled_in (Reschedules timed due) = false
 is_unhandled_in (Advances time) = false
 is_unhandled_in IsUnhandled = true
 

@@ -86,6 +86,8 @@ pub enum Entry {
     LaterTimeout(DeferredId, u64),
     /// `uncall C`: a delayed call is cancelled.
     Uncall(Text),
+    /// `reset C TIME`: a delayed call that waits is due at that time from now on.
+    Reset(Text, u64),
     /// `call C`: a delayed call runs.
     Call(Text),
     /// `tick`: the cooperator ticks.
@@ -207,6 +209,7 @@ impl Entry {
                 Two(Deferred(*id), Due(*due)),
             ),
             Entry::Uncall(name) => Line(forms::UNCALL, One(Object(Call, Last, name))),
+            Entry::Reset(name, due) => Line(forms::RESET, Two(Object(Call, Last, name), Due(*due))),
             Entry::Call(name) => Line(forms::CALL, One(Object(Call, Any, name))),
             Entry::Tick => Line(forms::TICK, Nothing),
             Entry::Deliver(job) => Line(forms::DELIVER, One(Job(*job))),

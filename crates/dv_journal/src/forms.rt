@@ -81,6 +81,8 @@ pub const LATER_TIMEOUT: LineForm = row!("later timeout", Plain, Deferred, Due);
 
 pub const UNCALL: LineForm = row!("uncall", Plain, Object(Call, Last));
 
+pub const RESET: LineForm = row!("reset", Plain, Object(Call, Last), Due);
+
 pub const CALL: LineForm = row!("call", Due, Object(Call, Any));
 
 pub const TICK: LineForm = row!("tick", Tick);
@@ -120,7 +122,7 @@ pub const DRAIN: LineForm = row!("drain", Outer);
 pub const POST: LineForm = row!("post", Due, Number, Number);
 
 /// The rows, in the order in which the kinds of entries are declared.
-const LINE_FORMS: [LineForm; 48] = [
+const LINE_FORMS: [LineForm; 49] = [
     NEW,
     NAME,
     ADD,
@@ -150,6 +152,7 @@ const LINE_FORMS: [LineForm; 48] = [
     LATER_JOB,
     LATER_TIMEOUT,
     UNCALL,
+    RESET,
     CALL,
     TICK,
     DELIVER,

@@ -1,11 +1,11 @@
 -- What is scheduled is run once at most, not after it was cancelled and not before its time.
 use Rattle.std.proofs.Common.{◌≡◌, ℕ, zero, suc, ◌+◌, ◌≤◌, ◌++◌, min, Bool, true, false, nat_eq, List, [], ◌∷◌, Option}
 use Rattle.std.proofs.Common.{None, Some, refl, sym, ap, subst, ◌∙◌, arith, append_assoc, slice_get, slice_set, cond}
-use Rattle.std.proofs.Common.{length, sum_by}
+use Rattle.std.proofs.Common.{length, sum_by, ◌⊎◌, inl, inr, ⊎_elim}
 use Rattle.std.specs.Option.{option_map_or}
 use Rattle.std.proofs.lemmas.List.Sums.{sum_by_push, sum_by-set, fold-append}
 use Rattle.std.proofs.lemmas.Option.{none-some, slice_get_within, get_or_from_slice_get}
-use Rattle.dv_clock.specs.Clock.{Clock, Upcoming, next_call, with_call, ended, with_end, is_waiting}
+use Rattle.dv_clock.specs.Clock.{Clock, Upcoming, next_call, with_call, ended, moved, with_end, is_waiting}
 use Rattle.dv_clock.specs.Due.{scheduling, coming_due}
 use Rattle.dv_clock.specs.declared.call.Call.{Call}
 use Rattle.dv_clock.specs.declared.call.CallState.{CallState}
@@ -24,11 +24,11 @@ use Rattle.dv_loop.specs.Meaning.{Means}
 use Rattle.dv_script.specs.declared.script.Script.{Script}
 use Rattle.dv_world.specs.World.{World}
 use Rattle.dv_laws.specs.Calls.{count_of, scheduled_by, ended_by, schedulings, endings, later_of, run_of, time_after}
-use Rattle.dv_laws.specs.Calls.{time_by, WasDue, RunsInTime, CallsRunOnceInTime}
+use Rattle.dv_laws.specs.Calls.{time_by, IsSetFor, Scheduled, Reset, WasDue, RunsInTime, CallsRunOnceInTime}
 use Rattle.dv_laws.specs.Once.{Stands}
 use Rattle.dv_laws.specs.Times.{timing_of, Untimed}
 use Rattle.dv_laws.proofs.At.{places_on, no_places, entries_on, no_entries}
-use Rattle.dv_laws.proofs.Clocks.{IsPlain, Clocks, Leaves, Adds, Runs, Cancels, Drops, Arranges, Stays, Loses}
+use Rattle.dv_laws.proofs.Clocks.{IsPlain, Clocks, Leaves, Adds, Runs, Cancels, Moves, Drops, Arranges, Stays, Loses}
 use Rattle.dv_laws.proofs.ReadBackLemmas.{get_set}
 use Rattle.dv_laws.proofs.Calm.{Regular}
 use Rattle.dv_laws.proofs.Settles.{Still, Settles, means_keeps, reported}
@@ -95,6 +95,12 @@ not_uncalled name Ticking P q = absurd cc
 not_uncalled name (Delivered job) P q = absurd cc
 not_uncalled name (TimedOut d) P q = absurd cc
 
+pub not_reset : (name : List ℕ) (due : ℕ) (t : Timed) (P : Type 0) → entry.Reset name due ≡ run_of t → P
+not_reset name due (Called other) P q = absurd cc
+not_reset name due Ticking P q = absurd cc
+not_reset name due (Delivered job) P q = absurd cc
+not_reset name due (TimedOut d) P q = absurd cc
+
 -- what was logged about it when it was scheduled
 pub later_is : (due_for : Due) (due : ℕ) (t : Timed) → timed_of due_for ≡ Some t
     → scheduling due_for due ≡ later_of t due
@@ -114,11 +120,33 @@ waiting_in t call_state.Dropped = 0
 abbrev waiting : Timed → List Call → ℕ
 waiting t calls = sum_by (λ call. waiting_in t call.state) calls
 
--- each call that waits was logged when it was scheduled
+-- the name of a delayed call
+abbrev pub name_of : Due → Option (List ℕ)
+name_of (what.Call name key) = Some name
+name_of (what.Turn name key) = None
+name_of what.Tick = None
+name_of (what.Delivery job key) = None
+name_of (what.Timeout d) = None
+
+pub named_is : (due_for : Due) (name : List ℕ) (t : Timed) → name_of due_for ≡ Some name → timed_of due_for ≡ Some t
+    → t ≡ Called name
+named_is (what.Call own key) name t p q = cc
+named_is (what.Turn own key) name t p q = absurd (none-some name p)
+named_is what.Tick name t p q = absurd (none-some name p)
+named_is (what.Delivery job key) name t p q = absurd (none-some name p)
+named_is (what.Timeout d) name t p q = absurd (none-some name p)
+
+-- the time that a call is due at was logged: when it was scheduled, or when it was given this time anew
+abbrev pub IsTold : Due → ℕ → List Entry → Type 0
+IsTold due_for due entries =
+    Stands (scheduling due_for due) entries
+    ⊎ ((name : List ℕ) × (name_of due_for ≡ Some name) × Stands (entry.Reset name due) entries)
+
+-- it was of each call that waits
 pub record AllTold (calls : List Call) (entries : List Entry) : Type 0 where
   pub each : (n due : ℕ) (due_for : Due)
       → slice_get calls n ≡ Some (record { due = due; state = call_state.Waiting due_for })
-      → Stands (scheduling due_for due) entries
+      → IsTold due_for due entries
 
 -- what was scheduled waits, has run, was cancelled or was dropped; and the time is the one that was logged
 pub record Timely (t : Timed) (c : Clock) (entries : List Entry) : Type 0 where
@@ -133,17 +161,25 @@ record Keeps (t : Timed) (w u : World) : Type 0 where
   goes_on : Regular w.objects.loops → Timely t w.objects.clock w.journal.entries
       → Timely t u.objects.clock u.journal.entries
 
-stands_on : (e x : Entry) (entries : List Entry) → Stands e entries → Stands e (entries ++ x ∷ [])
+pub stands_on : (e x : Entry) (entries : List Entry) → Stands e entries → Stands e (entries ++ x ∷ [])
 stands_on e x entries s = record {
   before = s.before;
   later = s.later ++ x ∷ [];
   among = ap (λ l. l ++ x ∷ []) s.among ∙ append_assoc s.before (e ∷ s.later) (x ∷ []);
 }
 
+pub stands_last : (e : Entry) (entries : List Entry) → Stands e (entries ++ e ∷ [])
+stands_last e entries = record { before = entries; later = []; among = refl }
+
+is_told_on : (due_for : Due) (due : ℕ) (x : Entry) (entries : List Entry) → IsTold due_for due entries
+    → IsTold due_for due (entries ++ x ∷ [])
+is_told_on due_for due x entries (inl s) = inl (stands_on (scheduling due_for due) x entries s)
+is_told_on due_for due x entries (inr p) = inr (p.0, p.1, stands_on (entry.Reset p.0 due) x entries p.2)
+
 told_on : (x : Entry) (calls : List Call) (entries : List Entry) → AllTold calls entries
     → AllTold calls (entries ++ x ∷ [])
 told_on x calls entries k =
-    record { each = λ n due due_for h. stands_on (scheduling due_for due) x entries (k.each n due due_for h) }
+    record { each = λ n due due_for h. is_told_on due_for due x entries (k.each n due due_for h) }
 
 -- of a call that is added
 pub pushed_by : (e : Entry) (n : ℕ) (call : Call) (calls : List Call) (P : ℕ → Due → Type 0)
@@ -281,10 +317,10 @@ adds_tell t c due_for due entries k =
     (scheduling_time c.time due_for due)
     (record {
       each = λ n at for h.
-          pushed_by e n new c.calls (λ d f. Stands (scheduling f d) (entries ++ e ∷ []))
-          (λ j d f g. stands_on (scheduling f d) e entries (k.told.each j d f g))
-          (λ d f q. let same : scheduling due_for due ≡ scheduling f d = same_scheduling due_for f due d q in subst
-          (λ x. Stands x (entries ++ e ∷ [])) same (record { before = entries; later = []; among = refl })) at for h;
+          pushed_by e n new c.calls (λ d f. IsTold f d (entries ++ e ∷ []))
+          (λ j d f g. is_told_on f d e entries (k.told.each j d f g))
+          (λ d f q. let same : scheduling due_for due ≡ scheduling f d = same_scheduling due_for f due d q in inl (subst
+          (λ x. Stands x (entries ++ e ∷ [])) same (stands_last e entries))) at for h;
     })
     (λ q. absurd (none-some t (sym (scheduling_ends due_for due) ∙ ap ended_by q ∙ run_ends t)))
     k
@@ -308,6 +344,11 @@ pub dropped_ended : NeverWaits call_state.Dropped
 dropped_ended at d f q =
     let state : call_state.Dropped ≡ call_state.Waiting f = ap (λ (c : Call). c.state) q in absurd cc
 
+set_for : (t : Timed) (due_for : Due) (due : ℕ) (entries : List Entry) → timed_of due_for ≡ Some t
+    → IsTold due_for due entries → IsSetFor t due entries
+set_for t due_for due entries q (inl s) = Scheduled (subst (λ x. Stands x entries) (later_is due_for due t q) s)
+set_for t due_for due entries q (inr p) = Reset p.0 (named_is due_for p.0 t p.1 q) p.2
+
 was_due : (t : Timed) (c : Clock) (call : Upcoming) (entries : List Entry) → next_call c ≡ Some call
     → Timely t c entries → coming_due call.what ≡ run_of t → WasDue t entries
 was_due t c call entries n k q =
@@ -315,8 +356,7 @@ was_due t c call entries n k q =
     let same : timed_of call.what ≡ Some t = sym (coming_is call.what) ∙ ap ended_by q ∙ run_ends t in
     record {
       due = call.due;
-      scheduled = subst (λ x. Stands x entries) (later_is call.what call.due t same)
-          (k.told.each call.number call.due call.what first.waits);
+      scheduled = set_for t call.what call.due entries same (k.told.each call.number call.due call.what first.waits);
       by_now = omega (arith, first.is_due, k.time);
     }
 
@@ -347,6 +387,55 @@ cancels_tell t c number due name key entries g k =
     (ended_told c number call_state.Cancelled entries cancelled_ended k.told))
     (λ q. not_uncalled name t _ q) k
 
+-- of calls of which one is due at another time: it is that one, or as before
+moved_waits : (b : Bool) (new : Call) (o : Option Call) (at : ℕ) (f : Due) (P : Type 0)
+    → (new ≡ call_in at (call_state.Waiting f) → P) → (o ≡ Some (call_in at (call_state.Waiting f)) → P)
+    → cond b (Some new) o ≡ Some (call_in at (call_state.Waiting f)) → P
+moved_waits true new o at f P h k q = h cc
+moved_waits false new o at f P h k q = k q
+
+pub moved_is : (c : Clock) (number before due : ℕ) (f : Due)
+    → slice_get c.calls number ≡ Some (call_in before (call_state.Waiting f))
+    → (moved number due c).calls ≡ slice_set c.calls number (call_in due (call_state.Waiting f))
+moved_is c number before due f h = rw h refl
+
+pub moved_by : (c : Clock) (number before due n at : ℕ) (f g : Due) (P : Type 0)
+    → slice_get c.calls number ≡ Some (call_in before (call_state.Waiting f))
+    → (due ≡ at → f ≡ g → P) → (slice_get c.calls n ≡ Some (call_in at (call_state.Waiting g)) → P)
+    → slice_get (moved number due c).calls n ≡ Some (call_in at (call_state.Waiting g)) → P
+moved_by c number before due n at f g P h own other q =
+    let new = call_in due (call_state.Waiting f) in
+    moved_waits (nat_eq number n) new (slice_get c.calls n) at g P
+    (λ same.
+    let states : call_state.Waiting f ≡ call_state.Waiting g = ap (λ (x : Call). x.state) same in
+    let what_for : f ≡ g = cc in
+    own (ap (λ (x : Call). x.due) same) what_for) other
+    (sym (get_set c.calls number n (call_in before (call_state.Waiting f)) new h)
+    ∙ ap (λ calls. slice_get calls n) (sym (moved_is c number before due f h)) ∙ q)
+
+moves_tell : (t : Timed) (c : Clock) (number before due : ℕ) (name : List ℕ) (key : ℕ) (entries : List Entry)
+    → slice_get c.calls number ≡ Some (call_in before (call_state.Waiting (what.Call name key))) → Timely t c entries
+    → Timely t (moved number due c) (entries ++ entry.Reset name due ∷ [])
+moves_tell t c number before due name key entries g k =
+    let f = what.Call name key in
+    let e = entry.Reset name due in
+    tells t e c (moved number due c) entries
+    (omega (
+      arith,
+      ap (waiting t) (moved_is c number before due f g),
+      set_counts t c.calls number (call_in before (call_state.Waiting f)) (call_in due (call_state.Waiting f)) g,
+    )) refl
+    (record {
+      each = λ n at h q.
+          moved_by c number before due n at f h (IsTold h at (entries ++ e ∷ [])) g
+          (λ same what_for. inr (
+            name,
+            ap name_of (sym what_for),
+            subst (λ d. Stands (entry.Reset name d) (entries ++ e ∷ [])) same (stands_last e entries),
+          )) (λ p. is_told_on h at e entries (k.told.each n at h p)) q;
+    })
+    (λ q. not_reset name due t _ q) k
+
 of_entry : (t : Timed) (e x : Entry) (d : Clock) (entries : List Entry) → e ≡ x → Timely t d (entries ++ x ∷ [])
     → Timely t d (entries ++ e ∷ [])
 of_entry t e x d entries q k = subst (λ y. Timely t d (entries ++ y ∷ [])) (sym q) k
@@ -359,6 +448,8 @@ clocks_tell t e c d entries (Adds due_for due q h) k = of_entry t e _ _ entries 
 clocks_tell t e c d entries (Runs call n q) k = of_entry t e _ _ entries q (runs_tell t c call entries n k)
 clocks_tell t e c d entries (Cancels number due name key g q) k =
     of_entry t e _ _ entries q (cancels_tell t c number due name key entries g k)
+clocks_tell t e c d entries (Moves number before due name key g q h) k =
+    of_entry t e _ _ entries q (moves_tell t c number before due name key entries g k)
 clocks_tell t e c d entries (Drops number p) k =
     plain_tells t e c (ended number call_state.Dropped c) entries p (fewer t c number call_state.Dropped refl) refl
     (told_on e (ended number call_state.Dropped c).calls entries

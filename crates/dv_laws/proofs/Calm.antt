@@ -11,12 +11,14 @@ use Rattle.dv_prims.specs.Tokens.{Semaphore, is_unheld}
 use Rattle.dv_prims.specs.declared.gather.Flags.{Flags}
 use Rattle.dv_script.specs.declared.action.Action.{Action, out-Action}
 use Rattle.dv_script.specs.declared.action.Action.TheOpen.{Action-F}
-use Rattle.dv_clock.specs.Clock.{Upcoming, next_call}
+use Rattle.dv_clock.specs.Clock.{Upcoming, next_call, new_due}
 use Rattle.dv_clock.specs.Due.{coming_due}
 use Rattle.dv_clock.specs.Turns.{turn_of}
 use Rattle.dv_clock.specs.declared.call.Call.{Call}
 use Rattle.dv_clock.specs.declared.call.CallState.{CallState}
 use Rattle.dv_clock.specs.declared.call.CallState.TheVariants as call_state
+use Rattle.dv_clock.specs.declared.delay_from.DelayFrom.{DelayFrom}
+use Rattle.dv_clock.specs.declared.delay_from.DelayFrom.TheVariants as delay_from
 use Rattle.dv_clock.specs.declared.due.Due.{Due}
 use Rattle.dv_clock.specs.declared.due.Due.TheVariants as what
 use Rattle.dv_script.specs.declared.body.Body as body_of
@@ -33,12 +35,15 @@ use Rattle.dv_world.specs.Found.{deferreds_at}
 use Rattle.dv_world.specs.World.{World, step, append, fire, cancel, pause, unpause, make, aside, lock_told}
 use Rattle.dv_world.specs.World.{release_found, forget, unless_stopped, put_into_found, get_from_found, withdraw}
 use Rattle.dv_world.specs.World.{arrange, came_to_found, came_to, come_due_found, waiting_cancelled, state_cancelled}
-use Rattle.dv_world.specs.World.{call_cancelled, cancel_call, start_timer, turn_scheduled, loop_stopped, end_loop}
+use Rattle.dv_world.specs.World.{call_cancelled, cancel_call, waiting_reset, state_reset, call_reset, reset_call}
+use Rattle.dv_world.specs.World.{start_timer}
+use Rattle.dv_world.specs.World.{turn_scheduled, loop_stopped, end_loop}
 use Rattle.dv_world.specs.World.{task_told, task_ended, end_task, tick_dropped, keep_tick, step_taken, turn_taken}
 use Rattle.dv_world.specs.World.{come_to_inline, end_await, submit, deliver_later}
 use Rattle.dv_script.specs.declared.work.Work.{Work}
 use Rattle.dv_objects.specs.Cooperator.{Cooperator, with_step, result_of, unended, wants_tick, idle_tick}
-use Rattle.dv_objects.specs.Objects.{Objects, with_queue, with_list, with_ended_call, cooperating, inlining}
+use Rattle.dv_objects.specs.Objects.{Objects, with_queue, with_list, with_ended_call, with_moved_call, cooperating}
+use Rattle.dv_objects.specs.Objects.{inlining}
 use Rattle.dv_objects.specs.declared.inline_id.Inline.{Inline}
 use Rattle.dv_objects.specs.Inlines.{come_to, end_adding}
 use Rattle.dv_inline.specs.Position.{Position, come, want_at}
@@ -72,7 +77,7 @@ use Rattle.dv_objects.specs.Objects.{with_lock}
 use Rattle.dv_prims.specs.Tokens.{released}
 use Rattle.dv_laws.proofs.Beside as beside
 use Rattle.dv_laws.proofs.Beside.{Tasks, Locks, Queues, Loops, Beside, Arranged, resting, arranging}
-use Rattle.dv_laws.proofs.Clocks.{IsPlain, Clocks, Leaves, Adds, Runs, Cancels, Drops, Arranges, Stays, Loses}
+use Rattle.dv_laws.proofs.Clocks.{IsPlain, Clocks, Leaves, Adds, Runs, Cancels, Moves, Drops, Arranges, Stays, Loses}
 use Rattle.std.specs.Prelude.{min}
 use Rattle.dv_clock.specs.declared.limits.TheConstants.{MOST_DELAY}
 use Rattle.dv_objects.specs.Objects.{with_new_call, with_timer, with_delivery, with_tick, without_tick}
@@ -503,6 +508,43 @@ off_comes number w =
     first_comes w.stopped _ (call_cancelled number (slice_get w.objects.clock.calls number) w) w (same w)
     (call_comes number (slice_get w.objects.clock.calls number) w refl)
 
+new_later : (from : DelayFrom) (delay due now : ℕ) → now ≤ new_due from delay due now
+new_later delay_from.Now delay due now = omega arith
+new_later delay_from.Due delay due now = omega arith
+
+waiting_anew : (number : ℕ) (from : DelayFrom) (delay at : ℕ) (due : Due) (w : World)
+    → slice_get w.objects.clock.calls number ≡ Some (record { due = at; state = call_state.Waiting due })
+    → Quietly w (waiting_reset number from delay at due w)
+waiting_anew number from delay at (what.Call name key) w h =
+    let now = w.objects.clock.time in
+    let new = new_due from (min delay MOST_DELAY) at now in
+    by_aside (entry.Reset name new) (with_moved_call number new) w refl
+    (λ k. Moves number at new name key h refl (new_later from (min delay MOST_DELAY) at now)) (λ k. k)
+    (resting _ _ _ refl refl refl refl refl refl refl refl refl)
+waiting_anew number from delay at (what.Turn name key) w h = same w
+waiting_anew number from delay at what.Tick w h = same w
+waiting_anew number from delay at (what.Delivery job key) w h = same w
+waiting_anew number from delay at (what.Timeout d) w h = same w
+
+state_anew : (number : ℕ) (from : DelayFrom) (delay at : ℕ) (state : CallState) (w : World)
+    → slice_get w.objects.clock.calls number ≡ Some (record { due = at; state = state })
+    → Quietly w (state_reset number from delay at state w).1
+state_anew number from delay at (call_state.Waiting due) w h = waiting_anew number from delay at due w h
+state_anew number from delay at call_state.Called w h = same w
+state_anew number from delay at call_state.Cancelled w h = same w
+state_anew number from delay at call_state.Dropped w h = same w
+
+call_anew : (number : ℕ) (from : DelayFrom) (delay : ℕ) (o : Option Call) (w : World)
+    → slice_get w.objects.clock.calls number ≡ o → Quietly w (call_reset number from delay o w).1
+call_anew number from delay None w h = same w
+call_anew number from delay (Some call) w h = state_anew number from delay call.due call.state w h
+
+anew_comes : (number : ℕ) (from : DelayFrom) (delay : ℕ) (w : World) → Quietly w (reset_call number from delay w).1
+unfolding reset_call
+anew_comes number from delay w =
+    first_comes w.stopped _ (call_reset number from delay (slice_get w.objects.clock.calls number) w) w (same w)
+    (call_anew number from delay (slice_get w.objects.clock.calls number) w refl)
+
 call_later_comes : (name : List ℕ) (delay : ℕ) (body : body_of.Body) (w : World)
     → Quietly w (call_later name delay body w)
 call_later_comes name delay body w =
@@ -685,6 +727,7 @@ question_quiet (steps.PutInto k v) w m = put_comes k v (slice_get w.objects.queu
 question_quiet (steps.GetFrom k d) w m = get_comes k d (slice_get w.objects.queues k) w refl
 question_quiet (steps.CameTo l i v) w m = came_to_comes l i v w
 question_quiet (steps.CancelCall number) w m = off_comes number w
+question_quiet (steps.ResetCall number from delay) w m = anew_comes number from delay w
 question_quiet steps.TakeStep w m = turn_comes (turn_of w.objects.cooperator.turns) w refl
 question_quiet (steps.EndTask t end) w m =
     task_ended_comes t end (unended (slice_get w.objects.cooperator.tasks t)) w refl
@@ -727,6 +770,7 @@ reached_by (steps.PutInto k v) r = None
 reached_by (steps.GetFrom k d) r = None
 reached_by (steps.CameTo l i v) r = None
 reached_by (steps.CancelCall number) r = None
+reached_by (steps.ResetCall number from delay) r = None
 reached_by steps.TakeStep r = None
 reached_by (steps.EndTask t end) r = None
 reached_by (steps.ComeToInline i v) r = None
@@ -767,6 +811,7 @@ has_reached (steps.PutInto k v) w = tt
 has_reached (steps.GetFrom k d) w = tt
 has_reached (steps.CameTo l i v) w = tt
 has_reached (steps.CancelCall number) w = tt
+has_reached (steps.ResetCall number from delay) w = tt
 has_reached steps.TakeStep w = tt
 has_reached (steps.EndTask t end) w = tt
 has_reached (steps.ComeToInline i v) w = tt
@@ -974,6 +1019,8 @@ carry_mild itself (Action-F.Gather name children flags) =
     (λ ds. λ v. (list_mild name ds (page_flags.gather_flags flags), (tt, tt)))
 carry_mild itself (Action-F.Later name delay body) = search [] depth 20
 carry_mild itself (Action-F.CancelCall name) = search [] depth 20
+carry_mild itself (Action-F.ResetCall name delay) = search [] depth 20
+carry_mild itself (Action-F.DelayCall name delay) = search [] depth 20
 carry_mild itself (Action-F.Loop name of interval at_once body) = search [] depth 20
 carry_mild itself (Action-F.StopLoop name) = search [] depth 20
 carry_mild itself (Action-F.Cooperate name bodies) = search [] depth 20

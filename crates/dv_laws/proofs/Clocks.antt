@@ -2,7 +2,7 @@
 use Rattle.std.specs.Prelude.{◌≡◌, ◌≤◌, ℕ, List, None, Some, slice_get}
 use Rattle.dv_journal.specs.declared.entry.Entry.{Entry}
 use Rattle.dv_journal.specs.declared.entry.Entry.TheVariants as entry
-use Rattle.dv_clock.specs.Clock.{Clock, Upcoming, next_call, with_call, ended}
+use Rattle.dv_clock.specs.Clock.{Clock, Upcoming, next_call, with_call, ended, moved}
 use Rattle.dv_clock.specs.Due.{scheduling, coming_due}
 use Rattle.dv_clock.specs.declared.call.CallState.TheVariants as call_state
 use Rattle.dv_clock.specs.declared.due.Due.{Due}
@@ -14,7 +14,8 @@ use Rattle.dv_laws.specs.Times.{timing_of, Untimed}
 abbrev pub IsPlain : Entry → Type 0
 IsPlain e = (timing_of e ≡ Untimed) × (scheduled_by e ≡ None) × (ended_by e ≡ None)
 
--- the clock stays, or something is scheduled, runs, or is cancelled, which is logged, or something is dropped
+-- the clock stays, or something is scheduled, runs, is cancelled or is due at another time, which is logged, or
+-- something is dropped
 pub data Clocks (e : Entry) (c : Clock) : Clock → Type 0 where
   Leaves : IsPlain e → Clocks e c c
   Adds : (due_for : Due) (due : ℕ) → e ≡ scheduling due_for due → c.time ≤ due → Clocks e c (with_call due due_for c)
@@ -23,6 +24,9 @@ pub data Clocks (e : Entry) (c : Clock) : Clock → Type 0 where
   Cancels : (number due : ℕ) (name : List ℕ) (key : ℕ)
       → slice_get c.calls number ≡ Some (record { due = due; state = call_state.Waiting (what.Call name key) })
       → e ≡ entry.Uncall name → Clocks e c (ended number call_state.Cancelled c)
+  Moves : (number before due : ℕ) (name : List ℕ) (key : ℕ)
+      → slice_get c.calls number ≡ Some (record { due = before; state = call_state.Waiting (what.Call name key) })
+      → e ≡ entry.Reset name due → c.time ≤ due → Clocks e c (moved number due c)
   Drops : (number : ℕ) → IsPlain e → Clocks e c (ended number call_state.Dropped c)
 
 -- what isn't logged about the clock: it stays, or something is dropped

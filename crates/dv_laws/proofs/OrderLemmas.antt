@@ -1,14 +1,15 @@
 -- Calls run in the order of the times that they are due at.
 use Rattle.std.proofs.Common.{◌≡◌, ℕ, zero, suc, ◌+◌, ◌≤◌, ◌<◌, ◌++◌, min, Bool, true, false, nat_eq, List, [], ◌∷◌}
 use Rattle.std.proofs.Common.{Option, None, Some, refl, sym, ap, subst, ◌∙◌, arith, append_assoc, slice_get, slice_set}
-use Rattle.std.proofs.Common.{cond, length}
+use Rattle.std.proofs.Common.{cond, length, inl, inr}
 use Rattle.std.proofs.lemmas.Option.{none-some, slice_get_within}
-use Rattle.dv_clock.specs.Clock.{Clock, Upcoming, next_call, with_call, ended}
+use Rattle.dv_clock.specs.Clock.{Clock, Upcoming, next_call, with_call, ended, moved}
 use Rattle.dv_clock.specs.Due.{scheduling, coming_due}
 use Rattle.dv_clock.specs.declared.call.Call.{Call}
 use Rattle.dv_clock.specs.declared.call.CallState.{CallState}
 use Rattle.dv_clock.specs.declared.call.CallState.TheVariants as call_state
 use Rattle.dv_clock.specs.declared.due.Due.{Due}
+use Rattle.dv_clock.specs.declared.due.Due.TheVariants as what
 use Rattle.dv_clock.specs.declared.limits.TheConstants.{MOST_TICKS}
 use Rattle.dv_clock.proofs.ClockLemmas.{first_runs_next}
 use Rattle.dv_journal.specs.declared.entry.Entry.{Entry}
@@ -23,7 +24,7 @@ use Rattle.dv_laws.specs.Calls.{is_same, count_of, scheduled_by, ended_by, sched
 use Rattle.dv_laws.specs.Calls.{HasRun, Precedes, IsFirst, RunsInOrder, CallsRunInOrder}
 use Rattle.dv_laws.specs.Once.{Stands}
 use Rattle.dv_laws.proofs.At.{entries_on, no_entries}
-use Rattle.dv_laws.proofs.Clocks.{IsPlain, Clocks, Leaves, Adds, Runs, Cancels, Drops, Arranges, Stays, Loses}
+use Rattle.dv_laws.proofs.Clocks.{IsPlain, Clocks, Leaves, Adds, Runs, Cancels, Moves, Drops, Arranges, Stays, Loses}
 use Rattle.dv_laws.proofs.ReadBackLemmas.{get_set}
 use Rattle.dv_laws.proofs.Calm.{Regular}
 use Rattle.dv_laws.proofs.Settles.{Still, Settles, means_keeps, reported}
@@ -34,7 +35,8 @@ use Rattle.dv_laws.proofs.At.{split_last}
 use Rattle.dv_laws.proofs.CallsLemmas.{timed_of, coming_is, run_ends, later_is, call_in, NeverWaits, called_ended}
 use Rattle.dv_laws.proofs.CallsLemmas.{cancelled_ended, dropped_ended, clocks_tell, arranged, advanced, pushed_by}
 use Rattle.dv_laws.proofs.CallsLemmas.{set_waits, ended_found, not_uncalled, scheduling_ends, named_same, named_loops}
-use Rattle.dv_laws.proofs.CallsLemmas.{Timely, AllTold, first_timely}
+use Rattle.dv_laws.proofs.CallsLemmas.{Timely, AllTold, IsTold, first_timely, name_of, named_is, not_reset, moved_by}
+use Rattle.dv_laws.proofs.CallsLemmas.{stands_on, stands_last}
 
 -- what was logged once was logged with one time
 is_itself : (t : Timed) → is_same t t ≡ true
@@ -88,6 +90,66 @@ one_due t a b (e ∷ entries) n s r =
     (λ q. absurd (omega (arith, n, all, ap (counts_of t) q, later_counts t b, counted_once t a entries y)))
     (λ z. one_due t a b entries (omega (arith, n, all)) y z))
 
+-- what was logged once was never given a time anew
+reset_counts : (name : List ℕ) (due : ℕ) → count_of (Called name) (scheduled_by (entry.Reset name due)) ≡ 1
+reset_counts name due = ap {B = ℕ} (λ b. cond b 1 0) (is_itself (Called name))
+
+counted_anew : (name : List ℕ) (due : ℕ) (entries : List Entry) → Stands (entry.Reset name due) entries
+    → 1 ≤ schedulings (Called name) entries
+counted_anew name due [] s = stands_nowhere (entry.Reset name due) s.before s.later _ s.among
+counted_anew name due (e ∷ entries) s =
+    stands_cases (entry.Reset name due) e entries s.before s.later _ s.among
+    (λ q. omega (
+      arith,
+      sum_by-cons (counts_of (Called name)) e entries,
+      ap (counts_of (Called name)) q,
+      reset_counts name due,
+    ))
+    (λ z. omega (arith, sum_by-cons (counts_of (Called name)) e entries, counted_anew name due entries z))
+
+differ : (name : List ℕ) (due other : ℕ) → entry.LaterCall name due ≡ entry.Reset name other → ⊥
+differ name due other q = absurd cc
+
+not_both : (name : List ℕ) (due other : ℕ) (entries : List Entry) → schedulings (Called name) entries ≤ 1
+    → Stands (entry.LaterCall name due) entries → Stands (entry.Reset name other) entries → ⊥
+not_both name due other [] n s r = stands_nowhere (entry.LaterCall name due) s.before s.later _ s.among
+not_both name due other (e ∷ entries) n s r =
+    let t = Called name in
+    let all = sum_by-cons (counts_of t) e entries in
+    stands_cases (entry.LaterCall name due) e entries s.before s.later _ s.among
+    (λ p. stands_cases (entry.Reset name other) e entries r.before r.later _ r.among
+    (λ q. differ name due other (p ∙ sym q))
+    (λ z. omega (arith, n, all, ap (counts_of t) p, later_counts t due, counted_anew name other entries z)))
+    (λ y. stands_cases (entry.Reset name other) e entries r.before r.later _ r.among
+    (λ q. omega (arith, n, all, ap (counts_of t) q, reset_counts name other, counted_once t due entries y))
+    (λ z. not_both name due other entries (omega (arith, n, all)) y z))
+
+-- no delayed call of this name was given a time anew
+abbrev IsUnmoved : Due → List Entry → Type 0
+IsUnmoved f entries = (name : List ℕ) (due : ℕ) → name_of f ≡ Some name → Stands (entry.Reset name due) entries → ⊥
+
+once_unmoved : (t : Timed) (f : Due) (due : ℕ) (entries : List Entry) → timed_of f ≡ Some t
+    → ScheduledOnce t due entries → IsUnmoved f entries
+once_unmoved t f due entries q s = λ name other p r.
+    let same = named_is f name t p q in
+    not_both name due other entries
+    (subst (λ x. schedulings x entries ≤ 1) same (omega (arith, s.once)))
+    (subst (λ x. Stands (later_of x due) entries) same s.scheduled) r
+
+unmoved_before : (f : Due) (e : Entry) (entries : List Entry) → IsUnmoved f (entries ++ e ∷ []) → IsUnmoved f entries
+unmoved_before f e entries u = λ name due q s. u name due q (stands_on (entry.Reset name due) e entries s)
+
+moved_not : (name : List ℕ) (key due : ℕ) (f : Due) (entries : List Entry) → what.Call name key ≡ f
+    → IsUnmoved f (entries ++ entry.Reset name due ∷ []) → ⊥
+moved_not name key due f entries same u =
+    u name due (ap name_of (sym same)) (stands_last (entry.Reset name due) entries)
+
+-- its time was logged when it was scheduled
+scheduled_so : (f : Due) (due : ℕ) (entries : List Entry) → IsTold f due entries → IsUnmoved f entries
+    → Stands (scheduling f due) entries
+scheduled_so f due entries (inl s) u = s
+scheduled_so f due entries (inr p) u = absurd (u p.0 due p.1 p.2)
+
 -- nothing that waits is due before this, nor is this later than now
 record NotLater (due : ℕ) (c : Clock) : Type 0 where
   passed : due ≤ c.time
@@ -120,6 +182,16 @@ ends_later : (due : ℕ) (c : Clock) (number : ℕ) (state : CallState) → Neve
 ends_later due c number state never k =
     record { passed = k.passed; waits = ended_later due c number state never k.waits }
 
+moves_later : (x : ℕ) (c : Clock) (number before due : ℕ) (f : Due)
+    → slice_get c.calls number ≡ Some (call_in before (call_state.Waiting f)) → c.time ≤ due → NotLater x c
+    → NotLater x (moved number due c)
+moves_later x c number before due f g h k = record {
+  passed = k.passed;
+  waits = λ n at for q.
+      moved_by c number before due n at f for (x ≤ at) g (λ same what_for. omega (arith, h, k.passed, same))
+      (k.waits n at for) q;
+}
+
 -- the next call isn't later than what waits
 next_later : (c : Clock) (call : Upcoming) → next_call c ≡ Some call → NotLater call.due c
 next_later c call n = let first = first_runs_next c call n in record { passed = first.is_due; waits = first.soonest }
@@ -143,11 +215,12 @@ precedes_last x e entries s = record {
   among = ap (λ l. l ++ e ∷ []) s.among ∙ append_assoc s.before (x ∷ s.later) (e ∷ []);
 }
 
--- calls that wait were logged in the order of their numbers
+-- calls that wait were logged in the order of their numbers, but for those that were given a time anew
 abbrev InOrder : List Call → List Entry → Type 0
 InOrder calls entries =
     (n m a b : ℕ) (f g : Due) → n < m → slice_get calls n ≡ Some (call_in a (call_state.Waiting f))
-    → slice_get calls m ≡ Some (call_in b (call_state.Waiting g)) → Precedes (scheduling f a) (scheduling g b) entries
+    → slice_get calls m ≡ Some (call_in b (call_state.Waiting g)) → IsUnmoved f entries → IsUnmoved g entries
+    → Precedes (scheduling f a) (scheduling g b) entries
 
 pushed_at : (n : ℕ) (new x : Call) (calls : List Call) (Q : Type 0) → (slice_get calls n ≡ Some x → Q)
     → (n ≡ length calls → new ≡ x → Q) → slice_get (calls ++ new ∷ []) n ≡ Some x → Q
@@ -167,21 +240,24 @@ scheduled_same f g a b q =
 order_on : (e : Entry) (calls : List Call) (entries : List Entry) → InOrder calls entries
     → InOrder calls (entries ++ e ∷ [])
 order_on e calls entries k =
-    λ n m a b f g l h i. precedes_on (scheduling f a) (scheduling g b) e entries (k n m a b f g l h i)
+    λ n m a b f g l h i u v. precedes_on (scheduling f a) (scheduling g b) e entries
+    (k n m a b f g l h i (unmoved_before f e entries u) (unmoved_before g e entries v))
 
 order_added : (due_for : Due) (due : ℕ) (calls : List Call) (entries : List Entry) → AllTold calls entries
     → InOrder calls entries
     → InOrder (calls ++ call_in due (call_state.Waiting due_for) ∷ []) (entries ++ scheduling due_for due ∷ [])
-order_added due_for due calls entries told k = λ n m a b f g l h i.
+order_added due_for due calls entries told k = λ n m a b f g l h i u v.
     let new = call_in due (call_state.Waiting due_for) in
     let e = scheduling due_for due in
     pushed_at n new (call_in a (call_state.Waiting f)) calls
     (Precedes (scheduling f a) (scheduling g b) (entries ++ e ∷ []))
     (λ p. pushed_at m new (call_in b (call_state.Waiting g)) calls
     (Precedes (scheduling f a) (scheduling g b) (entries ++ e ∷ []))
-    (λ q. precedes_on (scheduling f a) (scheduling g b) e entries (k n m a b f g l p q))
+    (λ q. precedes_on (scheduling f a) (scheduling g b) e entries
+    (k n m a b f g l p q (unmoved_before f e entries u) (unmoved_before g e entries v)))
     (λ r s. subst (λ y. Precedes (scheduling f a) y (entries ++ e ∷ [])) (scheduled_same due_for g due b s)
-    (precedes_last (scheduling f a) e entries (told.each n a f p))) i)
+    (precedes_last (scheduling f a) e entries
+    (scheduled_so f a entries (told.each n a f p) (unmoved_before f e entries u)))) i)
     (λ r s. pushed_at m new (call_in b (call_state.Waiting g)) calls
     (Precedes (scheduling f a) (scheduling g b) (entries ++ e ∷ []))
     (λ q. absurd (omega (arith, l, r, slice_get_within calls m (call_in b (call_state.Waiting g)) q)))
@@ -192,34 +268,49 @@ order_ended : (c : Clock) (number : ℕ) (state : CallState) (entries : List Ent
     → InOrder c.calls entries → InOrder (ended number state c).calls entries
 order_ended c number state entries never k =
     ended_found (λ calls. InOrder calls entries) c.calls number state (slice_get c.calls number) refl k
-    (λ call g n m a b f h l p q.
+    (λ call g n m a b f h l p q u v.
     let new = record call { state = state } in
     set_waits (nat_eq number n) new (slice_get c.calls n) a f (Precedes (scheduling f a) (scheduling h b) entries)
     (never call.due)
     (λ p2.
     set_waits (nat_eq number m) new (slice_get c.calls m) b h (Precedes (scheduling f a) (scheduling h b) entries)
-    (never call.due) (λ q2. k n m a b f h l p2 q2) (sym (get_set c.calls number m call new g) ∙ q))
+    (never call.due) (λ q2. k n m a b f h l p2 q2 u v) (sym (get_set c.calls number m call new g) ∙ q))
     (sym (get_set c.calls number n call new g) ∙ p))
 
--- what waits and is due with one that has run was logged after it
+order_moved : (c : Clock) (number before due : ℕ) (name : List ℕ) (key : ℕ) (entries : List Entry)
+    → slice_get c.calls number ≡ Some (call_in before (call_state.Waiting (what.Call name key)))
+    → InOrder c.calls entries → InOrder (moved number due c).calls (entries ++ entry.Reset name due ∷ [])
+order_moved c number before due name key entries g k = λ n m a b f h l p q u v.
+    let e = entry.Reset name due in
+    moved_by c number before due n a (what.Call name key) f
+    (Precedes (scheduling f a) (scheduling h b) (entries ++ e ∷ [])) g
+    (λ same what_for. absurd (moved_not name key due f entries what_for u))
+    (λ p2. moved_by c number before due m b (what.Call name key) h
+    (Precedes (scheduling f a) (scheduling h b) (entries ++ e ∷ [])) g
+    (λ same what_for. absurd (moved_not name key due h entries what_for v))
+    (λ q2. precedes_on (scheduling f a) (scheduling h b) e entries
+    (k n m a b f h l p2 q2 (unmoved_before f e entries u) (unmoved_before h e entries v))) q) p
+
+-- what waits and is due with one that has run was logged after it, but for what was given a time anew
 abbrev Ties : Timed → ℕ → List Call → List Entry → Type 0
 Ties t due calls entries =
     (n other : ℕ) (due_for : Due) → slice_get calls n ≡ Some (call_in other (call_state.Waiting due_for)) → due ≡ other
-    → Precedes (later_of t due) (scheduling due_for other) entries
+    → IsUnmoved due_for entries → Precedes (later_of t due) (scheduling due_for other) entries
 
 ties_on : (t : Timed) (due : ℕ) (e : Entry) (calls : List Call) (entries : List Entry) → Ties t due calls entries
     → Ties t due calls (entries ++ e ∷ [])
 ties_on t due e calls entries k =
-    λ n other f h q. precedes_on (later_of t due) (scheduling f other) e entries (k n other f h q)
+    λ n other f h q u. precedes_on (later_of t due) (scheduling f other) e entries
+    (k n other f h q (unmoved_before f e entries u))
 
 ties_added : (t : Timed) (due other : ℕ) (due_for : Due) (calls : List Call) (entries : List Entry)
     → Stands (later_of t due) entries → Ties t due calls entries
     → Ties t due (calls ++ call_in other (call_state.Waiting due_for) ∷ []) (entries ++ scheduling due_for other ∷ [])
-ties_added t due other due_for calls entries s k = λ n at f h q.
+ties_added t due other due_for calls entries s k = λ n at f h q u.
     let e = scheduling due_for other in
     pushed_at n (call_in other (call_state.Waiting due_for)) (call_in at (call_state.Waiting f)) calls
     (Precedes (later_of t due) (scheduling f at) (entries ++ e ∷ []))
-    (λ p. precedes_on (later_of t due) (scheduling f at) e entries (k n at f p q))
+    (λ p. precedes_on (later_of t due) (scheduling f at) e entries (k n at f p q (unmoved_before f e entries u)))
     (λ r p. subst (λ y. Precedes (later_of t due) y (entries ++ e ∷ [])) (scheduled_same due_for f other at p)
     (precedes_last (later_of t due) e entries s)) h
 
@@ -227,8 +318,20 @@ ties_ended : (t : Timed) (due : ℕ) (c : Clock) (number : ℕ) (state : CallSta
     → NeverWaits state → Ties t due c.calls entries → Ties t due (ended number state c).calls entries
 ties_ended t due c number state entries never k =
     ended_found (λ calls. Ties t due calls entries) c.calls number state (slice_get c.calls number) refl k
-    (λ call g n other f h q. set_waits (nat_eq number n) (record call { state = state }) (slice_get c.calls n) other f _
-    (never call.due) (λ p. k n other f p q) (sym (get_set c.calls number n call (record call { state = state }) g) ∙ h))
+    (λ call g n other f h q u.
+    set_waits (nat_eq number n) (record call { state = state }) (slice_get c.calls n) other f _
+    (never call.due) (λ p. k n other f p q u)
+    (sym (get_set c.calls number n call (record call { state = state }) g) ∙ h))
+
+ties_moved : (t : Timed) (x : ℕ) (c : Clock) (number before due : ℕ) (name : List ℕ) (key : ℕ) (entries : List Entry)
+    → slice_get c.calls number ≡ Some (call_in before (call_state.Waiting (what.Call name key)))
+    → Ties t x c.calls entries → Ties t x (moved number due c).calls (entries ++ entry.Reset name due ∷ [])
+ties_moved t x c number before due name key entries g k = λ n other f h q u.
+    let e = entry.Reset name due in
+    moved_by c number before due n other (what.Call name key) f
+    (Precedes (later_of t x) (scheduling f other) (entries ++ e ∷ [])) g
+    (λ same what_for. absurd (moved_not name key due f entries what_for u))
+    (λ p. precedes_on (later_of t x) (scheduling f other) e entries (k n other f p q (unmoved_before f e entries u))) h
 
 -- so it is of one that runs now
 ended_is : (c : Clock) (number due : ℕ) (f : Due) (state : CallState)
@@ -250,8 +353,9 @@ still_waits false number n due other f o Q e h q = h e q
 run_ties : (c : Clock) (call : Upcoming) (entries : List Entry) → next_call c ≡ Some call → InOrder c.calls entries
     → (n other : ℕ) (f : Due)
     → slice_get (ended call.number call_state.Called c).calls n ≡ Some (call_in other (call_state.Waiting f))
-    → call.due ≡ other → Precedes (scheduling call.what call.due) (scheduling f other) entries
-run_ties c call entries next k n other f h q =
+    → call.due ≡ other → IsUnmoved call.what entries → IsUnmoved f entries
+    → Precedes (scheduling call.what call.due) (scheduling f other) entries
+run_ties c call entries next k n other f h q u v =
     let first = first_runs_next c call next in
     let set : slice_get (slice_set c.calls call.number (call_in call.due call_state.Called)) n
     ≡ Some (call_in other (call_state.Waiting f)) =
@@ -260,7 +364,7 @@ run_ties c call entries next k n other f h q =
     still_waits _ call.number n call.due other f (slice_get c.calls n) _ refl
     (λ e p.
     let later = first.in_order n f (p ∙ ap (λ x. Some (call_in x (call_state.Waiting f))) (sym q)) in
-    k call.number n call.due other call.what f (apart _ call.number n refl e later) first.waits p)
+    k call.number n call.due other call.what f (apart _ call.number n refl e later) first.waits p u v)
     (sym (get_set c.calls call.number n (call_in call.due (call_state.Waiting call.what))
     (call_in call.due call_state.Called) first.waits) ∙ set)
 
@@ -349,6 +453,15 @@ ends_so t u e c number state entries never k = record {
       λ due r z. ties_on t due e (ended number state c).calls entries (ties_ended t due c number state entries never z);
 }
 
+moves_so : (t u : Timed) (c : Clock) (number before due : ℕ) (name : List ℕ) (key : ℕ) (entries : List Entry)
+    → slice_get c.calls number ≡ Some (call_in before (call_state.Waiting (what.Call name key))) → c.time ≤ due
+    → Ordered t u c entries → Follows t (entry.Reset name due) c (moved number due c) entries
+moves_so t u c number before due name key entries g h k = record {
+  goes = λ x z. moves_later x c number before due (what.Call name key) g h z;
+  order = order_moved c number before due name key entries g k.told;
+  ties = λ x r z. ties_moved t x c number before due name key entries g z;
+}
+
 not_run : (e : Entry) (v : Timed) → ended_by e ≡ None → e ≡ run_of v → ⊥
 not_run e v p q = none-some v (sym p ∙ ap ended_by q ∙ run_ends v)
 
@@ -359,7 +472,8 @@ same_due v c call due entries n told q s =
     let first = first_runs_next c call n in
     let same : timed_of call.what ≡ Some v = sym (coming_is call.what) ∙ ap ended_by q ∙ run_ends v in
     one_due v due call.due entries (omega (arith, s.once)) s.scheduled (subst (λ x. Stands x entries)
-    (later_is call.what call.due v same) (told.each call.number call.due call.what first.waits))
+    (later_is call.what call.due v same) (scheduled_so call.what call.due entries
+    (told.each call.number call.due call.what first.waits) (once_unmoved v call.what due entries same s)))
 
 runs_tell : (t u : Timed) (c : Clock) (call : Upcoming) (entries : List Entry) → next_call c ≡ Some call
     → Ordered t u c entries → Ordered t u (ended call.number call_state.Called c) (entries ++ coming_due call.what ∷ [])
@@ -373,13 +487,15 @@ runs_tell t u c call entries n k =
     let same = same_due t c call due entries n k.base.told (sym q) s in
     subst (λ x. NotLater x d) (sym same)
     (ends_later call.due c call.number call_state.Called called_ended (next_later c call n)))
-    (λ due q s m other f h z.
+    (λ due q s m other f h z v.
     let same = same_due t c call due entries n k.base.told (sym q) s in
     let told : scheduling call.what call.due ≡ later_of t due =
     later_is call.what call.due t (sym (coming_is call.what) ∙ ap ended_by (sym q) ∙ run_ends t)
     ∙ ap (later_of t) (sym same) in
+    let is = sym (coming_is call.what) ∙ ap ended_by (sym q) ∙ run_ends t in
     precedes_on (later_of t due) (scheduling f other) e entries (subst
-    (λ x. Precedes x (scheduling f other) entries) told (run_ties c call entries n k.told m other f h (sym same ∙ z))))
+    (λ x. Precedes x (scheduling f other) entries) told (run_ties c call entries n k.told m other f h (sym same ∙ z)
+    (once_unmoved t call.what due entries is s) (unmoved_before f e entries v))))
     (λ q first_due second r s.
     let same = same_due u c call second entries n k.base.told q s in
     let told : scheduling call.what call.due ≡ later_of u second =
@@ -389,7 +505,8 @@ runs_tell t u c call entries n k =
       earlier = omega (arith, same, (k.ran first_due r).waits call.number call.due call.what first.waits);
       in_order =
           λ z. subst (λ y. Precedes (later_of t first_due) y entries) told
-          (k.ties first_due r call.number call.due call.what first.waits (z ∙ same));
+          (k.ties first_due r call.number call.due call.what first.waits (z ∙ same)
+          (once_unmoved u call.what second entries (sym (coming_is call.what) ∙ ap ended_by q ∙ run_ends u) s));
     })
     k
 
@@ -417,6 +534,12 @@ clocks_order t u e c d entries (Cancels number due name key g q) k =
     quiet t u e c (ended number call_state.Cancelled c) entries (λ v r. not_uncalled name v _ (sym q ∙ r))
     (clocks_tell u e c (ended number call_state.Cancelled c) entries (Cancels number due name key g q) k.base) k.within
     (ends_so t u e c number call_state.Cancelled entries cancelled_ended k) k
+clocks_order t u e c d entries (Moves number before due name key g q h) k =
+    subst (λ y. Ordered t u (moved number due c) (entries ++ y ∷ [])) (sym q)
+    (quiet t u (entry.Reset name due) c (moved number due c) entries (λ v r. not_reset name due v _ r)
+    (clocks_tell u (entry.Reset name due) c (moved number due c) entries
+    (Moves number before due name key g refl h) k.base) k.within
+    (moves_so t u c number before due name key entries g h k) k)
 clocks_order t u e c d entries (Drops number p) k =
     quiet t u e c (ended number call_state.Dropped c) entries (λ v q. not_run e v p.2 q)
     (clocks_tell u e c (ended number call_state.Dropped c) entries (Drops number p) k.base) k.within

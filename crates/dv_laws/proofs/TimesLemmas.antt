@@ -18,7 +18,7 @@ use Rattle.dv_clock.specs.Clock.{Clock}
 use Rattle.dv_clock.specs.Due.{scheduling, coming_due}
 use Rattle.dv_clock.specs.declared.due.Due.{Due}
 use Rattle.dv_clock.specs.declared.due.Due.TheVariants as what
-use Rattle.dv_laws.proofs.Clocks.{IsPlain, Clocks, Leaves, Adds, Runs, Cancels, Drops, Arranges, Stays, Loses}
+use Rattle.dv_laws.proofs.Clocks.{IsPlain, Clocks, Leaves, Adds, Runs, Cancels, Moves, Drops, Arranges, Stays, Loses}
 use Rattle.std.proofs.lemmas.Option.{none-some}
 use Rattle.dv_laws.proofs.Calm.{Regular}
 use Rattle.dv_laws.proofs.Settles.{Still, Settles, means_keeps, reported}
@@ -54,6 +54,7 @@ clocks_told e c d (Leaves p) = plain_told c.time e p
 clocks_told e c d (Adds due_for due q h) = is_told c.time e _ q (later_told c.time due_for due h)
 clocks_told e c d (Runs call n q) = is_told c.time e _ q (run_told c.time call.what)
 clocks_told e c d (Cancels number due name key g q) = is_told c.time e _ q tt
+clocks_told e c d (Moves number before due name key g q h) = is_told c.time e _ q h
 clocks_told e c d (Drops number p) = plain_told c.time e p
 
 pub clocks_same : (e : Entry) (c d : Clock) → Clocks e c d → d.time ≡ c.time
@@ -61,6 +62,7 @@ clocks_same e c d (Leaves p) = refl
 clocks_same e c d (Adds due_for due q h) = refl
 clocks_same e c d (Runs call n q) = refl
 clocks_same e c d (Cancels number due name key g q) = refl
+clocks_same e c d (Moves number before due name key g q h) = refl
 clocks_same e c d (Drops number p) = refl
 
 pub arranged_same : (c d : Clock) → Arranges c d → d.time ≡ c.time

@@ -44,19 +44,21 @@ scheduled_in (tells.Changes change) = None
 scheduled_in (tells.Schedules timed due) = Some timed
 scheduled_in (tells.SchedulesTurn due) = None
 scheduled_in (tells.Ends timed) = None
+scheduled_in (tells.Reschedules timed due) = Some timed
 scheduled_in (tells.Advances time) = None
 scheduled_in tells.IsUnhandled = None
 
 abbrev pub scheduled_by : Entry → Option Timed
 scheduled_by e = scheduled_in (told_of e)
 
--- what it logs as waiting no longer: it is run, or is a delayed call that is cancelled
+-- what it logs as waiting no longer: it is run, or is a delayed call that is cancelled, or that is due at another time
 abbrev pub ended_in : Told → Option Timed
 ended_in tells.Other = None
 ended_in (tells.Changes change) = None
 ended_in (tells.Schedules timed due) = None
 ended_in (tells.SchedulesTurn due) = None
 ended_in (tells.Ends timed) = Some timed
+ended_in (tells.Reschedules timed due) = Some timed
 ended_in (tells.Advances time) = None
 ended_in tells.IsUnhandled = None
 
@@ -92,13 +94,18 @@ time_after time (Schedules due) = time
 abbrev pub time_by : List Entry → ℕ
 time_by entries = fold (λ time e. time_after time (timing_of e)) 0 entries
 
--- it was scheduled, and is due by now
+-- it was scheduled for this time, or is a delayed call that was given this time anew
+pub data IsSetFor (t : Timed) (due : ℕ) (told : List Entry) : Type 0 where
+  Scheduled : Stands (later_of t due) told → IsSetFor t due told
+  Reset : (name : List ℕ) → t ≡ Called name → Stands (entry.Reset name due) told → IsSetFor t due told
+
+-- it was scheduled, or scheduled anew, and is due by now
 pub record WasDue (t : Timed) (told : List Entry) : Type 0 where
   pub due : ℕ
-  pub scheduled : Stands (later_of t due) told
+  pub scheduled : IsSetFor t due told
   pub by_now : due ≤ time_by told
 
--- what is scheduled is run or cancelled once at most each time, and not run before its time
+-- what is scheduled is run, cancelled or scheduled anew once at most each time, and not run before its time
 pub record RunsInTime (t : Timed) (entries : List Entry) : Type 0 where
   pub once : AtEachPlace (λ told. endings t told ≤ schedulings t told) entries
   pub due : OfEachEntry (λ told x. x ≡ run_of t → WasDue t told) entries
@@ -109,7 +116,7 @@ abbrev pub CallsRunOnceInTime : Type 0
 CallsRunOnceInTime =
     (script : Script) (report : Report) → Reports script report → (t : Timed) → RunsInTime t report.journal.entries
 
--- it was scheduled once, due at this time
+-- it was scheduled once, due at this time, and never anew
 pub record ScheduledOnce (t : Timed) (due : ℕ) (told : List Entry) : Type 0 where
   pub once : schedulings t told ≡ 1
   pub scheduled : Stands (later_of t due) told

@@ -46,6 +46,7 @@ looping_of (entry.LaterTick due) = Unlooped
 looping_of (entry.LaterJob job due) = Unlooped
 looping_of (entry.LaterTimeout id due) = Unlooped
 looping_of (entry.Uncall name) = Unlooped
+looping_of (entry.Reset name due) = Unlooped
 looping_of (entry.Call name) = Unlooped
 looping_of entry.Tick = Unlooped
 looping_of (entry.Deliver job) = Unlooped

@@ -51,6 +51,7 @@ queueing_of (entry.LaterTick due) = Unqueued
 queueing_of (entry.LaterJob job due) = Unqueued
 queueing_of (entry.LaterTimeout id due) = Unqueued
 queueing_of (entry.Uncall name) = Unqueued
+queueing_of (entry.Reset name due) = Unqueued
 queueing_of (entry.Call name) = Unqueued
 queueing_of entry.Tick = Unqueued
 queueing_of (entry.Deliver job) = Unqueued

@@ -45,6 +45,7 @@ tasking_of (entry.LaterTick due) = Untasked
 tasking_of (entry.LaterJob job due) = Untasked
 tasking_of (entry.LaterTimeout id due) = Untasked
 tasking_of (entry.Uncall name) = Untasked
+tasking_of (entry.Reset name due) = Untasked
 tasking_of (entry.Call name) = Untasked
 tasking_of entry.Tick = Untasked
 tasking_of (entry.Deliver job) = Untasked

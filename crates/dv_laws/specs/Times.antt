@@ -23,6 +23,7 @@ timing_in (tells.Changes change) = Untimed
 timing_in (tells.Schedules timed due) = Schedules due
 timing_in (tells.SchedulesTurn due) = Schedules due
 timing_in (tells.Ends timed) = Untimed
+timing_in (tells.Reschedules timed due) = Schedules due
 timing_in (tells.Advances time) = Advances time
 timing_in tells.IsUnhandled = Untimed
 

@@ -49,6 +49,7 @@ holding_of (entry.LaterTick due) = Unheld
 holding_of (entry.LaterJob job due) = Unheld
 holding_of (entry.LaterTimeout id due) = Unheld
 holding_of (entry.Uncall name) = Unheld
+holding_of (entry.Reset name due) = Unheld
 holding_of (entry.Call name) = Unheld
 holding_of entry.Tick = Unheld
 holding_of (entry.Deliver job) = Unheld

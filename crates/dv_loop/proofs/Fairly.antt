@@ -10,7 +10,8 @@ use Rattle.dv_definition.specs.Definition as page
 use Rattle.dv_definition.specs.Definition.{answer_of}
 use Rattle.dv_definition.specs.Rule.{found, Rule, Ends, By, If, Finds, Then, Asks, Fires, Unpauses, Over, run}
 use Rattle.dv_definition.specs.Scripts as scripts
-use Rattle.dv_definition.specs.Steps.{Question, stepped, asked, Cancel, PutInto, GetFrom, CameTo, CancelCall, TakeStep}
+use Rattle.dv_definition.specs.Steps.{Question, stepped, asked, Cancel, PutInto, GetFrom, CameTo, CancelCall, ResetCall}
+use Rattle.dv_definition.specs.Steps.{TakeStep}
 use Rattle.dv_definition.specs.Steps.{EndTask, ComeToInline, EndAwait, ComeDue, Moves}
 use Rattle.dv_frames.specs.Turn.{Turned, settle_next, ◌over◌}
 use Rattle.dv_frames.specs.declared.frame.Frame.TheVariants as frame
@@ -87,6 +88,7 @@ known (PutInto k v) w = tt
 known (GetFrom k d) w = tt
 known (CameTo l i v) w = tt
 known (CancelCall number) w = tt
+known (ResetCall number from delay) w = tt
 known TakeStep w = tt
 known (EndTask t end) w = tt
 known (ComeToInline i v) w = tt
@@ -124,6 +126,7 @@ asked_pays (PutInto k v) w = plain_pays (PutInto k v) w
 asked_pays (GetFrom k d) w = plain_pays (GetFrom k d) w
 asked_pays (CameTo l i v) w = plain_pays (CameTo l i v) w
 asked_pays (CancelCall number) w = plain_pays (CancelCall number) w
+asked_pays (ResetCall number from delay) w = plain_pays (ResetCall number from delay) w
 asked_pays TakeStep w = turn_pays (turn_of w.objects.cooperator.turns) w
 asked_pays (EndTask t end) w = plain_pays (EndTask t end) w
 asked_pays (ComeToInline i v) w = plain_pays (ComeToInline i v) w

@@ -5,7 +5,8 @@ use Rattle.std.specs.Option.{unwrap_or}
 use Rattle.dv_definition.specs.Definition as page
 use Rattle.dv_definition.specs.Flags.{list_flags, gather_flags}
 use Rattle.dv_definition.specs.Rule.{Rule, Ends, By, If, Finds, Then, Asks, Fires, Unpauses, Over}
-use Rattle.dv_definition.specs.Steps.{Question, Reply, Cancel, PutInto, GetFrom, CameTo, CancelCall, TakeStep, EndTask}
+use Rattle.dv_definition.specs.Steps.{Question, Reply, Cancel, PutInto, GetFrom, CameTo, CancelCall, ResetCall}
+use Rattle.dv_definition.specs.Steps.{TakeStep, EndTask}
 use Rattle.dv_definition.specs.Steps.{ComeToInline, EndAwait, ComeDue, Moves}
 use Rattle.dv_definition.specs.Words as words
 use Rattle.dv_frames.specs.declared.frame.Frame.TheVariants as frame
@@ -65,6 +66,8 @@ action_within (Action-F.Put queue value) = 0
 action_within (Action-F.Get name queue) = 0
 action_within (Action-F.Later name delay body) = body
 action_within (Action-F.CancelCall name) = 0
+action_within (Action-F.ResetCall name delay) = 0
+action_within (Action-F.DelayCall name delay) = 0
 action_within (Action-F.Loop name deferred interval at_once body) = 1 + body
 action_within (Action-F.StopLoop name) = 0
 action_within (Action-F.Cooperate name bodies) = total bodies
@@ -196,6 +199,7 @@ paid_by (PutInto k v) a = 0
 paid_by (GetFrom k d) a = 0
 paid_by (CameTo l i v) a = 0
 paid_by (CancelCall number) a = 0
+paid_by (ResetCall number from delay) a = 0
 paid_by TakeStep a = one_if_some a
 paid_by (EndTask t end) a = 0
 paid_by (ComeToInline i v) a = 0
@@ -214,6 +218,7 @@ Known (PutInto k v) a = Unit {0}
 Known (GetFrom k d) a = Unit {0}
 Known (CameTo l i v) a = Unit {0}
 Known (CancelCall number) a = Unit {0}
+Known (ResetCall number from delay) a = Unit {0}
 Known TakeStep a = Unit {0}
 Known (EndTask t end) a = Unit {0}
 Known (ComeToInline i v) a = Unit {0}
@@ -337,6 +342,8 @@ carry_out m itself (Action-F.Gather name children flags) q =
     (λ ds. λ v. (list m name ds (gather_flags flags) (omega (arith, q)), (omega (arith, q), tt)))
 carry_out m itself (Action-F.Later name delay body) q = tt
 carry_out m itself (Action-F.CancelCall name) q = λ w. (tt, λ number e. λ a known. Light tt)
+carry_out m itself (Action-F.ResetCall name delay) q = λ w. (tt, λ number e. λ a known. Light tt)
+carry_out m itself (Action-F.DelayCall name delay) q = λ w. (tt, λ number e. λ a known. Light tt)
 carry_out m itself (Action-F.Loop name of interval at_once body) q = λ w v. (turn m 0 body (omega (arith, q)), tt)
 carry_out m itself (Action-F.StopLoop name) q = λ w. (tt, λ l e. stop_loop m l (omega (arith, q)))
 carry_out m itself (Action-F.Cooperate name bodies) q = tt

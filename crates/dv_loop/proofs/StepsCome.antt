@@ -1,13 +1,15 @@
 -- Every step that rules take leads on by steps of the world: a line a step, written once for all laws.
-use Rattle.std.proofs.Common.{ℕ, ◌≡◌, Bool, true, false, if◌then◌else◌, Option, None, Some, slice_get, refl}
-use Rattle.dv_clock.specs.Clock.{Upcoming, next_call}
+use Rattle.std.proofs.Common.{ℕ, ◌≡◌, min, Bool, true, false, if◌then◌else◌, Option, None, Some, slice_get, refl}
+use Rattle.dv_clock.specs.Clock.{Upcoming, next_call, new_due}
 use Rattle.dv_clock.specs.Due.{coming_due}
 use Rattle.dv_clock.specs.Turns.{turn_of}
 use Rattle.dv_clock.specs.declared.call.Call.{Call}
 use Rattle.dv_clock.specs.declared.call.CallState.{CallState}
 use Rattle.dv_clock.specs.declared.call.CallState.TheVariants as call_state
+use Rattle.dv_clock.specs.declared.delay_from.DelayFrom.{DelayFrom}
 use Rattle.dv_clock.specs.declared.due.Due.{Due}
 use Rattle.dv_clock.specs.declared.due.Due.TheVariants as what
+use Rattle.dv_clock.specs.declared.limits.TheConstants.{MOST_DELAY}
 use Rattle.dv_journal.specs.Told.{change_of, Aside}
 use Rattle.dv_journal.specs.declared.entry.Entry.{Entry}
 use Rattle.dv_journal.specs.declared.entry.Entry.TheVariants as entry
@@ -28,11 +30,12 @@ use Rattle.dv_definition.specs.Steps.{Withdraw, NewList, StartTimer, EndTimer, C
 use Rattle.dv_definition.specs.Steps.{StopLoop, EndLoop, NewTask, AwaitTask, PauseTask, ResumeTask, HoldTask, KeepTick}
 use Rattle.dv_definition.specs.Steps.{BeginTick, EndTick, AddInline, BeginAwait, Submit, DeliverLater, Advance}
 use Rattle.dv_definition.specs.Steps.{TellDrain, TellPost, Put, PutDeferred, ComeDue, Moves, Cancel, PutInto, GetFrom}
-use Rattle.dv_definition.specs.Steps.{CameTo, CancelCall, TakeStep, EndTask, ComeToInline, EndAwait}
+use Rattle.dv_definition.specs.Steps.{CameTo, CancelCall, ResetCall, TakeStep, EndTask, ComeToInline, EndAwait}
 use Rattle.dv_value.specs.declared.value.Value.{Value}
 use Rattle.dv_world.specs.World.{World, aside, lock_told, release_found, unless_stopped, put_into_found, get_from_found}
 use Rattle.dv_world.specs.World.{arrange, came_to_found, came_to, come_due_found, waiting_cancelled, state_cancelled}
-use Rattle.dv_world.specs.World.{call_cancelled, cancel_call, turn_scheduled, loop_stopped, task_told, task_ended}
+use Rattle.dv_world.specs.World.{call_cancelled, cancel_call, waiting_reset, state_reset, call_reset, reset_call}
+use Rattle.dv_world.specs.World.{turn_scheduled, loop_stopped, task_told, task_ended}
 use Rattle.dv_world.specs.World.{tick_dropped, keep_tick, step_taken, turn_taken, come_to_inline, end_await}
 
 pub same : (w : World) → Comes w w
@@ -131,6 +134,33 @@ off_comes number w =
     first_comes w.stopped _ (call_cancelled number (slice_get w.objects.clock.calls number) w) w (same w)
     (call_comes number (slice_get w.objects.clock.calls number) w)
 
+waiting_anew : (number : ℕ) (from : DelayFrom) (delay due : ℕ) (what : Due) (w : World)
+    → Comes w (waiting_reset number from delay due what w)
+waiting_anew number from delay due (what.Call name key) w =
+    by_aside (entry.Reset name (new_due from (min delay MOST_DELAY) due w.objects.clock.time)) _ w refl
+waiting_anew number from delay due (what.Turn name key) w = same w
+waiting_anew number from delay due what.Tick w = same w
+waiting_anew number from delay due (what.Delivery job key) w = same w
+waiting_anew number from delay due (what.Timeout d) w = same w
+
+state_anew : (number : ℕ) (from : DelayFrom) (delay due : ℕ) (state : CallState) (w : World)
+    → Comes w (state_reset number from delay due state w).1
+state_anew number from delay due (call_state.Waiting what) w = waiting_anew number from delay due what w
+state_anew number from delay due call_state.Called w = same w
+state_anew number from delay due call_state.Cancelled w = same w
+state_anew number from delay due call_state.Dropped w = same w
+
+call_anew : (number : ℕ) (from : DelayFrom) (delay : ℕ) (o : Option Call) (w : World)
+    → Comes w (call_reset number from delay o w).1
+call_anew number from delay None w = same w
+call_anew number from delay (Some call) w = state_anew number from delay call.due call.state w
+
+anew_comes : (number : ℕ) (from : DelayFrom) (delay : ℕ) (w : World) → Comes w (reset_call number from delay w).1
+unfolding reset_call
+anew_comes number from delay w =
+    first_comes w.stopped _ (call_reset number from delay (slice_get w.objects.clock.calls number) w) w (same w)
+    (call_anew number from delay (slice_get w.objects.clock.calls number) w)
+
 inlining_comes : (i : ℕ) (v : Value) (w : World) → Comes w (come_to_inline i v w).1
 unfolding come_to_inline
 inlining_comes i v w =
@@ -210,6 +240,7 @@ question_comes (PutInto k v) w = put_comes k v (slice_get w.objects.queues k) w
 question_comes (GetFrom k d) w = get_comes k d (slice_get w.objects.queues k) w
 question_comes (CameTo l i v) w = came_to_comes l i v w
 question_comes (CancelCall number) w = off_comes number w
+question_comes (ResetCall number from delay) w = anew_comes number from delay w
 question_comes TakeStep w = turn_taken_comes (turn_of w.objects.cooperator.turns) w
 question_comes (EndTask t end) w = task_ended_comes t end (unended (slice_get w.objects.cooperator.tasks t)) w
 question_comes (ComeToInline i v) w = inlining_comes i v w

@@ -4,6 +4,7 @@ ghost use Rattle.dv_definition.specs.Rule.{after};
 ghost use Rattle.dv_frames.specs.Bounds.{Bounded};
 ghost use Rattle.dv_objects.specs.declared.performed.Performed.TheVariants.{Done};
 
+use dv_clock::delay_from::DelayFrom;
 use dv_defer::firing::{add, cancel_named, chain, fire, make, maybe, note, pause, unpause};
 use dv_frames::turn::Turn;
 use dv_journal::deferred_id::DeferredId;
@@ -16,7 +17,7 @@ use dv_script::action::Action;
 use dv_script::lent::{BodiesRef, BodyRef, Statements, TextRef, WorkRef};
 use dv_task::cooperating::{cooperate, pause_task, resume_task, stop_task, when_done};
 use dv_task::looping::{start_loop, stop_loop};
-use dv_task::timing::{add_timeout, cancel_call};
+use dv_task::timing::{add_timeout, cancel_call, reset_call};
 use dv_threads::inlining::begin_inline;
 use dv_threads::threading::thread;
 use std::alloc::AllocError;
@@ -73,6 +74,12 @@ pub fn begin<'s>(
             turn.world.call_later(name, *delay, BodyRef::new(body))
         }
         Action::CancelCall(name) => cancel_call(turn, name.as_str()),
+        Action::ResetCall(name, delay) => {
+            reset_call(turn, name.as_str(), DelayFrom::Now, *delay)
+        }
+        Action::DelayCall(name, delay) => {
+            reset_call(turn, name.as_str(), DelayFrom::Due, *delay)
+        }
         Action::Loop(name, of, interval, at_once, body) => {
             let (name, of) = (TextRef::new(name), TextRef::new(of));
             start_loop(turn, name, of, *interval, *at_once, BodyRef::new(body))

@@ -1,7 +1,7 @@
 -- What stands beside the Deferreds: names, locks and semaphores, queues, what DeferredLists have of their children, the
 -- clock with its delayed calls, loops, the Cooperator, and what inline bodies wait for.
 use Rattle.std.specs.Prelude.{ℕ, List, [], ◌∷◌, ◌++◌, length, Option, None, Some, slice_set}
-use Rattle.dv_clock.specs.Clock.{Clock, new_clock, with_call, ended}
+use Rattle.dv_clock.specs.Clock.{Clock, new_clock, with_call, ended, moved}
 use Rattle.dv_clock.specs.declared.call.CallState.{CallState}
 use Rattle.dv_clock.specs.declared.call.CallState.TheVariants.{Dropped}
 use Rattle.dv_clock.specs.declared.due.Due.TheVariants.{Call, Tick, Delivery, Timeout}
@@ -130,6 +130,10 @@ with_timer d due objects = record objects { clock = with_call due (Timeout d) ob
 -- a call waits no longer
 abbrev pub with_ended_call : ℕ → CallState → Objects → Objects
 with_ended_call number state objects = record objects { clock = ended number state objects.clock }
+
+-- a call that waits is due at this time
+abbrev pub with_moved_call : ℕ → ℕ → Objects → Objects
+with_moved_call number due objects = record objects { clock = moved number due objects.clock }
 
 -- it is this time
 abbrev pub with_time : ℕ → Objects → Objects

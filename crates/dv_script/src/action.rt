@@ -84,6 +84,11 @@ pub enum Action {
     Later(Text, u64, Body),
     /// Cancels the delayed call (Twisted: `DelayedCall.cancel`).
     CancelCall(Text),
+    /// Has the delayed call run so many ticks from now, at most 10^12 (Twisted:
+    /// `DelayedCall.reset`).
+    ResetCall(Text, u64),
+    /// Delays the delayed call by so many ticks more, at most 10^12 (Twisted: `DelayedCall.delay`).
+    DelayCall(Text, u64),
     /// Makes a loop and, named second, its Deferred; it performs the body each so many ticks, from
     /// 1 to 10^12, and at once where that is asked for (Twisted: `LoopingCall.start`).
     Loop(Text, Text, u64, bool, Body),

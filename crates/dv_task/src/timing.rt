@@ -1,10 +1,11 @@
 ghost use Rattle.std.specs.Prelude.{◌≡◌, OnOk};
 ghost use Rattle.dv_definition.specs.Definition as page;
 ghost use Rattle.dv_definition.specs.Rule.{Asks, Ends, after};
-ghost use Rattle.dv_definition.specs.Steps.{CancelCall};
+ghost use Rattle.dv_definition.specs.Steps.{CancelCall, ResetCall};
 ghost use Rattle.dv_definition.specs.Words.{on_call, on_deferred};
 ghost use Rattle.dv_objects.specs.declared.performed.Performed.TheVariants.{Done};
 
+use dv_clock::delay_from::DelayFrom;
 use dv_frames::following::add_and_settle;
 use dv_frames::frame::Frame;
 use dv_frames::turn::Turn;
@@ -22,6 +23,25 @@ pub fn cancel_call<'s>(turn: &mut Turn<'s>, name: &str) -> Result<(), AllocError
         return Ok(());
     };
     turn.performed = turn.world.cancel_call(call)?;
+    Ok(())
+}
+
+/// Gives a delayed call a delay anew by its name, in ticks from now or from when it was due
+/// (Twisted: `DelayedCall.reset`, `DelayedCall.delay`).
+pub fn reset_call<'s>(
+    turn: &mut Turn<'s>,
+    name: &str,
+    from: DelayFrom,
+    delay: u64,
+) -> Result<(), AllocError>
+    requires done { turn.old.performed ≡ Done }
+    ensures { OnOk result (turn.new ≡ after
+        (on_call name.now λ number. Asks (ResetCall number from delay) Ends) turn.old) }
+{
+    let Some(call) = turn.find_call(name)? else {
+        return Ok(());
+    };
+    turn.performed = turn.world.reset_call(call, from, delay)?;
     Ok(())
 }
 

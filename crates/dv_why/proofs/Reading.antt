@@ -21,7 +21,8 @@ use Rattle.dv_script.specs.declared.work.Work.TheVariants as job_of
 use Rattle.dv_script.specs.declared.action.Action.{Action, Deferred, Callback, Errback, AddCallback, AddErrback}
 use Rattle.dv_script.specs.declared.action.Action.{AddBoth, AddCallbacks, Chain, Pause, Unpause, Cancel, AddTimeout}
 use Rattle.dv_script.specs.declared.action.Action.{Note, List as ListOf, Gather, Maybe, Lock, Semaphore, Acquire}
-use Rattle.dv_script.specs.declared.action.Action.{Release, RunWith, Queue, Put, Get, Later, CancelCall, Loop, StopLoop}
+use Rattle.dv_script.specs.declared.action.Action.{Release, RunWith, Queue, Put, Get, Later, CancelCall, ResetCall}
+use Rattle.dv_script.specs.declared.action.Action.{DelayCall, Loop, StopLoop}
 use Rattle.dv_script.specs.declared.action.Action.{Cooperate, WhenDone, PauseTask, StopTask, ResumeTask, Inline, Thread}
 use Rattle.dv_script.specs.declared.action.Action.{ThreadIn}
 use Rattle.dv_script.specs.declared.event.Event.{Event}
@@ -42,7 +43,8 @@ use Rattle.dv_grammar.specs.Grammar.{adds, raises, traps, waits, IsWork, gives, 
 use Rattle.dv_grammar.specs.Grammar.{IsAction, deferred, deferred_with, callback, errback, add_callback, add_errback}
 use Rattle.dv_grammar.specs.Grammar.{add_both, add_callbacks, chain, pause, unpause, cancel, add_timeout, note, list}
 use Rattle.dv_grammar.specs.Grammar.{gather, maybe, lock, semaphore, acquire, release, run_with, queue, put, get, later}
-use Rattle.dv_grammar.specs.Grammar.{cancel_call, loop, stop_loop, cooperate, when_done, pause_task, stop_task}
+use Rattle.dv_grammar.specs.Grammar.{cancel_call, reset_call, delay_call, loop, stop_loop, cooperate, when_done}
+use Rattle.dv_grammar.specs.Grammar.{pause_task, stop_task}
 use Rattle.dv_grammar.specs.Grammar.{resume_task, inline, thread, thread_in, AreActions, no_actions, more_actions, IsDo}
 use Rattle.dv_grammar.specs.Grammar.{does_nothing, does, IsBody, body, AreBodies, no_bodies, more_bodies, IsStatement}
 use Rattle.dv_grammar.specs.Grammar.{performs, awaits, tries, leaves, AreStatements, no_statements, more_statements}
@@ -499,6 +501,10 @@ actions v n table read =
     text_and_two v n table _ (λ d h. h) (IsNumber 0 MOST_DELAY) (number_fine v n 0 MOST_DELAY)
     (IsBody table) read.of_body (λ x b c. Later x b c) later &
     one_text v n table _ (λ d h. h) (λ x. CancelCall x) cancel_call &
+    text_and v n table _ (λ d h. h) (IsNumber 0 MOST_DELAY) (number_fine v n 0 MOST_DELAY)
+    (λ x b. ResetCall x b) reset_call &
+    text_and v n table _ (λ d h. h) (IsNumber 0 MOST_DELAY) (number_fine v n 0 MOST_DELAY)
+    (λ x b. DelayCall x b) delay_call &
     (λ ds h.
     let a = five_args v n _ _ _ _ _ ds h in
     let p = text_of a.a (fits_fine a.one) in

@@ -12,7 +12,7 @@ use Rattle.dv_journal.specs.Journal.{Written, empty, fits, with_entry}
 use Rattle.dv_journal.specs.declared.entry.Entry.{Entry}
 use Rattle.dv_journal.specs.declared.entry.Entry.TheVariants as entry
 use Rattle.dv_journal.specs.declared.error.Stop.{Stop}
-use Rattle.dv_clock.specs.Clock.{Upcoming, next_call, has_run}
+use Rattle.dv_clock.specs.Clock.{Upcoming, next_call, has_run, new_due}
 use Rattle.dv_clock.specs.Due.{coming_due}
 use Rattle.dv_clock.specs.Turns.{turn_of}
 use Rattle.dv_clock.specs.declared.call.Call.{Call}
@@ -20,6 +20,7 @@ use Rattle.dv_clock.specs.declared.call.CallState.{CallState}
 use Rattle.dv_clock.specs.declared.call.CallState.TheVariants as call_state
 use Rattle.dv_clock.specs.declared.due.Due.{Due}
 use Rattle.dv_clock.specs.declared.due.Due.TheVariants as what
+use Rattle.dv_clock.specs.declared.delay_from.DelayFrom.{DelayFrom}
 use Rattle.dv_clock.specs.declared.limits.TheConstants.{MOST_TICKS, MOST_DELAY}
 use Rattle.dv_script.specs.declared.body.Body.{Body}
 use Rattle.dv_script.specs.declared.script.Cooperator.{Cooperator as Settings}
@@ -51,7 +52,8 @@ use Rattle.dv_objects.specs.Inlines.{come_to, end_adding, now_waiting, awaited_b
 use Rattle.dv_objects.specs.Looping.{next_due, with_turn, with_stopped, with_ended}
 use Rattle.dv_objects.specs.Names.{number_of}
 use Rattle.dv_objects.specs.Objects.{Objects, no_objects, naming_where, with_list, with_new_call, with_delivery}
-use Rattle.dv_objects.specs.Objects.{with_timer, with_ended_call, with_time, with_lock, lock_changed, with_queue}
+use Rattle.dv_objects.specs.Objects.{with_timer, with_ended_call, with_moved_call, with_time, with_lock, lock_changed}
+use Rattle.dv_objects.specs.Objects.{with_queue}
 use Rattle.dv_objects.specs.Objects.{queue_changed, cooperating, with_tick, without_tick, inlining, with_new_inline}
 use Rattle.dv_objects.specs.Pair.{passes}
 use Rattle.dv_objects.specs.Reached.{reached_at}
@@ -369,7 +371,7 @@ come_due_found (Some call) w =
 abbrev pub come_due : World → Option Due × World
 come_due w = come_due_found (next_call w.objects.clock) w
 
--- what a cancelling of a call raises that was called
+-- what a cancelling or a resetting of a call raises that was called
 abbrev pub was_called : Failure
 was_called = plain_failure already_called []
 
@@ -401,6 +403,34 @@ call_cancelled number (Some call) w = state_cancelled number call.state w
 -- a delayed call is cancelled; in a stopped run nothing is
 unfoldable pub cancel_call : ℕ → World → Performed × World
 cancel_call number w = if w.stopped then (Done, w) else call_cancelled number (slice_get w.objects.clock.calls number) w
+
+-- a delayed call of the script that waits gets a delay anew, no longer than calls are delayed by; what else waits is
+-- left alone
+abbrev pub waiting_reset : ℕ → DelayFrom → ℕ → ℕ → Due → World → World
+waiting_reset number from delay due (what.Call name key) w =
+    let new = new_due from (min delay MOST_DELAY) due w.objects.clock.time in
+    aside (entry.Reset name new) (with_moved_call number new) w
+waiting_reset number from delay due (what.Turn name key) w = w
+waiting_reset number from delay due what.Tick w = w
+waiting_reset number from delay due (what.Delivery job key) w = w
+waiting_reset number from delay due (what.Timeout d) w = w
+
+-- a call gets a delay anew while it waits; else that is refused
+abbrev pub state_reset : ℕ → DelayFrom → ℕ → ℕ → CallState → World → Performed × World
+state_reset number from delay due (call_state.Waiting what) w = (Done, waiting_reset number from delay due what w)
+state_reset number from delay due call_state.Called w = (Raised was_called, w)
+state_reset number from delay due call_state.Cancelled w = (Raised was_cancelled, w)
+state_reset number from delay due call_state.Dropped w = (Raised was_cancelled, w)
+
+-- the call that is found gets a delay anew; a number of no call changes nothing
+abbrev pub call_reset : ℕ → DelayFrom → ℕ → Option Call → World → Performed × World
+call_reset number from delay None w = (Done, w)
+call_reset number from delay (Some call) w = state_reset number from delay call.due call.state w
+
+-- a delayed call gets a delay anew; in a stopped run none does
+unfoldable pub reset_call : ℕ → DelayFrom → ℕ → World → Performed × World
+reset_call number from delay w =
+    if w.stopped then (Done, w) else call_reset number from delay (slice_get w.objects.clock.calls number) w
 
 -- the next turn of the loop that is found is scheduled; an id of no loop changes nothing
 abbrev pub turn_scheduled : ℕ → Option LoopingCall → World → World

@@ -198,7 +198,7 @@ def is_of_level(script: str, level: str) -> bool:
     except ValueError:
         return True
     known = frozenset(grammar.actions_up_to(level))
-    words = _words(root)
+    words = words_in(root)
     beyond = {word for word in words if word in grammar.ACTIONS and word not in known}
     return not beyond and all(grammar.has(level, other) for other in _levels(root, words))
 
@@ -215,7 +215,7 @@ def _levels(root: object, words: Set[str]) -> Iterator[str]:
         yield "pools" if version == 2 else "version-3"
 
 
-def _words(value: object) -> Set[str]:
+def words_in(value: object) -> Set[str]:
     """The texts with which arrays begin."""
     words: Set[str] = set()
     stack = [value]

@@ -51,6 +51,8 @@ ADVANCES = _numbers(_of_word("advance", 0))
 DRAINS = _numbers(_of_word("drain", 0))
 DELAYS = _numbers(_of_word("later", 1))
 INTERVALS = _numbers(_of_word("loop", 2))
+#: the latest time that a call is due at
+LATEST = LONGEST_TIME + DELAYS[-1]
 TOKENS = _numbers(_of_word("semaphore", 1))
 BOUNDS = _numbers(_of_word("queue", 1))
 SUMS = _numbers(_of_word("sum", 0))
@@ -172,6 +174,8 @@ def _kinds(row: Word) -> Arguments:
 
 
 ACTIONS = _table("action")
+#: the first version that has an action
+SINCE: Dict[str, int] = {row.word: row.since for row in LANGUAGE.at("action")}
 ENDS = _table("end")
 #: how an inline body may end
 INLINE_ENDS = _table("leaving")
@@ -214,7 +218,12 @@ _LEVEL_OF_KIND: Dict[Kind, str] = {
 }
 
 #: the level of an action whose arguments don't show it
-_LEVEL_OF_WORD: Dict[str, str] = {"cancel": "cancelling", "maybe": "lists"}
+_LEVEL_OF_WORD: Dict[str, str] = {
+    "cancel": "cancelling",
+    "maybe": "lists",
+    "resetCall": "version-3",
+    "delayCall": "version-3",
+}
 
 
 def level_of(word: str) -> str:

@@ -18,6 +18,8 @@ class Entry(enum.Enum):
     CANCELLED_RUNNING_INLINE = "cancelled-running-inline"
     GATHER_FIRED_BY_HAND = "gather-fired-by-hand"
     ERROR_LEAVES_ADVANCE = "error-leaves-advance"
+    RESET_ORDER = "reset-order"
+    DELAY_BOUNDS = "delay-bounds"
     LOOP_FIRED_BY_HAND = "loop-fired-by-hand"
     SKIPPED_TURN = "skipped-turn"
     TICK_SCHEDULED_IN_A_TICK = "tick-scheduled-in-a-tick"

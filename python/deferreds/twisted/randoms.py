@@ -27,6 +27,8 @@ _WEIGHTS: Dict[str, int] = {
     "put": 3,
     "get": 3,
     "later": 3,
+    "resetCall": 8,
+    "delayCall": 6,
     "addTimeout": 3,
     "loop": 2,
     "cooperate": 4,
@@ -68,11 +70,11 @@ class Scripts:
         self._is_third = False
         self._marks = ""
         self._makers: Dict[Kind, Callable[[int], Any]] = self._kinds()
-        self._take_words()
 
-    def _take_words(self) -> None:
-        """Has actions be those of the level; only with a pool may one be submitted to."""
-        words = [word for word in self._known if word != "threadIn" or self._pools]
+    def _take_words(self, version: int) -> None:
+        """Has actions be those of the level that a version has; only with a pool may one be submitted to."""
+        known = [word for word in self._known if grammar.SINCE[word] <= version]
+        words = [word for word in known if word != "threadIn" or self._pools]
         self._words = words
         self._weights = [_WEIGHTS.get(word, 1) for word in words]
         self._shallow = [word for word in words if not _holds_bodies(word)]
@@ -86,6 +88,7 @@ class Scripts:
             self._version(root)
         if self._has("version-3"):
             self._third(root)
+        self._take_words(root["version"])
         if self._one_in(5):
             root["limit"] = self._random.randint(0, 60)
         if "cooperate" in self._words:
@@ -106,7 +109,6 @@ class Scripts:
             root["version"] = 2
         if self._pools:
             root["pools"] = [[name, self._random.randint(0, 2)] for name in self._pools]
-        self._take_words()
 
     def _third(self, root: Dict[str, Any]) -> None:
         """Has half of the scripts be of version 3, with marks in the names of some, and comments."""
@@ -131,6 +133,9 @@ class Scripts:
         for word in ("lock", "semaphore", "queue", "cooperate", "cooperate", "later", "loop"):
             if word in self._words and self._one_in(3):
                 events.append([word, *self._arguments(grammar.ACTIONS[word], 0)])
+        if self._is_third and self._one_in(2):
+            # calls to be reset, beside what else is due then
+            events += [["later", name + self._marks, self._delay(), self._body(0)] for name in _NAMES["CALL"]]
         return events
 
     def _one_in(self, number: int) -> bool:
@@ -183,7 +188,7 @@ class Scripts:
             Kind.FLAG: lambda depth: self._one_in(2),
             Kind.TOKENS: lambda depth: self._random.randint(1, 3),
             Kind.BOUND: lambda depth: self._random.choice((None, 0, 1, 2)),
-            Kind.DELAY: lambda depth: self._random.randint(0, 4),
+            Kind.DELAY: lambda depth: self._delay(),
             Kind.INTERVAL: lambda depth: self._random.randint(1, 4),
             Kind.INTEGER: lambda depth: self._random.randint(-1, 3),
             Kind.SUM: lambda depth: self._random.randint(0, 9),
@@ -197,6 +202,9 @@ class Scripts:
         for kind, flags in grammar.FLAGS.items():
             makers[kind] = self._flagging(sorted(flags))
         return makers
+
+    def _delay(self) -> int:
+        return self._random.randint(0, 4)
 
     def _naming(self, kind: Kind) -> Callable[[int], str]:
         made = kind in grammar.MADE

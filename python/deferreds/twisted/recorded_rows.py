@@ -4,9 +4,11 @@ from __future__ import annotations
 
 import json
 from pathlib import Path
-from typing import Iterator, List, Tuple
+from typing import Any, Iterator, List, Tuple
 
 from ..checkout import TOP
+from .comparing import words_in
+from .grammar import SINCE
 from .rows import ROWS as FOLDER
 from .rows import Expected, written
 from .running import run
@@ -24,17 +26,19 @@ def rules(path: Path = RULES) -> Iterator[Tuple[str, str]]:
     """Each rule's name, and its script."""
     for part in path.read_text(encoding="utf-8").removeprefix("== ").split("\n== "):
         name, *lines = part.strip().split("\n")
-        events = ",\n ".join(_events("\n".join(lines)))
-        yield name, f'{{"version":1,"events":[\n {events}]}}'
+        events = list(_events("\n".join(lines)))
+        version = max(SINCE.get(word, 1) for word in words_in(events))
+        said = ",\n ".join(json.dumps(event, ensure_ascii=False, separators=(",", ":")) for event in events)
+        yield name, f'{{"version":{version},"events":[\n {said}]}}'
 
 
-def _events(text: str) -> Iterator[str]:
+def _events(text: str) -> Iterator[List[Any]]:
     """The events of a script, which stand one after the other."""
     decoder = json.JSONDecoder()
     place = 0
     while place < len(text):
         event, place = decoder.raw_decode(text, place)
-        yield json.dumps(event, ensure_ascii=False, separators=(",", ":"))
+        yield event
         while place < len(text) and text[place].isspace():
             place += 1
 

@@ -462,6 +462,12 @@ class Player:
     def _cancel_call(self, action: List[Any], here: Optional[Deferred[Any]]) -> None:
         self._thing("call", action[1]).cancel()
 
+    def _reset_call(self, action: List[Any], here: Optional[Deferred[Any]]) -> None:
+        self._thing("call", action[1]).reset(action[2])
+
+    def _delay_call(self, action: List[Any], here: Optional[Deferred[Any]]) -> None:
+        self._thing("call", action[1]).delay(action[2])
+
     def _advance(self, action: List[Any], here: Optional[Deferred[Any]]) -> None:
         """Time goes on. As a reactor does, this goes on after an error that leaves a delayed call."""
         advance: Callable[[], object] = lambda: self.clock.advance(action[1])
@@ -646,6 +652,8 @@ _OTHERS: Dict[str, Callable[[Player, List[Any], Optional[Deferred[Any]]], None]]
     "get": Player._get,
     "later": Player._later,
     "cancelCall": Player._cancel_call,
+    "resetCall": Player._reset_call,
+    "delayCall": Player._delay_call,
     "advance": Player._advance,
     "loop": Player._loop,
     "stopLoop": Player._stop_loop,

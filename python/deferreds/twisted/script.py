@@ -190,8 +190,6 @@ class _Shape:
             self._bodies(posts)
         for event in self._array(root["events"]):
             self._event(event)
-        if self.found.pools and "pools" not in grammar.KEYS[self._version]:
-            self._refuse(self.found.pools)
         return self.found
 
     def _cooperator(self, value: Any) -> None:
@@ -218,6 +216,8 @@ class _Shape:
     def _said(self, said: Any, table: Dict[str, List[grammar.Arguments]]) -> None:
         """An array of a word of the table and what it takes."""
         word = self._word(said)
+        if grammar.SINCE.get(word, self._version) > self._version:
+            self._refuse(said)
         for arguments in table.get(word, []):
             if len(arguments) == len(said) - 1:
                 for kind, value in zip(arguments, said[1:]):

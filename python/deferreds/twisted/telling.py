@@ -391,6 +391,8 @@ class Observer:
     #: what the instruments of a kind keep of this run
     clock: Optional[Any] = None
     clock_base = 0.0
+    #: whether a call of the clock was reset
+    has_reset = False
     cooperator: Optional[Any] = None
     jobs = 0
     pools: Sequence[Pool] = ()

@@ -59,7 +59,7 @@ class Side:
         entry = row.entry
         if not self._is_loose or not entry.word:
             return (entry.line,)
-        number = None if entry.word == "later" else entry.number  # (it is a time there)
+        number = None if entry.word in ("later", "reset") else entry.number  # (it is a time there)
         tail = self._value(entry.line[entry.head :])
         return entry.word, entry.what, entry.deferred, entry.other, self._name(entry.name), number, tail
 

@@ -179,6 +179,7 @@ class Fold:
             "get": self._get,
             "later": self._later,
             "uncall": self._uncall,
+            "reset": self._reset,
             "advance": self._advance,
             "call": self._call,
             "timeout": self._timeout,
@@ -410,6 +411,13 @@ class Fold:
             call.state = Wait.CANCELLED
             self._link(call.row, row, BracketKind.CANCELLED)
 
+    def _reset(self, row: Row, entry: Entry, before: Optional[Row]) -> None:
+        call = self.world.calls.found(entry)
+        if call is not None and call.state is Wait.WAITING:
+            row.cause = ("scheduled at ", OfLine(call.row), f", was due {call.due}")
+            call.due, call.reset = entry.number, row.place
+            self.world.due.add(call.name, call)
+
     def _advance(self, row: Row, entry: Entry, before: Optional[Row]) -> None:
         self.world.now = entry.number
 
@@ -424,7 +432,8 @@ class Fold:
         if call is not None:
             call.state = Wait.CALLED
             self._link(call.row, row, BracketKind.CAME)
-            row.cause = ("scheduled at ", OfLine(call.row), f", due {call.due}")
+            reset: Phrase = () if call.reset is None else (", reset at ", OfLine(call.reset))
+            row.cause = ("scheduled at ", OfLine(call.row), *reset, f", due {call.due}")
 
     def _job(self, row: Row, entry: Entry, before: Optional[Row]) -> None:
         record = self._touch(row, entry.deferred)

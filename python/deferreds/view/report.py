@@ -361,8 +361,10 @@ class Report:
         if isinstance(one, LeftCall):
             call = world.calls.at(one.number)
             name, row = (call.name, call.row) if call is not None else ("", None)
+            reset = call.reset if call is not None else None
+            details: Tuple[Phrase, ...] = () if reset is None else (("it was reset in ", OfLine(reset)),)
             return Finding(
-                Severity.LEFT, Kind.CALL, (f"delayed call {name} is due at {one.due}, {when}",), (), row
+                Severity.LEFT, Kind.CALL, (f"delayed call {name} is due at {one.due}, {when}",), details, row
             )
         if isinstance(one, LeftTick):
             row = world.tick.row if world.tick is not None else None

@@ -134,6 +134,8 @@ class Call(Thing):
     def __init__(self, name: str, row: int, due: int, deferred: Optional[int] = None) -> None:
         super().__init__(name, row)
         self.due = due
+        #: the row in which it was reset last, if it was
+        self.reset: Optional[int] = None
         #: of a timer, its Deferred
         self.deferred = deferred
         self.state = Wait.WAITING
@@ -211,15 +213,15 @@ class Due:
         self._waiting: Dict[str, List[Tuple[int, int, Call]]] = {}
 
     def add(self, key: str, call: Call) -> None:
-        """One more waits."""
+        """One more waits, or one that waits is due at another time than before."""
         heapq.heappush(self._waiting.setdefault(key, []), (call.due, call.row, call))
 
     def come(self, key: str) -> Optional[Call]:
         """The one that comes now, if any waits."""
         waiting = self._waiting.get(key, [])
         while waiting:
-            call = heapq.heappop(waiting)[2]
-            if call.state is Wait.WAITING:
+            due, _, call = heapq.heappop(waiting)
+            if call.state is Wait.WAITING and call.due == due:
                 return call
         return None
 

@@ -89,6 +89,8 @@ pub fn action(alloc: Global, classes: &Classes, levels: u32, json: &Json) -> Res
         ActionWord::Get => get(alloc, arguments),
         ActionWord::Later => later(alloc, classes, levels, arguments),
         ActionWord::CancelCall => cancel_call(alloc, arguments),
+        ActionWord::ResetCall => reset_call(alloc, arguments),
+        ActionWord::DelayCall => delay_call(alloc, arguments),
         ActionWord::Loop => loop_of(alloc, classes, levels, arguments),
         ActionWord::StopLoop => stop_loop(alloc, arguments),
         ActionWord::Cooperate => cooperate(alloc, classes, levels, arguments),
@@ -422,6 +424,24 @@ fn cancel_call(alloc: Global, arguments: &[Json]) -> Result<Action, Stop>
     ensures { Reads result (one_of text_at Action.CancelCall (items_view arguments.now)) }
 {
     Ok(Action::CancelCall(one_text(alloc, arguments)?))
+}
+
+#[inline(never)]
+fn reset_call(alloc: Global, arguments: &[Json]) -> Result<Action, Stop>
+    ensures { Reads result
+        (two_of text_at (number_at 0 MOST_DELAY) Action.ResetCall (items_view arguments.now)) }
+{
+    let (name, delay) = named_delay(alloc, arguments)?;
+    Ok(Action::ResetCall(name, delay))
+}
+
+#[inline(never)]
+fn delay_call(alloc: Global, arguments: &[Json]) -> Result<Action, Stop>
+    ensures { Reads result
+        (two_of text_at (number_at 0 MOST_DELAY) Action.DelayCall (items_view arguments.now)) }
+{
+    let (name, delay) = named_delay(alloc, arguments)?;
+    Ok(Action::DelayCall(name, delay))
 }
 
 #[inline(never)]

@@ -5,6 +5,7 @@ ghost use Rattle.dv_objects.specs.declared.performed.Performed.TheVariants.{Rais
 
 use super::World;
 use dv_clock::call_id::CallId;
+use dv_clock::delay_from::DelayFrom;
 use dv_clock::due::Due;
 use dv_clock::error::Over;
 use dv_clock::limits::{MOST_DELAY, MOST_TICKS};
@@ -19,7 +20,7 @@ use std::alloc::{AllocError, Global};
 
 impl<'s> World<'s> {
     ghost use Rattle.dv_world.specs.World.{call_later, start_timer, has_timed_out, end_timer};
-    ghost use Rattle.dv_world.specs.World.{advance, come_due, cancel_call};
+    ghost use Rattle.dv_world.specs.World.{advance, come_due, cancel_call, reset_call};
     ghost use Rattle.dv_objects.specs.Names.{number_of, with_name};
 
     /// Schedules a delayed call of a body, which is due so many ticks later than now, and no later
@@ -93,6 +94,35 @@ impl<'s> World<'s> {
             return Ok(Performed::Done);
         }
         match self.clock.cancel(&mut self.journal, call) {
+            Ok(()) => Ok(Performed::Done),
+            Err(Fault::Refused(Over::Called)) => was_called(self.alloc),
+            Err(Fault::Refused(Over::Cancelled)) => was_cancelled(self.alloc),
+            Err(Fault::Limit) => {
+                self.stopped = true;
+                Ok(Performed::Done)
+            }
+            Err(Fault::OutOfMemory) => Err(AllocError),
+        }
+    }
+
+    /// Gives a delayed call a delay anew, in ticks, no longer than calls are delayed by (Twisted:
+    /// `DelayedCall.reset`, `DelayedCall.delay`). One that was called raises AlreadyCalled, and one
+    /// that was cancelled or dropped AlreadyCancelled.
+    #[tactic(auto, unfolding(crate::specs::World::reset_call, crate::specs::World::aside))]
+    pub fn reset_call(
+        &mut self,
+        call: CallId,
+        from: DelayFrom,
+        delay: u64,
+    ) -> Result<Performed<'s>, AllocError>
+        ensures { IfOk result (λ performed.
+            (performed, self.new) ≡ reset_call call from delay self.old) }
+    {
+        if self.stopped {
+            return Ok(Performed::Done);
+        }
+        let delay = delay.min(MOST_DELAY);
+        match self.clock.reset(&mut self.journal, call, from, delay) {
             Ok(()) => Ok(Performed::Done),
             Err(Fault::Refused(Over::Called)) => was_called(self.alloc),
             Err(Fault::Refused(Over::Cancelled)) => was_cancelled(self.alloc),
@@ -186,7 +216,7 @@ fn due_call(alloc: Global, name: &str, body: usize) -> Result<Due, AllocError>
     Ok(Due::Call(Text::of(alloc, name)?, key))
 }
 
-/// What a cancelling of a call raises that was called.
+/// What a cancelling or a resetting of a call raises that was called.
 fn was_called<'s>(alloc: Global) -> Result<Performed<'s>, AllocError>
     ensures { IfOk result (λ p. p ≡ Raised was_called) }
 {

@@ -2,10 +2,13 @@
 
 from __future__ import annotations
 
+import functools
 from typing import Any, Callable
 
 from twisted.internet import base
 
+from ..grammar import LATEST
+from ..profile import Entry
 from ..telling import Action, Observer, Time, observer_of, observers_on
 from .clock import Delayed, delayed_of, is_time, refuse_timer
 from .reactors import move, waiting_of
@@ -38,42 +41,54 @@ def _tell_cancelled(watcher: Observer, call: base.DelayedCall, delayed: Delayed)
     _cancel(call)
 
 
-def _instrument_moving(name: str) -> None:
-    """`reset` and `delay`, which the language hasn't: told as a cancel and a new call."""
+def _instrument_moving(name: str, word: str) -> None:
+    """`reset` and `delay`."""
     original = getattr(base.DelayedCall, name)
 
     def moved(self: Any, seconds: float) -> None:
-        watcher = observer_of("clock")
-        delayed = None if watcher is None else delayed_of(watcher, self)
+        watcher = observer_of("clock") if observers_on else None
+        if watcher is None:
+            return original(self, seconds)
         refuse_timer(watcher, self, name)
-        if watcher is None or watcher.quiet or delayed is None or not self.active():
-            original(self, seconds)
-        elif not is_time(seconds):
+        delayed = delayed_of(watcher, self)
+        if watcher.quiet or delayed is None:
+            return original(self, seconds)
+        if not is_time(seconds):
             watcher.problem(f"a delayed call is moved by what is no number of seconds ({name})", "clock")
-            original(self, seconds)
+            return original(self, seconds)
+        action = Action([word, delayed.thing, Time(max(0, seconds))])
+        if not self.active():
+            how: Callable[[], object] = functools.partial(original, self, seconds)
         elif waiting_of(watcher, self) is not None:
-            move(watcher, self, delayed, original, seconds)
+            how = functools.partial(move, watcher, self, action, original, seconds)
         else:
-            _move_on_clock(watcher, self, delayed, original, seconds)
+            how = functools.partial(_move_on_clock, watcher, self, action, original, seconds)
+        watcher.act(action, how)
+        return None
 
     setattr(base.DelayedCall, name, moved)
 
 
 def _move_on_clock(
-    watcher: Observer, call: Any, delayed: Delayed, how: Callable[[Any, float], None], seconds: float
+    watcher: Observer, call: Any, action: Action, how: Callable[[Any, float], None], seconds: float
 ) -> None:
-    """A call of a Clock is moved."""
-    delayed.cancel(watcher)
+    """Tells that a call of a Clock is due at another time, and has that be so."""
+    now = watcher.now()
+    due = now + seconds if action[0] == "resetCall" else call.getTime() - watcher.clock_base + seconds
+    if seconds < 0:
+        # the language has no delay below 0: it is told by how much later than now the call is due
+        action[0], action[2] = "resetCall", Time(max(0, due - now))
+        if due < now:
+            watcher.problem(f"a delayed call is moved to a time that is past ({how.__name__})", "clock")
+    elif not now <= due <= LATEST:
+        watcher.quirk(Entry.DELAY_BOUNDS)
+    watcher.has_reset = True
+    watcher.tell("reset ", action[1], " ", Time(due))
     how(call, seconds)
-    if sum(other.getTime() == call.getTime() for other in watcher.clock_calls()) > 1:
-        watcher.problem(f"a delayed call is moved to the time of another ({how.__name__})", "clock")
-    delayed.make_anew(watcher, Time(call.getTime() - watcher.clock_base - watcher.now()))
-    due = Time(call.getTime() - watcher.clock_base)
-    watcher.act(delayed.action, watcher.tell, "later call ", delayed.thing, " ", due)
 
 
 def install() -> None:
     """Puts the instrument into DelayedCall."""
     setattr(base.DelayedCall, "cancel", _instrumented_cancel)
-    _instrument_moving("reset")
-    _instrument_moving("delay")
+    _instrument_moving("reset", "resetCall")
+    _instrument_moving("delay", "delayCall")

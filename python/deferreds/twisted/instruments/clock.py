@@ -3,18 +3,28 @@
 from __future__ import annotations
 
 import functools
+import itertools
 import math
+import sys
 from typing import Any, Callable, Dict, List, NamedTuple, Optional
 
 from twisted.internet import base, task
 
 from ..profile import Entry
-from ..telling import Action, Line, Observer, Time, observer_of, watched
+from ..telling import Action, Line, Observer, Time, observer_of, observers_on, watched
 from .pace import Pace, Waiting
 from .scheduled import stand_for
 
-_later = task.Clock.callLater
+_call_later = task.Clock.callLater
 _advance = task.Clock.advance
+_sort = task.Clock._sortCalls
+
+#: the code of the function that runs what is due
+_ADVANCE = _advance.__code__
+#: the numbers of delayed calls, in the order in which they are scheduled
+_NUMBERS = itertools.count()
+#: to how many places after the point times of calls are compared, since they are floats
+_DIGITS = 9
 
 _NO_KEYWORDS: Dict[str, Any] = {}
 
@@ -46,15 +56,12 @@ class Delayed:
         self.body = watcher.new_body("call")
         self.action = Action(["later", self.thing, delay, self.body])
 
-    def cancel(self, watcher: Observer) -> None:
-        """Tells that it is cancelled."""
-        watcher.act(Action(["cancelCall", self.thing]), watcher.tell, "uncall ", self.thing)
 
-    def make_anew(self, watcher: Observer, delay: Time) -> None:
-        """It stands for another call of the same body: the one before never runs."""
-        again = Delayed(watcher, delay)
-        self.action[3], again.action[3] = again.body, self.body
-        self.thing, self.action = again.thing, again.action
+def _later(clock: task.Clock, delay: float, f: Callable[..., object], *args: Any, **kwargs: Any) -> Any:
+    """Schedules a call, which is numbered."""
+    call: Any = _call_later(clock, delay, f, *args, **kwargs)
+    call._dv_number = next(_NUMBERS)
+    return call
 
 
 def due_time(watcher: Observer, delay: float) -> Time:
@@ -166,7 +173,8 @@ def tell_due(
         return happen()
     except BaseException as error:
         watcher.tell_unhandled(error)
-        left = clock is not None and clock.calls and clock.calls[0].getTime() <= clock.seconds()
+        # (the list isn't in order, if a call was reset)
+        left = clock is not None and any(call.getTime() <= clock.seconds() for call in clock.calls)
         if left and not watcher.goes_on_after_errors:
             watcher.quirk(Entry.ERROR_LEAVES_ADVANCE)
         raise
@@ -195,14 +203,41 @@ def run_due(clock: task.Clock) -> None:
     _advance(clock, 0)
 
 
+def _instrumented_sort(self: task.Clock) -> None:
+    """Clock does this where a call is scheduled, and in an advance, right before it looks what is due first."""
+    _sort(self)
+    if not observers_on:
+        return
+    watcher = observer_of("clock")
+    if watcher is not None and watcher.has_reset and watcher.clock is self and sys._getframe(1).f_code is _ADVANCE:
+        _compare_order(watcher, self)
+
+
+def _compare_order(watcher: Observer, clock: task.Clock) -> None:
+    """Notes that what runs next was scheduled after something that is due with it, as Clock has it after a reset."""
+    calls: List[Any] = clock.calls
+    if not calls or calls[0].getTime() > clock.seconds():
+        return
+    first = calls[0]
+    due = round(first.getTime() - watcher.clock_base, _DIGITS)
+    for other in calls:
+        if round(other.getTime() - watcher.clock_base, _DIGITS) > due:
+            return
+        if other._dv_number < first._dv_number:
+            watcher.quirk(Entry.RESET_ORDER)
+            return
+
+
 def install() -> None:
     """Puts the instrument into Clock."""
     # an object whose `__dict__` is asked for is slower from then on, so these are attributes
     for name in ("_dv_delayed", "_dv_timer", "_dv_waiting"):
         setattr(base.DelayedCall, name, None)
+    setattr(base.DelayedCall, "_dv_number", -1)  # of one that was scheduled before
     wrapped: Dict[str, Callable[..., Any]] = {
         "callLater": _instrumented_later,
         "advance": _instrumented_advance,
+        "_sortCalls": _instrumented_sort,
     }
     for name, instrument in wrapped.items():
         setattr(task.Clock, name, instrument)

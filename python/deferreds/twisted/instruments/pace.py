@@ -10,7 +10,7 @@ from typing import Any, Callable, Dict, List, NamedTuple, Optional
 
 from twisted.internet import base
 
-from ..telling import Advance, Observer, Time
+from ..telling import Action, Advance, Observer, Time
 from .settling import MILLISECOND, UNITS, Conflict, Entry, Loop, Step, settle
 
 #: how far apart loops may start in a body, and be told to start at one time
@@ -31,6 +31,14 @@ class Waiting(NamedTuple):
     delay: Time
 
 
+class _Moved(NamedTuple):
+    """That something is due at another time than before, and the action which has that be so."""
+
+    action: Action
+    before: Entry
+    waiting: Waiting
+
+
 class Pace:
     """The told time of a run on a real reactor."""
 
@@ -41,6 +49,7 @@ class Pace:
         self._steps = [Step(None, 0)]
         self._advances: Dict[Step, Advance] = {}
         self._waiting: List[Waiting] = []
+        self._moved: List[_Moved] = []
         #: how many more turns are due when one is
         self._turns: Dict[int, int] = {}
         #: when the reactor has looked what is due, and whether it has run that since something came from elsewhere
@@ -70,6 +79,23 @@ class Pace:
     def later(self, delay: float) -> Waiting:
         """A call is scheduled, so many seconds from now."""
         return self._make(Entry(len(self._waiting), round(delay * UNITS)))
+
+    def reset(self, waiting: Waiting, delay: float, action: Action) -> Waiting:
+        """What waits is due so many seconds from now, by this action."""
+        return self._move(waiting, Entry(waiting.entry.order, round(delay * UNITS), moved=waiting.entry.moved + 1), action)
+
+    def delay(self, waiting: Waiting, delay: float, action: Action) -> Waiting:
+        """What waits is due so many seconds later than before, by this action."""
+        before = waiting.entry
+        return self._move(waiting, Entry(before.order, round(delay * UNITS), moved=before.moved + 1, before=before), action)
+
+    def _move(self, waiting: Waiting, entry: Entry, action: Action) -> Waiting:
+        """It waits as this entry from now on, which has its place in the order of scheduling."""
+        fresh = self._make(entry)
+        self._steps[-1].end(waiting.entry)
+        self._moved.append(_Moved(action, waiting.entry, fresh))
+        action[2] = fresh.delay
+        return fresh
 
     def job(self) -> Waiting:
         """A result will come, at a time that isn't known."""
@@ -194,6 +220,11 @@ class Pace:
             advance.to.seconds, advance.by.seconds = seconds_of(step.time), seconds_of(step.by)
         for entry, due, delay in self._waiting:
             due.seconds, delay.seconds = seconds_of(entry.due), seconds_of(max(0, entry.due - entry.at))
+        for action, before, (entry, _, delay) in self._moved:
+            is_delayed = entry.before is before and entry.due >= before.due
+            action[0] = "delayCall" if is_delayed else "resetCall"
+            if is_delayed:
+                delay.seconds = seconds_of(entry.due - before.due)
         return conflict
 
 

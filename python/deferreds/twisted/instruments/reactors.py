@@ -17,7 +17,7 @@ from twisted.internet import base
 from twisted.logger import ILogObserver, globalLogPublisher
 from zope.interface import directlyProvides
 
-from ..telling import Observer, Time, observer_of, observers_on, watched
+from ..telling import Action, Observer, Time, observer_of, observers_on, watched
 from .clock import Delayed, Own, is_delay, own_call, run_delayed
 from .pace import Pace, Waiting, has_clock, is_real
 from .scheduled import stand_for
@@ -215,24 +215,19 @@ def _instrumented_insert(self: Any) -> None:
             watcher.pace.look()
 
 
-def move(watcher: Observer, call: Any, delayed: Delayed, how: Callable[[Any, float], None], seconds: float) -> None:
-    """A call of a real reactor is moved: one is cancelled, and another scheduled."""
-    pace: Pace = watcher.pace
+def move(watcher: Observer, call: Any, action: Action, how: Callable[[Any, float], None], seconds: float) -> None:
+    """Has a call of a real reactor be due at another time, and tells that."""
     waiting = waiting_of(watcher, call)
-    delayed.cancel(watcher)
-    if waiting is not None:
-        pace.end(waiting)
+    assert waiting is not None
     how(call, seconds)
-    left = max(0, seconds) if how.__name__ == "reset" else round(max(0.0, call.getTime() - call.seconds()), 3)
-
-    def again() -> None:
-        fresh = pace.later(left)
-        delayed.action[2] = fresh.delay
-        _keep_waiting(watcher, call, fresh)
-        watcher.tell("later call ", delayed.thing, " ", fresh.due)
-
-    delayed.make_anew(watcher, Time(0))
-    watcher.act(delayed.action, again)
+    pace: Pace = watcher.pace
+    if action[0] == "delayCall" and seconds >= 0:
+        fresh = pace.delay(waiting, seconds, action)
+    else:
+        left = seconds if action[0] == "resetCall" else round(call.getTime() - call.seconds(), 3)
+        fresh = pace.reset(waiting, max(0, left), action)
+    _keep_waiting(watcher, call, fresh)
+    watcher.tell("reset ", action[1], " ", fresh.due)
 
 
 def install() -> None:

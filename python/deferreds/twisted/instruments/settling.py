@@ -25,8 +25,10 @@ _LATE = 5 * MILLISECOND
 #: how often an advance is made to go further, since that has it run more
 _MOST_WIDENED = 20
 
-#: when something is due, and its place in the order of scheduling
-Key = Tuple[int, int]
+#: when something is due, its place in the order of scheduling, and how often it was moved
+Key = Tuple[int, int, int]
+
+_NOTHING: Key = (-1, -1, -1)
 
 
 class Conflict(Exception):
@@ -86,11 +88,16 @@ class Entry:
         loop: Optional[Loop] = None,
         turn: int = 0,
         is_tick: bool = False,
+        moved: int = 0,
+        before: Optional["Entry"] = None,
     ) -> None:
-        #: its place in the order of scheduling
+        #: its place in the order of scheduling, which a call keeps that is moved, and how often it was
         self.order = order
+        self.moved = moved
         #: the delay that was asked for: none is for the result of a job
         self.delay = delay
+        #: the same call before it was moved, where the delay counts from when that was due
+        self.before = before
         #: the loop whose turn it is, and which turn
         self.loop = loop
         self.turn = turn
@@ -100,8 +107,9 @@ class Entry:
         #: when it is told to be scheduled, and to be due
         self.at = 0
         self.due = 0
-        #: how many advances had begun when it was scheduled
+        #: how many advances had begun when it was scheduled, and what had run last
         self.seen = 0
+        self.after: Key = _NOTHING
 
     @property
     def is_fixed(self) -> bool:
@@ -111,7 +119,7 @@ class Entry:
     @property
     def key(self) -> Key:
         """Its place among what waits."""
-        return self.due, self.order
+        return self.due, self.order, self.moved
 
 
 class Step:
@@ -197,12 +205,12 @@ class _Waiting:
 
     def first_after(self, time: int) -> Optional[Entry]:
         """What is due first after a time."""
-        place = bisect_left(self._keys, (time + 1, 0))
+        place = bisect_left(self._keys, (time + 1, 0, 0))
         return self._entries[self._keys[place]] if place < len(self._keys) else None
 
     def until(self, time: int) -> List[Entry]:
         """What is due by this time."""
-        return [self._entries[key] for key in self._keys[: bisect_left(self._keys, (time + 1, 0))]]
+        return [self._entries[key] for key in self._keys[: bisect_left(self._keys, (time + 1, 0, 0))]]
 
     def all(self) -> List[Entry]:
         """All of it, in order."""
@@ -226,7 +234,7 @@ class _Settling:
         self._count = 0
         self._open = False
         #: what the last advance has run last
-        self._last: Key = (-1, -1)
+        self._last: Key = _NOTHING
         #: what can't be moved, what was asked for, and the jobs whose result is to come
         self._fixed = _Waiting()
         self._asked = _Waiting()
@@ -267,7 +275,7 @@ class _Settling:
         self._jobs.pop(entry, None)
 
     def _make(self, entry: Entry) -> None:
-        entry.at, entry.seen = self._now, self._count
+        entry.at, entry.seen, entry.after = self._now, self._count, self._last
         loop = entry.loop
         if loop is not None:
             entry.due = _next_turn(loop, self._now)
@@ -276,7 +284,8 @@ class _Settling:
             entry.due = self._now + self._manner.tick
             self._fixed.add(entry)
         elif entry.delay is not None:
-            entry.due = self._now + entry.delay
+            since = self._now if entry.before is None else entry.before.due
+            entry.due = max(self._now, since + entry.delay)
             self._asked.add(entry)
         else:
             entry.due = self._now
@@ -353,8 +362,8 @@ class _Settling:
 
     def _squeeze(self, entry: Entry) -> None:
         """It is told as due right after what ran last."""
-        due, order = self._last
-        entry.due = max(entry.at, due if entry.order > order else due + 1)
+        due, *place = self._last
+        entry.due = max(entry.at, due if [entry.order, entry.moved] > place else due + 1)
         self.moved += entry.delay is not None
 
     def _run_moved(self, step: Step, entry: Entry, first: Optional[Entry]) -> None:
@@ -452,7 +461,9 @@ class _Settling:
 
     def _joins(self, entry: Entry) -> bool:
         """Whether the advance that goes on runs it next, by when it is told as due."""
-        if not self._open or entry.due > self._now or entry.key <= self._last:
+        if not self._open or entry.due > self._now:
+            return False
+        if entry.key <= self._last != entry.after:  # it would have run before what ran last
             return False
         return entry.due > self._before or not self._waited(entry, self._count - 1)
 

@@ -48,6 +48,8 @@ KIND_OF_ACTION: Dict[str, str] = {
     "get": "queue",
     "later": "clock",
     "cancelCall": "clock",
+    "resetCall": "clock",
+    "delayCall": "clock",
     "advance": "clock",
     "addTimeout": "timer",
     "loop": "loop",

@@ -71,8 +71,9 @@ class VirtualReactor(task.Clock):
 
     def advance_to_next(self) -> None:
         """Time goes on to what is due next. Errors are lost, as a reactor logs them."""
+        due = min(call.getTime() for call in self.calls)  # the list isn't in order, if a call was reset
         with contextlib.suppress(Exception):
-            self.advance(max(0, self.calls[0].getTime() - self.seconds()))
+            self.advance(max(0, due - self.seconds()))
 
     def run_until(self, is_over: Callable[[], bool]) -> None:
         """Runs until something is over, or nothing waits."""

@@ -10,6 +10,7 @@ from fractions import Fraction
 from itertools import accumulate, compress
 from typing import Any, Dict, Iterator, List, Optional, Sequence, Set, Tuple, Union
 
+from ...language import LANGUAGE
 from .. import grammar
 from ..instruments.tasks import Cooperating
 from ..profile import Entry
@@ -20,7 +21,7 @@ from .bodies import Body, Run, Steps, Unsayable, deepest, in_words
 from .outcomes import outcomes_of
 from .places import FreeNames, name_of_spot
 from .recorder import Problem, Recorder
-from .whereabouts import Acted, whereabouts_of
+from .whereabouts import Acted, actions_of, whereabouts_of
 
 _FINEST = 10**9
 _LARGEST_SCALE = 10**10
@@ -232,12 +233,18 @@ class Said:
             self._refuse_depth()
             return None
         if self._recorder.pools:
-            script["version"] = 2
             script["pools"] = [[pool.thing.name, pool.workers] for pool in self._recorder.pools]
         if self._recorder.classes.declared:
             script["classes"] = [list(pair) for pair in self._recorder.classes.declared]
         script["events"] = events
+        script["version"] = self._version(script)
         return script
+
+    def _version(self, script: Dict[str, Any]) -> int:
+        """The least version that has the words of a script."""
+        keys = [key.since for key in LANGUAGE.keys_of("script") if key.key in script]
+        words = {action[0] for _, action in actions_of(script, self.acted)}
+        return max([*keys, *(grammar.SINCE.get(word, 1) for word in words)])
 
     def _cannot(self, reason: str, kind: Optional[str] = None, place: str = "") -> CannotSay:
         self._problem(reason, kind, place)
@@ -467,6 +474,7 @@ class Said:
             or (size[place] <= grammar.MOST_BYTES and count[place] <= grammar.MOST_NODES and weights[place] <= _MOST_LIMIT)
         )
         script["events"] = events[: self.events]
+        script["version"] = self._version(script)
         self._set_limit(script)
         self.text = compact(script)
 

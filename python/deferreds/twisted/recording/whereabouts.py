@@ -33,7 +33,7 @@ def whereabouts_of(
         if id(record) in places and record.name not in (None, "-"):
             deferreds.setdefault(str(record.name), places[id(record)])
     actions: Dict[str, List[int]] = {}
-    for pointer, action in _actions(script, acted):
+    for pointer, action in actions_of(script, acted):
         place = places.get(id(action[1] if action[0] == "deferred" else action))
         if place is not None:
             actions[pointer] = place
@@ -41,7 +41,7 @@ def whereabouts_of(
     return json.dumps(document, ensure_ascii=True, separators=(",", ":")) + "\n"
 
 
-def _actions(script: Optional[Dict[str, Any]], acted: Acted) -> Iterator[Tuple[str, Action]]:
+def actions_of(script: Optional[Dict[str, Any]], acted: Acted) -> Iterator[Tuple[str, Action]]:
     """Each action that the script says, with its JSON Pointer there, in order."""
     todo: List[Tuple[str, Any]] = [("/events", script["events"] if script is not None else [])]
     while todo:
