@@ -24,3 +24,8 @@ pub mod TokensLemmas
 pub mod StoredLemmas
 pub mod LoopsLemmas
 pub mod ServedLines
+pub mod ServedWaiters
+pub mod ServedLemmas
+pub mod ServedSteps
+pub mod ServedCancels
+pub mod ServedRuns

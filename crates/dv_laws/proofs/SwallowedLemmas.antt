@@ -47,11 +47,11 @@ next_same None f g h = refl
 next_same (Some e) f g h = h e
 
 module _ (rs : Records) (before : List Entry) (h : (k : ℕ) → told_by k before ≡ shown_at k rs) where
-  waited_is : (k : ℕ) → waited_for k before ≡ link rs k
+  pub waited_is : (k : ℕ) → waited_for k before ≡ link rs k
   waited_is k = ap (λ (o : Option Shown). option_and_then (λ s. s.waits_for) o) (h k) ∙ waited_cases (slice_get rs k)
 
   -- so waits lead where links do
-  led_is : (links k : ℕ) → led_to links k before ≡ follow links k rs
+  pub led_is : (links k : ℕ) → led_to links k before ≡ follow links k rs
   unfolding follow
   led_is zero k = refl
   led_is (suc n) k =
