@@ -22,7 +22,8 @@ use Rattle.dv_laws.specs.Once.{firing as firing_by, swallowing}
 use Rattle.dv_laws.specs.Places.{OfEachEntry}
 use Rattle.dv_laws.proofs.At.{counted_of, at, set_at, changing_at, push_at, set_by, changing_by, entries_on, no_entries}
 use Rattle.dv_laws.proofs.OnceLemmas.{fired_once}
-use Rattle.dv_laws.proofs.Settles.{Still, Settles, is_itself, means_keeps, reported}
+use Rattle.dv_laws.proofs.Still.{Still, calm}
+use Rattle.dv_laws.proofs.Settles.{Settles, is_itself, means_keeps, reported}
 
 -- whether a further firing of a Deferred is refused, as a count
 abbrev over_of : Kind → ℕ
@@ -162,28 +163,28 @@ still n = record {
 
 settles : (n : ℕ) → Settles (λ w u. Counts n (state_of w) (state_of u))
 settles n = record {
-  still = still n;
-  drops = λ d r pair rest w h e a. record {
+  calm = calm _ (still n);
+  drops = λ d r pair rest w h e a s. record {
     goes_on = λ k. record { over = λ q. over_at n d r _ w.records h (λ z. z) (k.over q); first = k.first };
   };
   runs =
-      λ d r pair rest w x h e a.
+      λ d r pair rest w x h e a s.
       plain n (entry.Run d) _ (state_of w) refl (λ q. absurd cc) (over_at n d r _ w.records h (λ z. z));
-  hands = λ d c r rest w x h e a.
+  hands = λ d c r rest w x h e a s.
       plain n (entry.Hand d c r.value) _ (state_of w) refl (λ q. absurd cc) (same_at n w.records _
       (changing_at over_of n c (with_handed r.value) _ (λ y. refl) ∙ set_at over_of n d r _ w.records h refl));
   sets =
-      λ d value r w x h p.
+      λ d value r w x h p s.
       plain n (entry.Set d value) _ (state_of w) refl (λ q. absurd cc) (over_at n d r _ w.records h (λ z. z));
-  waits = λ d e r given w x h i p q.
+  waits = λ d e r given w x h i p q s.
       plain n (entry.Wait d e) _ (state_of w) refl (λ z. absurd cc)
       (same_at n w.records _ (changing_at over_of n d (chaining.with_wait e) _ (λ y. refl)
       ∙ changing_at over_of n e (with_item (item.HandOver d)) w.records (λ y. refl)));
-  takes = λ d e r given w x h i p q.
+  takes = λ d e r given w x h i p q s.
       plain n (entry.Take d e given.value) _ (state_of w) refl (λ z. absurd cc)
       (same_at n w.records _ (changing_at over_of n d (with_result given.value) _ (λ y. refl)
       ∙ changing_at over_of n e chaining.without_value w.records (λ y. refl)));
-  advances = λ ticks w x. plain n (entry.Advance _) _ (state_of w) refl (λ q. absurd cc) (λ q. q);
+  advances = λ ticks w x s. plain n (entry.Advance _) _ (state_of w) refl (λ q. absurd cc) (λ q. q);
 }
 
 world_first : (n : ℕ) (script : Script) (batches : List Batch) (w : World) → Means script batches w

@@ -31,7 +31,8 @@ use Rattle.dv_laws.proofs.At.{places_on, no_places, entries_on, no_entries}
 use Rattle.dv_laws.proofs.Clocks.{IsPlain, Clocks, Leaves, Adds, Runs, Cancels, Moves, Drops, Arranges, Stays, Loses}
 use Rattle.dv_laws.proofs.ReadBackLemmas.{get_set}
 use Rattle.dv_laws.proofs.Calm.{Regular}
-use Rattle.dv_laws.proofs.Settles.{Still, Settles, means_keeps, reported}
+use Rattle.dv_laws.proofs.Still.{Still, calm}
+use Rattle.dv_laws.proofs.Settles.{Settles, means_keeps, reported}
 
 -- what a call is of these
 abbrev pub timed_of : Due → Option Timed
@@ -513,14 +514,14 @@ advanced t c time entries k =
 
 settles : (t : Timed) → Settles (Keeps t)
 settles t = record {
-  still = still t;
-  drops = λ d r pair rest w h e a. record { loops = λ z. z; goes_on = λ z k. k };
-  runs = λ d r pair rest w x h e a. plain t (entry.Run d) w _ (refl, refl, refl) refl refl refl;
-  hands = λ d c r rest w x h e a. plain t (entry.Hand d c r.value) w _ (refl, refl, refl) refl refl refl;
-  sets = λ d value r w x h p. plain t (entry.Set d value) w _ (refl, refl, refl) refl refl refl;
-  waits = λ d e r given w x h i p q. plain t (entry.Wait d e) w _ (refl, refl, refl) refl refl refl;
-  takes = λ d e r given w x h i p q. plain t (entry.Take d e given.value) w _ (refl, refl, refl) refl refl refl;
-  advances = λ ticks w x. record {
+  calm = calm _ (still t);
+  drops = λ d r pair rest w h e a s. record { loops = λ z. z; goes_on = λ z k. k };
+  runs = λ d r pair rest w x h e a s. plain t (entry.Run d) w _ (refl, refl, refl) refl refl refl;
+  hands = λ d c r rest w x h e a s. plain t (entry.Hand d c r.value) w _ (refl, refl, refl) refl refl refl;
+  sets = λ d value r w x h p s. plain t (entry.Set d value) w _ (refl, refl, refl) refl refl refl;
+  waits = λ d e r given w x h i p q s. plain t (entry.Wait d e) w _ (refl, refl, refl) refl refl refl;
+  takes = λ d e r given w x h i p q s. plain t (entry.Take d e given.value) w _ (refl, refl, refl) refl refl refl;
+  advances = λ ticks w x s. record {
     loops = λ r. r;
     goes_on = λ r k. advanced t w.objects.clock (min (w.objects.clock.time + ticks) MOST_TICKS) w.journal.entries k;
   };

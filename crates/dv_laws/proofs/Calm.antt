@@ -103,6 +103,15 @@ use Rattle.dv_definition.specs.Rule.{Rule, Ends, By, If, Finds, Then, Asks, Fire
 use Rattle.dv_definition.specs.Steps as steps
 use Rattle.dv_definition.specs.Steps.{stepped, Question, Reply}
 use Rattle.dv_world.specs.World as world
+use Rattle.dv_world.specs.World.{Records, state_of, with_stop}
+use Rattle.dv_loop.proofs.Kept.{Both, Kind, telling_of}
+use Rattle.std.proofs.Common.{Result, Ok, Err}
+use Rattle.dv_journal.specs.declared.error.Stop.{Stop}
+use Rattle.dv_journal.specs.declared.error.Stop.TheVariants as stop
+use Rattle.dv_store.specs.Record.{new_record}
+use Rattle.dv_objects.specs.Refusals.{cancelled}
+use Rattle.dv_objects.specs.declared.canceller.Canceller.TheVariants as canceller
+use Rattle.dv_laws.specs.Stored.{Queueing, MakesQueue, PutsInto, GetsFrom}
 
 pub record Regular (loops : List LoopingCall) : Type 0 where
   pub each : (l : ℕ) (x : LoopingCall) → slice_get loops l ≡ Some x → 1 ≤ x.interval
@@ -137,18 +146,32 @@ turn_later : (x : LoopingCall) (c : Clock) → 1 ≤ x.interval → c.time ≤ n
 turn_later x c h =
     let next = next_is_first (min x.start c.time) x.interval c.time (omega arith) h in omega (arith, next.later)
 
+-- nothing is put into a queue or asked of one
+abbrev pub LeavesQueues : Queueing → Type 0
+LeavesQueues Unqueued = Unit {0}
+LeavesQueues (MakesQueue name size) = Unit {0}
+LeavesQueues (PutsInto name) = ⊥
+LeavesQueues (GetsFrom name) = ⊥
+
+-- a cancel reaches nobody that waits for a value of a queue
+abbrev pub ReachesNoItem : Reached → Type 0
+ReachesNoItem (reached.ForItem d k) = ⊥
+ReachesNoItem r = Unit {0}
+
 -- what is kept by the steps that fire, unpause and settle nothing, and add no pair
 pub record Quiet (R : World → World → Type 0) : Type 0 where
   pub stays : (w : World) → R w w
   pub joins : (u v w : World) → R u v → R v w → R u w
   pub by_make : (name : Option (List ℕ)) (canceller : Option Canceller) (w : World) → R w (make name canceller w)
-  pub by_cancel : (d : ℕ) (w : World) → R w (cancel d w).1
+  pub by_cancel : (d : ℕ) (w : World) → ReachesNoItem (cancel d w).0 → R w (cancel d w).1
   pub by_pause : (d : ℕ) (w : World) → R w (pause d w)
   pub by_aside : (e : Entry) (change : Objects → Objects) (w : World) → change_of e ≡ Aside
+      → LeavesQueues (queueing_of e)
       → (Regular w.objects.loops → Clocks e w.objects.clock (change w.objects).clock)
       → (Regular w.objects.loops → Regular (change w.objects).loops) → Beside e w.objects (change w.objects)
       → R w (aside e change w)
-  pub by_arrange : (change : Objects → Objects) (w : World) → Arranges w.objects.clock (change w.objects).clock
+  pub by_arrange : (change : Objects → Objects) (w : World) → (change w.objects).queues ≡ w.objects.queues
+      → Arranges w.objects.clock (change w.objects).clock
       → (Regular w.objects.loops → Regular (change w.objects).loops) → Arranged w.objects (change w.objects)
       → R w (arrange change w)
   pub by_submit : (d : ℕ) (pool : Option (List ℕ)) (work : Work) (w : World) → R w (submit d pool work w)
@@ -163,9 +186,32 @@ pub record WasCancelled (d : ℕ) (w : World) : Type 0 where
   pub last : w.journal.entries ≡ before ++ entry.Cancel of ∷ []
   pub reaches : reached_from of w.records ≡ reached.Fire d
 
--- and by the steps that add a pair, fire and unpause
+-- d waits for a value of the queue k, or may: it is made, and no firing of it is to be swallowed
+pub record IsMade (k d : ℕ) (rs : Records) : Type 0 where
+  pub made : Kind
+  pub found : slice_get rs d ≡ Some made
+  pub item : made.canceller ≡ Some (canceller.Item k)
+  pub fresh : made.swallows ≡ false
+
+-- whoever got a value is fired with it
+abbrev pub handed : Option (ℕ × Value) → World → World
+handed None w = w
+handed (Some who) w = (fire who.0 who.1 w).1
+
+abbrev pub handed_to : ℕ → Option Value → World → World
+handed_to d None w = w
+handed_to d (Some value) w = (fire d value w).1
+
+-- and by the steps that add a pair, fire and unpause, and those of a queue, each with the firing that follows
 pub record Calm (R : World → World → Type 0) : Type 0 where
   pub quiet : Quiet R
+  pub stops : (w : World) → R w (with_stop w)
+  pub by_put : (k : ℕ) (value : Value) (w : World)
+      → (let a = world.put_into k value w in R w (handed a.0 a.1))
+  pub by_get : (k d : ℕ) (w : World) → (w.stopped ≡ false → IsMade k d w.records)
+      → (let a = world.get_from k d w in R w (handed_to d a.0 a.1))
+  pub by_withdraw : (of d k : ℕ) (w : World) → (cancel of w).0 ≡ reached.ForItem d k
+      → R w (fire d cancelled (world.withdraw k d (cancel of w).1)).1
   pub by_append : (d : ℕ) (pair : Pair) (w : World) → R w (append d pair w)
   pub by_fire : (d : ℕ) (value : Value) (w : World) → R w (fire d value w).1
   pub by_fire_guarded : (d : ℕ) (w : World) → WasCancelled d w → R w (fire_guarded d w)
@@ -205,16 +251,17 @@ same w = record { keeps = λ R l. l.stays w }
 join : (u v w : World) → Quietly u v → Quietly v w → Quietly u w
 join u v w a b = record { keeps = λ R l. l.joins u v w (a.keeps R l) (b.keeps R l) }
 
-by_aside : (e : Entry) (change : Objects → Objects) (w : World) → change_of e ≡ Aside
+by_aside : (e : Entry) (change : Objects → Objects) (w : World) → change_of e ≡ Aside → LeavesQueues (queueing_of e)
     → (Regular w.objects.loops → Clocks e w.objects.clock (change w.objects).clock)
     → (Regular w.objects.loops → Regular (change w.objects).loops) → Beside e w.objects (change w.objects)
     → Quietly w (aside e change w)
-by_aside e change w a c r t = record { keeps = λ R l. l.by_aside e change w a c r t }
+by_aside e change w a q c r t = record { keeps = λ R l. l.by_aside e change w a q c r t }
 
-by_arrange : (change : Objects → Objects) (w : World) → Arranges w.objects.clock (change w.objects).clock
+by_arrange : (change : Objects → Objects) (w : World) → (change w.objects).queues ≡ w.objects.queues
+    → Arranges w.objects.clock (change w.objects).clock
     → (Regular w.objects.loops → Regular (change w.objects).loops) → Arranged w.objects (change w.objects)
     → Quietly w (arrange change w)
-by_arrange change w s r t = record { keeps = λ R l. l.by_arrange change w s r t }
+by_arrange change w q s r t = record { keeps = λ R l. l.by_arrange change w q s r t }
 
 by_make : (name : Option (List ℕ)) (canceller : Option Canceller) (w : World) → Quietly w (make name canceller w)
 by_make name canceller w = record { keeps = λ R l. l.by_make name canceller w }
@@ -252,7 +299,7 @@ lock_beside e old new t a b c p q r = record {
   loops = beside.LoopsRest _ c (beside.SameLoops _ r);
 }
 
-queue_beside : (e : Entry) (old : Objects) (new : Objects) → Queues e old.queues new.queues → tasking_of e ≡ Untasked
+pub queue_beside : (e : Entry) (old : Objects) (new : Objects) → Queues e old.queues new.queues → tasking_of e ≡ Untasked
     → holding_of e ≡ Unheld → looping_of e ≡ Unlooped → new.cooperator ≡ old.cooperator
     → new.semaphores ≡ old.semaphores → new.loops ≡ old.loops → Beside e old new
 queue_beside e old new t a b c p q r = record {
@@ -276,7 +323,7 @@ ask_comes : (l d : ℕ) (o : Option Semaphore) (w : World) → slice_get w.objec
     → Quietly w (lock_told l (λ s. entry.Acquire s.name d) (asked d) o w)
 ask_comes l d None w h = same w
 ask_comes l d (Some s) w h =
-    by_aside (entry.Acquire s.name d) _ w refl (λ k. Leaves (refl, refl, refl)) (λ k. k)
+    by_aside (entry.Acquire s.name d) _ w refl tt (λ k. Leaves (refl, refl, refl)) (λ k. k)
     (lock_beside _ _ _ (beside.LockAsked l d s h refl) refl refl refl refl refl refl)
 
 released_comes : (b : Bool) (l : ℕ) (s : Semaphore) (w : World) → is_unheld s ≡ b
@@ -284,7 +331,7 @@ released_comes : (b : Bool) (l : ℕ) (s : Semaphore) (w : World) → is_unheld 
     → Quietly w (if b then w else aside (entry.Release s.name) (with_lock l (released s)) w)
 released_comes true l s w u h = same w
 released_comes false l s w u h =
-    by_aside (entry.Release s.name) _ w refl (λ k. Leaves (refl, refl, refl)) (λ k. k)
+    by_aside (entry.Release s.name) _ w refl tt (λ k. Leaves (refl, refl, refl)) (λ k. k)
     (lock_beside _ _ _ (beside.LockReleased l s h u refl) refl refl refl refl refl refl)
 
 release_comes : (l : ℕ) (o : Option Semaphore) (w : World) → slice_get w.objects.semaphores l ≡ o
@@ -302,6 +349,11 @@ lock_loops : (l : ℕ) (change : Semaphore → Semaphore) (o : Option Semaphore)
 lock_loops l change None objects k = k
 lock_loops l change (Some s) objects k = k
 
+lock_queues : (l : ℕ) (change : Semaphore → Semaphore) (o : Option Semaphore) (objects : Objects)
+    → (lock_changed l change o objects).queues ≡ objects.queues
+lock_queues l change None objects = refl
+lock_queues l change (Some s) objects = refl
+
 lock_arranged : (l d : ℕ) (o : Option Semaphore) (objects : Objects) → slice_get objects.semaphores l ≡ o
     → Arranged objects (lock_changed l (forgotten d) o objects)
 lock_arranged l d None objects h = arranging _ _ refl refl refl refl refl
@@ -315,13 +367,14 @@ lock_arranged l d (Some s) objects h = record {
 
 forget_comes : (l d : ℕ) (w : World) → Quietly w (forget l d w)
 forget_comes l d w =
-    by_arrange _ w (lock_same l (forgotten d) (slice_get w.objects.semaphores l) w.objects)
+    by_arrange _ w (lock_queues l (forgotten d) (slice_get w.objects.semaphores l) w.objects)
+    (lock_same l (forgotten d) (slice_get w.objects.semaphores l) w.objects)
     (lock_loops l (forgotten d) (slice_get w.objects.semaphores l) w.objects) (lock_arranged l d _ w.objects refl)
 
 came_comes : (l i : ℕ) (v : Value) (o : Option Gather) (w : World) → Quietly w (came_to_found l i v o w).1
 came_comes l i v None w = same w
 came_comes l i v (Some g) w =
-    by_arrange (with_list l (came i v g).1) w Stays (λ k. k) (arranging _ _ refl refl refl refl refl)
+    by_arrange (with_list l (came i v g).1) w refl Stays (λ k. k) (arranging _ _ refl refl refl refl refl)
 
 came_to_comes : (l i : ℕ) (v : Value) (w : World) → Quietly w (came_to l i v w).1
 unfolding came_to
@@ -333,7 +386,7 @@ scheduled_comes : (l : ℕ) (o : Option LoopingCall) (w : World) → slice_get w
     → Quietly w (turn_scheduled l o w)
 scheduled_comes l None w h = same w
 scheduled_comes l (Some x) w h =
-    by_aside (entry.LaterLoop x.name (next_due x w.objects.clock)) (with_turn l x) w refl
+    by_aside (entry.LaterLoop x.name (next_due x w.objects.clock)) (with_turn l x) w refl tt
     (λ k. Adds (what.Turn x.name l) (next_due x w.objects.clock) refl (turn_later x w.objects.clock (k.each l x h)))
     (λ k. regular_set l x _ w.objects.loops h refl k)
     (loop_beside _ _ _ (beside.LoopTurns l x _ h refl refl refl refl) refl refl refl refl refl refl)
@@ -346,7 +399,7 @@ loop_stopped_comes : (l : ℕ) (o : Option LoopingCall) (w : World) → slice_ge
     → Quietly w (loop_stopped l o w)
 loop_stopped_comes l None w h = same w
 loop_stopped_comes l (Some x) w h =
-    by_aside (entry.Stop x.name) (with_stopped l x) w refl (λ k. dropped_same (entry.Stop x.name) x.turn w.objects.clock
+    by_aside (entry.Stop x.name) (with_stopped l x) w refl tt (λ k. dropped_same (entry.Stop x.name) x.turn w.objects.clock
     (refl, refl, refl)) (λ k. regular_set l x _ w.objects.loops h refl k)
     (loop_beside _ _ _ (beside.LoopsRest _ refl (beside.LoopSet l x _ h refl refl refl)) refl refl refl refl refl refl)
 
@@ -354,6 +407,10 @@ ended_same : (l : ℕ) (o : Option LoopingCall) (objects : Objects)
     → Arranges objects.clock (with_ended l o objects).clock
 ended_same l None objects = Stays
 ended_same l (Some x) objects = Stays
+
+ended_queues : (l : ℕ) (o : Option LoopingCall) (objects : Objects) → (with_ended l o objects).queues ≡ objects.queues
+ended_queues l None objects = refl
+ended_queues l (Some x) objects = refl
 
 ended_loops : (l : ℕ) (o : Option LoopingCall) (objects : Objects) → slice_get objects.loops l ≡ o
     → Regular objects.loops → Regular (with_ended l o objects).loops
@@ -373,26 +430,27 @@ loop_arranged l (Some x) objects h = record {
 
 end_loop_comes : (l : ℕ) (w : World) → Quietly w (end_loop l w)
 end_loop_comes l w =
-    by_arrange _ w (ended_same l (slice_get w.objects.loops l) w.objects) (ended_loops l
-    (slice_get w.objects.loops l) w.objects refl) (loop_arranged l (slice_get w.objects.loops l) w.objects refl)
+    by_arrange _ w (ended_queues l (slice_get w.objects.loops l) w.objects)
+    (ended_same l (slice_get w.objects.loops l) w.objects) (ended_loops l (slice_get w.objects.loops l) w.objects refl) (loop_arranged l (slice_get w.objects.loops l) w.objects refl)
 
 told_task_comes : (e : Task → Entry) (change : Task → Cooperator → Cooperator) (o : Option Task) (w : World)
-    → ((x : Task) → change_of (e x) ≡ Aside) → ((x : Task) → IsPlain (e x))
+    → ((x : Task) → change_of (e x) ≡ Aside) → ((x : Task) → LeavesQueues (queueing_of (e x)))
+    → ((x : Task) → IsPlain (e x))
     → ((x : Task) → o ≡ Some x → Beside (e x) w.objects (cooperating (change x) w.objects))
     → Quietly w (task_told e change o w)
-told_task_comes e change None w a t k = same w
-told_task_comes e change (Some x) w a t k =
-    by_aside (e x) (cooperating (change x)) w (a x) (λ r. Leaves (t x)) (λ r. r) (k x refl)
+told_task_comes e change None w a l t k = same w
+told_task_comes e change (Some x) w a l t k =
+    by_aside (e x) (cooperating (change x)) w (a x) (l x) (λ r. Leaves (t x)) (λ r. r) (k x refl)
 
 dropped_comes : (o : Option ℕ) (w : World) → Quietly w (tick_dropped o w)
 dropped_comes None w = same w
 dropped_comes (Some number) w =
-    by_arrange (without_tick number) w (Loses number) (λ k. k) (arranging _ _ refl refl refl refl refl)
+    by_arrange (without_tick number) w refl (Loses number) (λ k. k) (arranging _ _ refl refl refl refl refl)
 
 later_comes : (w : World) → Quietly w (schedule_tick w)
 later_comes w =
     by_aside (entry.LaterTick (w.objects.clock.time + w.objects.cooperator.delay))
-    (with_tick (w.objects.clock.time + w.objects.cooperator.delay)) w refl (λ k. Adds what.Tick _ refl (omega arith))
+    (with_tick (w.objects.clock.time + w.objects.cooperator.delay)) w refl tt (λ k. Adds what.Tick _ refl (omega arith))
     (λ k. k) (resting _ _ _ refl refl refl refl refl refl refl refl refl)
 
 keep_comes : (w u : World) → Quietly w u → Quietly w (keep_tick u)
@@ -414,7 +472,7 @@ task_ended_comes : (t : ℕ) (end : TaskEnd) (o : Option Task) (w : World)
 task_ended_comes t end None w h = same w
 task_ended_comes t end (Some x) w h =
     let found = unended_is (slice_get w.objects.cooperator.tasks t) x h in
-    by_aside (entry.End x.name (result_of x.name end)) _ w refl (λ k. Leaves (refl, refl, refl)) (λ k. k)
+    by_aside (entry.End x.name (result_of x.name end)) _ w refl tt (λ k. Leaves (refl, refl, refl)) (λ k. k)
     (task_beside _ _ _ (beside.TaskEnds t end x found.0 found.1 refl) refl refl refl)
 
 inlining_comes : (i : ℕ) (v : Value) (w : World) → Quietly w (come_to_inline i v w).1
@@ -422,67 +480,20 @@ unfolding come_to_inline
 inlining_comes i v w =
     let t = come_to i v w.objects.inlines in
     first_comes w.stopped (None, w) (t.0, arrange (inlining (λ inlines. t.1)) w) w (same w)
-    (by_arrange _ w Stays (λ k. k) (arranging _ _ refl refl refl refl refl))
+    (by_arrange _ w refl Stays (λ k. k) (arranging _ _ refl refl refl refl refl))
 
 end_await_comes : (i e : ℕ) (p : Position) (w : World) → Quietly w (end_await i e p w).1
 unfolding end_await
 end_await_comes i e p w =
     let t = end_adding i e p w.objects.inlines in
     first_comes w.stopped (None, w) (t.0, arrange (inlining (λ inlines. t.1)) w) w (same w)
-    (by_arrange _ w Stays (λ k. k) (arranging _ _ refl refl refl refl refl))
-
-queue_same : (k : ℕ) (change : Queue → Queue) (o : Option Queue) (objects : Objects)
-    → Arranges objects.clock (queue_changed k change o objects).clock
-queue_same k change None objects = Stays
-queue_same k change (Some q) objects = Stays
-
-queue_loops : (k : ℕ) (change : Queue → Queue) (o : Option Queue) (objects : Objects) → Regular objects.loops
-    → Regular (queue_changed k change o objects).loops
-queue_loops k change None objects r = r
-queue_loops k change (Some q) objects r = r
-
-queue_arranged : (k d : ℕ) (o : Option Queue) (objects : Objects) → slice_get objects.queues k ≡ o
-    → Arranged objects (queue_changed k (withdrawn d) o objects)
-queue_arranged k d None objects h = arranging _ _ refl refl refl refl refl
-queue_arranged k d (Some q) objects h = record {
-  tasks = refl;
-  turns = refl;
-  locks = beside.SameLocks _ refl;
-  queues = beside.QueueForgets k d q h;
-  loops = beside.SameLoops _ refl;
-}
-
-withdraw_comes : (k d : ℕ) (w : World) → Quietly w (withdraw k d w)
-withdraw_comes k d w =
-    by_arrange _ w (queue_same k (withdrawn d) (slice_get w.objects.queues k) w.objects)
-    (queue_loops k (withdrawn d) (slice_get w.objects.queues k) w.objects) (queue_arranged k d _ w.objects refl)
-
-putting_comes : (b : Bool) (k : ℕ) (value : Value) (q : Queue) (w : World) → may_put q ≡ b
-    → slice_get w.objects.queues k ≡ Some q
-    → Quietly w (if b then unless_stopped (receiver q.waiting value)
-    (aside (entry.Put q.name value) (with_queue k (put_to q.waiting value q)) w) else (None, w)).1
-putting_comes true k value q w m h =
-    by_aside (entry.Put q.name value) _ w refl (λ k. Leaves (refl, refl, refl)) (λ k. k)
-    (queue_beside _ _ _ (beside.QueuePut k value q h m refl) refl refl refl refl refl refl)
-putting_comes false k value q w m h = same w
-
-put_comes : (k : ℕ) (value : Value) (o : Option Queue) (w : World) → slice_get w.objects.queues k ≡ o
-    → Quietly w (put_into_found k value o w).1
-put_comes k value None w h = same w
-put_comes k value (Some q) w h = putting_comes _ k value q w refl h
-
-get_comes : (k d : ℕ) (o : Option Queue) (w : World) → slice_get w.objects.queues k ≡ o
-    → Quietly w (get_from_found k d o w).1
-get_comes k d None w h = same w
-get_comes k d (Some q) w h =
-    by_aside (entry.Get q.name d) _ w refl (λ k. Leaves (refl, refl, refl)) (λ k. k)
-    (queue_beside _ _ _ (beside.QueueGot k d q h refl) refl refl refl refl refl refl)
+    (by_arrange _ w refl Stays (λ k. k) (arranging _ _ refl refl refl refl refl))
 
 waiting_comes : (number at : ℕ) (due : Due) (w : World)
     → slice_get w.objects.clock.calls number ≡ Some (record { due = at; state = call_state.Waiting due })
     → Quietly w (waiting_cancelled number due w)
 waiting_comes number at (what.Call name key) w h =
-    by_aside (entry.Uncall name) (with_ended_call number call_state.Cancelled) w refl
+    by_aside (entry.Uncall name) (with_ended_call number call_state.Cancelled) w refl tt
     (λ k. Cancels number at name key h refl) (λ k. k) (resting _ _ _ refl refl refl refl refl refl refl refl refl)
 waiting_comes number at (what.Turn name key) w h = same w
 waiting_comes number at what.Tick w h = same w
@@ -549,19 +560,19 @@ call_later_comes : (name : List ℕ) (delay : ℕ) (body : body_of.Body) (w : Wo
     → Quietly w (call_later name delay body w)
 call_later_comes name delay body w =
     let due = w.objects.clock.time + min delay MOST_DELAY in by_aside (entry.LaterCall name due)
-    (with_new_call name due body) w refl (λ k. Adds (what.Call name (length w.objects.bodies)) due refl (omega arith))
+    (with_new_call name due body) w refl tt (λ k. Adds (what.Call name (length w.objects.bodies)) due refl (omega arith))
     (λ k. k) (resting _ _ _ refl refl refl refl refl refl refl refl refl)
 
 timer_comes : (d delay : ℕ) (w : World) → Quietly w (start_timer d delay w)
 timer_comes d delay w =
     let due = w.objects.clock.time + min delay MOST_DELAY in
-    by_aside (entry.LaterTimeout d due) (with_timer d due) w refl (λ k. Adds (what.Timeout d) due refl (omega arith))
+    by_aside (entry.LaterTimeout d due) (with_timer d due) w refl tt (λ k. Adds (what.Timeout d) due refl (omega arith))
     (λ k. k) (resting _ _ _ refl refl refl refl refl refl refl refl refl)
 
 delivery_comes : (job d delay : ℕ) (w : World) → Quietly w (deliver_later job d delay w)
 delivery_comes job d delay w =
     let due = w.objects.clock.time + min delay MOST_DELAY in
-    by_aside (entry.LaterJob job due) (with_delivery job d due) w refl (λ k. Adds (what.Delivery job d) due refl
+    by_aside (entry.LaterJob job due) (with_delivery job d due) w refl tt (λ k. Adds (what.Delivery job d) due refl
     (omega arith)) (λ k. k) (resting _ _ _ refl refl refl refl refl refl refl refl refl)
 
 due_aside : (due : Due) → change_of (coming_due due) ≡ Aside
@@ -592,6 +603,9 @@ due_unqueued what.Tick = refl
 due_unqueued (what.Delivery job key) = refl
 due_unqueued (what.Timeout d) = refl
 
+due_leaves : (due : Due) → LeavesQueues (queueing_of (coming_due due))
+due_leaves due = subst LeavesQueues (sym (due_unqueued due)) tt
+
 due_unlooped : (due : Due) → looping_of (coming_due due) ≡ Unlooped
 due_unlooped (what.Call name key) = refl
 due_unlooped (what.Turn name key) = refl
@@ -603,6 +617,7 @@ upcoming_comes : (o : Option Upcoming) (w : World) → next_call w.objects.clock
 upcoming_comes None w h = same w
 upcoming_comes (Some call) w h =
     by_aside (coming_due call.what) (with_ended_call call.number call_state.Called) w (due_aside call.what)
+    (due_leaves call.what)
     (λ k. Runs call h refl) (λ k. k) (resting _ _ _ (due_untasked call.what) (due_unheld call.what)
     (due_unqueued call.what) (due_unlooped call.what) refl refl refl refl refl)
 
@@ -616,96 +631,104 @@ IsQuiet (steps.PutDeferred d e) = ⊥
 IsQuiet (steps.Advance ticks) = ⊥
 IsQuiet (steps.Append d pair) = ⊥
 IsQuiet (steps.FireGuarded d) = ⊥
+IsQuiet (steps.Withdraw k d) = ⊥
 IsQuiet step = Unit {0}
 
--- whom the cancel that was logged last has reached, if it was to be fired
-abbrev pub HasReached : Option ℕ → World → Type 0
+-- whom the cancel that was logged last has reached; a waiting for a value ends together with its cancel
+abbrev pub HasReached : Option Reached → World → Type 0
 HasReached None w = Unit {0}
-HasReached (Some d) w = WasCancelled d w
+HasReached (Some (reached.Fire d)) w = WasCancelled d w
+HasReached (Some (reached.ForItem d k)) w = ⊥
+HasReached (Some r) w = Unit {0}
 
-abbrev pub IsCalm : Option ℕ → steps.Step → Type 0
+abbrev pub IsCalm : Option Reached → steps.Step → Type 0
 IsCalm o (steps.Put d v) = ⊥
 IsCalm o (steps.PutDeferred d e) = ⊥
 IsCalm o (steps.Advance ticks) = ⊥
-IsCalm o (steps.FireGuarded d) = o ≡ Some d
+IsCalm o (steps.FireGuarded d) = o ≡ Some (reached.Fire d)
+IsCalm o (steps.Withdraw k d) = o ≡ Some (reached.ForItem d k)
 IsCalm o step = Unit {0}
 
-abbrev pub AsksCalmly : Question → Type 0
-AsksCalmly (steps.Moves d) = ⊥
-AsksCalmly question = Unit {0}
+-- a question that changes no queue and isn't answered by whom a cancel reaches
+abbrev pub AsksQuietly : Question → Type 0
+AsksQuietly (steps.Cancel d) = ⊥
+AsksQuietly (steps.PutInto k v) = ⊥
+AsksQuietly (steps.GetFrom k d) = ⊥
+AsksQuietly (steps.Moves d) = ⊥
+AsksQuietly question = Unit {0}
 
 pub step_quiet : (step : steps.Step) (w : World) → IsQuiet step → Quietly w (stepped step w)
 step_quiet (steps.Make name canceller) w m = by_make name canceller w
 step_quiet (steps.Name d name) w m =
-    by_aside (entry.Name d (Some name)) _ w refl (λ k. Leaves (refl, refl, refl)) (λ k. k)
+    by_aside (entry.Name d (Some name)) _ w refl tt (λ k. Leaves (refl, refl, refl)) (λ k. k)
     (resting _ _ _ refl refl refl refl refl refl refl refl refl)
 step_quiet (steps.Append d pair) w m = absurd m
 step_quiet (steps.FireGuarded d) w m = absurd m
 step_quiet (steps.Pause d) w m = record { keeps = λ R l. l.by_pause d w }
 step_quiet (steps.Note text) w m =
-    by_aside (entry.Note text) _ w refl (λ k. Leaves (refl, refl, refl)) (λ k. k)
+    by_aside (entry.Note text) _ w refl tt (λ k. Leaves (refl, refl, refl)) (λ k. k)
     (resting _ _ _ refl refl refl refl refl refl refl refl refl)
 step_quiet (steps.TellTurn name) w m =
-    by_aside (entry.Turn name) _ w refl (λ k. Leaves (refl, refl, refl)) (λ k. k)
+    by_aside (entry.Turn name) _ w refl tt (λ k. Leaves (refl, refl, refl)) (λ k. k)
     (resting _ _ _ refl refl refl refl refl refl refl refl refl)
 step_quiet (steps.TellUnhandled failure) w m =
-    by_aside (entry.Unhandled failure) _ w refl (λ k. Leaves (refl, refl, refl)) (λ k. k)
+    by_aside (entry.Unhandled failure) _ w refl tt (λ k. Leaves (refl, refl, refl)) (λ k. k)
     (resting _ _ _ refl refl refl refl refl refl refl refl refl)
 step_quiet (steps.NewLock name) w m =
-    by_aside (entry.Lock name) _ w refl (λ k. Leaves (refl, refl, refl)) (λ k. k)
+    by_aside (entry.Lock name) _ w refl tt (λ k. Leaves (refl, refl, refl)) (λ k. k)
     (lock_beside _ _ _ (beside.LockMade name 1 refl) refl refl refl refl refl refl)
 step_quiet (steps.NewSemaphore name tokens) w m =
-    by_aside (entry.Semaphore name tokens) _ w refl (λ k. Leaves (refl, refl, refl)) (λ k. k)
+    by_aside (entry.Semaphore name tokens) _ w refl tt (λ k. Leaves (refl, refl, refl)) (λ k. k)
     (lock_beside _ _ _ (beside.LockMade name tokens refl) refl refl refl refl refl refl)
 step_quiet (steps.Ask l d) w m = ask_comes l d (slice_get w.objects.semaphores l) w refl
 step_quiet (steps.Release l) w m = release_comes l (slice_get w.objects.semaphores l) w refl
 step_quiet (steps.Forget l d) w m = forget_comes l d w
 step_quiet (steps.NewQueue name size backlog) w m =
-    by_aside (entry.Queue name size backlog) _ w refl (λ k. Leaves (refl, refl, refl)) (λ k. k)
+    by_aside (entry.Queue name size backlog) _ w refl tt (λ k. Leaves (refl, refl, refl)) (λ k. k)
     (queue_beside _ _ _ (beside.QueueMade name size backlog refl) refl refl refl refl refl refl)
-step_quiet (steps.Withdraw k d) w m = withdraw_comes k d w
-step_quiet (steps.NewList n flags) w m = by_arrange _ w Stays (λ k. k) (arranging _ _ refl refl refl refl refl)
+step_quiet (steps.Withdraw k d) w m = absurd m
+step_quiet (steps.NewList n flags) w m = by_arrange _ w refl Stays (λ k. k) (arranging _ _ refl refl refl refl refl)
 step_quiet (steps.StartTimer d delay) w m = timer_comes d delay w
 step_quiet (steps.EndTimer t) w m =
-    by_arrange (with_ended_call t call_state.Dropped) w (Loses t) (λ k. k) (arranging _ _ refl refl refl refl refl)
+    by_arrange (with_ended_call t call_state.Dropped) w refl (Loses t) (λ k. k) (arranging _ _ refl refl refl refl refl)
 step_quiet (steps.CallLater name delay body) w m = call_later_comes name delay body w
 step_quiet (steps.NewLoop name d interval body) w m =
-    by_aside (entry.Loop name d) _ w refl (λ k. Leaves (refl, refl, refl))
+    by_aside (entry.Loop name d) _ w refl tt (λ k. Leaves (refl, refl, refl))
     (λ k. regular_push (new_loop name d w.objects.clock.time interval body) w.objects.loops (new_regular interval) k)
     (loop_beside _ _ _ (beside.LoopStarts name d interval body refl) refl refl refl refl refl refl)
 step_quiet (steps.ScheduleTurn l) w m = scheduled_comes l (slice_get w.objects.loops l) w refl
 step_quiet (steps.StopLoop l) w m = loop_stopped_comes l (slice_get w.objects.loops l) w refl
 step_quiet (steps.EndLoop l) w m = end_loop_comes l w
 step_quiet (steps.NewTask name bodies) w m =
-    by_aside (entry.Task name) _ w refl (λ k. Leaves (refl, refl, refl)) (λ k. k)
+    by_aside (entry.Task name) _ w refl tt (λ k. Leaves (refl, refl, refl)) (λ k. k)
     (task_beside _ _ _ (beside.TaskMade name bodies refl) refl refl refl)
 step_quiet (steps.AwaitTask t d) w m =
     told_task_comes (λ x. entry.WhenDone x.name d) _ (slice_get w.objects.cooperator.tasks t) w (λ x. refl)
-    (λ x. (refl, refl, refl)) (λ x g. task_beside _ _ _ (beside.TaskAwaited t d x g refl) refl refl refl)
+    (λ x. tt) (λ x. (refl, refl, refl)) (λ x g. task_beside _ _ _ (beside.TaskAwaited t d x g refl) refl refl refl)
 step_quiet (steps.PauseTask t) w m =
     told_task_comes (λ x. entry.PauseTask x.name) _ (slice_get w.objects.cooperator.tasks t) w (λ x. refl)
-    (λ x. (refl, refl, refl)) (λ x g. task_beside _ _ _ (beside.TaskPaused t x g refl) refl refl refl)
+    (λ x. tt) (λ x. (refl, refl, refl)) (λ x g. task_beside _ _ _ (beside.TaskPaused t x g refl) refl refl refl)
 step_quiet (steps.ResumeTask t) w m =
     told_task_comes (λ x. entry.ResumeTask x.name) _ (slice_get w.objects.cooperator.tasks t) w (λ x. refl)
-    (λ x. (refl, refl, refl)) (λ x g. task_beside _ _ _ (beside.TaskResumed t x g refl) refl refl refl)
+    (λ x. tt) (λ x. (refl, refl, refl)) (λ x g. task_beside _ _ _ (beside.TaskResumed t x g refl) refl refl refl)
 step_quiet (steps.HoldTask t e) w m =
     told_task_comes (λ x. entry.Hold x.name e) _ (slice_get w.objects.cooperator.tasks t) w (λ x. refl)
-    (λ x. (refl, refl, refl)) (λ x g. task_beside _ _ _ (beside.TaskPaused t x g refl) refl refl refl)
+    (λ x. tt) (λ x. (refl, refl, refl)) (λ x g. task_beside _ _ _ (beside.TaskPaused t x g refl) refl refl refl)
 step_quiet steps.KeepTick w m = keep_comes w w (same w)
-step_quiet steps.BeginTick w m = by_arrange _ w Stays (λ k. k) (arranging _ _ refl refl refl refl refl)
-step_quiet steps.EndTick w m = by_arrange _ w Stays (λ k. k) (arranging _ _ refl refl refl refl refl)
-step_quiet steps.AddInline w m = by_arrange _ w Stays (λ k. k) (arranging _ _ refl refl refl refl refl)
+step_quiet steps.BeginTick w m = by_arrange _ w refl Stays (λ k. k) (arranging _ _ refl refl refl refl refl)
+step_quiet steps.EndTick w m = by_arrange _ w refl Stays (λ k. k) (arranging _ _ refl refl refl refl refl)
+step_quiet steps.AddInline w m = by_arrange _ w refl Stays (λ k. k) (arranging _ _ refl refl refl refl refl)
 step_quiet (steps.BeginAwait i e) w m =
-    by_aside (entry.Await i.of e) _ w refl (λ k. Leaves (refl, refl, refl)) (λ k. k)
+    by_aside (entry.Await i.of e) _ w refl tt (λ k. Leaves (refl, refl, refl)) (λ k. k)
     (resting _ _ _ refl refl refl refl refl refl refl refl refl)
 step_quiet (steps.Submit d pool work) w m = record { keeps = λ R l. l.by_submit d pool work w }
 step_quiet (steps.DeliverLater job d delay) w m = delivery_comes job d delay w
 step_quiet (steps.Advance ticks) w m = absurd m
 step_quiet steps.TellDrain w m =
-    by_aside entry.Drain _ w refl (λ k. Leaves (refl, refl, refl)) (λ k. k)
+    by_aside entry.Drain _ w refl tt (λ k. Leaves (refl, refl, refl)) (λ k. k)
     (resting _ _ _ refl refl refl refl refl refl refl refl refl)
 step_quiet (steps.TellPost caller index) w m =
-    by_aside (entry.Post caller index) _ w refl (λ k. Leaves (refl, refl, refl)) (λ k. k)
+    by_aside (entry.Post caller index) _ w refl tt (λ k. Leaves (refl, refl, refl)) (λ k. k)
     (resting _ _ _ refl refl refl refl refl refl refl refl refl)
 step_quiet (steps.Put d v) w m = absurd m
 step_quiet (steps.PutDeferred d e) w m = absurd m
@@ -714,17 +737,17 @@ step_taken_comes : (t : ℕ) (o : Option Task) (w : World) → turn_of w.objects
     → slice_get w.objects.cooperator.tasks t ≡ o → Quietly w (step_taken t o w).1
 step_taken_comes t None w h g = same w
 step_taken_comes t (Some x) w h g =
-    by_aside (entry.Step x.name) (cooperating (with_step t x)) w refl (λ k. Leaves (refl, refl, refl)) (λ k. k)
+    by_aside (entry.Step x.name) (cooperating (with_step t x)) w refl tt (λ k. Leaves (refl, refl, refl)) (λ k. k)
     (task_beside _ _ _ (beside.TaskSteps t x h g refl) refl refl refl)
 
 turn_comes : (o : Option ℕ) (w : World) → turn_of w.objects.cooperator.turns ≡ o → Quietly w (turn_taken o w).1
 turn_comes None w h = same w
 turn_comes (Some t) w h = step_taken_comes t (slice_get w.objects.cooperator.tasks t) w h refl
 
-pub question_quiet : (question : Question) (w : World) → AsksCalmly question → Quietly w (steps.asked question w).1
-question_quiet (steps.Cancel d) w m = record { keeps = λ R l. l.by_cancel d w }
-question_quiet (steps.PutInto k v) w m = put_comes k v (slice_get w.objects.queues k) w refl
-question_quiet (steps.GetFrom k d) w m = get_comes k d (slice_get w.objects.queues k) w refl
+pub question_quiet : (question : Question) (w : World) → AsksQuietly question → Quietly w (steps.asked question w).1
+question_quiet (steps.Cancel d) w m = absurd m
+question_quiet (steps.PutInto k v) w m = absurd m
+question_quiet (steps.GetFrom k d) w m = absurd m
 question_quiet (steps.CameTo l i v) w m = came_to_comes l i v w
 question_quiet (steps.CancelCall number) w m = off_comes number w
 question_quiet (steps.ResetCall number from delay) w m = anew_comes number from delay w
@@ -743,29 +766,26 @@ quietly w u c = record { keeps = λ R l. c.keeps R l.quiet }
 join_calm : (u v w : World) → Calmly u v → Calmly v w → Calmly u w
 join_calm u v w a b = record { keeps = λ R l. l.quiet.joins u v w (a.keeps R l) (b.keeps R l) }
 
-by_guarded : (o : Option ℕ) (d : ℕ) (w : World) → HasReached o w → o ≡ Some d → Calmly w (fire_guarded d w)
+by_guarded : (o : Option Reached) (d : ℕ) (w : World) → HasReached o w → o ≡ Some (reached.Fire d)
+    → Calmly w (fire_guarded d w)
 by_guarded o d w h e = record { keeps = λ R l. l.by_fire_guarded d w (subst (λ x. HasReached x w) e h) }
 
-step_calm : (step : steps.Step) (o : Option ℕ) (w : World) → HasReached o w → IsCalm o step → Calmly w (stepped step w)
+no_withdrawal : (o : Option Reached) (k d : ℕ) (w : World) → HasReached o w → o ≡ Some (reached.ForItem d k) → ⊥
+no_withdrawal o k d w h e = subst (λ x. HasReached x w) e h
+
+step_calm : (step : steps.Step) (o : Option Reached) (w : World) → HasReached o w → IsCalm o step
+    → Calmly w (stepped step w)
 step_calm (steps.Put d v) o w h m = absurd m
 step_calm (steps.PutDeferred d e) o w h m = absurd m
 step_calm (steps.Advance ticks) o w h m = absurd m
 step_calm (steps.FireGuarded d) o w h m = by_guarded o d w h m
+step_calm (steps.Withdraw k d) o w h m = absurd (no_withdrawal o k d w h m)
 step_calm (steps.Append d pair) o w h m = record { keeps = λ R l. l.by_append d pair w }
 step_calm step o w h m = quietly w (stepped step w) (step_quiet step w tt)
 
--- whom a cancel reaches that is to be fired
-abbrev pub fired_by : Reached → Option ℕ
-fired_by reached.Nothing = None
-fired_by (reached.Fire d) = Some d
-fired_by (reached.Run d body) = None
-fired_by (reached.ForToken d l) = None
-fired_by (reached.ForItem d k) = None
-fired_by (reached.Children children) = None
-fired_by (reached.Inline i) = None
-
-abbrev pub reached_by : (question : Question) → Reply question → Option ℕ
-reached_by (steps.Cancel d) r = fired_by r
+-- whom a question tells that a cancel reaches
+abbrev pub reached_by : (question : Question) → Reply question → Option Reached
+reached_by (steps.Cancel d) r = Some r
 reached_by (steps.PutInto k v) r = None
 reached_by (steps.GetFrom k d) r = None
 reached_by (steps.CameTo l i v) r = None
@@ -778,46 +798,31 @@ reached_by (steps.EndAwait i e p) r = None
 reached_by steps.ComeDue r = None
 reached_by (steps.Moves d) r = None
 
-whom_reached : (d : ℕ) (r : Reached) (w : World) → reached_from d w.records ≡ r
-    → HasReached (fired_by r) (record w { journal = with_entry w.journal (entry.Cancel d) })
-whom_reached d reached.Nothing w e = tt
-whom_reached d (reached.Fire c) w e = record { of = d; before = w.journal.entries; last = refl; reaches = e }
-whom_reached d (reached.Run c body) w e = tt
-whom_reached d (reached.ForToken c l) w e = tt
-whom_reached d (reached.ForItem c k) w e = tt
-whom_reached d (reached.Children children) w e = tt
-whom_reached d (reached.Inline i) w e = tt
+whom_reached : (d : ℕ) (r : Reached) (w : World) → reached_from d w.records ≡ r → ReachesNoItem r
+    → HasReached (Some r) (record w { journal = with_entry w.journal (entry.Cancel d) })
+whom_reached d reached.Nothing w e m = tt
+whom_reached d (reached.Fire c) w e m = record { of = d; before = w.journal.entries; last = refl; reaches = e }
+whom_reached d (reached.Run c body) w e m = tt
+whom_reached d (reached.ForToken c l) w e m = tt
+whom_reached d (reached.ForItem c k) w e m = absurd m
+whom_reached d (reached.Children children) w e m = tt
+whom_reached d (reached.Inline i) w e m = tt
 
 told_reaches : (b : Bool) (d : ℕ) (w : World) → (let a = cond {A = Reached × World} b (
   reached_from d w.records,
   record w { journal = with_entry w.journal (entry.Cancel d) },
-) (reached.Nothing, record w { stopped = true }) in HasReached (fired_by a.0) a.1)
-told_reaches true d w = whom_reached d (reached_from d w.records) w refl
-told_reaches false d w = tt
+) (reached.Nothing, record w { stopped = true }) in ReachesNoItem a.0 → HasReached (Some a.0) a.1)
+told_reaches true d w m = whom_reached d (reached_from d w.records) w refl m
+told_reaches false d w m = tt
 
-unless_reaches : (b : Bool) (w : World) (p : Reached × World) → HasReached (fired_by p.0) p.1
-    → (let a = cond {A = Reached × World} b (reached.Nothing, w) p in HasReached (fired_by a.0) a.1)
-unless_reaches true w p h = tt
-unless_reaches false w p h = h
+unless_reaches : (b : Bool) (w : World) (p : Reached × World) → (ReachesNoItem p.0 → HasReached (Some p.0) p.1)
+    → (let a = cond {A = Reached × World} b (reached.Nothing, w) p in ReachesNoItem a.0 → HasReached (Some a.0) a.1)
+unless_reaches true w p h m = tt
+unless_reaches false w p h m = h m
 
-cancel_reaches : (d : ℕ) (w : World) → HasReached (fired_by (cancel d w).0) (cancel d w).1
+cancel_reaches : (d : ℕ) (w : World) → ReachesNoItem (cancel d w).0 → HasReached (Some (cancel d w).0) (cancel d w).1
 unfolding cancel
 cancel_reaches d w = unless_reaches w.stopped w _ (told_reaches (fits w.journal (entry.Cancel d)) d w)
-
-has_reached : (question : Question) (w : World)
-    → (let a = steps.asked question w in HasReached (reached_by question a.0) a.1)
-has_reached (steps.Cancel d) w = cancel_reaches d w
-has_reached (steps.PutInto k v) w = tt
-has_reached (steps.GetFrom k d) w = tt
-has_reached (steps.CameTo l i v) w = tt
-has_reached (steps.CancelCall number) w = tt
-has_reached (steps.ResetCall number from delay) w = tt
-has_reached steps.TakeStep w = tt
-has_reached (steps.EndTask t end) w = tt
-has_reached (steps.ComeToInline i v) w = tt
-has_reached (steps.EndAwait i e p) w = tt
-has_reached steps.ComeDue w = tt
-has_reached (steps.Moves d) w = tt
 
 -- 2. The law.
 
@@ -855,28 +860,168 @@ CallsToSettle d (Fires e v) = ⊥
 CallsToSettle d (Unpauses e) = ⊥
 CallsToSettle d (Over rule frames) = SettlesFirst d frames
 
+-- a rule fires d with this value
+abbrev pub IsFiring : ℕ → Value → Rule → Type 0
+IsFiring d v (Ends p) = ⊥
+IsFiring d v (By rule) = ⊥
+IsFiring d v (If b one other) = ⊥
+IsFiring d v (Finds {A} o none some) = (a : A) × (o ≡ Some a) × IsFiring d v (some a)
+IsFiring d v (Then step rule) = ⊥
+IsFiring d v (Asks question rule) = ⊥
+IsFiring d v (Fires e u) = (e ≡ d) × (u ≡ v)
+IsFiring d v (Unpauses e) = ⊥
+IsFiring d v (Over rule frames) = ⊥
+
+-- a step takes d out of the line of the queue k
+abbrev pub IsWithdrawal : ℕ → ℕ → steps.Step → Type 0
+IsWithdrawal d k (steps.Withdraw j e) = (j ≡ k) × (e ≡ d)
+IsWithdrawal d k step = ⊥
+
+-- a rule does so, and fires d with CancelledError
+abbrev pub IsWithdrawing : ℕ → ℕ → Rule → Type 0
+IsWithdrawing d k (Ends p) = ⊥
+IsWithdrawing d k (By rule) = ⊥
+IsWithdrawing d k (If b one other) = ⊥
+IsWithdrawing d k (Finds {A} o none some) = ⊥
+IsWithdrawing d k (Then step rule) = IsWithdrawal d k step × IsFiring d cancelled rule
+IsWithdrawing d k (Asks question rule) = ⊥
+IsWithdrawing d k (Fires e u) = ⊥
+IsWithdrawing d k (Unpauses e) = ⊥
+IsWithdrawing d k (Over rule frames) = ⊥
+
+-- who is answered to have got a value is fired with it, and who is cancelled while waiting for one waits no longer; one
+-- that asks a queue is made
+abbrev pub AsksCalmly : World → (question : Question) → (Reply question → Rule) → Type 0
+AsksCalmly w (steps.Cancel of) rule = (d k : ℕ) → IsWithdrawing d k (rule (reached.ForItem d k))
+AsksCalmly w (steps.PutInto k v) rule = (who : ℕ × Value) → IsFiring who.0 who.1 (rule (Some who))
+AsksCalmly w (steps.GetFrom k d) rule =
+    (w.stopped ≡ false → IsMade k d w.records) × ((v : Value) → IsFiring d v (rule (Some v)))
+AsksCalmly w (steps.CameTo l i v) rule = Unit {0}
+AsksCalmly w (steps.CancelCall number) rule = Unit {0}
+AsksCalmly w (steps.ResetCall number from delay) rule = Unit {0}
+AsksCalmly w steps.TakeStep rule = Unit {0}
+AsksCalmly w (steps.EndTask t end) rule = Unit {0}
+AsksCalmly w (steps.ComeToInline i v) rule = Unit {0}
+AsksCalmly w (steps.EndAwait i e p) rule = Unit {0}
+AsksCalmly w steps.ComeDue rule = Unit {0}
+AsksCalmly w (steps.Moves d) rule = ⊥
+
 -- so it does after a pair was added to d, and after d was fired since it was cancelled
 abbrev pub Follows : steps.Step → Rule → Type 0
 Follows (steps.Append d pair) rule = CallsToSettle d rule
 Follows (steps.FireGuarded d) rule = CallsToSettle d rule
 Follows step rule = Unit {0}
 
--- a rule takes such steps alone, each with what follows it, and leaves nothing to be put in place
-abbrev pub Mildly : Option ℕ → Rule → Type 0
-Mildly o (Ends p) = Unit {0}
-Mildly o (By rule) = (w : World) → Mildly o (rule w)
-Mildly o (If b one other) = Mildly o one × Mildly o other
-Mildly o (Finds {A} x none some) = Mildly o none × ((a : A) → Mildly o (some a))
-Mildly o (Then step rule) = IsCalm o step × Follows step rule × Mildly None rule
-Mildly o (Asks question rule) = AsksCalmly question × ((a : Reply question) → Mildly (reached_by question a) (rule a))
-Mildly o (Fires d v) = Unit {0}
-Mildly o (Unpauses d) = Unit {0}
-Mildly o (Over rule frames) = Mildly o rule × AllPutNothing frames
+-- a rule, begun in a world, takes such steps alone, each with what follows it, and leaves nothing to be put in place
+abbrev pub Mildly : Option Reached → World → Rule → Type 0
+Mildly o w (Ends p) = Unit {0}
+Mildly o w (By rule) = Mildly o w (rule w)
+Mildly o w (If b one other) = Mildly o w one × Mildly o w other
+Mildly o w (Finds {A} x none some) = Mildly o w none × ((a : A) → Mildly o w (some a))
+Mildly o w (Then step rule) = IsCalm o step × Follows step rule × Mildly None (stepped step w) rule
+Mildly o w (Asks question rule) =
+    AsksCalmly w question rule
+    × ((a : Reply question) → Mildly (reached_by question a) (steps.asked question w).1 (rule a))
+Mildly o w (Fires d v) = Unit {0}
+Mildly o w (Unpauses d) = Unit {0}
+Mildly o w (Over rule frames) = Mildly o w rule × AllPutNothing frames
+
+-- the world after a firing is the same where it is to be settled
+next_same : (d : ℕ) (o : Follow) (u : World) → (settle_next d o u).2 ≡ u
+next_same d follow.Settle u = refl
+next_same d follow.Nothing u = refl
+next_same d (follow.Raise failure) u = refl
+
+firing_runs : (d : ℕ) (v : Value) (rule : Rule) (w : World) → IsFiring d v rule
+    → (run rule w).2 ≡ (world.fire d v w).1
+firing_runs d v (Ends p) w m = absurd m
+firing_runs d v (By rule) w m = absurd m
+firing_runs d v (If b one other) w m = absurd m
+firing_runs d v (Finds o none some) w m =
+    ap (λ x. (found x (run none w) (λ a. run (some a) w)).2) m.1 ∙ firing_runs d v (some m.0) w m.2
+firing_runs d v (Then step rule) w m = absurd m
+firing_runs d v (Asks question rule) w m = absurd m
+firing_runs d v (Fires e u) w m =
+    next_same e (world.fire e u w).0 (world.fire e u w).1
+    ∙ ap (λ x. (world.fire x u w).1) m.0 ∙ ap (λ x. (world.fire d x w).1) m.1
+firing_runs d v (Unpauses e) w m = absurd m
+firing_runs d v (Over rule frames) w m = absurd m
+
+withdrawal_steps : (d k : ℕ) (step : steps.Step) (w : World) → IsWithdrawal d k step
+    → stepped step w ≡ world.withdraw k d w
+withdrawal_steps d k (steps.Withdraw j e) w m =
+    ap (λ x. world.withdraw x e w) m.0 ∙ ap (λ x. world.withdraw k x w) m.1
+withdrawal_steps d k step w m = absurd m
+
+withdrawing_runs : (d k : ℕ) (rule : Rule) (w : World) → IsWithdrawing d k rule
+    → (run rule w).2 ≡ (world.fire d cancelled (world.withdraw k d w)).1
+withdrawing_runs d k (Ends p) w m = absurd m
+withdrawing_runs d k (By rule) w m = absurd m
+withdrawing_runs d k (If b one other) w m = absurd m
+withdrawing_runs d k (Finds o none some) w m = absurd m
+withdrawing_runs d k (Then step rule) w m =
+    firing_runs d cancelled rule (stepped step w) m.1
+    ∙ ap (λ u. (world.fire d cancelled u).1) (withdrawal_steps d k step w m.0)
+withdrawing_runs d k (Asks question rule) w m = absurd m
+withdrawing_runs d k (Fires e u) w m = absurd m
+withdrawing_runs d k (Unpauses e) w m = absurd m
+withdrawing_runs d k (Over rule frames) w m = absurd m
+
+-- a cancel, by whom it reaches
+other_calm : (r : Reached) (of : ℕ) (w u : World) → (cancel of w).0 ≡ r → ReachesNoItem r
+    → (HasReached (Some r) (cancel of w).1 → Calmly (cancel of w).1 u) → Calmly w u
+other_calm r of w u e q h =
+    let none = subst ReachesNoItem (sym e) q in
+    join_calm w (cancel of w).1 u (quietly w (cancel of w).1 (record { keeps = λ R l. l.by_cancel of w none }))
+    (h (subst (λ x. HasReached (Some x) (cancel of w).1) e (cancel_reaches of w none)))
+
+cancel_calm : (r : Reached) (of : ℕ) (rule : Reached → Rule) (w : World) → (cancel of w).0 ≡ r
+    → ((d k : ℕ) → IsWithdrawing d k (rule (reached.ForItem d k)))
+    → (HasReached (Some r) (cancel of w).1 → Calmly (cancel of w).1 (run (rule r) (cancel of w).1).2)
+    → Calmly w (run (rule r) (cancel of w).1).2
+cancel_calm reached.Nothing of rule w e m h = other_calm reached.Nothing of w _ e tt h
+cancel_calm (reached.Fire d) of rule w e m h = other_calm (reached.Fire d) of w _ e tt h
+cancel_calm (reached.Run d body) of rule w e m h = other_calm (reached.Run d body) of w _ e tt h
+cancel_calm (reached.ForToken d l) of rule w e m h = other_calm (reached.ForToken d l) of w _ e tt h
+cancel_calm (reached.ForItem d k) of rule w e m h =
+    subst (λ u. Calmly w u) (sym (withdrawing_runs d k (rule (reached.ForItem d k)) (cancel of w).1 (m d k)))
+    (record { keeps = λ R l. l.by_withdraw of d k w e })
+cancel_calm (reached.Children children) of rule w e m h = other_calm (reached.Children children) of w _ e tt h
+cancel_calm (reached.Inline i) of rule w e m h = other_calm (reached.Inline i) of w _ e tt h
+
+-- a value that is put, or asked for, by who gets one
+put_calm : (o : Option (ℕ × Value)) (k : ℕ) (v : Value) (rule : Option (ℕ × Value) → Rule) (w : World)
+    → (world.put_into k v w).0 ≡ o → ((who : ℕ × Value) → IsFiring who.0 who.1 (rule (Some who)))
+    → (let u = (world.put_into k v w).1 in Calmly u (run (rule o) u).2 → Calmly w (run (rule o) u).2)
+put_calm None k v rule w e m h =
+    join_calm w (world.put_into k v w).1 _ (subst (λ x. Calmly w (handed x (world.put_into k v w).1)) e
+    (record { keeps = λ R l. l.by_put k v w })) h
+put_calm (Some who) k v rule w e m h =
+    subst (λ u. Calmly w u) (sym (firing_runs who.0 who.1 (rule (Some who)) (world.put_into k v w).1 (m who)))
+    (subst (λ x. Calmly w (handed x (world.put_into k v w).1)) e (record { keeps = λ R l. l.by_put k v w }))
+
+get_calm : (o : Option Value) (k d : ℕ) (rule : Option Value → Rule) (w : World) → (world.get_from k d w).0 ≡ o
+    → (w.stopped ≡ false → IsMade k d w.records) → ((v : Value) → IsFiring d v (rule (Some v)))
+    → (let u = (world.get_from k d w).1 in Calmly u (run (rule o) u).2 → Calmly w (run (rule o) u).2)
+get_calm None k d rule w e i m h =
+    join_calm w (world.get_from k d w).1 _ (subst (λ x. Calmly w (handed_to d x (world.get_from k d w).1)) e
+    (record { keeps = λ R l. l.by_get k d w i })) h
+get_calm (Some v) k d rule w e i m h =
+    subst (λ u. Calmly w u) (sym (firing_runs d v (rule (Some v)) (world.get_from k d w).1 (m v)))
+    (subst (λ x. Calmly w (handed_to d x (world.get_from k d w).1)) e (record { keeps = λ R l. l.by_get k d w i }))
+
+asked_calm : (question : Question) (rule : Reply question → Rule) (w : World) → AsksCalmly w question rule
+    → (let a = steps.asked question w in
+    (HasReached (reached_by question a.0) a.1 → Calmly a.1 (run (rule a.0) a.1).2) → Calmly w (run (rule a.0) a.1).2)
+asked_calm (steps.Cancel d) rule w m h = cancel_calm (cancel d w).0 d rule w refl m h
+asked_calm (steps.PutInto k v) rule w m h = put_calm (world.put_into k v w).0 k v rule w refl m (h tt)
+asked_calm (steps.GetFrom k d) rule w m h = get_calm (world.get_from k d w).0 k d rule w refl m.0 m.1 (h tt)
+asked_calm (steps.Moves d) rule w m h = absurd m
+asked_calm question rule w m h =
+    let u = (steps.asked question w).1 in join_calm w u _ (quietly w u (question_quiet question w tt)) (h tt)
 
 next_calm : (d : ℕ) (o : Follow) (w u : World) → Calmly w u → Calmly w (settle_next d o u).2
-next_calm d follow.Settle w u c = c
-next_calm d follow.Nothing w u c = c
-next_calm d (follow.Raise failure) w u c = c
+next_calm d o w u c = subst (λ x. Calmly w x) (sym (next_same d o u)) c
 
 either_calm : (b : Bool) (w : World) (t u : Turned) → Calmly w t.2 → Calmly w u.2 → Calmly w (if b then t else u).2
 either_calm true w t u c d = c
@@ -887,9 +1032,10 @@ found_calm : {A : Type 0} (o : Option A) (w : World) (t : Turned) (f : A → Tur
 found_calm None w t f c d = c
 found_calm (Some a) w t f c d = d a
 
-pub rule_calm : (rule : Rule) (o : Option ℕ) (w : World) → HasReached o w → Mildly o rule → Calmly w (run rule w).2
+pub rule_calm : (rule : Rule) (o : Option Reached) (w : World) → HasReached o w → Mildly o w rule
+    → Calmly w (run rule w).2
 rule_calm (Ends p) o w h m = quietly w w (same w)
-rule_calm (By rule) o w h m = rule_calm (rule w) o w h (m w)
+rule_calm (By rule) o w h m = rule_calm (rule w) o w h m
 rule_calm (If b one other) o w h m =
     either_calm b w (run one w) (run other w) (rule_calm one o w h m.0) (rule_calm other o w h m.1)
 rule_calm (Finds x none some) o w h m =
@@ -898,8 +1044,7 @@ rule_calm (Then step rule) o w h m =
     join_calm w (stepped step w) _ (step_calm step o w h m.0) (rule_calm rule None (stepped step w) tt m.2)
 rule_calm (Asks question rule) o w h m =
     let a = steps.asked question w in
-    join_calm w a.1 _ (quietly w a.1 (question_quiet question w m.0))
-    (rule_calm (rule a.0) (reached_by question a.0) a.1 (has_reached question w) (m.1 a.0))
+    asked_calm question rule w m.0 (λ r. rule_calm (rule a.0) (reached_by question a.0) a.1 r (m.1 a.0))
 rule_calm (Fires d v) o w h m =
     next_calm d (world.fire d v w).0 w (world.fire d v w).1 (record { keeps = λ R l. l.by_fire d v w })
 rule_calm (Unpauses d) o w h m =
@@ -920,9 +1065,9 @@ found_free : {A : Type 0} (o : Option A) (t : Turned) (f : A → Turned) → All
 found_free None t f c d = c
 found_free (Some a) t f c d = d a
 
-pub rule_free : (rule : Rule) (o : Option ℕ) (w : World) → Mildly o rule → AllPutNothing (run rule w).0
+pub rule_free : (rule : Rule) (o : Option Reached) (w : World) → Mildly o w rule → AllPutNothing (run rule w).0
 rule_free (Ends p) o w m = tt
-rule_free (By rule) o w m = rule_free (rule w) o w (m w)
+rule_free (By rule) o w m = rule_free (rule w) o w m
 rule_free (If b one other) o w m =
     either_free b (run one w) (run other w) (rule_free one o w m.0) (rule_free other o w m.1)
 rule_free (Finds x none some) o w m =
@@ -952,131 +1097,174 @@ used_free (Named name) d = tt
 used_free (Holding l) d = (tt, (tt, tt))
 used_free (Turning l) d = (tt, tt)
 
-all_mild : (o : Found) (r : List ℕ → Rule) → ((ds : List ℕ) → Mildly None (r ds)) → Mildly None (words.on_found o r)
-all_mild (All ds) r h = h ds
-all_mild (Unbound name) r h = tt
+all_mild : (o : Found) (r : List ℕ → Rule) (w : World) → ((ds : List ℕ) → Mildly None w (r ds))
+    → Mildly None w (words.on_found o r)
+all_mild (All ds) r w h = h ds
+all_mild (Unbound name) r w h = tt
 
-list_mild : (name children : List ℕ) (flags : Flags) → Mildly None (page.list name children flags)
-list_mild name children flags = λ w v. (tt, tt, (tt, tt, ((tt, tt), add_free _ _ 0 children)))
+list_mild : (name children : List ℕ) (flags : Flags) (w : World) → Mildly None w (page.list name children flags)
+list_mild name children flags w = (tt, tt, (tt, tt, ((tt, tt), add_free _ _ 0 children)))
 
-reached_mild : (r : Reached) → Mildly (fired_by r) (page.cancel_reached r)
-reached_mild reached.Nothing = tt
-reached_mild (reached.Fire d) = (refl, refl, (tt, (tt, tt)))
-reached_mild (reached.Run d body) = search [] depth 20
-reached_mild (reached.ForToken d l) = search [] depth 20
-reached_mild (reached.ForItem d k) = search [] depth 20
-reached_mild (reached.Children children) = (tt, children_free children)
-reached_mild (reached.Inline i) = search [] depth 20
+-- a Deferred that is made with a queue that it asks
+at_last : {X : Type 0} (l : List X) (x : X) → slice_get (l ++ x ∷ []) (length l) ≡ Some x
+at_last [] x = refl
+at_last (y ∷ l) x = at_last l x
 
-add_mild : (d : ℕ) (pair : Pair) → Mildly None (page.add d pair)
-add_mild d pair = (tt, refl, (tt, (tt, tt)))
+made_named : (b : Bool) (name : List ℕ) (k : ℕ) (w : World)
+    → (let made = new_record (Some name) (Some (canceller.Item k)) in
+    let t = cond {A = Result ℕ Stop × Both} b (
+      Ok (length w.records),
+      telling_of (entry.New (length w.records) (Some name)) (w.records ++ made ∷ []) (state_of w),
+    ) (Err stop.Limit, state_of w) in
+    let u = world.named (Some name) t.0 t.1 w in u.stopped ≡ false → IsMade k (length w.records) u.records)
+made_named true name k w h = record {
+  made = new_record (Some name) (Some (canceller.Item k));
+  found = at_last w.records (new_record (Some name) (Some (canceller.Item k)));
+  item = refl;
+  fresh = refl;
+}
+made_named false name k w h = absurd cc
 
-ended_mild : Mildly None page.tick_ended
-ended_mild = (tt, tt, (tt, tt, tt))
+made_unless : (b : Bool) (w u : World) (d k : ℕ) → w.stopped ≡ b → (u.stopped ≡ false → IsMade k d u.records)
+    → (let v = cond b w u in v.stopped ≡ false → IsMade k d v.records)
+made_unless true w u d k e m h = let wrong : true ≡ false = sym e ∙ h in absurd cc
+made_unless false w u d k e m h = m h
 
-end_mild : (t : ℕ) (end : TaskEnd) → Mildly None (page.end_task t end)
-end_mild t end = (tt, λ ds. (tt, tt, (tt, notify_free t ds)))
+made_there : (name : List ℕ) (k : ℕ) (w : World)
+    → (let u = make (Some name) (Some (canceller.Item k)) w in
+    u.stopped ≡ false → IsMade k (length w.records) u.records)
+unfolding make
+made_there name k w =
+    made_unless w.stopped w _ (length w.records) k refl
+    (made_named (fits w.journal (entry.New (length w.records) (Some name))) name k w)
 
-await_mild : (i : Inline) (name : List ℕ) (p : Position) → Mildly None (page.await i name p)
-await_mild i name p = λ w. (λ v. (tt, (tt, tt)), λ e. (tt, tt, (add_mild e (continuing i), (tt, tt))))
+-- one that a cancel reaches while it waits for a value
+cancel_withdraws : (d k : ℕ) → IsWithdrawing d k (page.cancel_reached (reached.ForItem d k))
+cancel_withdraws d k = ((refl, refl), (refl, refl))
 
-resume_mild : (i : Inline) (input : Value) → Mildly None (page.resume i input)
-resume_mild i input = search [] depth 20
+reached_mild : (r : Reached) (w : World) → Mildly (Some r) w (page.cancel_reached r)
+reached_mild reached.Nothing w = tt
+reached_mild (reached.Fire d) w = (refl, refl, (tt, (tt, tt)))
+reached_mild (reached.Run d body) w = search [] depth 20
+reached_mild (reached.ForToken d l) w = search [] depth 20
+reached_mild (reached.ForItem d k) w = (refl, tt, tt)
+reached_mild (reached.Children children) w = (tt, children_free children)
+reached_mild (reached.Inline i) w = search [] depth 20
 
-awaited_mild : (i : Inline) (e : ℕ) (p : Position) → Mildly None (page.after_awaiting i e p)
-awaited_mild i e p = search [] depth 20
+add_mild : (d : ℕ) (pair : Pair) (w : World) → Mildly None w (page.add d pair)
+add_mild d pair w = (tt, refl, (tt, (tt, tt)))
 
-pub carry_mild : (itself : Option ℕ) (action : Action-F Action Statement body_of.Body)
-    → Mildly None (page.carry_out itself action)
-carry_mild itself (Action-F.Note text) = search [] depth 20
-carry_mild itself (Action-F.Deferred name canceller) = search [] depth 20
-carry_mild itself (Action-F.Callback name value) = search [] depth 20
-carry_mild itself (Action-F.Errback name class message) = search [] depth 20
-carry_mild itself (Action-F.AddCallback name body) = λ w. (tt, λ d. add_mild d (callback body))
-carry_mild itself (Action-F.AddErrback name body) = λ w. (tt, λ d. add_mild d (errback body))
-carry_mild itself (Action-F.AddBoth name body) = λ w. (tt, λ d. add_mild d (both body body))
-carry_mild itself (Action-F.AddCallbacks name on_value on_failure) =
-    λ w. (tt, λ d. add_mild d (both on_value on_failure))
-carry_mild itself (Action-F.Chain name after) = λ w. (tt, λ d. λ v. (tt, λ e. add_mild d (chain e)))
-carry_mild itself (Action-F.Pause name) = search [] depth 20
-carry_mild itself (Action-F.Unpause name) = search [] depth 20
-carry_mild itself (Action-F.Cancel name) = λ w. (tt, λ d. (tt, reached_mild))
-carry_mild itself (Action-F.AddTimeout name delay) =
-    λ w. (tt, λ d. λ v. (tt, tt, (add_mild d (timing (length v.objects.clock.calls)), (tt, tt))))
-carry_mild itself (Action-F.Lock name) = search [] depth 20
-carry_mild itself (Action-F.Semaphore name tokens) = search [] depth 20
-carry_mild itself (Action-F.Acquire name lock) = search [] depth 20
-carry_mild itself (Action-F.RunWith name lock body) = search [] depth 20
-carry_mild itself (Action-F.Release lock) = search [] depth 20
-carry_mild itself (Action-F.Maybe name body) = search [] depth 20
-carry_mild itself (Action-F.Queue name size backlog) = search [] depth 20
-carry_mild itself (Action-F.Put queue value) = search [] depth 20
-carry_mild itself (Action-F.Get name queue) = search [] depth 20
-carry_mild itself (Action-F.List name children flags) =
-    λ w. all_mild (deferreds_at itself children w) _ (λ ds. list_mild name ds (page_flags.list_flags flags))
-carry_mild itself (Action-F.Gather name children flags) =
-    λ w. all_mild (deferreds_at itself children w) _
-    (λ ds. λ v. (list_mild name ds (page_flags.gather_flags flags), (tt, tt)))
-carry_mild itself (Action-F.Later name delay body) = search [] depth 20
-carry_mild itself (Action-F.CancelCall name) = search [] depth 20
-carry_mild itself (Action-F.ResetCall name delay) = search [] depth 20
-carry_mild itself (Action-F.DelayCall name delay) = search [] depth 20
-carry_mild itself (Action-F.Loop name of interval at_once body) = search [] depth 20
-carry_mild itself (Action-F.StopLoop name) = search [] depth 20
-carry_mild itself (Action-F.Cooperate name bodies) = search [] depth 20
-carry_mild itself (Action-F.WhenDone name task) = search [] depth 20
-carry_mild itself (Action-F.PauseTask name) = search [] depth 20
-carry_mild itself (Action-F.StopTask name) = λ w. (tt, λ t. λ v. (tt, λ x. (end_mild t Stopped, λ end. tt)))
-carry_mild itself (Action-F.ResumeTask name) = search [] depth 20
-carry_mild itself (Action-F.Inline name statements) = search [] depth 20
-carry_mild itself (Action-F.Thread name delay work) = search [] depth 20
-carry_mild itself (Action-F.ThreadIn name pool delay work) = search [] depth 20
+ended_mild : (w : World) → Mildly None w page.tick_ended
+ended_mild w = (tt, tt, (tt, tt, tt))
 
-rest_mild : (itself : Option ℕ) (actions : List Action) (end : End) (input : Value)
-    → Mildly None (page.perform_rest itself actions end input)
-rest_mild itself [] end input = λ w. tt
-rest_mild itself (action ∷ rest) end input = (carry_mild itself (out-Action action), (tt, tt))
+end_mild : (t : ℕ) (end : TaskEnd) (w : World) → Mildly None w (page.end_task t end)
+end_mild t end w = (tt, λ ds. (tt, tt, (tt, notify_free t ds)))
 
-wanted_mild : (i : Inline) (o : Option Want) (p : Position) → Mildly None (page.do_wanted i o p)
-wanted_mild i None p = tt
-wanted_mild i (Some (Do action)) p = (carry_mild (Some i.of) (out-Action action), (tt, tt))
-wanted_mild i (Some (Await name)) p = await_mild i name p
+await_mild : (i : Inline) (name : List ℕ) (p : Position) (w : World) → Mildly None w (page.await i name p)
+await_mild i name p w = ((tt, (tt, tt)), λ e. (tt, tt, (add_mild e (continuing i) w, (tt, tt))))
 
-inline_mild : (x : Inlining) (o : Performed) → Mildly None (scripts.inline_goes x o)
-inline_mild (Goes i p) o = (wanted_mild i (want_at (come p)) (come p), λ result. tt)
-inline_mild (Acted i p) o = search [] depth 20
-inline_mild (Awaited i e p) o = awaited_mild i e p
+resume_mild : (i : Inline) (input : Value) (w : World) → Mildly None w (page.resume i input)
+resume_mild i input w = search [] depth 20
 
-unless_mild : (p : Performed) (r : Rule) → Mildly None r → Mildly None (scripts.unless_raised p r)
-unless_mild Done r h = h
-unless_mild (Gave v) r h = h
-unless_mild (Raised failure) r h = tt
-unless_mild (Awaits e) r h = h
+awaited_mild : (i : Inline) (e : ℕ) (p : Position) (w : World) → Mildly None w (page.after_awaiting i e p)
+awaited_mild i e p w = search [] depth 20
 
-taken_mild : (purpose : Purpose) (e : ℕ) → Mildly None (page.taken_for purpose e)
-taken_mild (Named name) e = (tt, tt, tt)
-taken_mild (Holding l) e = (tt, (tt, (tt, tt)))
-taken_mild (Turning l) e = (tt, (tt, tt))
+pub carry_mild : (itself : Option ℕ) (action : Action-F Action Statement body_of.Body) (w : World)
+    → Mildly None w (page.carry_out itself action)
+carry_mild itself (Action-F.Note text) w = search [] depth 20
+carry_mild itself (Action-F.Deferred name canceller) w = search [] depth 20
+carry_mild itself (Action-F.Callback name value) w = search [] depth 20
+carry_mild itself (Action-F.Errback name class message) w = search [] depth 20
+carry_mild itself (Action-F.AddCallback name body) w = (tt, λ d. add_mild d (callback body) w)
+carry_mild itself (Action-F.AddErrback name body) w = (tt, λ d. add_mild d (errback body) w)
+carry_mild itself (Action-F.AddBoth name body) w = (tt, λ d. add_mild d (both body body) w)
+carry_mild itself (Action-F.AddCallbacks name on_value on_failure) w =
+    (tt, λ d. add_mild d (both on_value on_failure) w)
+carry_mild itself (Action-F.Chain name after) w = (tt, λ d. (tt, λ e. add_mild d (chain e) w))
+carry_mild itself (Action-F.Pause name) w = search [] depth 20
+carry_mild itself (Action-F.Unpause name) w = search [] depth 20
+carry_mild itself (Action-F.Cancel name) w =
+    (tt, λ d. (cancel_withdraws, λ r. reached_mild r (cancel d w).1))
+carry_mild itself (Action-F.AddTimeout name delay) w =
+    (tt, λ d. (tt, tt, (add_mild d (timing (length w.objects.clock.calls)) w, (tt, tt))))
+carry_mild itself (Action-F.Lock name) w = search [] depth 20
+carry_mild itself (Action-F.Semaphore name tokens) w = search [] depth 20
+carry_mild itself (Action-F.Acquire name lock) w = search [] depth 20
+carry_mild itself (Action-F.RunWith name lock body) w = search [] depth 20
+carry_mild itself (Action-F.Release lock) w = search [] depth 20
+carry_mild itself (Action-F.Maybe name body) w = search [] depth 20
+carry_mild itself (Action-F.Queue name size backlog) w = search [] depth 20
+carry_mild itself (Action-F.Put queue value) w =
+    (tt, λ k. (tt, λ q. (tt, (λ who. (who, refl, (refl, refl)), λ who. (tt, λ p. tt)))))
+carry_mild itself (Action-F.Get name queue) w = (
+  tt,
+  λ k. (tt, λ q. (tt, (tt, tt, ((made_there name k w, λ v. (v, refl, (refl, refl))), λ got. (tt, λ v. tt))))),
+)
+carry_mild itself (Action-F.List name children flags) w =
+    all_mild (deferreds_at itself children w) _ w (λ ds. list_mild name ds (page_flags.list_flags flags) w)
+carry_mild itself (Action-F.Gather name children flags) w =
+    all_mild (deferreds_at itself children w) _ w
+    (λ ds. (list_mild name ds (page_flags.gather_flags flags) w, (tt, tt)))
+carry_mild itself (Action-F.Later name delay body) w = search [] depth 20
+carry_mild itself (Action-F.CancelCall name) w = search [] depth 20
+carry_mild itself (Action-F.ResetCall name delay) w = search [] depth 20
+carry_mild itself (Action-F.DelayCall name delay) w = search [] depth 20
+carry_mild itself (Action-F.Loop name of interval at_once body) w = search [] depth 20
+carry_mild itself (Action-F.StopLoop name) w = search [] depth 20
+carry_mild itself (Action-F.Cooperate name bodies) w = search [] depth 20
+carry_mild itself (Action-F.WhenDone name task) w = search [] depth 20
+carry_mild itself (Action-F.PauseTask name) w = search [] depth 20
+carry_mild itself (Action-F.StopTask name) w = (tt, λ t. (tt, λ x. (end_mild t Stopped w, λ end. tt)))
+carry_mild itself (Action-F.ResumeTask name) w = search [] depth 20
+carry_mild itself (Action-F.Inline name statements) w = search [] depth 20
+carry_mild itself (Action-F.Thread name delay work) w = search [] depth 20
+carry_mild itself (Action-F.ThreadIn name pool delay work) w = search [] depth 20
 
-maybe_mild : (purpose : Purpose) (p : Performed) → Mildly None (page.deferred_of purpose p)
-maybe_mild purpose Done = λ w. (tt, tt, (tt, used_free purpose (length w.records)))
-maybe_mild purpose (Gave v) = λ w. (tt, tt, (tt, used_free purpose (length w.records)))
-maybe_mild purpose (Raised failure) = λ w. (tt, tt, (tt, used_free purpose (length w.records)))
-maybe_mild purpose (Awaits e) = taken_mild purpose e
+rest_mild : (itself : Option ℕ) (actions : List Action) (end : End) (input : Value) (w : World)
+    → Mildly None w (page.perform_rest itself actions end input)
+rest_mild itself [] end input w = tt
+rest_mild itself (action ∷ rest) end input w = (carry_mild itself (out-Action action) w, (tt, tt))
 
-step_mild : (t : ℕ) (p : Performed) → Mildly None (page.after_step t p)
-step_mild t Done = tt
-step_mild t (Gave v) = (tt, λ failure. end_mild t (Failed failure))
-step_mild t (Raised failure) = end_mild t (Failed failure)
-step_mild t (Awaits e) = search [] depth 20
+wanted_mild : (i : Inline) (o : Option Want) (p : Position) (w : World) → Mildly None w (page.do_wanted i o p)
+wanted_mild i None p w = tt
+wanted_mild i (Some (Do action)) p w = (carry_mild (Some i.of) (out-Action action) w, (tt, tt))
+wanted_mild i (Some (Await name)) p w = await_mild i name p w
 
-due_mild : (o : Option Due) → Mildly None (page.run_next o)
-due_mild None = tt
-due_mild (Some (what.Call name key)) = search [] depth 20
-due_mild (Some (what.Turn name key)) = search [] depth 20
-due_mild (Some what.Tick) = search [] depth 20
-due_mild (Some (what.Delivery job d)) = search [] depth 20
-due_mild (Some (what.Timeout d)) = search [] depth 20
+inline_mild : (x : Inlining) (o : Performed) (w : World) → Mildly None w (scripts.inline_goes x o)
+inline_mild (Goes i p) o w = (wanted_mild i (want_at (come p)) (come p) w, λ result. tt)
+inline_mild (Acted i p) o w = search [] depth 20
+inline_mild (Awaited i e p) o w = awaited_mild i e p w
+
+unless_mild : (p : Performed) (r : Rule) (w : World) → Mildly None w r → Mildly None w (scripts.unless_raised p r)
+unless_mild Done r w h = h
+unless_mild (Gave v) r w h = h
+unless_mild (Raised failure) r w h = tt
+unless_mild (Awaits e) r w h = h
+
+taken_mild : (purpose : Purpose) (e : ℕ) (w : World) → Mildly None w (page.taken_for purpose e)
+taken_mild (Named name) e w = (tt, tt, tt)
+taken_mild (Holding l) e w = (tt, (tt, (tt, tt)))
+taken_mild (Turning l) e w = (tt, (tt, tt))
+
+maybe_mild : (purpose : Purpose) (p : Performed) (w : World) → Mildly None w (page.deferred_of purpose p)
+maybe_mild purpose Done w = (tt, tt, (tt, used_free purpose (length w.records)))
+maybe_mild purpose (Gave v) w = (tt, tt, (tt, used_free purpose (length w.records)))
+maybe_mild purpose (Raised failure) w = (tt, tt, (tt, used_free purpose (length w.records)))
+maybe_mild purpose (Awaits e) w = taken_mild purpose e w
+
+step_mild : (t : ℕ) (p : Performed) (w : World) → Mildly None w (page.after_step t p)
+step_mild t Done w = tt
+step_mild t (Gave v) w = (tt, λ failure. end_mild t (Failed failure) w)
+step_mild t (Raised failure) w = end_mild t (Failed failure) w
+step_mild t (Awaits e) w = search [] depth 20
+
+due_mild : (o : Option Due) (w : World) → Mildly None w (page.run_next o)
+due_mild None w = tt
+due_mild (Some (what.Call name key)) w = search [] depth 20
+due_mild (Some (what.Turn name key)) w = search [] depth 20
+due_mild (Some what.Tick) w = search [] depth 20
+due_mild (Some (what.Delivery job d)) w = search [] depth 20
+due_mild (Some (what.Timeout d)) w = search [] depth 20
 
 -- each frame but those by which a Deferred is settled
 abbrev pub IsMild : Frame → Type 0
@@ -1095,67 +1283,68 @@ IsMild frame.Tell = Unit {0}
 IsMild frame.Due = Unit {0}
 IsMild (frame.Inline inlining) = Unit {0}
 
-pub rule_mild : (f : Frame) (p : Performed) → IsMild f → Mildly None (scripts.rule_of f p)
-rule_mild (frame.Settle d) p m = absurd m
-rule_mild (frame.Place d) p m = absurd m
-rule_mild (frame.Rest rest) p m = unless_mild p _ (rest_mild rest.itself rest.actions rest.end rest.input)
-rule_mild (frame.Canceller d) p m = search [] depth 20
-rule_mild (frame.Maybe purpose) p m = maybe_mild purpose p
-rule_mild (frame.Add d pair) p m = add_mild d pair
-rule_mild (frame.Cancel d) p m = (tt, reached_mild)
-rule_mild (frame.Give given) p m = unless_mild p _ tt
-rule_mild (frame.Notify d t) p m = search [] depth 20
-rule_mild (frame.Stepped t) p m = λ w. (tt, step_mild t p)
-rule_mild (frame.Tick units) p m = (
-  ended_mild,
-  (tt, λ taken. (ended_mild, λ now. ((end_mild now.0 Finished, λ body. (tt, (tt, (tt, tt)))), (tt, tt)))),
+pub rule_mild : (f : Frame) (p : Performed) (w : World) → IsMild f → Mildly None w (scripts.rule_of f p)
+rule_mild (frame.Settle d) p w m = absurd m
+rule_mild (frame.Place d) p w m = absurd m
+rule_mild (frame.Rest rest) p w m = 
+    unless_mild p _ w (rest_mild rest.itself rest.actions rest.end rest.input w)
+rule_mild (frame.Canceller d) p w m = search [] depth 20
+rule_mild (frame.Maybe purpose) p w m = maybe_mild purpose p w
+rule_mild (frame.Add d pair) p w m = add_mild d pair w
+rule_mild (frame.Cancel d) p w m = (cancel_withdraws, λ r. reached_mild r (cancel d w).1)
+rule_mild (frame.Give given) p w m = unless_mild p _ w tt
+rule_mild (frame.Notify d t) p w m = search [] depth 20
+rule_mild (frame.Stepped t) p w m = (tt, step_mild t p w)
+rule_mild (frame.Tick units) p w m = (
+  ended_mild w,
+  (tt, λ taken. (ended_mild w, λ now. ((end_mild now.0 Finished w, λ body. (tt, (tt, (tt, tt)))), (tt, tt)))),
 )
-rule_mild frame.Tell p m = search [] depth 20
-rule_mild frame.Due p m = (tt, due_mild)
-rule_mild (frame.Inline x) p m = inline_mild x p
+rule_mild frame.Tell p w m = search [] depth 20
+rule_mild frame.Due p w m = (tt, λ o. due_mild o (world.come_due w).1)
+rule_mild (frame.Inline x) p w m = inline_mild x p w
 
-pub side_rule_mild : (d : ℕ) (s : Option Side) (input : Value) → Mildly None (page.run_side d s input)
-side_rule_mild d None input = tt
-side_rule_mild d (Some (side.Body body)) input = search [] depth 20
-side_rule_mild d (Some (side.Fire e)) input = tt
-side_rule_mild d (Some (side.Timed t)) input = search [] depth 20
-side_rule_mild d (Some (side.EndTimer t)) input = search [] depth 20
-side_rule_mild d (Some (side.Come child)) input = search [] depth 20
-side_rule_mild d (Some side.Results) input = search [] depth 20
-side_rule_mild d (Some (side.Hold l body)) input = search [] depth 20
-side_rule_mild d (Some (side.Release l)) input = search [] depth 20
-side_rule_mild d (Some (side.NextTurn l)) input = search [] depth 20
-side_rule_mild d (Some (side.EndLoop l)) input = search [] depth 20
-side_rule_mild d (Some (side.ResumeTask t)) input = search [] depth 20
-side_rule_mild d (Some (side.FailTask t)) input = (tt, λ failure. end_mild t (Failed failure))
-side_rule_mild d (Some (side.Resume i)) input = resume_mild i input
+pub side_rule_mild : (d : ℕ) (s : Option Side) (input : Value) (w : World) → Mildly None w (page.run_side d s input)
+side_rule_mild d None input w = tt
+side_rule_mild d (Some (side.Body body)) input w = search [] depth 20
+side_rule_mild d (Some (side.Fire e)) input w = tt
+side_rule_mild d (Some (side.Timed t)) input w = search [] depth 20
+side_rule_mild d (Some (side.EndTimer t)) input w = search [] depth 20
+side_rule_mild d (Some (side.Come child)) input w = search [] depth 20
+side_rule_mild d (Some side.Results) input w = search [] depth 20
+side_rule_mild d (Some (side.Hold l body)) input w = search [] depth 20
+side_rule_mild d (Some (side.Release l)) input w = search [] depth 20
+side_rule_mild d (Some (side.NextTurn l)) input w = search [] depth 20
+side_rule_mild d (Some (side.EndLoop l)) input w = search [] depth 20
+side_rule_mild d (Some (side.ResumeTask t)) input w = search [] depth 20
+side_rule_mild d (Some (side.FailTask t)) input w = (tt, λ failure. end_mild t (Failed failure) w)
+side_rule_mild d (Some (side.Resume i)) input w = resume_mild i input w
 
 -- what a rule leaves, run
-run_mild : (rule : Rule) (w : World) → Mildly None rule → Mild w (run rule w)
+run_mild : (rule : Rule) (w : World) → Mildly None w rule → Mild w (run rule w)
 run_mild rule w m = record { comes = rule_calm rule None w tt m; free = rule_free rule None w m }
 
 pub side_mild : (d : ℕ) (s : Option Side) (input : Value) (w : World) → Mild w (side_begun d s input w)
-side_mild d s input w = run_mild (page.run_side d s input) w (side_rule_mild d s input)
+side_mild d s input w = run_mild (page.run_side d s input) w (side_rule_mild d s input w)
 
 pub turned_mild : (f : Frame) (p : Performed) (w : World) → IsMild f → Mild w (turned f p w)
-turned_mild f p w m = run_mild (scripts.rule_of f p) w (rule_mild f p m)
+turned_mild f p w m = run_mild (scripts.rule_of f p) w (rule_mild f p w m)
 
 -- what happens begins so, but for that time goes on
 pub action_mild : (action : Action) (w : World) → Mild w (begun None (out-Action action) w over (frame.Tell ∷ []))
 action_mild action w =
     run_mild (Over (page.carry_out None (out-Action action)) (frame.Tell ∷ [])) w (
-      carry_mild None (out-Action action),
+      carry_mild None (out-Action action) w,
       (tt, tt),
     )
 
 pub drain_mild : (w : World) → Mild w (done (world.tell entry.Drain w))
 drain_mild w = record {
-  comes = quietly w _ (by_aside entry.Drain _ w refl (λ k. Leaves (refl, refl, refl)) (λ k. k)
+  comes = quietly w _ (by_aside entry.Drain _ w refl tt (λ k. Leaves (refl, refl, refl)) (λ k. k)
       (resting _ _ _ refl refl refl refl refl refl refl refl refl));
   free = tt;
 }
 
 pub post_comes : (caller index : ℕ) (w : World) → Calmly w (world.tell (entry.Post caller index) w)
 post_comes caller index w =
-    quietly w _ (by_aside (entry.Post caller index) _ w refl (λ k. Leaves (refl, refl, refl)) (λ k. k)
+    quietly w _ (by_aside (entry.Post caller index) _ w refl tt (λ k. Leaves (refl, refl, refl)) (λ k. k)
     (resting _ _ _ refl refl refl refl refl refl refl refl refl))

@@ -5,6 +5,8 @@ pub mod Clocks
 pub mod Beside
 pub mod Calm
 pub mod Steps
+pub mod Stays
+pub mod Still
 pub mod Settles
 pub mod HandOversLemmas
 pub mod SwallowedLemmas
@@ -21,3 +23,9 @@ pub mod TasksLemmas
 pub mod TokensLemmas
 pub mod StoredLemmas
 pub mod LoopsLemmas
+pub mod ServedLines
+pub mod ServedWaiters
+pub mod ServedLemmas
+pub mod ServedSteps
+pub mod ServedCancels
+pub mod ServedRuns

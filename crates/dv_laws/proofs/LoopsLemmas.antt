@@ -30,7 +30,8 @@ use Rattle.dv_laws.proofs.CallsLemmas.{Timely, clocks_tell, arranged, advanced, 
 use Rattle.dv_laws.proofs.TimesLemmas.{clocks_same, arranged_same}
 use Rattle.dv_laws.proofs.Clocks.{IsPlain, Clocks, Leaves, Arranges}
 use Rattle.dv_laws.proofs.ReadBackLemmas.{get_set}
-use Rattle.dv_laws.proofs.Settles.{Still, Settles, means_keeps, reported}
+use Rattle.dv_laws.proofs.Still.{Still, calm}
+use Rattle.dv_laws.proofs.Settles.{Settles, means_keeps, reported}
 
 -- 1. Loops of a name.
 
@@ -460,14 +461,14 @@ passes name ticks c loops entries k =
 
 settles : (name : List ℕ) → Settles (Goes name)
 settles name = record {
-  still = still name;
-  drops = λ d r pair rest w h e a. record { loops = λ r. r; goes_on = λ r k. k };
-  runs = λ d r pair rest w x h e a. plain name (entry.Run d) w _ (refl, refl, refl) refl refl refl refl;
-  hands = λ d c r rest w x h e a. plain name (entry.Hand d c r.value) w _ (refl, refl, refl) refl refl refl refl;
-  sets = λ d value r w x h p. plain name (entry.Set d value) w _ (refl, refl, refl) refl refl refl refl;
-  waits = λ d e r given w x h i p q. plain name (entry.Wait d e) w _ (refl, refl, refl) refl refl refl refl;
-  takes = λ d e r given w x h i p q. plain name (entry.Take d e given.value) w _ (refl, refl, refl) refl refl refl refl;
-  advances = λ ticks w x. record {
+  calm = calm _ (still name);
+  drops = λ d r pair rest w h e a s. record { loops = λ r. r; goes_on = λ r k. k };
+  runs = λ d r pair rest w x h e a s. plain name (entry.Run d) w _ (refl, refl, refl) refl refl refl refl;
+  hands = λ d c r rest w x h e a s. plain name (entry.Hand d c r.value) w _ (refl, refl, refl) refl refl refl refl;
+  sets = λ d value r w x h p s. plain name (entry.Set d value) w _ (refl, refl, refl) refl refl refl refl;
+  waits = λ d e r given w x h i p q s. plain name (entry.Wait d e) w _ (refl, refl, refl) refl refl refl refl;
+  takes = λ d e r given w x h i p q s. plain name (entry.Take d e given.value) w _ (refl, refl, refl) refl refl refl refl;
+  advances = λ ticks w x s. record {
     loops = λ r. r;
     goes_on = λ r k. passes name ticks w.objects.clock w.objects.loops w.journal.entries k;
   };

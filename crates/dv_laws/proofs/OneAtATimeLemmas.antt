@@ -23,7 +23,8 @@ use Rattle.dv_laws.specs.OneAtATime.{adding, running, ending, additions, runs, e
 use Rattle.dv_laws.specs.OneAtATime.{EachPairIsUsedOnce, SidesRunOneAtATime}
 use Rattle.dv_laws.proofs.At.{counted_of, at, set_at, changing_at, first_at, push_at, set_by, changing_by, places_on}
 use Rattle.dv_laws.proofs.At.{no_places}
-use Rattle.dv_laws.proofs.Settles.{Still, Settles, running_of, not_running, means_keeps, reported}
+use Rattle.dv_laws.proofs.Still.{Still, calm}
+use Rattle.dv_laws.proofs.Settles.{Settles, running_of, not_running, means_keeps, reported}
 
 -- how many pairs a Deferred still has
 abbrev pub pair_of : Item Pair → ℕ
@@ -181,8 +182,8 @@ still n = record {
 
 settles : (n : ℕ) → Settles (λ w u. Uses n (state_of w) (state_of u))
 settles n = record {
-  still = still n;
-  drops = λ d r pair rest w h e a.
+  calm = calm _ (still n);
+  drops = λ d r pair rest w h e a s.
       let left : Kind = record r { items = rest } in
       untold n (state_of w) (slice_set w.records d left, w.journal) refl
       (omega (
@@ -191,7 +192,7 @@ settles n = record {
         none_more (nat_eq d n),
       ))
       (set_at running_of n d r left w.records h refl);
-  runs = λ d r pair rest w x h e a.
+  runs = λ d r pair rest w x h e a s.
       let begun : Kind = record r { items = rest; running = true } in
       tells n (entry.Run d) _ (state_of w) (record {
         pairs = omega (
@@ -201,7 +202,7 @@ settles n = record {
         );
         sides = omega (arith, first_at running_of n d r begun w.records h (not_running r a) refl);
       });
-  hands = λ d c r rest w x h e a.
+  hands = λ d c r rest w x h e a s.
       let taken : Kind = record r { items = rest; value = Null } in
       let left = slice_set w.records d taken in
       plain n (entry.Hand d c r.value) _ (state_of w) refl refl refl
@@ -209,7 +210,7 @@ settles n = record {
       ∙ set_at pairs_of n d r taken w.records h (sym (omega (arith, pairs_first r (item.HandOver c) rest e))))
       (changing_at running_of n c (with_handed r.value) left (λ y. refl)
       ∙ set_at running_of n d r taken w.records h refl);
-  sets = λ d value r w x h p.
+  sets = λ d value r w x h p s.
       let put = with_result value r in
       tells n (entry.Set d value) _ (state_of w) (record {
         pairs = omega (arith, set_at pairs_of n d r put w.records h refl);
@@ -219,7 +220,7 @@ settles n = record {
           none_more (nat_eq d n),
         );
       });
-  waits = λ d e r given w x h i p q.
+  waits = λ d e r given w x h i p q s.
       let first = changing e (with_item (item.HandOver d)) w.records in
       tells n (entry.Wait d e) _ (state_of w) (record {
         pairs = omega (
@@ -234,7 +235,7 @@ settles n = record {
               (changing_at running_of n e (with_item (item.HandOver d)) w.records (λ y. refl)),
         );
       });
-  takes = λ d e r given w x h i p q.
+  takes = λ d e r given w x h i p q s.
       let first = changing e chaining.without_value w.records in
       tells n (entry.Take d e given.value) _ (state_of w) (record {
         pairs = omega (
@@ -249,7 +250,7 @@ settles n = record {
               (changing_at running_of n e chaining.without_value w.records (λ y. refl)),
         );
       });
-  advances = λ ticks w x. plain n (entry.Advance _) _ (state_of w) refl refl refl refl refl;
+  advances = λ ticks w x s. plain n (entry.Advance _) _ (state_of w) refl refl refl refl refl;
 }
 
 -- so it is in a run

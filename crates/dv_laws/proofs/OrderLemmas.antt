@@ -27,7 +27,8 @@ use Rattle.dv_laws.proofs.At.{entries_on, no_entries}
 use Rattle.dv_laws.proofs.Clocks.{IsPlain, Clocks, Leaves, Adds, Runs, Cancels, Moves, Drops, Arranges, Stays, Loses}
 use Rattle.dv_laws.proofs.ReadBackLemmas.{get_set}
 use Rattle.dv_laws.proofs.Calm.{Regular}
-use Rattle.dv_laws.proofs.Settles.{Still, Settles, means_keeps, reported}
+use Rattle.dv_laws.proofs.Still.{Still, calm}
+use Rattle.dv_laws.proofs.Settles.{Settles, means_keeps, reported}
 use Rattle.std.proofs.lemmas.List.Sums.{sum_by-cons}
 use Rattle.std.proofs.lemmas.Bool.Decides.{nat_tests}
 use Rattle.std.proofs.lemmas.Slice.Eq.{bytes_eq-Decides}
@@ -610,14 +611,14 @@ still t u = record {
 
 settles : (t u : Timed) → Settles (Keeps t u)
 settles t u = record {
-  still = still t u;
-  drops = λ d r pair rest w h e a. record { loops = λ z. z; goes_on = λ z k. k };
-  runs = λ d r pair rest w x h e a. plain t u (entry.Run d) w _ (refl, refl, refl) refl refl refl;
-  hands = λ d c r rest w x h e a. plain t u (entry.Hand d c r.value) w _ (refl, refl, refl) refl refl refl;
-  sets = λ d value r w x h p. plain t u (entry.Set d value) w _ (refl, refl, refl) refl refl refl;
-  waits = λ d e r given w x h i p q. plain t u (entry.Wait d e) w _ (refl, refl, refl) refl refl refl;
-  takes = λ d e r given w x h i p q. plain t u (entry.Take d e given.value) w _ (refl, refl, refl) refl refl refl;
-  advances = λ ticks w x. record {
+  calm = calm _ (still t u);
+  drops = λ d r pair rest w h e a s. record { loops = λ z. z; goes_on = λ z k. k };
+  runs = λ d r pair rest w x h e a s. plain t u (entry.Run d) w _ (refl, refl, refl) refl refl refl;
+  hands = λ d c r rest w x h e a s. plain t u (entry.Hand d c r.value) w _ (refl, refl, refl) refl refl refl;
+  sets = λ d value r w x h p s. plain t u (entry.Set d value) w _ (refl, refl, refl) refl refl refl;
+  waits = λ d e r given w x h i p q s. plain t u (entry.Wait d e) w _ (refl, refl, refl) refl refl refl;
+  takes = λ d e r given w x h i p q s. plain t u (entry.Take d e given.value) w _ (refl, refl, refl) refl refl refl;
+  advances = λ ticks w x s. record {
     loops = λ r. r;
     goes_on = λ r k. advanced_order t u w.objects.clock ticks w.journal.entries k;
   };

@@ -15,7 +15,8 @@ use Rattle.dv_world.specs.World.{World, state_of}
 use Rattle.dv_laws.specs.Ready.{IsReady, RunsWhereReady, NothingRunsEarly}
 use Rattle.dv_laws.proofs.At.{entries_on, no_entries}
 use Rattle.dv_laws.proofs.ReadBackLemmas.{Reads, ReadsBack, reads, shown_of, at as shown_at}
-use Rattle.dv_laws.proofs.Settles.{Still, Settles, ready_fired, ready_free, ready_unpaused, means_keeps, reported}
+use Rattle.dv_laws.proofs.Still.{Still, calm}
+use Rattle.dv_laws.proofs.Settles.{Settles, ready_fired, ready_free, ready_unpaused, means_keeps, reported}
 
 -- the journal logs what the records show, and n was ready wherever it used something
 record Readied (n : ℕ) (s : Both) : Type 0 where
@@ -116,26 +117,26 @@ still n = record {
 
 settles : (n : ℕ) → Settles (λ w u. Goes n (state_of w) (state_of u))
 settles n = record {
-  still = still n;
-  drops = λ d r pair rest w h e a. untold n (state_of w) _ refl (reads.drops d r pair rest (state_of w) h e);
+  calm = calm _ (still n);
+  drops = λ d r pair rest w h e a s. untold n (state_of w) _ refl (reads.drops d r pair rest (state_of w) h e);
   runs =
-      λ d r pair rest w x h e a. tells n (entry.Run d) (state_of w) _ refl (reads.runs d pair r rest (state_of w) x h e)
+      λ d r pair rest w x h e a s. tells n (entry.Run d) (state_of w) _ refl (reads.runs d pair r rest (state_of w) x h e)
       (λ k q. ready_told n d r (state_of w) (run_is d n q) h a k) (λ k m value q. absurd cc);
   hands =
-      λ d c r rest w x h e a.
+      λ d c r rest w x h e a s.
       tells n (entry.Hand d c r.value) (state_of w) _ refl (reads.hands d c r rest (state_of w) x h e)
       (λ k q. absurd cc) (λ k m value q. ready_told n d r (state_of w) (hand_is d c n m r.value value q) h a k);
   sets =
-      λ d value r w x h p. plain n (entry.Set d value) (state_of w) _ refl (reads.sets d value r (state_of w) x h)
+      λ d value r w x h p s. plain n (entry.Set d value) (state_of w) _ refl (reads.sets d value r (state_of w) x h)
       (λ z. absurd cc) (λ m other z. absurd cc);
   waits =
-      λ d e r given w x h i p q. plain n (entry.Wait d e) (state_of w) _ refl
+      λ d e r given w x h i p q s. plain n (entry.Wait d e) (state_of w) _ refl
       (reads.waits d e r given (state_of w) x h i) (λ z. absurd cc) (λ m value z. absurd cc);
   takes =
-      λ d e r given w x h i p q. plain n (entry.Take d e given.value) (state_of w) _ refl
+      λ d e r given w x h i p q s. plain n (entry.Take d e given.value) (state_of w) _ refl
       (reads.takes d e r given (state_of w) x h i q) (λ z. absurd cc) (λ m value z. absurd cc);
   advances =
-      λ ticks w x. plain n (entry.Advance _) (state_of w) _ refl (reads.asides (entry.Advance _) (state_of w) refl x)
+      λ ticks w x s. plain n (entry.Advance _) (state_of w) _ refl (reads.asides (entry.Advance _) (state_of w) refl x)
       (λ q. absurd cc) (λ m value q. absurd cc);
 }
 

@@ -67,126 +67,42 @@ use Rattle.dv_laws.proofs.At.{counted_of, at, first_at, set_at, changing_at, pus
 use Rattle.dv_laws.proofs.Clocks.{Clocks, Arranges}
 use Rattle.dv_laws.proofs.Calm.{Regular, Mild, PutsNothing, AllPutNothing, side_mild, turned_mild, action_mild}
 use Rattle.dv_laws.proofs.Calm.{drain_mild, post_comes}
+use Rattle.dv_laws.proofs.Stays.{live, step_stays, put_stays, put_deferred_stays, aside_stays}
+use Rattle.dv_laws.proofs.Still.{Still, calm}
 use Rattle.dv_laws.proofs.Steps.{telling_in, put_cases, put_deferred_cases, append_cases, pause_cases, make_cases}
 use Rattle.dv_laws.proofs.Steps.{aside_cases, arrange_cases, submit_cases, cancel_cases, unpause_cases, fire_cases}
 use Rattle.dv_laws.proofs.Steps.{step_cases, unless, unless_and}
 
--- a relation that holds of each change of a world with its entry, but for those by which a Deferred is settled and time
--- goes on
-pub record Still (R : World → World → Type 0) : Type 0 where
-  pub stays : (w : World) → R w w
-  pub joins : (u v w : World) → R u v → R v w → R u w
-  pub stops : (w : World) → R w (with_stop w)
-  pub news : (name : Option (List ℕ)) (canceller : Option Canceller) (w : World)
-      → fits w.journal (entry.New (length w.records) name) ≡ true
-      → R w (record (telling_in (entry.New (length w.records) name) (w.records ++ new_record name canceller ∷ []) w) {
-        objects = naming_where name (length w.records) w.objects;
-      })
-  pub asides : (e : Entry) (change : Objects → Objects) (w : World) → change_of e ≡ Aside
-      → (Regular w.objects.loops → Clocks e w.objects.clock (change w.objects).clock)
-      → (Regular w.objects.loops → Regular (change w.objects).loops) → Beside e w.objects (change w.objects)
-      → fits w.journal e ≡ true
-      → R w (record w { objects = change w.objects; journal = with_entry w.journal e })
-  pub arranges : (change : Objects → Objects) (w : World) → Arranges w.objects.clock (change w.objects).clock
-      → (Regular w.objects.loops → Regular (change w.objects).loops) → Arranged w.objects (change w.objects)
-      → R w (record w { objects = change w.objects })
-  pub submits : (d : ℕ) (pool : Option (List ℕ)) (work : Work) (w : World)
-      → fits w.journal (entry.Job (length w.works) d) ≡ true
-      → R w (record w {
-        works = w.works ++ work ∷ [];
-        pools = w.pools ++ pool ∷ [];
-        journal = with_entry w.journal (entry.Job (length w.works) d);
-      })
-  pub refuses : (d : ℕ) (r : Kind) (w : World) → fits w.journal (entry.Refuse d) ≡ true → slice_get w.records d ≡ Some r
-      → r.fired ≡ true → r.swallows ≡ false → R w (telling_in (entry.Refuse d) w.records w)
-  pub swallows : (d : ℕ) (r : Kind) (w : World) → fits w.journal (entry.Swallow d) ≡ true
-      → slice_get w.records d ≡ Some r → r.swallows ≡ true
-      → R w (telling_in (entry.Swallow d) (slice_set w.records d (firing.with_guard false r)) w)
-  pub cancels : (d : ℕ) (w : World) → fits w.journal (entry.Cancel d) ≡ true
-      → R w (telling_in (entry.Cancel d) w.records w)
-  pub guards : (d : ℕ) (r : Kind) (w : World) → fits w.journal (entry.Fire d cancelled) ≡ true
-      → slice_get w.records d ≡ Some r → r.fired ≡ false → WasCancelled d w
-      → R w (telling_in (entry.Fire d cancelled) (guard d (slice_set w.records d (firing.with_firing cancelled r))) w)
-  pub fires : (d : ℕ) (value : Value) (r : Kind) (w : World) → fits w.journal (entry.Fire d value) ≡ true
-      → slice_get w.records d ≡ Some r → r.fired ≡ false
-      → R w (telling_in (entry.Fire d value) (slice_set w.records d (firing.with_firing value r)) w)
-  pub adds : (d : ℕ) (pair : Pair) (r : Kind) (w : World) → fits w.journal (entry.Add d) ≡ true
-      → slice_get w.records d ≡ Some r
-      → R w (telling_in (entry.Add d) (slice_set w.records d (with_item (item.Pair pair) r)) w)
-  pub pauses : (d : ℕ) (r : Kind) (w : World) → fits w.journal (entry.Pause d) ≡ true → slice_get w.records d ≡ Some r
-      → R w (telling_in (entry.Pause d) (slice_set w.records d (with_pauses (r.pauses + 1) r)) w)
-  pub unpauses : (d : ℕ) (r : Kind) (w : World) → fits w.journal (entry.Unpause d) ≡ true
-      → slice_get w.records d ≡ Some r → nat_eq r.pauses 0 ≡ false
-      → R w (telling_in (entry.Unpause d) (slice_set w.records d (with_pauses (r.pauses - 1) r)) w)
-
--- and of those too
+-- a relation that holds of each change of a world with its entry, those by which a Deferred is settled and time goes on
+-- among them
 pub record Settles (R : World → World → Type 0) : Type 0 where
-  pub still : Still R
+  pub calm : Calm R
   pub drops : (d : ℕ) (r : Kind) (pair : Pair) (rest : List (Item Pair)) (w : World) → slice_get w.records d ≡ Some r
-      → r.items ≡ item.Pair pair ∷ rest → callbacks.is_ready r ≡ true
+      → r.items ≡ item.Pair pair ∷ rest → callbacks.is_ready r ≡ true → w.stopped ≡ false
       → R w (with_state (slice_set w.records d (record r { items = rest }), w.journal) w)
   pub runs : (d : ℕ) (r : Kind) (pair : Pair) (rest : List (Item Pair)) (w : World)
       → fits w.journal (entry.Run d) ≡ true → slice_get w.records d ≡ Some r → r.items ≡ item.Pair pair ∷ rest
-      → callbacks.is_ready r ≡ true
+      → callbacks.is_ready r ≡ true → w.stopped ≡ false
       → R w (telling_in (entry.Run d) (slice_set w.records d (record r { items = rest; running = true })) w)
   pub hands : (d c : ℕ) (r : Kind) (rest : List (Item Pair)) (w : World)
       → fits w.journal (entry.Hand d c r.value) ≡ true → slice_get w.records d ≡ Some r
-      → r.items ≡ item.HandOver c ∷ rest → callbacks.is_ready r ≡ true
+      → r.items ≡ item.HandOver c ∷ rest → callbacks.is_ready r ≡ true → w.stopped ≡ false
       → R w (telling_in (entry.Hand d c r.value)
       (changing c (with_handed r.value) (slice_set w.records d (record r { items = rest; value = Null }))) w)
   pub sets : (d : ℕ) (value : Value) (r : Kind) (w : World) → fits w.journal (entry.Set d value) ≡ true
-      → slice_get w.records d ≡ Some r → r.running ≡ true
+      → slice_get w.records d ≡ Some r → r.running ≡ true → w.stopped ≡ false
       → R w (telling_in (entry.Set d value) (slice_set w.records d (with_result value r)) w)
   pub waits : (d e : ℕ) (r given : Kind) (w : World) → fits w.journal (entry.Wait d e) ≡ true
       → slice_get w.records d ≡ Some r → slice_get w.records e ≡ Some given → r.running ≡ true
-      → chaining.is_pending d e given ≡ true
+      → chaining.is_pending d e given ≡ true → w.stopped ≡ false
       → R w (telling_in (entry.Wait d e) (chaining.waiting d e w.records) w)
   pub takes : (d e : ℕ) (r given : Kind) (w : World) → fits w.journal (entry.Take d e given.value) ≡ true
       → slice_get w.records d ≡ Some r → slice_get w.records e ≡ Some given → r.running ≡ true
-      → chaining.is_pending d e given ≡ false
+      → chaining.is_pending d e given ≡ false → w.stopped ≡ false
       → R w (telling_in (entry.Take d e given.value) (chaining.taking d e given.value w.records) w)
   pub advances : (ticks : ℕ) (w : World)
       → (let time = min (w.objects.clock.time + ticks) MOST_TICKS in fits w.journal (entry.Advance time) ≡ true
-      → R w (record w { objects = with_time time w.objects; journal = with_entry w.journal (entry.Advance time) }))
-
-module _ (R : World → World → Type 0) (k : Still R) where
-  after_fire : (d : ℕ) (value : Value) (w : World) → R w (fire d value w).1
-  unfolding fire
-  after_fire d value w =
-      unless_and w (R w) (k.stays w) (k.stops w) w.stopped follow.Nothing _
-      (fire_cases w (λ answer s. R w (fired answer s w).1) (k.stops w) d value _ refl (λ g. k.stays w)
-      (λ r x g q. k.swallows d r w x g q) (λ r x g p q. k.refuses d r w x g p q) (λ r x g p. k.fires d value r w x g p))
-
-  after_guarded : (d : ℕ) (w : World) → WasCancelled d w → R w (fire_guarded d w)
-  unfolding fire_guarded
-  after_guarded d w c =
-      unless w (R w) (k.stays w) (k.stops w) w.stopped _
-      (fire_cases w (λ answer s. R w (guarded d answer s w)) (k.stops w) d cancelled _ refl (λ g. rw g (k.stays w))
-      (λ r x g q. k.swallows d r w x g q) (λ r x g p q. k.refuses d r w x g p q) (λ r x g p. k.guards d r w x g p c))
-
-  -- each step but those
-  pub calm : Calm R
-  calm = record {
-    quiet = record {
-      stays = k.stays;
-      joins = k.joins;
-      by_make =
-          λ name canceller w.
-          make_cases w (R w) (k.stays w) (k.stops w) name canceller (λ x. k.news name canceller w x);
-      by_cancel = λ d w. cancel_cases w (R w) (k.stays w) (k.stops w) d (λ x. k.cancels d w x);
-      by_pause = λ d w. pause_cases w (R w) (k.stays w) (k.stops w) d (λ r x g. k.pauses d r w x g);
-      by_aside =
-          λ e change w a c l t.
-          aside_cases w (R w) (k.stays w) (k.stops w) e change (λ x. k.asides e change w a c l t x);
-      by_arrange = λ change w s l t. arrange_cases w (R w) (k.stays w) (k.stops w) change (k.arranges change w s l t);
-      by_submit =
-          λ d pool work w. submit_cases w (R w) (k.stays w) (k.stops w) d pool work (λ x. k.submits d pool work w x);
-    };
-    by_append = λ d pair w. append_cases w (R w) (k.stays w) (k.stops w) d pair (λ r x g. k.adds d pair r w x g);
-    by_fire = after_fire;
-    by_fire_guarded = after_guarded;
-    by_unpause = λ d w. unpause_cases w (R w) (k.stays w) (k.stops w) d (λ r x g p. k.unpauses d r w x g p);
-  }
+      → w.stopped ≡ false → R w (record w { objects = with_time time w.objects; journal = with_entry w.journal (entry.Advance time) }))
 
 -- whether a side of a Deferred runs, as a count
 abbrev pub running_of : Kind → ℕ
@@ -376,7 +292,7 @@ record Leaves (R : World → World → Type 0) (below : List Frame) (w : World) 
 module _ (R : World → World → Type 0) (k : Settles R) where
   mild_leaves : (below : List Frame) (w : World) (t : Turned) → Standing below w → Mild w t → Leaves R below w t
   mild_leaves below w t s m = record {
-    goes = m.comes.keeps R (calm R k.still);
+    goes = m.comes.keeps R k.calm;
     standing = record {
       each = λ n. omega (
         arith,
@@ -396,7 +312,7 @@ module _ (R : World → World → Type 0) (k : Settles R) where
       let m = side_mild d (side_for pair (is_fault (value_of d w))) (value_of d w) w in
       let t = side_begun d (side_for pair (is_fault (value_of d w))) (value_of d w) w in
       record {
-        goes = k.still.joins w0 w t.2 c (m.comes.keeps R (calm R k.still));
+        goes = k.calm.quiet.joins w0 w t.2 c (m.comes.keeps R k.calm);
         standing = record {
           each = λ n.
               omega (
@@ -437,18 +353,23 @@ module _ (R : World → World → Type 0) (k : Settles R) where
 
   step_goes : (d : ℕ) (w : World) → R w (step d w).1
   step_goes d w =
-      step_cases w (λ move u. R w u) (k.still.stays w) (k.still.stops w) d (λ r pair rest g e a. k.drops d r pair rest w
-      g e a) (λ r pair rest x g e a. k.runs d r pair rest w x g e a) (λ r c rest x g e a. k.hands d c r rest w x g e a)
+      live (R w) w (step d w).1 (k.calm.quiet.stays w) (step_stays d w)
+      (λ s. step_cases w (λ move u. R w u) (k.calm.quiet.stays w) (k.calm.stops w) d
+      (λ r pair rest g e a. k.drops d r pair rest w g e a s) (λ r pair rest x g e a. k.runs d r pair rest w x g e a s)
+      (λ r c rest x g e a. k.hands d c r rest w x g e a s))
 
   put_goes : (d : ℕ) (value : Value) (w : World) → 1 ≤ running_at d w → R w (put d value w)
   put_goes d value w h =
-      put_cases w (R w) (k.still.stays w) (k.still.stops w) d value
-      (λ r x g. k.sets d value r w x g (running_found d w r h g))
+      live (R w) w (put d value w) (k.calm.quiet.stays w) (put_stays d value w)
+      (λ s. put_cases w (R w) (k.calm.quiet.stays w) (k.calm.stops w) d value
+      (λ r x g. k.sets d value r w x g (running_found d w r h g) s))
 
   put_deferred_goes : (d e : ℕ) (w : World) → 1 ≤ running_at d w → R w (put_deferred d e w)
   put_deferred_goes d e w h =
-      put_deferred_cases w (R w) (k.still.stays w) (k.still.stops w) d e (λ r given x g i p. k.waits d e r given w x g i
-      (running_found d w r h g) p) (λ r given x g i p. k.takes d e r given w x g i (running_found d w r h g) p)
+      live (R w) w (put_deferred d e w) (k.calm.quiet.stays w) (put_deferred_stays d e w)
+      (λ s. put_deferred_cases w (R w) (k.calm.quiet.stays w) (k.calm.stops w) d e
+      (λ r given x g i p. k.waits d e r given w x g i (running_found d w r h g) p s)
+      (λ r given x g i p. k.takes d e r given w x g i (running_found d w r h g) p s))
 
   place_goes : (d : ℕ) (o : Performed) (w : World) → 1 ≤ running_at d w → R w (place d o w)
   place_goes d Done w h = put_goes d Null w h
@@ -523,13 +444,13 @@ module _ (R : World → World → Type 0) (k : Settles R) where
       let x : Ended = (o, w) in
       let y : Ended = (q, v) in
       let e : x ≡ y = cc in
-      subst (λ u. R w u) (ap (λ (r : Ended). r.1) e) (k.still.stays w)
+      subst (λ u. R w u) (ap (λ (r : Ended). r.1) e) (k.calm.quiet.stays w)
   run_keeps zero (f ∷ below) o w q v h s = absurd cc
   run_keeps (suc n) [] o w q v h s = absurd cc
   run_keeps (suc n) (f ∷ below) o w q v h s =
       let t = turned f o w over below in
       let left = turn_leaves f o w below s in
-      k.still.joins w t.2 v left.goes (run_keeps n t.0 t.1 t.2 q v h left.standing)
+      k.calm.quiet.joins w t.2 v left.goes (run_keeps n t.0 t.1 t.2 q v h left.standing)
 
   gives_keeps : (fs : List Frame) (o : Performed) (w : World) (p : Performed) (u : World) → Gives fs o w p u
       → Standing fs w → R w u
@@ -546,27 +467,29 @@ module _ (R : World → World → Type 0) (k : Settles R) where
   happens_keeps (Occurs (event.Action action)) w u h =
       let t = happening (Occurs (event.Action action)) w in
       let m = action_mild action w in
-      k.still.joins w t.2 u (m.comes.keeps R (calm R k.still))
+      k.calm.quiet.joins w t.2 u (m.comes.keeps R k.calm)
       (gives_keeps t.0 t.1 t.2 h.0 u h.1 (free_stands t.0 t.2 m.free))
   happens_keeps (Occurs (event.Advance ticks)) w u h =
       let t = happening (Occurs (event.Advance ticks)) w in
-      let goes : R w t.2 = aside_cases w (R w) (k.still.stays w) (k.still.stops w) (entry.Advance _) (with_time _)
-      (λ x. k.advances ticks w x) in
-      k.still.joins w t.2 u goes (gives_keeps t.0 t.1 t.2 h.0 u h.1 (free_stands t.0 t.2 (tt, tt)))
+      let goes : R w t.2 =
+      live (R w) w t.2 (k.calm.quiet.stays w) (aside_stays (entry.Advance _) (with_time _) w)
+      (λ s. aside_cases w (R w) (k.calm.quiet.stays w) (k.calm.stops w) (entry.Advance _) (with_time _)
+      (λ x. k.advances ticks w x s)) in
+      k.calm.quiet.joins w t.2 u goes (gives_keeps t.0 t.1 t.2 h.0 u h.1 (free_stands t.0 t.2 (tt, tt)))
   happens_keeps (Occurs (event.Drain most)) w u h =
       let t = happening (Occurs (event.Drain most)) w in
       let m = drain_mild w in
-      k.still.joins w t.2 u (m.comes.keeps R (calm R k.still))
+      k.calm.quiet.joins w t.2 u (m.comes.keeps R k.calm)
       (gives_keeps t.0 t.1 t.2 h.0 u h.1 (free_stands t.0 t.2 m.free))
   happens_keeps (Comes posted body) w u h =
       let t = happening (Comes posted body) w in
-      k.still.joins w t.2 u ((post_comes posted.caller posted.index w).keeps R (calm R k.still))
+      k.calm.quiet.joins w t.2 u ((post_comes posted.caller posted.index w).keeps R k.calm)
       (gives_keeps t.0 t.1 t.2 h.0 u h.1 (free_stands t.0 t.2 (tt, (tt, tt))))
 
   runs_keeps : (all : List Occurrence) (w u : World) → Runs all w u → R w u
-  runs_keeps [] w u h = subst (λ x. R w x) (sym h) (k.still.stays w)
+  runs_keeps [] w u h = subst (λ x. R w x) (sym h) (k.calm.quiet.stays w)
   runs_keeps (occurrence ∷ rest) w u h =
-      k.still.joins w h.0 u (happens_keeps occurrence w h.0 h.1) (runs_keeps rest h.0 u h.2)
+      k.calm.quiet.joins w h.0 u (happens_keeps occurrence w h.0 h.1) (runs_keeps rest h.0 u h.2)
 
   -- so a run keeps it
   pub means_keeps : (script : Script) (batches : List Batch) (w : World) → Means script batches w

@@ -32,6 +32,7 @@ use Rattle.dv_objects.specs.declared.follow.Follow.{Follow}
 use Rattle.dv_objects.specs.declared.follow.Follow.TheVariants as follow
 use Rattle.dv_objects.specs.declared.performed.Performed.{Performed}
 use Rattle.dv_objects.specs.declared.performed.Performed.TheVariants.{Done, Gave, Raised, Awaits}
+use Rattle.dv_objects.specs.declared.reached.Reached.{Reached}
 use Rattle.dv_posts.specs.Batches.{Batch}
 use Rattle.dv_frames.specs.Turn.{Turned, settle_next, ◌over◌}
 use Rattle.dv_frames.specs.declared.frame.Frame.{Frame}
@@ -42,7 +43,7 @@ use Rattle.dv_definition.specs.Rule.{run as run_rule}
 use Rattle.dv_definition.specs.Scripts as scripts
 use Rattle.dv_definition.specs.Scripts.{Occurrence, Occurs, Comes, occurrences}
 use Rattle.dv_definition.specs.Steps as steps
-use Rattle.dv_definition.specs.Steps.{stepped, Question}
+use Rattle.dv_definition.specs.Steps.{stepped, Question, Reply}
 use Rattle.dv_loop.specs.Beginning.{happening}
 use Rattle.dv_loop.specs.Meaning.{Gives, Runs, Means}
 use Rattle.dv_loop.specs.Settling.{place, side_begun, settled}
@@ -56,12 +57,14 @@ use Rattle.dv_world.specs.World.{World, Records, state_of, with_state, with_stop
 use Rattle.dv_world.specs.World.{guarded, unpause, unpaused, step, put, put_deferred, first_world, value_of}
 use Rattle.dv_laws.proofs.At.{counted_of, at, set_at, changing_at, push_at, set_by, changing_by}
 use Rattle.dv_laws.proofs.Calm.{Quiet, Calmly, IsCalm, settled_by, SettlesFirst, CallsToSettle, Follows, Mildly, IsMild}
-use Rattle.dv_laws.proofs.Calm.{reached_by, step_quiet, question_quiet, rule_mild, side_rule_mild, carry_mild}
+use Rattle.dv_laws.proofs.Calm.{AsksCalmly, reached_by, step_quiet, question_quiet, rule_mild, side_rule_mild, carry_mild}
 use Rattle.dv_laws.proofs.Calm.{side_mild, turned_mild, action_mild, drain_mild, post_comes}
-use Rattle.dv_laws.proofs.Settles.{Still, calm, place_runs}
+use Rattle.dv_laws.proofs.Still.{Still, calm}
+use Rattle.dv_laws.proofs.Settles.{place_runs}
 use Rattle.dv_objects.specs.Objects.{with_time}
 use Rattle.dv_laws.proofs.Steps.{put_cases, put_deferred_cases, append_cases, pause_cases, make_cases, aside_cases}
 use Rattle.dv_laws.proofs.Steps.{arrange_cases, submit_cases, cancel_cases, fire_cases, step_cases, unless}
+use Rattle.dv_laws.proofs.Steps.{put_into_cases, get_from_cases}
 
 -- 1. Which Deferred may use an item.
 
@@ -136,7 +139,7 @@ quiet_less = record {
   by_make = λ name canceller w. make_cases w (Less w) (less_same w) (less_stop w) name canceller (λ x. record {
     each = λ n. omega (arith, push_at owes_of n (new_record name canceller) w.records refl);
   });
-  by_cancel = λ d w. cancel_cases w (Less w) (less_same w) (less_stop w) d (λ x. record { each = λ n. omega arith });
+  by_cancel = λ d w m. cancel_cases w (Less w) (less_same w) (less_stop w) d (λ x. record { each = λ n. omega arith });
   by_pause = λ d w.
       pause_cases w (Less w) (less_same w) (less_stop w) d
       (λ r x g.
@@ -149,10 +152,10 @@ quiet_less = record {
         ));
       });
   by_aside =
-      λ e change w a c l t.
+      λ e change w a q c l t.
       aside_cases w (Less w) (less_same w) (less_stop w) e change (λ x. record { each = λ n. omega arith });
   by_arrange =
-      λ change w s l t.
+      λ change w q s l t.
       arrange_cases w (Less w) (less_same w) (less_stop w) change (record { each = λ n. omega arith });
   by_submit =
       λ d pool work w.
@@ -283,7 +286,22 @@ settled_pays d rule w u h m p =
 quiet_pays : (w u : World) (t : Turned) → Less w u → Paid u t → Paid w t
 quiet_pays w u t l p = record { each = λ n. omega (arith, l.each n, p.each n) }
 
-step_pays : (step : steps.Step) (o : Option ℕ) (rule : Rule) (w : World) → IsCalm o step → Follows step rule
+-- who waits no longer for a value owes nothing more, nor does anybody where a question is asked
+withdrawn_less : (k d : ℕ) (w : World) → Less w (world.withdraw k d w)
+withdrawn_less k d w = arrange_cases w (Less w) (less_same w) (less_stop w) _ (record { each = λ n. omega arith })
+
+question_less : (question : Question) (rule : Reply question → Rule) (w : World) → AsksCalmly w question rule
+    → Less w (steps.asked question w).1
+question_less (steps.Cancel d) rule w m =
+    cancel_cases w (Less w) (less_same w) (less_stop w) d (λ x. record { each = λ n. omega arith })
+question_less (steps.PutInto k v) rule w m =
+    put_into_cases w (λ o u. Less w u) (less_same w) (less_stop w) k v (λ q s x g p. record { each = λ n. omega arith })
+question_less (steps.GetFrom k d) rule w m =
+    get_from_cases w (λ o u. Less w u) (less_same w) (less_stop w) k d (λ q s x g. record { each = λ n. omega arith })
+question_less (steps.Moves d) rule w m = absurd m
+question_less question rule w m = (question_quiet question w tt).keeps Less quiet_less
+
+step_pays : (step : steps.Step) (o : Option Reached) (rule : Rule) (w : World) → IsCalm o step → Follows step rule
     → Paid (stepped step w) (run_rule rule (stepped step w)) → Paid w (run_rule rule (stepped step w))
 step_pays (steps.Put d v) o rule w c f p = absurd c
 step_pays (steps.PutDeferred d e) o rule w c f p = absurd c
@@ -291,6 +309,8 @@ step_pays (steps.Advance ticks) o rule w c f p = absurd c
 step_pays (steps.Append d pair) o rule w c f p =
     settled_pays d rule w (append d pair w) (λ n. append_more n d pair w) f p
 step_pays (steps.FireGuarded d) o rule w c f p = settled_pays d rule w (fire_guarded d w) (λ n. guarded_more n d w) f p
+step_pays (steps.Withdraw k d) o rule w c f p =
+    quiet_pays w (world.withdraw k d w) (run_rule rule (world.withdraw k d w)) (withdrawn_less k d w) p
 step_pays step o rule w c f p =
     quiet_pays w (stepped step w) (run_rule rule (stepped step w)) ((step_quiet step w tt).keeps Less quiet_less) p
 
@@ -303,9 +323,9 @@ found_pays : {A : Type 0} (o : Option A) (w : World) (t : Turned) (f : A → Tur
 found_pays None w t f c d = c
 found_pays (Some a) w t f c d = d a
 
-rule_pays : (rule : Rule) (o : Option ℕ) (w : World) → Mildly o rule → Paid w (run_rule rule w)
+rule_pays : (rule : Rule) (o : Option Reached) (w : World) → Mildly o w rule → Paid w (run_rule rule w)
 rule_pays (Ends p) o w m = record { each = λ n. omega arith }
-rule_pays (By rule) o w m = rule_pays (rule w) o w (m w)
+rule_pays (By rule) o w m = rule_pays (rule w) o w m
 rule_pays (If b one other) o w m =
     either_pays b w (run_rule one w) (run_rule other w) (rule_pays one o w m.0) (rule_pays other o w m.1)
 rule_pays (Finds x none some) o w m =
@@ -314,7 +334,7 @@ rule_pays (Finds x none some) o w m =
 rule_pays (Then step rule) o w m = step_pays step o rule w m.0 m.1 (rule_pays rule None (stepped step w) m.2)
 rule_pays (Asks question rule) o w m =
     let a = steps.asked question w in
-    quiet_pays w a.1 (run_rule (rule a.0) a.1) ((question_quiet question w m.0).keeps Less quiet_less)
+    quiet_pays w a.1 (run_rule (rule a.0) a.1) (question_less question rule w m.0)
     (rule_pays (rule a.0) (reached_by question a.0) a.1 (m.1 a.0))
 rule_pays (Fires d v) o w m = fire_pays d w v
 rule_pays (Unpauses d) o w m = unpause_pays d w
@@ -496,7 +516,7 @@ module _ (below : List Frame) (d : ℕ) (w u : World) (g : GoesOn w u) (s : Watc
       let side = side_for pair (is_fault (value_of d u)) in
       let t = side_begun d side (value_of d u) u in
       let c = on_calm u t.2 (side_mild d side (value_of d u) u).comes in
-      let p = rule_pays (page.run_side d side (value_of d u)) None u (side_rule_mild d side (value_of d u)) in
+      let p = rule_pays (page.run_side d side (value_of d u)) None u (side_rule_mild d side (value_of d u) u) in
       record {
         watched = λ h n.
             omega (
@@ -621,7 +641,7 @@ mild_turn : (f : Frame) (o : Performed) (w : World) (below : List Frame) → ((n
 mild_turn f o w below z m s =
     mild_watched below w (turned f o w) (record {
       watched = λ h n. omega (arith, sum_by-cons (settles_of n) f below, z n, s.watched h n);
-    }) (rule_pays (scripts.rule_of f o) None w (rule_mild f o m))
+    }) (rule_pays (scripts.rule_of f o) None w (rule_mild f o w m))
     (on_calm w (turned f o w).2 (turned_mild f o w m).comes)
 
 turn_watched : (f : Frame) (o : Performed) (w : World) (below : List Frame) → Watched (f ∷ below) w
@@ -684,7 +704,7 @@ happens_begins : (occurrence : Occurrence) (w : World) → Watched [] w
 happens_begins (Occurs (event.Action action)) w s =
     let t = happening (Occurs (event.Action action)) w in
     begun_watched w t s (rule_pays (scripts.happens (Occurs (event.Action action))) None w
-    (carry_mild None (out-Action action), (tt, tt))) (on_calm w t.2 (action_mild action w).comes)
+    (carry_mild None (out-Action action) w, (tt, tt))) (on_calm w t.2 (action_mild action w).comes)
 happens_begins (Occurs (event.Advance ticks)) w s =
     let t = happening (Occurs (event.Advance ticks)) w in
     begun_watched w t s (record { each = λ n. omega (arith, (advance_less ticks w).each n) }) (advance_on ticks w)

@@ -37,7 +37,11 @@ use Rattle.dv_objects.specs.declared.canceller.Canceller.{Canceller}
 use Rattle.dv_objects.specs.Objects.{Objects}
 use Rattle.dv_world.specs.World.{World, Records, state_of, after, moved, named, unpaused, step, put, put_deferred}
 use Rattle.dv_world.specs.World.{append, make, cancel, reached_from, pause, with_state, with_stop, unpause, aside}
-use Rattle.dv_world.specs.World.{arrange, submit}
+use Rattle.dv_world.specs.World.{arrange, submit, unless_stopped, put_into_found, put_into, get_from_found, get_from}
+use Rattle.dv_objects.specs.Objects.{with_queue}
+use Rattle.dv_prims.specs.Queue.{Queue, may_put, receiver, put_to, got_from}
+use Rattle.std.proofs.Common.{sym, subst}
+use Rattle.std.specs.Prelude.{if◌then◌else◌}
 use Rattle.dv_objects.specs.declared.follow.Follow.TheVariants as follow
 use Rattle.dv_objects.specs.Pair.{Pair}
 use Rattle.dv_objects.specs.declared.reached.Reached.{Reached}
@@ -365,3 +369,79 @@ module _ (w : World) (P : Step Pair → World → Type 0) (none : P Nothing w) (
   pub step_cases : (d : ℕ) → Drops d → RunsPair d → HandsTo d → P (step d w).0 (step d w).1
   unfolding step callbacks.step
   step_cases d h k l = stopped_cases w.stopped _ (found_cases d _ refl h k l)
+
+-- a line of a queue is written, and its answer is given, unless the run has stopped
+module _ {A : Type 0} (w : World) (P : Option A → World → Type 0) (stays : P None w) (stops : P None (with_stop w)) where
+  answered_told : (b : Bool) (answer : Option A) (e : Entry) (change : Objects → Objects) → fits w.journal e ≡ b
+      → w.stopped ≡ false
+      → (w.stopped ≡ false → fits w.journal e ≡ true
+      → P answer (record w { objects = change w.objects; journal = with_entry w.journal e }))
+      → (let u = cond b (record w { objects = change w.objects; journal = with_entry w.journal e })
+      (record w { stopped = true }) in P (if u.stopped then None else answer) u)
+  answered_told true answer e change p s h =
+      subst (λ b. P (cond b None answer) (record w { objects = change w.objects; journal = with_entry w.journal e }))
+      (sym s) (h s p)
+  answered_told false answer e change p s h = stops
+
+  answered_unless : (b : Bool) (answer : Option A) (u : World) → w.stopped ≡ b
+      → (w.stopped ≡ false → P (if u.stopped then None else answer) u)
+      → (let v = cond b w u in P (if v.stopped then None else answer) v)
+  answered_unless true answer u s h = subst (λ b. P (cond b None answer) w) (sym s) stays
+  answered_unless false answer u s h = h s
+
+  answered_cases : (answer : Option A) (e : Entry) (change : Objects → Objects)
+      → (w.stopped ≡ false → fits w.journal e ≡ true
+      → P answer (record w { objects = change w.objects; journal = with_entry w.journal e }))
+      → (let u = aside e change w in P (if u.stopped then None else answer) u)
+  unfolding aside
+  answered_cases answer e change h =
+      answered_unless w.stopped answer _ refl (λ s. answered_told _ answer e change refl s h)
+
+-- a value is put into a queue
+module _ (w : World) (P : Option (ℕ × Value) → World → Type 0) (stays : P None w) (stops : P None (with_stop w)) where
+  abbrev PutsInto : ℕ → Value → Type 0
+  PutsInto k value =
+      (q : Queue) → w.stopped ≡ false → fits w.journal (entry.Put q.name value) ≡ true
+      → slice_get w.objects.queues k ≡ Some q → may_put q ≡ true
+      → P (receiver q.waiting value) (record w {
+        objects = with_queue k (put_to q.waiting value q) w.objects;
+        journal = with_entry w.journal (entry.Put q.name value);
+      })
+
+  putting_cases : (b : Bool) (k : ℕ) (value : Value) (q : Queue) → may_put q ≡ b → slice_get w.objects.queues k ≡ Some q
+      → PutsInto k value
+      → (let a = cond {A = Option (ℕ × Value) × World} b (unless_stopped (receiver q.waiting value)
+      (aside (entry.Put q.name value) (with_queue k (put_to q.waiting value q)) w)) (None, w) in P a.0 a.1)
+  putting_cases true k value q m g h =
+      answered_cases w P stays stops (receiver q.waiting value) (entry.Put q.name value)
+      (with_queue k (put_to q.waiting value q)) (λ s x. h q s x g m)
+  putting_cases false k value q m g h = stays
+
+  put_found_in_cases : (o : Option Queue) (k : ℕ) (value : Value) → slice_get w.objects.queues k ≡ o → PutsInto k value
+      → (let a = put_into_found k value o w in P a.0 a.1)
+  put_found_in_cases None k value g h = stays
+  put_found_in_cases (Some q) k value g h = putting_cases _ k value q refl g h
+
+  pub put_into_cases : (k : ℕ) (value : Value) → PutsInto k value → (let a = put_into k value w in P a.0 a.1)
+  put_into_cases k value h = put_found_in_cases _ k value refl h
+
+-- a value of a queue is asked for
+module _ (w : World) (P : Option Value → World → Type 0) (stays : P None w) (stops : P None (with_stop w)) where
+  abbrev GetsFrom : ℕ → ℕ → Type 0
+  GetsFrom k d =
+      (q : Queue) → w.stopped ≡ false → fits w.journal (entry.Get q.name d) ≡ true
+      → slice_get w.objects.queues k ≡ Some q
+      → P (slice_get q.stored 0) (record w {
+        objects = with_queue k (got_from q.stored d q) w.objects;
+        journal = with_entry w.journal (entry.Get q.name d);
+      })
+
+  got_found_cases : (o : Option Queue) (k d : ℕ) → slice_get w.objects.queues k ≡ o → GetsFrom k d
+      → (let a = get_from_found k d o w in P a.0 a.1)
+  got_found_cases None k d g h = stays
+  got_found_cases (Some q) k d g h =
+      answered_cases w P stays stops (slice_get q.stored 0) (entry.Get q.name d) (with_queue k (got_from q.stored d q))
+      (λ s x. h q s x g)
+
+  pub get_from_cases : (k d : ℕ) → GetsFrom k d → (let a = get_from k d w in P a.0 a.1)
+  get_from_cases k d h = got_found_cases _ k d refl h

@@ -33,7 +33,8 @@ use Rattle.dv_laws.proofs.At.{set_at, changing_at, push_at, entries_on, no_entri
 use Rattle.dv_laws.proofs.Calm.{WasCancelled}
 use Rattle.dv_laws.proofs.OnceLemmas.{marks_of, marked_at, guards_tell, swallows_tell}
 use Rattle.dv_laws.proofs.ReadBackLemmas.{Reads, ReadsBack, reads, shown_of, at as shown_at}
-use Rattle.dv_laws.proofs.Settles.{Still, Settles, means_keeps, reported}
+use Rattle.dv_laws.proofs.Still.{Still, calm}
+use Rattle.dv_laws.proofs.Settles.{Settles, means_keeps, reported}
 
 -- by what was logged one waits as its record does
 waited_cases : (o : Option Kind)
@@ -46,11 +47,11 @@ next_same None f g h = refl
 next_same (Some e) f g h = h e
 
 module _ (rs : Records) (before : List Entry) (h : (k : ℕ) → told_by k before ≡ shown_at k rs) where
-  waited_is : (k : ℕ) → waited_for k before ≡ link rs k
+  pub waited_is : (k : ℕ) → waited_for k before ≡ link rs k
   waited_is k = ap (λ (o : Option Shown). option_and_then (λ s. s.waits_for) o) (h k) ∙ waited_cases (slice_get rs k)
 
   -- so waits lead where links do
-  led_is : (links k : ℕ) → led_to links k before ≡ follow links k rs
+  pub led_is : (links k : ℕ) → led_to links k before ≡ follow links k rs
   unfolding follow
   led_is zero k = refl
   led_is (suc n) k =
@@ -200,8 +201,8 @@ still n = record {
 
 settles : (n : ℕ) → Settles (λ w u. Goes n (state_of w) (state_of u))
 settles n = record {
-  still = still n;
-  drops = λ d r pair rest w h e a.
+  calm = calm _ (still n);
+  drops = λ d r pair rest w h e a s.
       let same = set_at marks_of n d r (record r { items = rest }) w.records h refl in
       record {
         goes_on = λ k. record {
@@ -211,25 +212,25 @@ settles n = record {
         };
       };
   runs =
-      λ d r pair rest w x h e a. plain n (entry.Run d) (state_of w) _ refl (reads.runs d pair r rest (state_of w) x h e)
+      λ d r pair rest w x h e a s. plain n (entry.Run d) (state_of w) _ refl (reads.runs d pair r rest (state_of w) x h e)
       (set_at marks_of n d r _ w.records h refl) (λ z. absurd cc);
-  hands = λ d c r rest w x h e a.
+  hands = λ d c r rest w x h e a s.
       plain n (entry.Hand d c r.value) (state_of w) _ refl (reads.hands d c r rest (state_of w) x h e)
       (changing_at marks_of n c (with_handed r.value) (slice_set w.records d (record r { items = rest; value = Null }))
       (λ y. refl) ∙ set_at marks_of n d r (record r { items = rest; value = Null }) w.records h refl) (λ z. absurd cc);
   sets =
-      λ d value r w x h p. plain n (entry.Set d value) (state_of w) _ refl (reads.sets d value r (state_of w) x h)
+      λ d value r w x h p s. plain n (entry.Set d value) (state_of w) _ refl (reads.sets d value r (state_of w) x h)
       (set_at marks_of n d r (with_result value r) w.records h refl) (λ z. absurd cc);
-  waits = λ d e r given w x h i p q.
+  waits = λ d e r given w x h i p q s.
       plain n (entry.Wait d e) (state_of w) _ refl (reads.waits d e r given (state_of w) x h i)
       (changing_at marks_of n d (chaining.with_wait e) (changing e (with_item (item.HandOver d)) w.records) (λ y. refl)
       ∙ changing_at marks_of n e (with_item (item.HandOver d)) w.records (λ y. refl)) (λ z. absurd cc);
-  takes = λ d e r given w x h i p q.
+  takes = λ d e r given w x h i p q s.
       plain n (entry.Take d e given.value) (state_of w) _ refl (reads.takes d e r given (state_of w) x h i q)
       (changing_at marks_of n d (with_result given.value) (changing e chaining.without_value w.records) (λ y. refl)
       ∙ changing_at marks_of n e chaining.without_value w.records (λ y. refl)) (λ z. absurd cc);
   advances =
-      λ ticks w x. plain n (entry.Advance _) (state_of w) _ refl
+      λ ticks w x s. plain n (entry.Advance _) (state_of w) _ refl
       (reads.asides (entry.Advance _) (state_of w) refl x) refl (λ q. absurd cc);
 }
 

@@ -28,7 +28,8 @@ use Rattle.dv_laws.specs.Tasks.{Untasked, StepsTask, tasking_of, makes_by, ends_
 use Rattle.dv_laws.specs.Tasks.{TasksEndOnce}
 use Rattle.dv_laws.proofs.At.{places_on, no_places, entries_on, no_entries}
 use Rattle.dv_laws.proofs.ReadBackLemmas.{get_set}
-use Rattle.dv_laws.proofs.Settles.{Still, Settles, means_keeps, reported}
+use Rattle.dv_laws.proofs.Still.{Still, calm}
+use Rattle.dv_laws.proofs.Settles.{Settles, means_keeps, reported}
 use Rattle.dv_laws.proofs.Beside.{Tasks, TasksRest, TaskMade, TaskSteps, TaskEnds, TaskPaused, TaskResumed, TaskAwaited}
 
 -- 1. Tasks of a name, and those of them that have ended.
@@ -449,14 +450,14 @@ still name = record {
 
 settles : (name : List ℕ) → Settles (Goes name)
 settles name = record {
-  still = still name;
-  drops = λ d r pair rest w h e a. record { goes_on = λ k. k };
-  runs = λ d r pair rest w x h e a. plain name (entry.Run d) w _ refl refl refl;
-  hands = λ d c r rest w x h e a. plain name (entry.Hand d c r.value) w _ refl refl refl;
-  sets = λ d value r w x h p. plain name (entry.Set d value) w _ refl refl refl;
-  waits = λ d e r given w x h i p q. plain name (entry.Wait d e) w _ refl refl refl;
-  takes = λ d e r given w x h i p q. plain name (entry.Take d e given.value) w _ refl refl refl;
-  advances = λ ticks w x. plain name (entry.Advance _) w _ refl refl refl;
+  calm = calm _ (still name);
+  drops = λ d r pair rest w h e a s. record { goes_on = λ k. k };
+  runs = λ d r pair rest w x h e a s. plain name (entry.Run d) w _ refl refl refl;
+  hands = λ d c r rest w x h e a s. plain name (entry.Hand d c r.value) w _ refl refl refl;
+  sets = λ d value r w x h p s. plain name (entry.Set d value) w _ refl refl refl;
+  waits = λ d e r given w x h i p q s. plain name (entry.Wait d e) w _ refl refl refl;
+  takes = λ d e r given w x h i p q s. plain name (entry.Take d e given.value) w _ refl refl refl;
+  advances = λ ticks w x s. plain name (entry.Advance _) w _ refl refl refl;
 }
 
 -- so it is in a run

@@ -21,7 +21,8 @@ use Rattle.dv_clock.specs.declared.due.Due.TheVariants as what
 use Rattle.dv_laws.proofs.Clocks.{IsPlain, Clocks, Leaves, Adds, Runs, Cancels, Moves, Drops, Arranges, Stays, Loses}
 use Rattle.std.proofs.lemmas.Option.{none-some}
 use Rattle.dv_laws.proofs.Calm.{Regular}
-use Rattle.dv_laws.proofs.Settles.{Still, Settles, means_keeps, reported}
+use Rattle.dv_laws.proofs.Still.{Still, calm}
+use Rattle.dv_laws.proofs.Settles.{Settles, means_keeps, reported}
 
 -- what is logged about time in a world whose time is this: not that it goes on, and nothing that was due before
 abbrev IsTold : ℕ → Timing → Type 0
@@ -181,14 +182,14 @@ still = record {
 
 settles : Settles Keeps
 settles = record {
-  still = still;
-  drops = λ d r pair rest w h e a. record { loops = λ z. z; goes_on = λ z k. k };
-  runs = λ d r pair rest w x h e a. tells (entry.Run d) w _ tt refl refl refl;
-  hands = λ d c r rest w x h e a. tells (entry.Hand d c r.value) w _ tt refl refl refl;
-  sets = λ d value r w x h p. tells (entry.Set d value) w _ tt refl refl refl;
-  waits = λ d e r given w x h i p q. tells (entry.Wait d e) w _ tt refl refl refl;
-  takes = λ d e r given w x h i p q. tells (entry.Take d e given.value) w _ tt refl refl refl;
-  advances = λ ticks w x. record {
+  calm = calm _ still;
+  drops = λ d r pair rest w h e a s. record { loops = λ z. z; goes_on = λ z k. k };
+  runs = λ d r pair rest w x h e a s. tells (entry.Run d) w _ tt refl refl refl;
+  hands = λ d c r rest w x h e a s. tells (entry.Hand d c r.value) w _ tt refl refl refl;
+  sets = λ d value r w x h p s. tells (entry.Set d value) w _ tt refl refl refl;
+  waits = λ d e r given w x h i p q s. tells (entry.Wait d e) w _ tt refl refl refl;
+  takes = λ d e r given w x h i p q s. tells (entry.Take d e given.value) w _ tt refl refl refl;
+  advances = λ ticks w x s. record {
     loops = λ r. r;
     goes_on =
         λ r k. advanced w.objects.clock.time (min (w.objects.clock.time + ticks) MOST_TICKS) w.journal.entries

@@ -27,7 +27,8 @@ use Rattle.dv_laws.proofs.At.{places_on, no_places}
 use Rattle.dv_laws.proofs.Beside.{Locks, LocksRest, LockMade, LockAsked, LockReleased, LocksKept, SameLocks}
 use Rattle.dv_laws.proofs.Beside.{LockForgets}
 use Rattle.dv_laws.proofs.ReadBackLemmas.{get_set}
-use Rattle.dv_laws.proofs.Settles.{Still, Settles, means_keeps, reported}
+use Rattle.dv_laws.proofs.Still.{Still, calm}
+use Rattle.dv_laws.proofs.Settles.{Settles, means_keeps, reported}
 
 -- 1. Locks: those that hold a token of one of this name or wait for one, and that all tokens are held before anybody
 -- waits.
@@ -289,14 +290,14 @@ still name = record {
 
 settles : (name : List ℕ) → Settles (Goes name)
 settles name = record {
-  still = still name;
-  drops = λ d r pair rest w h e a. record { goes_on = λ k. k };
-  runs = λ d r pair rest w x h e a. plain name (entry.Run d) w _ refl refl refl;
-  hands = λ d c r rest w x h e a. plain name (entry.Hand d c r.value) w _ refl refl refl;
-  sets = λ d value r w x h p. plain name (entry.Set d value) w _ refl refl refl;
-  waits = λ d e r given w x h i p q. plain name (entry.Wait d e) w _ refl refl refl;
-  takes = λ d e r given w x h i p q. plain name (entry.Take d e given.value) w _ refl refl refl;
-  advances = λ ticks w x. plain name (entry.Advance _) w _ refl refl refl;
+  calm = calm _ (still name);
+  drops = λ d r pair rest w h e a s. record { goes_on = λ k. k };
+  runs = λ d r pair rest w x h e a s. plain name (entry.Run d) w _ refl refl refl;
+  hands = λ d c r rest w x h e a s. plain name (entry.Hand d c r.value) w _ refl refl refl;
+  sets = λ d value r w x h p s. plain name (entry.Set d value) w _ refl refl refl;
+  waits = λ d e r given w x h i p q s. plain name (entry.Wait d e) w _ refl refl refl;
+  takes = λ d e r given w x h i p q s. plain name (entry.Take d e given.value) w _ refl refl refl;
+  advances = λ ticks w x s. plain name (entry.Advance _) w _ refl refl refl;
 }
 
 -- so it is in a run

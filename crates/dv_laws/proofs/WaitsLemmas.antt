@@ -27,7 +27,8 @@ use Rattle.dv_laws.specs.Waits.{waits_of, hands_of, touches_of, waiting, handing
 use Rattle.dv_laws.specs.Waits.{StillWaits, HandsOver, WaitsForItsValue, WaitsEndByAHandOver}
 use Rattle.dv_laws.proofs.At.{counted_of, at, set_at, changing_at, push_at, set_by, changing_by, places_on, no_places}
 use Rattle.dv_laws.proofs.At.{entries_on, no_entries}
-use Rattle.dv_laws.proofs.Settles.{Still, Settles, running_of, ready_fired, ready_free, is_itself, means_keeps}
+use Rattle.dv_laws.proofs.Still.{Still, calm}
+use Rattle.dv_laws.proofs.Settles.{Settles, running_of, ready_fired, ready_free, is_itself, means_keeps}
 use Rattle.dv_laws.proofs.Settles.{reported}
 
 -- whether a Deferred waits for m, and whether it waits
@@ -476,8 +477,8 @@ still n = record {
 
 settles : (n : ℕ) → Settles (λ w u. Goes n (state_of w) (state_of u))
 settles n = record {
-  still = still n;
-  drops = λ d r pair rest w h e a.
+  calm = calm _ (still n);
+  drops = λ d r pair rest w h e a s.
       let left : Kind = record r { items = rest } in
       let less : handovers_of n left ≡ handovers_of n r =
       sym (omega (arith, handovers_first n r (item.Pair pair) rest e)) in
@@ -494,14 +495,14 @@ settles n = record {
           law = k.law;
         };
       };
-  runs = λ d r pair rest w x h e a.
+  runs = λ d r pair rest w x h e a s.
       let begun : Kind = record r { items = rest; running = true } in
       quiet n (entry.Run d) _ (state_of w) (λ m. refl) (λ m. refl) (zero_at odd_of n d r begun w.records h
       (λ z. begun_even r begun a refl refl)) (λ m. set_at (awaits_of m) n d r begun w.records h refl)
       (λ m. set_at (handovers_of n) m d r begun w.records h
       (sym (omega (arith, handovers_first n r (item.Pair pair) rest e))))
       (λ m o z t. apart_by _ n d m r w.records _ refl h (λ y. ready_any r a) o z t);
-  hands = λ d c r rest w x h e a.
+  hands = λ d c r rest w x h e a s.
       let taken : Kind = record r { items = rest; value = Null } in
       let left = slice_set w.records d taken in
       tells n (entry.Hand d c r.value) _ (state_of w) (λ k. record {
@@ -523,12 +524,12 @@ settles n = record {
             );
         until = λ m o t. hand_until _ c n d m r rest w refl h e a k o t;
       });
-  sets = λ d value r w x h p.
+  sets = λ d value r w x h p s.
       quiet n (entry.Set d value) _ (state_of w) (λ m. refl) (λ m. refl)
       (zero_at odd_of n d r _ w.records h (put_even value r)) (λ m. set_at (awaits_of m) n d r _ w.records h refl)
       (λ m. set_at (handovers_of n) m d r _ w.records h refl)
       (λ m o a t. apart_by _ n d m r w.records _ refl h (running_any r p) o a t);
-  waits = λ d e r given w x h i p q.
+  waits = λ d e r given w x h i p q s.
       let first = changing e (with_item (item.HandOver d)) w.records in
       let same : (f : Kind → ℕ) → ((c : ℕ) (y : Kind) → f (with_item (item.HandOver c) y) ≡ f y)
       → at f n first ≡ at f n w.records = λ f z. changing_at f n e (with_item (item.HandOver d)) w.records (z d) in
@@ -551,7 +552,7 @@ settles n = record {
             );
         until = λ m o t. apart_by _ n d m r w.records _ refl h (running_any r p) k.even o t;
       });
-  takes = λ d e r given w x h i p q.
+  takes = λ d e r given w x h i p q s.
       let first = changing e chaining.without_value w.records in
       quiet n (entry.Take d e given.value) _ (state_of w) (λ m. refl) (λ m. refl)
       (λ o. zero_changing odd_of n d (with_result given.value) first (λ y z. put_even given.value y z)
@@ -561,7 +562,7 @@ settles n = record {
       (λ m. changing_at (handovers_of n) m d (with_result given.value) first (λ y. refl)
       ∙ changing_at (handovers_of n) m e chaining.without_value w.records (λ y. refl))
       (λ m o a t. take_until n d e m r given (entry.Take d e given.value) w.records h i p q o a _ _ refl refl t);
-  advances = λ ticks w x. plain n (entry.Advance _) _ (state_of w) refl (λ o. o) (λ m. refl) (λ m. refl);
+  advances = λ ticks w x s. plain n (entry.Advance _) _ (state_of w) refl (λ o. o) (λ m. refl) (λ m. refl);
 }
 
 -- so it is in a run

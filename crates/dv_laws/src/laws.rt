@@ -8,6 +8,7 @@ ghost use Rattle.dv_laws.specs.OneAtATime.{EachPairIsUsedOnce, SidesRunOneAtATim
 ghost use Rattle.dv_laws.specs.Once.{EachDeferredIsFiredOnce};
 ghost use Rattle.dv_laws.specs.ReadBack.{OutcomesAreToldByTheJournal};
 ghost use Rattle.dv_laws.specs.Ready.{NothingRunsEarly};
+ghost use Rattle.dv_laws.specs.Served.{QueuesServeInOrder};
 ghost use Rattle.dv_laws.specs.Settled.{AllThatMayRunHasRun, NobodyIsLeftWaiting};
 ghost use Rattle.dv_laws.specs.Stored.{NothingIsStoredWhileAnyWaits, QueuesKeepTheirSize};
 ghost use Rattle.dv_laws.specs.Swallowed.{OnlyACancelHasOneSwallowed};
@@ -87,6 +88,14 @@ pub fn tokens_are_held()
 pub fn queues_keep_their_size()
     ensures size { QueuesKeepTheirSize }
     ensures waiters { NothingIsStoredWhileAnyWaits }
+{}
+
+/// In a run a queue whose name is given once serves those that ask in the order in which they ask,
+/// with the values in the order in which they were put, each once. A value is lost only if other
+/// code has fired the Deferred that it is given to. One that waits leaves exactly if a cancel fires
+/// it.
+pub fn queues_serve_in_order()
+    ensures order { QueuesServeInOrder }
 {}
 
 /// In a run the turns of a loop whose name is given once are at whole intervals after its start:
