@@ -529,7 +529,7 @@ waiting_anew : (number : ℕ) (from : DelayFrom) (delay at : ℕ) (due : Due) (w
 waiting_anew number from delay at (what.Call name key) w h =
     let now = w.objects.clock.time in
     let new = new_due from (min delay MOST_DELAY) at now in
-    by_aside (entry.Reset name new) (with_moved_call number new) w refl
+    by_aside (entry.Reset name new) (with_moved_call number new) w refl tt
     (λ k. Moves number at new name key h refl (new_later from (min delay MOST_DELAY) at now)) (λ k. k)
     (resting _ _ _ refl refl refl refl refl refl refl refl refl)
 waiting_anew number from delay at (what.Turn name key) w h = same w
@@ -1286,7 +1286,7 @@ IsMild (frame.Inline inlining) = Unit {0}
 pub rule_mild : (f : Frame) (p : Performed) (w : World) → IsMild f → Mildly None w (scripts.rule_of f p)
 rule_mild (frame.Settle d) p w m = absurd m
 rule_mild (frame.Place d) p w m = absurd m
-rule_mild (frame.Rest rest) p w m = 
+rule_mild (frame.Rest rest) p w m =
     unless_mild p _ w (rest_mild rest.itself rest.actions rest.end rest.input w)
 rule_mild (frame.Canceller d) p w m = search [] depth 20
 rule_mild (frame.Maybe purpose) p w m = maybe_mild purpose p w

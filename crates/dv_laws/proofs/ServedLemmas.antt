@@ -163,6 +163,7 @@ cancel_served name of w s x m k =
   where
     cancels_same : (n of : ℕ) → entry.Cancel of ≡ entry.Cancel n → n ≡ of
     cancels_same n of q = cc
+
     cancel_is : (told : List Entry) (of d : ℕ) → IsCancelled d (told ++ entry.Cancel of ∷ []) → ComesTo of d told
     cancel_is told of d c =
         let found = last_is told c.before (entry.Cancel of) (entry.Cancel c.of) c.last in

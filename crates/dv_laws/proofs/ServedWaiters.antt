@@ -79,6 +79,7 @@ plain_record end d k rs (Some r) g q =
     same_unfired end d (Some (canceller.Item j)) q = absurd cc
     same_unfired end d (Some (canceller.Children children)) q = absurd cc
     same_unfired end d (Some (canceller.Inline i)) q = absurd cc
+
     same_by : (b : Bool) (end d : ℕ) (c : Option Canceller)
         → cond b reached.Nothing (reached_unfired end c) ≡ reached.Fire d → end ≡ d
     same_by true end d c q = absurd cc
