@@ -124,7 +124,9 @@ sound_script (object ms) draft e =
     rw (← some_injective y_then) (record {
       members = ms;
       whole = refl;
-      version = sound_key v (IsNumber 1 LAST_VERSION) (number_at 1 LAST_VERSION) (number_is 1 LAST_VERSION) (get_member (codes "version") ms) v_is;
+      version =
+          sound_key v (IsNumber 1 LAST_VERSION) (number_at 1 LAST_VERSION) (number_is 1 LAST_VERSION)
+          (get_member (codes "version") ms) v_is;
       only = fields_is (keys_of v) ms t t_is;
       declared =
           sound_field [] c (IsList IsDeclaration) (list_at declaration_at)
@@ -247,7 +249,8 @@ complete_script d draft deep h =
     ≡ Some draft.script.events =
     complete_events (table_of draft.declared) draft.script.events (get_member (codes "events") h.members)
     (within (codes "events")) (rw h.table at h.events) in
-    let version = complete_key draft.version (IsNumber 1 LAST_VERSION) (number_at 1 LAST_VERSION) (complete_number 1 LAST_VERSION)
+    let version =
+    complete_key draft.version (IsNumber 1 LAST_VERSION) (number_at 1 LAST_VERSION) (complete_number 1 LAST_VERSION)
     (get_member (codes "version") h.members) h.version in
     rw h.whole (rw version (rw h.only (rw (
       complete_field USUAL_LIMIT draft.script.limit (IsNumber 0 MOST_LIMIT) (number_at 0 MOST_LIMIT)

@@ -1,5 +1,6 @@
 -- The version that a document says, and that a script of the first has no pools.
-use Rattle.std.proofs.Common.{is_eq, true≢false, Ordering, Less, Equal, Greater, nat_cmp, ◌≡◌, ℕ, ◌≤◌, Bool, true, false}
+use Rattle.std.proofs.Common.{is_eq, true≢false, Ordering, Less, Equal, Greater, nat_cmp, ◌≡◌, ℕ, ◌≤◌, Bool, true}
+use Rattle.std.proofs.Common.{false}
 use Rattle.std.proofs.Common.{◌||◌, nat_eq, List, Option, Some, None, option_and_then, bytes_eq, refl, sym, ap, ◌∙◌}
 use Rattle.std.proofs.Common.{codes}
 use Rattle.std.specs.List.{list_any}

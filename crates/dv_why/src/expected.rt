@@ -322,7 +322,8 @@ fn missing_key(keyed: Keyed, json: &Json) -> Option<&'static str> {
 }
 
 impl Expected {
-    /// What is expected at a place that asks for this, where this stands in a script of this version.
+    /// What is expected at a place that asks for this, where this stands in a script of this
+    /// version.
     pub fn at(version: u32, want: Want, found: &Json) -> Expected {
         match want {
             Want::Call(call) => match forms_in(call, found) {
