@@ -299,7 +299,8 @@ lock_beside e old new t a b c p q r = record {
   loops = beside.LoopsRest _ c (beside.SameLoops _ r);
 }
 
-pub queue_beside : (e : Entry) (old : Objects) (new : Objects) → Queues e old.queues new.queues → tasking_of e ≡ Untasked
+pub queue_beside : (e : Entry) (old : Objects) (new : Objects) → Queues e old.queues new.queues
+    → tasking_of e ≡ Untasked
     → holding_of e ≡ Unheld → looping_of e ≡ Unlooped → new.cooperator ≡ old.cooperator
     → new.semaphores ≡ old.semaphores → new.loops ≡ old.loops → Beside e old new
 queue_beside e old new t a b c p q r = record {
@@ -399,7 +400,8 @@ loop_stopped_comes : (l : ℕ) (o : Option LoopingCall) (w : World) → slice_ge
     → Quietly w (loop_stopped l o w)
 loop_stopped_comes l None w h = same w
 loop_stopped_comes l (Some x) w h =
-    by_aside (entry.Stop x.name) (with_stopped l x) w refl tt (λ k. dropped_same (entry.Stop x.name) x.turn w.objects.clock
+    by_aside (entry.Stop x.name) (with_stopped l x) w refl tt
+    (λ k. dropped_same (entry.Stop x.name) x.turn w.objects.clock
     (refl, refl, refl)) (λ k. regular_set l x _ w.objects.loops h refl k)
     (loop_beside _ _ _ (beside.LoopsRest _ refl (beside.LoopSet l x _ h refl refl refl)) refl refl refl refl refl refl)
 
@@ -431,7 +433,8 @@ loop_arranged l (Some x) objects h = record {
 end_loop_comes : (l : ℕ) (w : World) → Quietly w (end_loop l w)
 end_loop_comes l w =
     by_arrange _ w (ended_queues l (slice_get w.objects.loops l) w.objects)
-    (ended_same l (slice_get w.objects.loops l) w.objects) (ended_loops l (slice_get w.objects.loops l) w.objects refl) (loop_arranged l (slice_get w.objects.loops l) w.objects refl)
+    (ended_same l (slice_get w.objects.loops l) w.objects) (ended_loops l (slice_get w.objects.loops l) w.objects refl)
+    (loop_arranged l (slice_get w.objects.loops l) w.objects refl)
 
 told_task_comes : (e : Task → Entry) (change : Task → Cooperator → Cooperator) (o : Option Task) (w : World)
     → ((x : Task) → change_of (e x) ≡ Aside) → ((x : Task) → LeavesQueues (queueing_of (e x)))
@@ -560,7 +563,8 @@ call_later_comes : (name : List ℕ) (delay : ℕ) (body : body_of.Body) (w : Wo
     → Quietly w (call_later name delay body w)
 call_later_comes name delay body w =
     let due = w.objects.clock.time + min delay MOST_DELAY in by_aside (entry.LaterCall name due)
-    (with_new_call name due body) w refl tt (λ k. Adds (what.Call name (length w.objects.bodies)) due refl (omega arith))
+    (with_new_call name due body) w refl tt
+    (λ k. Adds (what.Call name (length w.objects.bodies)) due refl (omega arith))
     (λ k. k) (resting _ _ _ refl refl refl refl refl refl refl refl refl)
 
 timer_comes : (d delay : ℕ) (w : World) → Quietly w (start_timer d delay w)

@@ -467,7 +467,8 @@ settles name = record {
   hands = λ d c r rest w x h e a s. plain name (entry.Hand d c r.value) w _ (refl, refl, refl) refl refl refl refl;
   sets = λ d value r w x h p s. plain name (entry.Set d value) w _ (refl, refl, refl) refl refl refl refl;
   waits = λ d e r given w x h i p q s. plain name (entry.Wait d e) w _ (refl, refl, refl) refl refl refl refl;
-  takes = λ d e r given w x h i p q s. plain name (entry.Take d e given.value) w _ (refl, refl, refl) refl refl refl refl;
+  takes =
+      λ d e r given w x h i p q s. plain name (entry.Take d e given.value) w _ (refl, refl, refl) refl refl refl refl;
   advances = λ ticks w x s. record {
     loops = λ r. r;
     goes_on = λ r k. passes name ticks w.objects.clock w.objects.loops w.journal.entries k;

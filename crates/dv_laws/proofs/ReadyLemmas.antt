@@ -120,7 +120,8 @@ settles n = record {
   calm = calm _ (still n);
   drops = λ d r pair rest w h e a s. untold n (state_of w) _ refl (reads.drops d r pair rest (state_of w) h e);
   runs =
-      λ d r pair rest w x h e a s. tells n (entry.Run d) (state_of w) _ refl (reads.runs d pair r rest (state_of w) x h e)
+      λ d r pair rest w x h e a s.
+      tells n (entry.Run d) (state_of w) _ refl (reads.runs d pair r rest (state_of w) x h e)
       (λ k q. ready_told n d r (state_of w) (run_is d n q) h a k) (λ k m value q. absurd cc);
   hands =
       λ d c r rest w x h e a s.

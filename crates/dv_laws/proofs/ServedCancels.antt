@@ -20,7 +20,8 @@ use Rattle.dv_objects.specs.declared.reached.Reached.TheVariants as reached
 use Rattle.dv_prims.specs.Queue.{Queue, withdrawn}
 use Rattle.dv_prims.specs.Tokens.{is_waiting, without}
 use Rattle.dv_loop.proofs.Kept.{Kind}
-use Rattle.dv_world.specs.World.{World, Records, state_of, with_stop, fire, fired, cancel, withdraw, arrange, reached_from}
+use Rattle.dv_world.specs.World.{World, Records, state_of, with_stop, fire, fired, cancel, withdraw, arrange}
+use Rattle.dv_world.specs.World.{reached_from}
 use Rattle.dv_laws.specs.Served.{made_by, queues_made, Line, line, IsCancelled, IsTakenOut, Next, Leaves, Leads, Goes}
 use Rattle.dv_laws.specs.Stored.{queueing_of}
 use Rattle.dv_laws.proofs.ReadBackLemmas.{ReadsBack, reads}

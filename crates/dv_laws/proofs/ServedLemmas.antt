@@ -1,6 +1,7 @@
 -- A queue serves those that ask in the order in which they ask: what each entry leaves.
 use Rattle.std.proofs.Common.{◌≡◌, ◌⊎◌, inl, inr, ⊎_elim, ℕ, zero, suc, ◌+◌, ◌≤◌, ◌++◌, Bool, true, false, nat_eq, List}
-use Rattle.std.proofs.Common.{[], ◌∷◌, Option, None, Some, Ok, Err, refl, sym, ap, subst, ◌∙◌, arith, slice_get, slice_set}
+use Rattle.std.proofs.Common.{[], ◌∷◌, Option, None, Some, Ok, Err, refl, sym, ap, subst, ◌∙◌, arith, slice_get}
+use Rattle.std.proofs.Common.{slice_set}
 use Rattle.std.proofs.Common.{cond, length}
 use Rattle.std.specs.Prelude.{bytes_eq}
 use Rattle.std.proofs.lemmas.Bool.{eqb-true}
@@ -24,8 +25,10 @@ use Rattle.dv_objects.specs.declared.reached.Reached.TheVariants as reached
 use Rattle.dv_prims.specs.Queue.{Queue, may_put, new_queue, receiver, put_to, got_from, withdrawn}
 use Rattle.dv_prims.specs.Tokens.{is_waiting, without}
 use Rattle.dv_loop.proofs.Kept.{Both, Kind, telling_of}
-use Rattle.dv_world.specs.World.{World, Records, state_of, with_stop, fire, fired, cancel, withdraw, arrange, reached_from}
-use Rattle.dv_laws.specs.Served.{made_by, queues_made, Line, line, Firing, Fired, Refused, IsCancelled, IsTakenOut, Next}
+use Rattle.dv_world.specs.World.{World, Records, state_of, with_stop, fire, fired, cancel, withdraw, arrange}
+use Rattle.dv_world.specs.World.{reached_from}
+use Rattle.dv_laws.specs.Served.{made_by, queues_made, Line, line, Firing, Fired, Refused, IsCancelled, IsTakenOut}
+use Rattle.dv_laws.specs.Served.{Next}
 use Rattle.dv_laws.specs.Served.{Gives, Stores, Takes, Waits, Fires, Leaves, Rests, Leads, Goes}
 use Rattle.dv_laws.specs.Swallowed.{ComesTo}
 use Rattle.dv_laws.specs.Stored.{Unqueued, queueing_of, puts_by, gets_by}
@@ -33,10 +36,12 @@ use Rattle.dv_laws.proofs.At.{counted_of, at}
 use Rattle.dv_laws.proofs.Calm.{IsMade, ReachesNoItem, handed, handed_to}
 use Rattle.dv_laws.proofs.OnceLemmas.{fired_of, marks_of, marked_at}
 use Rattle.dv_laws.proofs.ReadBackLemmas.{Reads, ReadsBack, reads}
-use Rattle.dv_laws.proofs.ServedLines.{own, line_of, named, named_set, line_own, line_set, line_same, line_push, given_none}
+use Rattle.dv_laws.proofs.ServedLines.{own, line_of, named, named_set, line_own, line_set, line_same, line_push}
+use Rattle.dv_laws.proofs.ServedLines.{given_none}
 use Rattle.dv_laws.proofs.ServedLines.{without_absent, still_waiting, joined, WaitsIn, waits_in}
 use Rattle.dv_laws.proofs.ServedWaiters.{item_of, made_item, made_fresh, none_counts, ItemReached, item_reached}
-use Rattle.dv_laws.proofs.ServedWaiters.{same_queue, last_is, not_cancelled, ends_comes, fired_already, Alike, alike_same, alike_set}
+use Rattle.dv_laws.proofs.ServedWaiters.{same_queue, last_is, not_cancelled, ends_comes, fired_already, Alike}
+use Rattle.dv_laws.proofs.ServedWaiters.{alike_same, alike_set}
 use Rattle.dv_laws.proofs.ServedWaiters.{Waiter, Waiters, IsIn, Fewer, fewer_same, fewer_push, fewer_set, waiters_on}
 use Rattle.dv_laws.proofs.Steps.{fire_cases, telling_in}
 
@@ -265,5 +270,6 @@ pending_fired name d value w s k =
     (λ r x g p h. fired_served name d value (entry.Refuse d) w (telling_in (entry.Refuse d) w.records w) Refused refl
     (λ of c. absurd cc) refl refl (reads.refuses d r (state_of w) x g p) (alike_same w.records) k)
     (λ r x g p. fired_served name d value (entry.Fire d value) w
-    (telling_in (entry.Fire d value) (slice_set w.records d (with_firing value r)) w) Fired refl (λ of c. absurd cc) refl
+    (telling_in (entry.Fire d value) (slice_set w.records d (with_firing value r)) w) Fired refl
+    (λ of c. absurd cc) refl
     refl (reads.fires d value r (state_of w) x g p) (alike_set d r (with_firing value r) w.records g refl refl) k))

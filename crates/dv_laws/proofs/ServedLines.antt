@@ -1,6 +1,7 @@
 -- The line of a queue: what each change of a queue leaves of that of a name.
 use Rattle.std.proofs.Common.{◌≡◌, ◌⊎◌, inl, inr, ℕ, zero, suc, ◌+◌, ◌≤◌, ◌++◌, Bool, true, false, nat_eq, List, []}
-use Rattle.std.proofs.Common.{◌∷◌, Option, None, Some, refl, sym, ap, subst, ◌∙◌, arith, slice_get, slice_set, cond, sum_by}
+use Rattle.std.proofs.Common.{◌∷◌, Option, None, Some, refl, sym, ap, subst, ◌∙◌, arith, slice_get, slice_set, cond}
+use Rattle.std.proofs.Common.{sum_by}
 use Rattle.std.specs.Prelude.{◌||◌, bytes_eq}
 use Rattle.std.specs.List.{list_any}
 use Rattle.std.specs.Set.{remove_key}
@@ -44,7 +45,8 @@ last_by : (b : Bool) → (b || false) ≡ true → b ≡ true
 last_by true h = refl
 last_by false h = absurd cc
 
-pub joined : (d x : ℕ) (ws : List ℕ) → is_waiting x (ws ++ d ∷ []) ≡ true → (is_waiting x ws ≡ true) ⊎ (nat_eq x d ≡ true)
+pub joined : (d x : ℕ) (ws : List ℕ) → is_waiting x (ws ++ d ∷ []) ≡ true
+    → (is_waiting x ws ≡ true) ⊎ (nat_eq x d ≡ true)
 joined d x [] h = inr (last_by (nat_eq x d) h)
 joined d x (w ∷ ws) h = split (nat_eq x w) refl (joined d x ws) h
   where
@@ -117,7 +119,8 @@ line_own name (suc k) p (q ∷ queues) h b c =
     ∙ line_own name k p queues h b (omega (arith, sum_by-cons (named_of name) q queues, c))
 
 pub line_set : (name : List ℕ) (k : ℕ) (p q : Queue) (queues : List Queue) → slice_get queues k ≡ Some p
-    → bytes_eq p.name name ≡ true → q.name ≡ p.name → named name queues ≤ 1 → line_of name (slice_set queues k q) ≡ own q
+    → bytes_eq p.name name ≡ true → q.name ≡ p.name → named name queues ≤ 1
+    → line_of name (slice_set queues k q) ≡ own q
 line_set name k p q queues h b n c =
     let there : slice_get (slice_set queues k q) k ≡ Some q =
     get_set queues k k p q h ∙ ap (λ d. cond d (Some q) (slice_get queues k)) (is_itself k) in
@@ -157,7 +160,8 @@ given_by false x y h k = k
 
 pub given_none : (name : List ℕ) (queues : List Queue) → (line_of name queues).given ≡ None
 given_none name [] = refl
-given_none name (q ∷ queues) = given_by (bytes_eq q.name name) (own q) (line_of name queues) refl (given_none name queues)
+given_none name (q ∷ queues) =
+    given_by (bytes_eq q.name name) (own q) (line_of name queues) refl (given_none name queues)
 
 -- who waits in the line waits for a value of a queue of the name
 pub record WaitsIn (name : List ℕ) (d : ℕ) (queues : List Queue) : Type 0 where
@@ -167,7 +171,8 @@ pub record WaitsIn (name : List ℕ) (d : ℕ) (queues : List Queue) : Type 0 wh
   pub named_so : bytes_eq queue.name name ≡ true
   pub waits : is_waiting d queue.waiting ≡ true
 
-further : (name : List ℕ) (d : ℕ) (q : Queue) (queues : List Queue) → WaitsIn name d queues → WaitsIn name d (q ∷ queues)
+further : (name : List ℕ) (d : ℕ) (q : Queue) (queues : List Queue) → WaitsIn name d queues
+    → WaitsIn name d (q ∷ queues)
 further name d q queues f = record {
   number = suc f.number;
   queue = f.queue;

@@ -34,7 +34,8 @@ use Rattle.dv_loop.proofs.Kept.{Both, Kind}
 use Rattle.dv_loop.proofs.Leading.{scripts_mean_what_is_defined}
 use Rattle.dv_world.specs.World.{World, Records, state_of, with_state, with_stop, fire, fired, fire_guarded, guarded}
 use Rattle.dv_world.specs.World.{cancel, reached_from, make, pause, unpause, append, aside, arrange, submit}
-use Rattle.dv_laws.specs.Served.{made_by, queues_made, Line, Leads, Begins, IsTakenOut, ServesInOrder, QueuesServeInOrder}
+use Rattle.dv_laws.specs.Served.{made_by, queues_made, Line, Leads, Begins, IsTakenOut, ServesInOrder}
+use Rattle.dv_laws.specs.Served.{QueuesServeInOrder}
 use Rattle.dv_laws.specs.Stored.{Unqueued, queueing_of, puts_by, gets_by}
 use Rattle.dv_laws.proofs.At.{at, set_at}
 use Rattle.dv_laws.proofs.Beside.{Beside, Queues, QueuesRest, QueueMade, QueuePut, QueueGot}
@@ -130,7 +131,8 @@ arranged name change w q = record {
   };
 }
 
-named_same : (name : Option (List ℕ)) (d : ℕ) (objects : Objects) → (naming_where name d objects).queues ≡ objects.queues
+named_same : (name : Option (List ℕ)) (d : ℕ) (objects : Objects)
+    → (naming_where name d objects).queues ≡ objects.queues
 named_same None d objects = refl
 named_same (Some name) d objects = refl
 
@@ -176,7 +178,8 @@ module _ (name : List ℕ) (d : ℕ) (w : World) (s : w.stopped ≡ false) where
   reply_by false true r u v p q m = m
   reply_by false false r u v p q m = absurd cc
 
-  reply : fits w.journal (entry.Cancel d) ≡ true → ReachesNoItem (cancel d w).0 → ReachesNoItem (reached_from d w.records)
+  reply : fits w.journal (entry.Cancel d) ≡ true → ReachesNoItem (cancel d w).0
+      → ReachesNoItem (reached_from d w.records)
   unfolding cancel
   reply x m = reply_by w.stopped (fits w.journal (entry.Cancel d)) (reached_from d w.records) _ _ s x m
 
@@ -210,7 +213,8 @@ module _ (name : List ℕ) where
       by_make = λ given canceller w.
           live (Goes name w) w (make given canceller w) (stays name w) (make_stays given canceller w)
           (λ s. make_cases w (Goes name w) (stays name w) (stops name w) given canceller
-          (λ x. rests name (entry.New (length w.records) given) w _ s refl (named_same given (length w.records) w.objects)
+          (λ x.
+          rests name (entry.New (length w.records) given) w _ s refl (named_same given (length w.records) w.objects)
           refl (λ of q. absurd cc) (λ n q. absurd cc) (reads.news given canceller (state_of w) x)
           (alike_push given canceller w.records)));
       by_cancel = λ d w m.
@@ -224,7 +228,8 @@ module _ (name : List ℕ) where
       by_aside = λ e change w a l c t b.
           live (Goes name w) w (aside e change w) (stays name w) (aside_stays e change w)
           (λ s. aside_cases w (Goes name w) (stays name w) (stops name w) e change
-          (λ x. aside_by name e w _ s refl a (reads.asides e (state_of w) a x) (alike_same w.records) _ refl b.queues l));
+          (λ x.
+          aside_by name e w _ s refl a (reads.asides e (state_of w) a x) (alike_same w.records) _ refl b.queues l));
       by_arrange = λ change w q s l t.
           arrange_cases w (Goes name w) (stays name w) (stops name w) change (arranged name change w q);
       by_submit = λ d pool work w.

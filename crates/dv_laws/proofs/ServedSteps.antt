@@ -1,6 +1,7 @@
 -- A queue serves those that ask in the order in which they ask: what its own steps leave, with the firings after them.
 use Rattle.std.proofs.Common.{◌≡◌, ◌⊎◌, inl, inr, ⊎_elim, ℕ, zero, suc, ◌+◌, ◌≤◌, ◌++◌, Bool, true, false, nat_eq, List}
-use Rattle.std.proofs.Common.{[], ◌∷◌, Option, None, Some, Ok, Err, refl, sym, ap, subst, ◌∙◌, arith, slice_get, slice_set}
+use Rattle.std.proofs.Common.{[], ◌∷◌, Option, None, Some, Ok, Err, refl, sym, ap, subst, ◌∙◌, arith, slice_get}
+use Rattle.std.proofs.Common.{slice_set}
 use Rattle.std.proofs.Common.{cond}
 use Rattle.std.specs.Prelude.{◌||◌, bytes_eq}
 use Rattle.std.specs.List.{list_any}
@@ -24,7 +25,8 @@ use Rattle.dv_objects.specs.declared.reached.Reached.TheVariants as reached
 use Rattle.dv_prims.specs.Queue.{Queue, receiver, put_to, got_from, withdrawn}
 use Rattle.dv_prims.specs.Tokens.{is_waiting, without}
 use Rattle.dv_loop.proofs.Kept.{Kind}
-use Rattle.dv_world.specs.World.{World, Records, state_of, with_stop, fire, fired, cancel, withdraw, arrange, reached_from}
+use Rattle.dv_world.specs.World.{World, Records, state_of, with_stop, fire, fired, cancel, withdraw, arrange}
+use Rattle.dv_world.specs.World.{reached_from}
 use Rattle.dv_laws.specs.Served.{made_by, queues_made, Line, line, IsCancelled, IsTakenOut, Next, Gives, Stores, Takes}
 use Rattle.dv_laws.specs.Served.{Waits, Leaves, Leads, Goes}
 use Rattle.dv_laws.specs.Stored.{queueing_of, puts_by, gets_by}

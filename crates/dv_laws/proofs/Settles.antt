@@ -102,7 +102,8 @@ pub record Settles (R : World → World → Type 0) : Type 0 where
       → R w (telling_in (entry.Take d e given.value) (chaining.taking d e given.value w.records) w)
   pub advances : (ticks : ℕ) (w : World)
       → (let time = min (w.objects.clock.time + ticks) MOST_TICKS in fits w.journal (entry.Advance time) ≡ true
-      → w.stopped ≡ false → R w (record w { objects = with_time time w.objects; journal = with_entry w.journal (entry.Advance time) }))
+      → w.stopped ≡ false
+      → R w (record w { objects = with_time time w.objects; journal = with_entry w.journal (entry.Advance time) }))
 
 -- whether a side of a Deferred runs, as a count
 abbrev pub running_of : Kind → ℕ

@@ -371,7 +371,8 @@ module _ (w : World) (P : Step Pair → World → Type 0) (none : P Nothing w) (
   step_cases d h k l = stopped_cases w.stopped _ (found_cases d _ refl h k l)
 
 -- a line of a queue is written, and its answer is given, unless the run has stopped
-module _ {A : Type 0} (w : World) (P : Option A → World → Type 0) (stays : P None w) (stops : P None (with_stop w)) where
+module _ {A : Type 0} (w : World)
+    (P : Option A → World → Type 0) (stays : P None w) (stops : P None (with_stop w)) where
   answered_told : (b : Bool) (answer : Option A) (e : Entry) (change : Objects → Objects) → fits w.journal e ≡ b
       → w.stopped ≡ false
       → (w.stopped ≡ false → fits w.journal e ≡ true

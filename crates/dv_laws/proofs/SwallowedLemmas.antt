@@ -212,7 +212,8 @@ settles n = record {
         };
       };
   runs =
-      λ d r pair rest w x h e a s. plain n (entry.Run d) (state_of w) _ refl (reads.runs d pair r rest (state_of w) x h e)
+      λ d r pair rest w x h e a s.
+      plain n (entry.Run d) (state_of w) _ refl (reads.runs d pair r rest (state_of w) x h e)
       (set_at marks_of n d r _ w.records h refl) (λ z. absurd cc);
   hands = λ d c r rest w x h e a s.
       plain n (entry.Hand d c r.value) (state_of w) _ refl (reads.hands d c r rest (state_of w) x h e)

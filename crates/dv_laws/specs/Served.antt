@@ -1,5 +1,6 @@
 -- In which order a queue serves those that ask, as its journal logs it (Twisted: `DeferredQueue`).
-use Rattle.std.specs.Prelude.{ℕ, ◌≡◌, ◌≤◌, Bool, true, false, if◌then◌else◌, bytes_eq, List, [], ◌∷◌, ◌++◌, Option, None}
+use Rattle.std.specs.Prelude.{ℕ, ◌≡◌, ◌≤◌, Bool, true, false, if◌then◌else◌, bytes_eq, List, [], ◌∷◌, ◌++◌, Option}
+use Rattle.std.specs.Prelude.{None}
 use Rattle.std.specs.Prelude.{Some, sum_by}
 use Rattle.dv_value.specs.declared.value.Value.{Value}
 use Rattle.dv_journal.specs.declared.entry.Entry.{Entry}
@@ -51,8 +52,8 @@ pub record IsTakenOut (d : ℕ) (waiting : List ℕ) (told : List Entry) (e : En
   pub fires : e ≡ entry.Fire d cancelled
 
 -- what the next entry makes of a queue. A value that is put goes to the first that waits, or is stored, last. Whoever
--- asks is given the value that is stored first, or waits, last. Who is given a value is fired with it by the entry after
--- that. One that waits leaves where a cancel fires it. Any other entry leaves the queue as it is
+-- asks is given the value that is stored first, or waits, last. Who is given a value is fired with it by the entry
+-- after that. One that waits leaves where a cancel fires it. Any other entry leaves the queue as it is
 pub data Next (name : List ℕ) (told : List Entry) : Line → Entry → Line → Type 0 where
   Gives : (stored : List Value) (d : ℕ) (rest : List ℕ) (value : Value)
       → Next name told (line stored (d ∷ rest) None) (entry.Put name value) (line stored rest (Some (d, value)))
