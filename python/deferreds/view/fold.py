@@ -432,8 +432,10 @@ class Fold:
         if call is not None:
             call.state = Wait.CALLED
             self._link(call.row, row, BracketKind.CAME)
-            reset: Phrase = () if call.reset is None else (", reset at ", OfLine(call.reset))
-            row.cause = ("scheduled at ", OfLine(call.row), *reset, f", due {call.due}")
+            cause: Phrase = ("scheduled at ", OfLine(call.row))
+            if call.reset is not None:
+                cause += (", reset at ", OfLine(call.reset))
+            row.cause = cause + (f", due {call.due}",)
 
     def _job(self, row: Row, entry: Entry, before: Optional[Row]) -> None:
         record = self._touch(row, entry.deferred)

@@ -43,7 +43,7 @@ def _tell_cancelled(watcher: Observer, call: base.DelayedCall, delayed: Delayed)
 
 def _instrument_moving(name: str, word: str) -> None:
     """`reset` and `delay`."""
-    original = getattr(base.DelayedCall, name)
+    original: Callable[[Any, float], None] = getattr(base.DelayedCall, name)
 
     def moved(self: Any, seconds: float) -> None:
         watcher = observer_of("clock") if observers_on else None
