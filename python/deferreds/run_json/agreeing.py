@@ -39,8 +39,10 @@ Told = Dict[str, Any]
 _UNTOLD = frozenset({At.CHILD, At.CHAIN})
 _OF_OBJECTS = frozenset({At.LOCK, At.QUEUE, At.LOOP, At.TASK})
 
-#: what isn't known of who hangs where, if a run has stopped after a line of this word: whether that was taken out of its line or fired
+#: what isn't known of who hangs where, if a run has stopped after a line of this word: whether that was taken out of its line or
+#: fired, or whether the pair of an inline body that awaits was to run next
 _UNTOLD_AFTER: Dict[str, FrozenSet[At]] = {
+    "add": frozenset({At.AWAIT}),
     "cancel": frozenset({At.LOCK, At.QUEUE}),
     "stop": frozenset({At.LOOP}),
 }
