@@ -162,7 +162,7 @@ fn suits_every(version: u32, classes: &Classes, pools: &[NamedPool], leaf: Leaf,
         Leaf::New(_)
         | Leaf::Found(Object::Lock | Object::Queue | Object::Call | Object::Loop | Object::Task) =>
             is_name(version, name),
-        Leaf::Comment => COMMENTS_SINCE <= version,
+        Leaf::Comment => stands(version, leaf),
         Leaf::Text
         | Leaf::Integer
         | Leaf::Number(_, _)
