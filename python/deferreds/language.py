@@ -58,6 +58,8 @@ class Language(NamedTuple):
     classes: Dict[str, Optional[str]]
     #: the most that there may be of something
     limits: Dict[str, int]
+    #: the same of a script of a version before this one, where it is less
+    smaller: Dict[str, int]
     #: what stands where a script leaves it out
     usual: Dict[str, int]
     #: the numbers of the refusals, by their names
@@ -76,6 +78,14 @@ class Language(NamedTuple):
     def lines_that(self, *nestings: str) -> FrozenSet[str]:
         """The first words of the lines that begin or end this."""
         return frozenset(line.line.split()[0] for line in self.lines if line.nesting in nestings)
+
+    def most(self, name: str, version: int) -> int:
+        """The most bytes or nodes of a script of a version, or the most that its `limit` may be."""
+        if version < self.smaller["before"]:
+            return self.smaller[name]
+        if name == "limit":
+            return next(int(key.value["most"]) for key in self.keys_of("script") if key.key == name)
+        return self.limits[name]
 
     def keys_of(self, name: str, version: Optional[int] = None) -> List[Key]:
         """The keys that an object may have, in a version or in the last one."""
@@ -96,6 +106,7 @@ def read(text: str) -> Language:
         lines=tuple(Line(row["line"], tuple(row["parts"]), row["nesting"]) for row in told["lines"]),
         classes={row["class"]: row["parent"] for row in told["classes"]},
         limits=told["limits"],
+        smaller=told["smaller"],
         usual=told["usual"],
         refusals={row["name"]: row["refusal"] for row in told["refusals"]},
         statuses={row["status"]: row["when"] for row in told["statuses"]},

@@ -123,14 +123,17 @@ class _Maker:
             schema["default"] = self._language.usual[key.key]
         return schema
 
-    def later_keys(self) -> Schema:
-        """The keys of the script that a version doesn't have yet, but a later one."""
+    def later(self) -> Schema:
+        """What a version doesn't have yet, but a later one: keys of the script, and a larger limit."""
         allof: List[Schema] = []
         for version in self._language.versions:
-            later = [key.key for key in self._language.keys_of("script") if key.since > version]
-            if later:
+            keys = self._language.keys_of("script")
+            properties: Dict[str, Any] = {key.key: False for key in keys if key.since > version}
+            if version < self._language.smaller["before"]:
+                properties["limit"] = {"maximum": self._language.most("limit", version)}
+            if properties:
                 condition = {"required": ["version"], "properties": {"version": {"const": version}}}
-                allof.append({"if": condition, "then": {"properties": {key: False for key in later}}})
+                allof.append({"if": condition, "then": {"properties": properties}})
         return {"allOf": allof}
 
 
@@ -152,7 +155,7 @@ def schema_of(language: Language) -> Schema:
         "$schema": _DRAFT,
         "title": "A script for deferreds",
         **maker.object("script"),
-        **maker.later_keys(),
+        **maker.later(),
         "$defs": {
             **maker.names(),
             **{name: maker.object(name) for name in objects},

@@ -42,6 +42,23 @@ class Refusals(unittest.TestCase):
         self.assertEqual(refusal(script + " " * (1_048_576 - len(script))), 0)
         self.assertEqual(refusal(script + " " * (1_048_577 - len(script))), 1)
 
+    def test_a_long_script_says_version_3(self) -> None:
+        for version, number in (("1", 1), ("2", 1), ("3", 0), ("4", 1), ("3.0", 1), ("[3]", 1)):
+            with self.subTest(version):
+                script = f'{{"version":{version},"events":[]}}'
+                self.assertEqual(refusal(script.ljust(1_048_577)), number)
+        self.assertEqual(refusal('{"version":3,"events":['.ljust(1_048_577)), 1)
+
+    def test_the_limit_of_version_3(self) -> None:
+        for version, limit, number in ((2, 200_001, 4), (3, 200_001, 0), (3, 10_000_000, 0), (3, 10_000_001, 4)):
+            with self.subTest(version=version, limit=limit):
+                self.assertEqual(refusal(f'{{"version":{version},"limit":{limit},"events":[]}}'), number)
+
+    def test_the_nodes_of_version_3(self) -> None:
+        script = '{"version":%d,"events":[["callback","d",[%s]]]}'
+        self.assertEqual(refusal(script % (2, ",".join("0" * 65_530))), 5)
+        self.assertEqual(refusal(script % (3, ",".join("0" * 65_530))), 0)
+
     def test_what_is_no_json(self) -> None:
         for text in ("", "{", "[1e400]", "[NaN]", b'["\xff"]', '["\\ud800"]', '["\\ud800x"]'):
             with self.subTest(text):

@@ -1,4 +1,5 @@
 pub mod Forms
+pub mod Limits
 pub mod Table
 pub mod Leaving
 pub mod Parts

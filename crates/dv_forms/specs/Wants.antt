@@ -12,7 +12,8 @@ use Rattle.dv_forms.specs.declared.want.Item.TheVariants as item
 use Rattle.dv_forms.specs.declared.want.Want.{Want}
 use Rattle.dv_forms.specs.declared.want.Want.TheVariants as want
 use Rattle.dv_clock.specs.declared.limits.TheConstants.{MOST_DELAY}
-use Rattle.dv_script.specs.declared.limits.TheConstants.{MOST_LIMIT, MOST_UNITS, MOST_WORKERS}
+use Rattle.dv_script.specs.declared.limits.TheConstants.{MOST_UNITS, MOST_WORKERS}
+use Rattle.dv_forms.specs.Limits.{most_limit}
 use Rattle.dv_forms.specs.declared.versions.TheConstants.{LAST_VERSION}
 
 -- the name of a Deferred that is looked up
@@ -59,7 +60,7 @@ abbrev pub script_want : ℕ → List ℕ → Want
 script_want version key =
     if bytes_eq key (codes "version") then want.Leaf (leaf.Number 1 LAST_VERSION) else
     if bytes_eq key (codes "events") then want.Array item.Event else
-    if bytes_eq key (codes "limit") then want.Leaf (leaf.Number 0 MOST_LIMIT) else
+    if bytes_eq key (codes "limit") then want.Leaf (leaf.Number 0 (most_limit version)) else
     if bytes_eq key (codes "classes") then want.Array item.Declaration else
     if bytes_eq key (codes "cooperator") then want.Keyed keyed.Cooperator else
     if bytes_eq key (codes "callers") then want.Array item.Caller else

@@ -6,6 +6,7 @@ pub mod arguments;
 pub mod declaration;
 pub mod leaf;
 pub mod leaving;
+pub mod limits;
 pub mod stop;
 pub mod table;
 pub mod value;

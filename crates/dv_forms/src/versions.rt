@@ -6,5 +6,8 @@ pub const LAST_VERSION: u32 = 3;
 /// The first version in which a name may have `-`, `.` and `:`.
 pub const MARKS_SINCE: u32 = 3;
 
+/// The first version whose scripts may be larger.
+pub const WIDE_SINCE: u32 = 3;
+
 /// The first version in which an object may have a comment.
 pub const COMMENTS_SINCE: u32 = 3;

@@ -4,9 +4,10 @@ ghost use Rattle.std.specs.Prelude.{◌≡◌, map};
 ghost use Rattle.dv_forms.specs.Wants.{item_want, key_want, keys_in, script_want, cooperator_want};
 ghost use Rattle.dv_forms.specs.Wants.{body_want, pair_wants};
 
+use crate::limits::most_limit;
 use crate::versions::LAST_VERSION;
 use dv_clock::limits::MOST_DELAY;
-use dv_script::limits::{MOST_LIMIT, MOST_UNITS, MOST_WORKERS};
+use dv_script::limits::{MOST_UNITS, MOST_WORKERS};
 
 /// What has a name.
 #[derive(Clone, Copy, Drop)]
@@ -148,7 +149,7 @@ fn script_want(version: u32, key: &str) -> Want
     match key {
         "version" => Want::Leaf(Leaf::Number(1, u64::from(LAST_VERSION))),
         "events" => Want::Array(Item::Event),
-        "limit" => Want::Leaf(Leaf::Number(0, MOST_LIMIT)),
+        "limit" => Want::Leaf(Leaf::Number(0, most_limit(version))),
         "classes" => Want::Array(Item::Declaration),
         "cooperator" => Want::Keyed(Keyed::Cooperator),
         "callers" => Want::Array(Item::Caller),

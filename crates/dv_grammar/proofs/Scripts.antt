@@ -11,13 +11,14 @@ use Rattle.dv_script.specs.declared.action.Action.{Action}
 use Rattle.dv_script.specs.declared.event.Event.{Event}
 use Rattle.dv_script.specs.declared.script.Cooperator.{Cooperator}
 use Rattle.dv_script.specs.declared.script.NamedPool.{NamedPool}
-use Rattle.dv_script.specs.declared.limits.TheConstants.{MOST_DRAINED, MOST_LIMIT, MOST_UNITS, MOST_WORKERS}
+use Rattle.dv_script.specs.declared.limits.TheConstants.{MOST_DRAINED, MOST_UNITS, MOST_WORKERS}
 use Rattle.dv_script.specs.declared.limits.TheConstants.{USUAL_LIMIT}
 use Rattle.dv_clock.specs.declared.limits.TheConstants.{MOST_DELAY, MOST_TICKS}
 use Rattle.dv_forms.specs.declared.declaration.Declaration.{Declaration}
 use Rattle.dv_forms.specs.declared.versions.TheConstants.{LAST_VERSION}
 use Rattle.dv_grammar.specs.declared.draft.Draft.{Draft}
 use Rattle.dv_forms.specs.Forms.{Each, IsList, Field, Key, IsNumber}
+use Rattle.dv_forms.specs.Limits.{most_limit}
 use Rattle.dv_forms.specs.Table.{table_of}
 use Rattle.dv_forms.specs.declared.words.EventWord.{EventWord}
 use Rattle.dv_forms.specs.Words.{event_word, event_words}
@@ -113,7 +114,8 @@ unfolding script_at fields_at table_for
 sound_script (object ms) draft e =
     bind (option_and_then (number_at 1 LAST_VERSION) (get_member (codes "version") ms)) _ draft e (λ v v_is v_then.
     bind (fields_at (keys_of v) (object ms)) _ draft v_then (λ t t_is t_then.
-    bind (field USUAL_LIMIT (number_at 0 MOST_LIMIT) (get_member (codes "limit") ms)) _ draft t_then (λ l l_is l_then.
+    bind (field USUAL_LIMIT (number_at 0 (most_limit v)) (get_member (codes "limit") ms)) _ draft t_then
+    (λ l l_is l_then.
     bind (field plain_cooperator cooperator_at (get_member (codes "cooperator") ms)) _ draft l_then (λ o o_is o_then.
     bind (field [] (list_at pool_at) (get_member (codes "pools") ms)) _ draft o_then (λ q q_is q_then.
     bind (field [] (list_at declaration_at) (get_member (codes "classes") ms)) _ draft q_then (λ c c_is c_then.
@@ -134,7 +136,8 @@ sound_script (object ms) draft e =
       all_declared = refl;
       table = refl;
       limit =
-          sound_field USUAL_LIMIT l (IsNumber 0 MOST_LIMIT) (number_at 0 MOST_LIMIT) (number_is 0 MOST_LIMIT)
+          sound_field USUAL_LIMIT l (IsNumber 0 (most_limit v)) (number_at 0 (most_limit v))
+          (number_is 0 (most_limit v))
           (get_member (codes "limit") ms) l_is;
       cooperator =
           sound_field plain_cooperator o IsCooperator cooperator_at sound_cooperator
@@ -253,8 +256,9 @@ complete_script d draft deep h =
     complete_key draft.version (IsNumber 1 LAST_VERSION) (number_at 1 LAST_VERSION) (complete_number 1 LAST_VERSION)
     (get_member (codes "version") h.members) h.version in
     rw h.whole (rw version (rw h.only (rw (
-      complete_field USUAL_LIMIT draft.script.limit (IsNumber 0 MOST_LIMIT) (number_at 0 MOST_LIMIT)
-          (complete_number 0 MOST_LIMIT) (get_member (codes "limit") h.members) h.limit,
+      complete_field USUAL_LIMIT draft.script.limit (IsNumber 0 (most_limit draft.version))
+          (number_at 0 (most_limit draft.version)) (complete_number 0 (most_limit draft.version))
+          (get_member (codes "limit") h.members) h.limit,
       complete_field plain_cooperator draft.script.cooperator IsCooperator cooperator_at complete_cooperator
           (get_member (codes "cooperator") h.members) h.cooperator,
       complete_field [] draft.script.pools (IsList IsPool) (list_at pool_at)

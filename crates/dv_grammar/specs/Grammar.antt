@@ -23,7 +23,7 @@ use Rattle.dv_script.specs.declared.action.Action.{ThreadIn}
 use Rattle.dv_script.specs.declared.event.Event.{Event}
 use Rattle.dv_script.specs.declared.script.Cooperator.{Cooperator}
 use Rattle.dv_script.specs.declared.script.NamedPool.{NamedPool}
-use Rattle.dv_script.specs.declared.limits.TheConstants.{MOST_DRAINED, MOST_LIMIT, MOST_PLACES, MOST_SUM, MOST_UNITS}
+use Rattle.dv_script.specs.declared.limits.TheConstants.{MOST_DRAINED, MOST_PLACES, MOST_SUM, MOST_UNITS}
 use Rattle.dv_script.specs.declared.limits.TheConstants.{MOST_WORKERS, USUAL_LIMIT}
 use Rattle.dv_clock.specs.declared.limits.TheConstants.{MOST_DELAY, MOST_TICKS}
 use Rattle.dv_forms.specs.declared.declaration.Declaration.{Declaration}
@@ -31,6 +31,7 @@ use Rattle.dv_forms.specs.declared.versions.TheConstants.{LAST_VERSION}
 use Rattle.dv_grammar.specs.declared.draft.Draft.{Draft}
 use Rattle.dv_forms.specs.Leaving.{may_leave}
 use Rattle.dv_forms.specs.Forms.{call, IsList, Field, Key, is_keyed_by, IsText, IsInteger, IsNumber, IsClass, IsValue}
+use Rattle.dv_forms.specs.Limits.{most_limit}
 use Rattle.dv_forms.specs.Table.{table_of, all_declared}
 use Rattle.std.specs.List.{list_all}
 use Rattle.dv_script.specs.declared.action.Action.TheFolds.{fold-Action, fold-Body, fold-Statement}
@@ -305,7 +306,8 @@ pub record IsScript (d : Data) (draft : Draft) : Type 0 where
   pub declared : Field [] (IsList IsDeclaration) (get_member (codes "classes") members) draft.declared
   pub all_declared : draft.all_declared ≡ all_declared draft.declared
   pub table : draft.script.classes ≡ table_of draft.declared
-  pub limit : Field USUAL_LIMIT (IsNumber 0 MOST_LIMIT) (get_member (codes "limit") members) draft.script.limit
+  pub limit : Field USUAL_LIMIT (IsNumber 0 (most_limit draft.version))
+      (get_member (codes "limit") members) draft.script.limit
   pub cooperator : Field plain_cooperator IsCooperator (get_member (codes "cooperator") members) draft.script.cooperator
   pub pools : Field [] (IsList IsPool) (get_member (codes "pools") members) draft.script.pools
   pub callers : Field [] (IsList (IsList (IsBody draft.script.classes)))

@@ -21,7 +21,7 @@ use Rattle.dv_script.specs.declared.event.Event.{Event}
 use Rattle.dv_script.specs.declared.event.Event.TheVariants as happens
 use Rattle.dv_script.specs.declared.script.Cooperator.{Cooperator}
 use Rattle.dv_script.specs.declared.script.NamedPool.{NamedPool}
-use Rattle.dv_script.specs.declared.limits.TheConstants.{MOST_DRAINED, MOST_LIMIT, MOST_PLACES, MOST_SUM, MOST_UNITS}
+use Rattle.dv_script.specs.declared.limits.TheConstants.{MOST_DRAINED, MOST_PLACES, MOST_SUM, MOST_UNITS}
 use Rattle.dv_script.specs.declared.limits.TheConstants.{MOST_WORKERS, USUAL_LIMIT}
 use Rattle.dv_clock.specs.declared.limits.TheConstants.{MOST_DELAY, MOST_TICKS}
 use Rattle.dv_forms.specs.declared.versions.TheConstants.{LAST_VERSION}
@@ -40,6 +40,7 @@ use Rattle.dv_forms.specs.declared.words.WorkWord.{WorkWord}
 use Rattle.dv_forms.specs.declared.words.WorkWord.TheVariants as work
 use Rattle.dv_forms.specs.Words.{action_word, event_word, end_word, statement_word, work_word}
 use Rattle.dv_forms.specs.Leaving.{may_leave}
+use Rattle.dv_forms.specs.Limits.{most_limit}
 use Rattle.dv_forms.specs.Parts.{◌>>=◌, bound_at, call_at, class_at, declaration_at, field, fields_at, five, four}
 use Rattle.dv_forms.specs.Parts.{gather_flag_at, if_there, integer_at, list_at, list_flag_at, none, number_at, one_of}
 use Rattle.dv_forms.specs.Parts.{one_or_two, table_for, text_at, three_of, two_of, value_at}
@@ -264,7 +265,7 @@ unfoldable pub script_at : Data → Option Draft
 script_at d = do
   version ← get (codes "version") d >>= number_at 1 LAST_VERSION
   _ ← fields_at (keys_of version) d
-  limit ← field USUAL_LIMIT (number_at 0 MOST_LIMIT) (get (codes "limit") d)
+  limit ← field USUAL_LIMIT (number_at 0 (most_limit version)) (get (codes "limit") d)
   cooperator ← field plain_cooperator cooperator_at (get (codes "cooperator") d)
   pools ← field [] (list_at pool_at) (get (codes "pools") d)
   declared ← field [] (list_at declaration_at) (get (codes "classes") d)

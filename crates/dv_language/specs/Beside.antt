@@ -1,11 +1,13 @@
 -- What readers need beside words and lines, as JSON.
-use Rattle.std.specs.Prelude.{ℕ, List, [], ◌∷◌, map, Option, None, Some, option_map, codes}
+use Rattle.std.specs.Prelude.{ℕ, List, map, Option, None, Some, option_map, codes}
 use Rattle.serde_json.specs.Data.{Data, null, unsigned, number, string, array, object, member, no_members}
 use Rattle.serde_json.specs.View.{items_of}
 use Rattle.dv_clock.specs.declared.limits.TheConstants.{MOST_TICKS}
 use Rattle.dv_script.specs.declared.limits.TheConstants.{MOST_BYTES, MOST_CALLERS, MOST_CLASSES, MOST_LEVELS}
-use Rattle.dv_script.specs.declared.limits.TheConstants.{MOST_NODES, MOST_POOLS, MOST_POSTS, USUAL_LIMIT}
+use Rattle.dv_script.specs.declared.limits.TheConstants.{MOST_LIMIT, MOST_NODES, MOST_POOLS, MOST_POSTS, USUAL_LIMIT}
 use Rattle.dv_script.specs.declared.work.TheConstants.{MOST_JOBS}
+use Rattle.dv_forms.specs.declared.limits.TheConstants.{WIDEST_BYTES, WIDEST_NODES}
+use Rattle.dv_forms.specs.declared.versions.TheConstants.{WIDE_SINCE}
 use Rattle.dv_value.specs.declared.classes.Class.{Class}
 use Rattle.dv_value.specs.Builtin.{builtin}
 use Rattle.dv_value.specs.Classes.{name_of}
@@ -38,13 +40,20 @@ count n = number (unsigned n)
 -- the most that there may be
 abbrev pub limits_data : Data
 limits_data =
-    object (member (codes "bytes") (count MOST_BYTES)
+    object (member (codes "bytes") (count WIDEST_BYTES)
     (member (codes "callers") (count MOST_CALLERS) (member (codes "classes") (count MOST_CLASSES)
     (member (codes "depth") (count MOST_LEVELS)
     (member (codes "jobs") (count MOST_JOBS) (member (codes "name") (count MOST_NAME)
-    (member (codes "nodes") (count MOST_NODES)
+    (member (codes "nodes") (count WIDEST_NODES)
     (member (codes "pools") (count MOST_POOLS) (member (codes "posts") (count MOST_POSTS)
     (member (codes "time") (count MOST_TICKS) no_members))))))))))
+
+-- the most of a script of a version before these limits
+abbrev pub smaller_data : Data
+smaller_data =
+    object (member (codes "before") (count WIDE_SINCE)
+    (member (codes "bytes") (count MOST_BYTES) (member (codes "limit") (count MOST_LIMIT)
+    (member (codes "nodes") (count MOST_NODES) no_members))))
 
 -- what stands where a script leaves it out
 abbrev pub usual_data : Data

@@ -1,5 +1,5 @@
 -- The keys of objects, as JSON.
-use Rattle.std.specs.Prelude.{ℕ, Bool, true, false, not, if◌then◌else◌, ◌||◌, bytes_eq, List, [], ◌∷◌, ◌++◌, map}
+use Rattle.std.specs.Prelude.{ℕ, Bool, true, false, not, if◌then◌else◌, ◌||◌, bytes_eq, List, ◌++◌, map}
 use Rattle.std.specs.Prelude.{codes}
 use Rattle.serde_json.specs.Data.{Data, unsigned, number, boolean, string, array, object, member, no_members}
 use Rattle.serde_json.specs.View.{items_of}

@@ -9,7 +9,8 @@ use Rattle.dv_language.specs.declared.language.TheConstants.{FORM}
 use Rattle.dv_language.specs.Words.{words_data}
 use Rattle.dv_language.specs.Keys.{keys_data}
 use Rattle.dv_language.specs.Lines.{AreLines}
-use Rattle.dv_language.specs.Beside.{classes_data, limits_data, usual_data, refusals_data, statuses_data, count}
+use Rattle.dv_language.specs.Beside.{classes_data, limits_data, smaller_data, usual_data, refusals_data}
+use Rattle.dv_language.specs.Beside.{statuses_data, count}
 
 -- the versions of the language
 abbrev pub versions_data : Data
@@ -21,8 +22,9 @@ language_with lines =
     object (member (codes "classes") classes_data
     (member (codes "form") (count FORM) (member (codes "keys") keys_data (member (codes "limits") limits_data
     (member (codes "lines") lines
-    (member (codes "refusals") refusals_data (member (codes "statuses") statuses_data (member (codes "usual") usual_data
-    (member (codes "versions") versions_data (member (codes "words") words_data no_members))))))))))
+    (member (codes "refusals") refusals_data
+    (member (codes "smaller") smaller_data (member (codes "statuses") statuses_data (member (codes "usual") usual_data
+    (member (codes "versions") versions_data (member (codes "words") words_data no_members)))))))))))
 
 -- the language
 abbrev pub IsLanguage : Data → Type 0

@@ -1,5 +1,5 @@
 -- What a place of a script asks for, as JSON.
-use Rattle.std.specs.Prelude.{ℕ, ◌-◌, ◌^◌, negsuc, List, [], ◌∷◌, map, codes}
+use Rattle.std.specs.Prelude.{ℕ, ◌-◌, ◌^◌, negsuc, List, map, codes}
 use Rattle.serde_json.specs.Data.{Data, Num, unsigned, number, string, array, object, member, no_members, item}
 use Rattle.serde_json.specs.Data.{no_items}
 use Rattle.serde_json.specs.Find.{of_integer}

@@ -5,13 +5,16 @@ ghost use Rattle.std.specs.Prelude.{◌≡◌, IfOk, map, option_map};
 ghost use Rattle.serde_json.specs.Data.{array};
 ghost use Rattle.serde_json.specs.View.{items_of, view};
 ghost use Rattle.dv_language.specs.Beside.{class_row, classes_data, limits_data, usual_data};
+ghost use Rattle.dv_language.specs.Beside.{smaller_data};
 ghost use Rattle.dv_language.specs.Beside.{refusal_data, refusals_data, status_data, statuses_data};
 
 use dv_clock::limits::MOST_TICKS;
+use dv_forms::limits::{WIDEST_BYTES, WIDEST_NODES};
+use dv_forms::versions::WIDE_SINCE;
 use dv_reader::error::{REFUSALS, ScriptFault, refusal_name, refusal_number};
 use dv_script::limits::{
-    MOST_BYTES, MOST_CALLERS, MOST_CLASSES, MOST_LEVELS, MOST_NODES, MOST_POOLS, MOST_POSTS,
-    USUAL_LIMIT,
+    MOST_BYTES, MOST_CALLERS, MOST_CLASSES, MOST_LEVELS, MOST_LIMIT, MOST_NODES, MOST_POOLS,
+    MOST_POSTS, USUAL_LIMIT,
 };
 use dv_script::work::MOST_JOBS;
 use serde_json::{Value as Json, json, push};
@@ -101,9 +104,9 @@ pub fn limits_json(alloc: Global) -> Result<Json, AllocError>
     ensures { IfOk result (λ json. view json ≡ limits_data) }
 {
     json!(in alloc; {
-        "bytes": MOST_BYTES,
+        "bytes": WIDEST_BYTES,
         "depth": MOST_LEVELS,
-        "nodes": MOST_NODES,
+        "nodes": WIDEST_NODES,
         "classes": MOST_CLASSES,
         "pools": MOST_POOLS,
         "callers": MOST_CALLERS,
@@ -111,6 +114,18 @@ pub fn limits_json(alloc: Global) -> Result<Json, AllocError>
         "time": MOST_TICKS,
         "jobs": MOST_JOBS,
         "name": MOST_NAME,
+    })
+}
+
+/// What a script of a version before these limits may have at most.
+pub fn smaller_json(alloc: Global) -> Result<Json, AllocError>
+    ensures { IfOk result (λ json. view json ≡ smaller_data) }
+{
+    json!(in alloc; {
+        "before": WIDE_SINCE,
+        "bytes": MOST_BYTES,
+        "nodes": MOST_NODES,
+        "limit": MOST_LIMIT,
     })
 }
 

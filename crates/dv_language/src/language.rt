@@ -6,7 +6,9 @@ ghost use Rattle.dv_journal.specs.Sink.{HasFailed};
 ghost use Rattle.dv_language.specs.Language.{IsLanguage, IsPrinted, language_with, versions_data};
 ghost use Rattle.dv_language.specs.Language.{ended_status, ended_text};
 
-use crate::beside::{classes_json, limits_json, refusals_json, statuses_json, usual_json};
+use crate::beside::{
+    classes_json, limits_json, refusals_json, smaller_json, statuses_json, usual_json,
+};
 use crate::keys::keys_json;
 use crate::lines::lines_json;
 use crate::words::words_json;
@@ -65,6 +67,7 @@ fn language_with(alloc: Global, lines: Json) -> Result<Json, AllocError>
         "lines": lines,
         "classes": classes_json(alloc)?,
         "limits": limits_json(alloc)?,
+        "smaller": smaller_json(alloc)?,
         "usual": usual_json(alloc)?,
         "refusals": refusals_json(alloc)?,
         "statuses": statuses_json(alloc)?,

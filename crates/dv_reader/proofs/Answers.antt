@@ -6,11 +6,13 @@ use Rattle.std.proofs.lemmas.Bool.{and_parts, leb-true}
 use Rattle.serde_json.proofs.Nesting.{depth-read}
 use Rattle.dv_grammar.specs.declared.draft.Draft.{Draft}
 use Rattle.dv_script.specs.declared.script.Script.{Script}
-use Rattle.dv_script.specs.declared.limits.TheConstants.{MOST_LIMIT, MOST_NODES, MOST_POOLS, USUAL_LIMIT}
+use Rattle.dv_script.specs.declared.limits.TheConstants.{MOST_POOLS, USUAL_LIMIT}
 use Rattle.dv_reader.specs.declared.error.ScriptFault.{ScriptFault}
 use Rattle.dv_reader.specs.declared.error.ScriptFault.TheVariants.{TooLong, NotJson, BadVersion, BadShape, TooMany}
 use Rattle.dv_reader.specs.declared.error.ScriptFault.TheVariants.{BadName, BadClass, OutOfMemory, BadPool}
 use Rattle.dv_forms.specs.Forms.{Field, IsNumber}
+use Rattle.dv_forms.specs.Limits.{most_limit, most_nodes}
+use Rattle.dv_forms.specs.declared.limits.TheConstants.{WIDEST_LIMIT, WIDEST_NODES}
 use Rattle.dv_reader.specs.Limits.{nodes, is_small}
 use Rattle.dv_reader.specs.Refusal.{IsDocument, IsMisshapen, keeps_version, HasShape, Says, Refuses}
 use Rattle.dv_grammar.specs.Shape.{script_at}
@@ -21,6 +23,7 @@ use Rattle.dv_grammar.proofs.Scripts.{sound_script}
 use Rattle.dv_reader.proofs.Accepted.{shape_found}
 use Rattle.dv_reader.proofs.Version.{version_is, no_version}
 use Rattle.dv_reader.proofs.Count.{events_few}
+use Rattle.dv_reader.proofs.Lengths.{limit_most, nodes_most}
 
 -- the value that was judged is that of the bytes
 document : (bytes : List ℕ) (r : Result Script ScriptFault) (h : JudgedIn bytes r) → IsDocument bytes h.0
@@ -85,26 +88,29 @@ refuses bytes (Err OutOfMemory) h = tt
 refuses bytes (Err BadPool) h =
     let j = h.4 in (h.0, j.0, shaped bytes h.0 j.0 (document bytes (Err BadPool) h) j.1 j.2, j.3, j.4, j.5, j.6)
 
-pub few : (bytes : List ℕ) (r : Result Script ScriptFault) → Passes bytes r → IfOk r (λ s. length s.events ≤ MOST_NODES)
+pub few : (bytes : List ℕ) (r : Result Script ScriptFault) → Passes bytes r
+    → IfOk r (λ s. length s.events ≤ WIDEST_NODES)
 few bytes (Ok s) h =
     let j = h.4 in
     let same : length s.events ≡ length j.0.script.events = ap (λ (x : Script). length x.events) (sym j.3) in
     let few_events : length j.0.script.events ≤ nodes h.0 =
     events_few h.0 j.0 (sound_script h.0 j.0 (shape_is h.0 j.0 j.2).0) in
-    let few_nodes : nodes h.0 ≤ MOST_NODES = leb-true (nodes h.0) MOST_NODES
+    let few_nodes : nodes h.0 ≤ most_nodes j.0.version = leb-true (nodes h.0) (most_nodes j.0.version)
     (and_parts _ _ (and_parts _ _ (and_parts _ _ (and_parts _ _ (and_parts _ _ j.4).0).0).0).0).0 in
-    omega (arith, same, few_events, few_nodes)
+    omega (arith, same, few_events, few_nodes, nodes_most j.0.version)
 few bytes (Err fault) h = tt
 
-limited_field : (o : Option Data) (n : ℕ) → Field USUAL_LIMIT (IsNumber 0 MOST_LIMIT) o n → n ≤ MOST_LIMIT
-limited_field None n h = omega (arith, h)
-limited_field (Some d) n h = h.2
+limited_field : (version : ℕ) (o : Option Data) (n : ℕ) → Field USUAL_LIMIT (IsNumber 0 (most_limit version)) o n
+    → n ≤ WIDEST_LIMIT
+limited_field version None n h = omega (arith, h)
+limited_field version (Some d) n h = let most : n ≤ most_limit version = h.2 in omega (arith, most, limit_most version)
 
-pub limited : (bytes : List ℕ) (r : Result Script ScriptFault) → Passes bytes r → IfOk r (λ s. s.limit ≤ MOST_LIMIT)
+pub limited : (bytes : List ℕ) (r : Result Script ScriptFault) → Passes bytes r → IfOk r (λ s. s.limit ≤ WIDEST_LIMIT)
 limited bytes (Ok s) h =
     let j = h.4 in
     let same : s.limit ≡ j.0.script.limit = ap (λ (x : Script). x.limit) (sym j.3) in
-    omega (arith, same, limited_field _ j.0.script.limit (sound_script h.0 j.0 (shape_is h.0 j.0 j.2).0).limit)
+    omega
+    (arith, same, limited_field j.0.version _ j.0.script.limit (sound_script h.0 j.0 (shape_is h.0 j.0 j.2).0).limit)
 limited bytes (Err fault) h = tt
 
 -- what is small enough has few pools

@@ -45,7 +45,9 @@ one_at_most bytes s t a b =
     sym a.same ∙ ap (λ (x : Draft). x.script) (same_draft bytes a.json b.json a.draft b.draft a.shape b.shape) ∙ b.same
 
 pub refused_says_none : RefusedSaysNone
-refused_says_none bytes TooLong s other h a = let fits = a.shape.document.fits in omega (arith, h, fits)
+refused_says_none bytes TooLong s other h a =
+    let over = h.1 a.json a.shape.document.text a.shape.document.is in
+    let fits = a.shape.document.fits in omega (arith, over, fits)
 refused_says_none bytes NotJson s other h a =
     let unread = h.1 a.shape.document.text in let is = a.shape.document.is in cc
 refused_says_none bytes BadVersion s other h a =

@@ -7,3 +7,4 @@ pub mod Sound
 pub mod TableLemmas
 pub mod TimesKept
 pub mod Version
+pub mod Lengths

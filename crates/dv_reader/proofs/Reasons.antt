@@ -8,11 +8,11 @@ use Rattle.dv_grammar.specs.declared.draft.Draft.{Draft}
 use Rattle.dv_reader.proofs.Documents.{same_test, same_value}
 use Rattle.dv_reader.specs.Laws.{RefusedForOneReason}
 use Rattle.dv_reader.specs.Limits.{is_small}
-use Rattle.dv_reader.specs.Refusal.{keeps_version, are_known, are_named, HasShape, HasVersion, IsDocument, Refuses}
+use Rattle.dv_reader.specs.Refusal.{IsTooLong, keeps_version, are_known, are_named, HasShape, HasVersion, IsDocument}
+use Rattle.dv_reader.specs.Refusal.{Refuses}
 use Rattle.dv_reader.specs.declared.error.ScriptFault.{ScriptFault}
 use Rattle.dv_reader.specs.declared.error.ScriptFault.TheVariants.{TooLong, NotJson, BadVersion, BadShape, TooMany}
 use Rattle.dv_reader.specs.declared.error.ScriptFault.TheVariants.{BadName, BadClass, OutOfMemory, BadPool}
-use Rattle.dv_script.specs.declared.limits.TheConstants.{MOST_BYTES}
 
 -- which test each reason fails
 abbrev rank : ScriptFault → ℕ
@@ -51,7 +51,7 @@ reason_back OutOfMemory = refl
 -- the bytes pass so many tests
 abbrev Passes : ℕ → List ℕ → Type 0
 Passes zero bytes = Unit {0}
-Passes (suc zero) bytes = length bytes ≤ MOST_BYTES
+Passes (suc zero) bytes = IsTooLong bytes → ⊥
 Passes (suc (suc zero)) bytes = (d : Data) × IsDocument bytes d
 Passes (suc (suc (suc zero))) bytes = (d : Data) × IsDocument bytes d × HasVersion d
 Passes (suc (suc (suc (suc zero)))) bytes = (d : Data) × (draft : Draft) × HasShape bytes d draft
@@ -66,7 +66,9 @@ Passes (suc (suc (suc (suc (suc (suc (suc n))))))) bytes =
 -- and so one test fewer
 fewer : (n : ℕ) (bytes : List ℕ) → Passes (suc n) bytes → Passes n bytes
 fewer zero bytes p = tt
-fewer (suc zero) bytes p = p.1.fits
+fewer (suc zero) bytes p = λ long.
+    let over = long.1 p.0 p.1.text p.1.is in
+    let fits = p.1.fits in omega (arith, over, fits)
 fewer (suc (suc zero)) bytes p = (p.0, p.1)
 fewer (suc (suc (suc zero))) bytes p = (p.0, p.2.document, p.2.version)
 fewer (suc (suc (suc (suc zero)))) bytes p = (p.0, p.1, p.2)
@@ -85,7 +87,7 @@ all_fewer (suc k) n m bytes is p =
 -- who is refused passes the tests before
 passed : (bytes : List ℕ) (a : ScriptFault) → a ≢ OutOfMemory → Refuses a bytes → Passes (rank a) bytes
 passed bytes TooLong other h = tt
-passed bytes NotJson other h = h.0
+passed bytes NotJson other h = λ long. omega (arith, h.0, long.0)
 passed bytes BadVersion other h = (h.0, h.1)
 passed bytes BadShape other h = (h.0, h.1, h.2)
 passed bytes TooMany other h = (h.0, h.1, h.2)
@@ -96,7 +98,7 @@ passed bytes OutOfMemory other h = absurd (other refl)
 
 -- and fails the next, so it doesn't pass one more, where there is one
 failed : (bytes : List ℕ) (a : ScriptFault) → rank a < 7 → Refuses a bytes → Passes (suc (rank a)) bytes → ⊥
-failed bytes TooLong low h p = omega (arith, h, p)
+failed bytes TooLong low h p = p h
 failed bytes NotJson low h p = let unread = h.1 p.1.text in let is = p.1.is in cc
 failed bytes BadVersion low h p = h.2 (subst HasVersion (same_value bytes p.0 h.0 p.1 h.1) p.2)
 failed bytes BadShape low h p =

@@ -13,8 +13,8 @@ use Rattle.dv_forms.specs.declared.versions.TheConstants.{LAST_VERSION}
 use Rattle.dv_forms.specs.declared.stop.Stop.{Stop}
 use Rattle.dv_forms.specs.declared.stop.Stop.TheVariants as stop
 use Rattle.dv_grammar.specs.declared.draft.Draft.{Draft}
-use Rattle.dv_reader.specs.Limits.{is_small}
-use Rattle.dv_reader.specs.Refusal.{answers, keeps_version, are_named, are_known, are_pooled}
+use Rattle.dv_reader.specs.Limits.{is_small, most_bytes_of}
+use Rattle.dv_reader.specs.Refusal.{IsTooLong, answers, keeps_version, are_named, are_known, are_pooled}
 use Rattle.dv_questions.specs.Questions.{words, names, classes, pools}
 use Rattle.dv_grammar.specs.Shape.{script_at}
 
@@ -89,12 +89,12 @@ Judged d (Err BadPool) =
 -- what they find of the value that the bytes are
 abbrev pub JudgedIn : List ℕ → Result Script ScriptFault → Type 0
 JudgedIn bytes answer =
-    (d : Data) × (length bytes ≤ MOST_BYTES) × IsUtf8 bytes × (read bytes ≡ Some d) × Judged d answer
+    (d : Data) × (length bytes ≤ most_bytes_of d) × IsUtf8 bytes × (read bytes ≡ Some d) × Judged d answer
 
 -- what they find of bytes
 abbrev pub Passes : List ℕ → Result Script ScriptFault → Type 0
 Passes bytes (Ok s) = JudgedIn bytes (Ok s)
-Passes bytes (Err TooLong) = MOST_BYTES < length bytes
+Passes bytes (Err TooLong) = IsTooLong bytes
 Passes bytes (Err NotJson) = (length bytes ≤ MOST_BYTES) × (IsUtf8 bytes → read bytes ≡ None)
 Passes bytes (Err BadVersion) = JudgedIn bytes (Err BadVersion)
 Passes bytes (Err BadShape) = JudgedIn bytes (Err BadShape)

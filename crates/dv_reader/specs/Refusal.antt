@@ -17,11 +17,11 @@ use Rattle.dv_reader.specs.declared.error.ScriptFault.TheVariants.{BadName, BadC
 use Rattle.dv_grammar.specs.Grammar.{IsScript}
 use Rattle.dv_questions.specs.Asking.{all_suit}
 use Rattle.dv_questions.specs.Questions.{Asked, words, names, classes, pools, is_among}
-use Rattle.dv_reader.specs.Limits.{is_small}
+use Rattle.dv_reader.specs.Limits.{is_small, most_bytes_of}
 
--- the bytes are the JSON text of this value, and not too long
+-- the bytes are the JSON text of this value, and not too long for its version
 pub record IsDocument (bytes : List ℕ) (d : Data) : Type 0 where
-  pub fits : length bytes ≤ MOST_BYTES
+  pub fits : length bytes ≤ most_bytes_of d
   pub text : IsUtf8 bytes
   pub is : read bytes ≡ Some d
 
@@ -79,9 +79,14 @@ pub record Says (bytes : List ℕ) (script : Script) : Type 0 where
   pub known : are_known json draft ≡ true
   pub pooled : are_pooled json draft ≡ true
 
+-- the bytes are more than a script of the first version may have, and more than that of their value may
+abbrev pub IsTooLong : List ℕ → Type 0
+IsTooLong bytes =
+    (MOST_BYTES < length bytes) × ((d : Data) → IsUtf8 bytes → read bytes ≡ Some d → most_bytes_of d < length bytes)
+
 -- why the bytes are refused, each reason where none before it holds; out of memory may occur at any time
 abbrev pub Refuses : ScriptFault → List ℕ → Type 0
-Refuses TooLong bytes = MOST_BYTES < length bytes
+Refuses TooLong bytes = IsTooLong bytes
 Refuses NotJson bytes = (length bytes ≤ MOST_BYTES) × (IsUtf8 bytes → read bytes ≡ None)
 Refuses BadVersion bytes = (d : Data) × IsDocument bytes d × (HasVersion d → ⊥)
 Refuses BadShape bytes = (d : Data) × IsDocument bytes d × HasVersion d × IsMisshapen d

@@ -8,7 +8,7 @@ use thiserror::Error;
 #[derive(Clone, Copy, Debug, PartialEq, Eq, Drop, Error)]
 #[error("{}", refusal_text(*self))]
 pub enum ScriptFault {
-    /// It has more than 1,048,576 bytes.
+    /// It has more than 1,048,576 bytes, or in version 3 more than 67,108,864.
     TooLong,
     /// It isn't JSON in UTF-8, or it nests too deeply.
     NotJson,
@@ -16,8 +16,9 @@ pub enum ScriptFault {
     BadVersion,
     /// It is outside the grammar, or a number is outside its range.
     BadShape,
-    /// It has more than 65,536 nodes (each array, object and scalar is one), 256 classes, 4 pools,
-    /// 8 callers or 256 posts of a caller, or its advances sum to more than 10^15.
+    /// It has more than 65,536 nodes, or in version 3 more than 1,000,000 (each array, object and
+    /// scalar is one); 256 classes, 4 pools, 8 callers or 256 posts of a caller; or its advances
+    /// sum to more than 10^15.
     TooMany,
     /// A name of an object, of a pool or of a declared class isn't of 1 to 32 of A to Z, a to z, 0
     /// to 9 and `_`, and in version 3 `-`, `.` and `:` after the first, nor `@` where a Deferred

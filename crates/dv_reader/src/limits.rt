@@ -2,15 +2,17 @@ ghost use Rattle.std.specs.Prelude.{◌≡◌, ◌^◌, ◌-◌, min, nat_le};
 ghost use Rattle.std.specs.List.{list_all};
 ghost use Rattle.serde_json.specs.View.{view, items_view, members_view};
 ghost use Rattle.dv_clock.specs.declared.limits.TheConstants.{MOST_TICKS};
-ghost use Rattle.dv_script.specs.declared.limits.TheConstants.{MOST_NODES};
+ghost use Rattle.dv_forms.specs.Limits.{most_bytes, most_nodes};
 ghost use Rattle.dv_reader.specs.Limits.{nodes, item_nodes, member_nodes, ticks_of, ticks_in};
-ghost use Rattle.dv_reader.specs.Limits.{are_few, is_small};
+ghost use Rattle.dv_reader.specs.Limits.{are_few, is_small, or_first, most_bytes_of};
 
 use dv_clock::limits::MOST_TICKS;
+use dv_forms::limits::{most_bytes, most_nodes};
+use dv_forms::versions::LAST_VERSION;
 use dv_grammar::draft::Draft;
 use dv_script::body::Body;
 use dv_script::event::Event;
-use dv_script::limits::{MOST_CALLERS, MOST_CLASSES, MOST_NODES, MOST_POOLS, MOST_POSTS};
+use dv_script::limits::{MOST_BYTES, MOST_CALLERS, MOST_CLASSES, MOST_POOLS, MOST_POSTS};
 use dv_value::items::Items;
 use serde_json::{Map, Value as Json};
 
@@ -51,11 +53,34 @@ fn member_nodes(members: &Map<String, Json>) -> u64
     count
 }
 
-/// Whether a JSON value has few enough nodes for a script.
-pub fn has_few_nodes(json: &Json) -> bool
-    ensures { result ≡ nat_le (nodes (view json.now)) MOST_NODES }
+/// Whether a JSON value has few enough nodes for a script of this version.
+pub fn has_few_nodes(version: u32, json: &Json) -> bool
+    ensures { result ≡ nat_le (nodes (view json.now)) (most_nodes version) }
 {
-    nodes(json) <= MOST_NODES
+    nodes(json) <= most_nodes(version)
+}
+
+fn or_first(version: Option<u64>) -> u32
+    ensures { result ≡ or_first version }
+{
+    match version {
+        Some(n) => if n <= u64::from(LAST_VERSION) {
+            n as u32
+        } else {
+            1
+        },
+        None => 1,
+    }
+}
+
+/// The most bytes that the text of this value may have.
+pub fn most_bytes_of(json: &Json) -> usize
+    ensures { result ≡ most_bytes_of (view json.now) }
+{
+    match json.get("version") {
+        Some(version) => most_bytes(or_first(version.as_u64())),
+        None => MOST_BYTES,
+    }
 }
 
 fn ticks_of(event: &Event) -> u64
@@ -101,7 +126,7 @@ fn all_are_few(callers: &[Items<Body>]) -> bool
 pub fn is_small(json: &Json, draft: &Draft) -> bool
     ensures { result ≡ is_small (view json.now) draft.now }
 {
-    has_few_nodes(json)
+    has_few_nodes(draft.version, json)
         && draft.declared.as_slice().len() <= MOST_CLASSES
         && draft.script.pools.as_slice().len() <= MOST_POOLS
         && draft.script.callers.as_slice().len() <= MOST_CALLERS as usize

@@ -2,14 +2,16 @@
 
 ghost use Rattle.std.specs.Prelude.{◌≡◌, ◌≤◌, length, true, IfOk, IfErr};
 ghost use Rattle.serde_json.specs.View.{view};
-ghost use Rattle.dv_script.specs.declared.limits.TheConstants.{MOST_LIMIT, MOST_NODES, MOST_POOLS};
+ghost use Rattle.dv_script.specs.declared.limits.TheConstants.{MOST_POOLS};
+ghost use Rattle.dv_forms.specs.declared.limits.TheConstants.{WIDEST_LIMIT, WIDEST_NODES};
 ghost use Rattle.dv_questions.specs.Questions.{asked_by};
 ghost use Rattle.dv_reader.specs.Refusal.{answers, keeps_version, are_named, are_known};
 ghost use Rattle.dv_reader.specs.Refusal.{are_distinct, are_pooled, Says, Refuses};
 ghost use Rattle.dv_reader.specs.Passes.{is_version, Accepts, IsSound, Judged, Passes};
 
 use crate::error::ScriptFault;
-use crate::limits::is_small;
+use crate::limits::{is_small, most_bytes_of};
+use dv_forms::limits::WIDEST_BYTES;
 use dv_forms::versions::LAST_VERSION;
 use dv_forms::want::{Keyed, Want};
 use dv_grammar::draft::Draft;
@@ -132,16 +134,23 @@ fn judge(alloc: Global, json: &Json) -> Result<Script, ScriptFault>
 }
 
 /// The script that the passes find in the bytes, or the least refusal.
+#[tactic(auto, using(crate::proofs::Lengths::too_wide, crate::proofs::Lengths::too_long_value, crate::proofs::Lengths::too_long_text))]
 fn passed(alloc: Global, bytes: &[u8]) -> Result<Script, ScriptFault>
     ensures { Passes bytes.now result }
 {
-    if bytes.len() > MOST_BYTES {
+    if bytes.len() > WIDEST_BYTES {
         return Err(ScriptFault::TooLong);
     }
     match Json::from_slice(alloc, bytes) {
-        Ok(json) => judge(alloc, &json),
+        Ok(json) => if bytes.len() > most_bytes_of(&json) {
+            Err(ScriptFault::TooLong)
+        } else {
+            judge(alloc, &json)
+        },
         Err(error) => if error.is_memory() {
             Err(ScriptFault::OutOfMemory)
+        } else if bytes.len() > MOST_BYTES {
+            Err(ScriptFault::TooLong)
         } else {
             Err(ScriptFault::NotJson)
         },
@@ -153,8 +162,8 @@ fn passed(alloc: Global, bytes: &[u8]) -> Result<Script, ScriptFault>
 pub fn read_script(alloc: Global, bytes: &[u8]) -> Result<Script, ScriptFault>
     ensures ok { IfOk result (λ script. Says bytes.now script) }
     ensures err { IfErr result (λ fault. Refuses fault bytes.now) }
-    ensures few { IfOk result (λ script. length script.events ≤ MOST_NODES) }
-    ensures limited { IfOk result (λ script. script.limit ≤ MOST_LIMIT) }
+    ensures few { IfOk result (λ script. length script.events ≤ WIDEST_NODES) }
+    ensures limited { IfOk result (λ script. script.limit ≤ WIDEST_LIMIT) }
     ensures pools { IfOk result (λ script. length script.pools ≤ MOST_POOLS) }
 {
     passed(alloc, bytes)

@@ -1,5 +1,6 @@
 ghost use Rattle.std.specs.Prelude.{◌≤◌, ℕ, List, length, IfOk, IfErr};
-ghost use Rattle.dv_script.specs.declared.limits.TheConstants.{MOST_LIMIT, MOST_NODES, MOST_POOLS};
+ghost use Rattle.dv_script.specs.declared.limits.TheConstants.{MOST_POOLS};
+ghost use Rattle.dv_forms.specs.declared.limits.TheConstants.{WIDEST_LIMIT, WIDEST_NODES};
 ghost use Rattle.dv_reader.specs.Refusal.{Says, Refuses};
 
 use crate::error::ScriptFault;
@@ -25,8 +26,8 @@ impl ReadScript for Script {
     fn read(alloc: Global, bytes: &[u8]) -> Result<Script, ScriptFault>
         ensures ok { IfOk result (λ script. Says bytes.now script) }
         ensures err { IfErr result (λ fault. Refuses fault bytes.now) }
-        ensures few { IfOk result (λ script. length script.events ≤ MOST_NODES) }
-        ensures limited { IfOk result (λ script. script.limit ≤ MOST_LIMIT) }
+        ensures few { IfOk result (λ script. length script.events ≤ WIDEST_NODES) }
+        ensures limited { IfOk result (λ script. script.limit ≤ WIDEST_LIMIT) }
         ensures pools { IfOk result (λ script. length script.pools ≤ MOST_POOLS) }
     {
         read_script(alloc, bytes)

@@ -6,7 +6,8 @@ ghost use Rattle.dv_orders.specs.Listed.{AreOrder};
 ghost use Rattle.dv_replay.specs.Replay.{GivesNoRun, GivesUp, Leaves, PrintsIn, ReaderFailed};
 ghost use Rattle.dv_replay.specs.Replay.{WriterFailed};
 ghost use Rattle.dv_run.specs.Run.{HasRead, SaysScript};
-ghost use Rattle.dv_script.specs.declared.limits.TheConstants.{MOST_LIMIT, MOST_POOLS};
+ghost use Rattle.dv_script.specs.declared.limits.TheConstants.{MOST_POOLS};
+ghost use Rattle.dv_forms.specs.declared.limits.TheConstants.{WIDEST_LIMIT};
 ghost use Rattle.dv_script.specs.declared.limits.TheConstants.{MOST_WORKERS};
 
 use crate::error::ReplayFault;
@@ -84,7 +85,7 @@ pub fn script_in<R: Source>(
     ensures ok { IfOk result (λ script. SaysScript (R.left reader.old) script) }
     ensures order { IfOk result (λ script. AreOrder script batches.now) }
     ensures pools { IfOk result (λ script. length script.pools ≤ MOST_POOLS) }
-    ensures limited { IfOk result (λ script. script.limit ≤ MOST_LIMIT) }
+    ensures limited { IfOk result (λ script. script.limit ≤ WIDEST_LIMIT) }
     ensures kept { OnOk result (R.failures reader.new ≡ R.failures reader.old) }
     ensures left { OnOk result (HasRead (R.left reader.old) (R.left reader.new)) }
     ensures err { IfErr result (λ fault. GivesNoRun fault batches.now (R.left reader.old)

@@ -5,7 +5,7 @@ use Rattle.dv_posts.specs.Batches.{AreComplete}
 use Rattle.dv_engine.specs.Report.{Reports}
 use Rattle.dv_engine.specs.declared.report.Report.{Report}
 use Rattle.dv_reader.specs.Refusal.{Says}
-use Rattle.dv_script.specs.declared.limits.TheConstants.{MOST_BYTES}
+use Rattle.dv_forms.specs.declared.limits.TheConstants.{WIDEST_BYTES}
 use Rattle.dv_script.specs.declared.script.Script.{Script}
 use Rattle.dv_run.specs.Output.{report_text}
 use Rattle.dv_source.specs.Source.{IsFrontOf}
@@ -21,9 +21,9 @@ pub record IsRun (script : Script) (report : Report) : Type 0 where
 abbrev pub Told : Type 0
 Told = Option (List ℕ)
 
--- how many bytes are read at most: one more than a script may have
+-- how many bytes are read at most: one more than a script of any version may have
 abbrev pub most_read : ℕ
-most_read = MOST_BYTES + 1
+most_read = WIDEST_BYTES + 1
 
 -- the input says a script, and this is the report of a run of it
 pub record SaysReport (input : Told) (script : Script) (report : Report) : Type 0 where

@@ -1,6 +1,7 @@
 ghost use Rattle.std.specs.Prelude.{◌≡◌, ◌≤◌, length, OnOk, IfOk, IfErr};
 ghost use Rattle.dv_posts.specs.Callers.{AreFew};
-ghost use Rattle.dv_script.specs.declared.limits.TheConstants.{MOST_LIMIT, MOST_POOLS};
+ghost use Rattle.dv_script.specs.declared.limits.TheConstants.{MOST_POOLS};
+ghost use Rattle.dv_forms.specs.declared.limits.TheConstants.{WIDEST_LIMIT};
 ghost use Rattle.dv_script.specs.declared.limits.TheConstants.{MOST_WORKERS};
 ghost use Rattle.dv_run.specs.Headline.{Prints};
 ghost use Rattle.dv_run.specs.Run.{SaysScript, GivesNoScript, GivesUp, HasRead, Leaves};
@@ -11,10 +12,10 @@ use crate::error::RunFault;
 use crate::output::print_report;
 use crate::performing::perform;
 use dv_engine::report::Report;
+use dv_forms::limits::WIDEST_BYTES;
 use dv_jobs::gate::Gate;
 use dv_journal::sink::Sink;
 use dv_reader::read_script::ReadScript;
-use dv_script::limits::MOST_BYTES;
 use dv_script::script::Script;
 use dv_source::source::{Source, read_up_to};
 use std::alloc::{AllocGlobal, Global};
@@ -127,12 +128,12 @@ pub fn script_of<R: Source>(alloc: Global, reader: &mut R) -> Result<Script, Run
     ensures ok { IfOk result (λ script. SaysScript (R.left reader.old) script) }
     ensures few { IfOk result (λ script. AreFew script.callers) }
     ensures pools { IfOk result (λ script. length script.pools ≤ MOST_POOLS) }
-    ensures limited { IfOk result (λ script. script.limit ≤ MOST_LIMIT) }
+    ensures limited { IfOk result (λ script. script.limit ≤ WIDEST_LIMIT) }
     ensures kept { OnOk result (R.failures reader.new ≡ R.failures reader.old) }
     ensures left { OnOk result (HasRead (R.left reader.old) (R.left reader.new)) }
     ensures err { IfErr result (λ fault. GivesNoScript fault (R.left reader.old) (R.left reader.new)
         (R.failures reader.old) (R.failures reader.new)) }
 {
-    let bytes = read_up_to(alloc, reader, MOST_BYTES + 1)?;
+    let bytes = read_up_to(alloc, reader, WIDEST_BYTES + 1)?;
     Ok(Script::read(alloc, bytes.as_slice())?)
 }

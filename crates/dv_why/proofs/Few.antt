@@ -1,7 +1,7 @@
 -- Where a document has few of everything, its script is small.
 use Rattle.std.proofs.Common.{◌≡◌, ℕ, zero, suc, ◌+◌, ◌-◌, ◌^◌, ◌≤◌, ◌<◌, min, Bool, true, false, not, bytes_eq, ◌&&◌}
 use Rattle.std.proofs.Common.{nat_lt, List, [], ◌∷◌, length, map, sum, Option, Some, None, option_and_then, refl, sym}
-use Rattle.std.proofs.Common.{ap, ◌∙◌, arith, codes}
+use Rattle.std.proofs.Common.{ap, subst, ◌∙◌, arith, codes}
 use Rattle.std.specs.List.{fold, list_all}
 use Rattle.std.proofs.lemmas.Bool.{le-leb, ltb-false}
 use Rattle.serde_json.specs.Data.{Data, Items, no_items, item}
@@ -10,17 +10,19 @@ use Rattle.dv_value.specs.declared.classes.Class.{Class}
 use Rattle.dv_script.specs.declared.body.Body.{Body}
 use Rattle.dv_script.specs.declared.action.Action.{Action}
 use Rattle.dv_script.specs.declared.event.Event.{Event}
-use Rattle.dv_script.specs.declared.limits.TheConstants.{MOST_CALLERS, MOST_CLASSES, MOST_NODES, MOST_POOLS, MOST_POSTS}
+use Rattle.dv_script.specs.declared.limits.TheConstants.{MOST_CALLERS, MOST_CLASSES, MOST_POOLS, MOST_POSTS}
 use Rattle.dv_clock.specs.declared.limits.TheConstants.{MOST_TICKS}
 use Rattle.dv_forms.specs.Forms.{Each, IsList, Field, Key}
 use Rattle.dv_grammar.specs.declared.draft.Draft.{Draft}
 use Rattle.dv_grammar.specs.Grammar.{IsAction, IsEvent, acts, advances, drains, IsScript}
+use Rattle.dv_forms.specs.Limits.{most_nodes}
 use Rattle.dv_forms.specs.Words.{action_words}
 use Rattle.dv_why.proofs.Actions.{action_begins}
 use Rattle.dv_why.proofs.Forms.{checked_word}
+use Rattle.dv_why.proofs.Versions.{same_version}
 use Rattle.dv_reader.specs.Limits.{nodes, ticks_of, ticks_in as draft_ticks, are_few, is_small}
 use Rattle.dv_questions.specs.Asking.{count}
-use Rattle.dv_why.specs.Documents.{or_no_items}
+use Rattle.dv_why.specs.Documents.{or_no_items, version_in}
 use Rattle.dv_why.specs.Counts.{count_at, count_in, posts_of, ticks_by, ticks_at, ticks_among, ticks_in}
 
 -- ---- numbers
@@ -129,7 +131,7 @@ few_all (item d ds) few (suc n) = few_all ds (λ k less. few (suc k) (omega (ari
 
 -- what is few of a document
 pub record IsFew (d : Data) : Type 0 where
-  pub nodes : nodes d ≤ MOST_NODES
+  pub nodes : nodes d ≤ most_nodes (version_in d)
   pub classes : count_in (codes "classes") d ≤ MOST_CLASSES
   pub pools : count_in (codes "pools") d ≤ MOST_POOLS
   pub callers : count_in (codes "callers") d ≤ MOST_CALLERS
@@ -152,5 +154,7 @@ few_small d draft g few =
     let sums : draft_ticks draft.script.events ≡ ticks_in d = key_ticks _ _ _ g.events
     ∙ sym (ap (λ o. ticks_among (or_no_items (option_and_then as_array o))) (value (codes "events"))) in
     let ticks : draft_ticks draft.script.events ≤ MOST_TICKS = omega (arith, few.ticks, sums) in
-    both (both (both (both (both (le-leb _ _ few.nodes) (le-leb _ _ classes)) (le-leb _ _ pools)) (le-leb _ _ callers))
+    let few_nodes : nodes d ≤ most_nodes draft.version =
+    subst (λ (v : ℕ). nodes d ≤ most_nodes v) (same_version d draft g) few.nodes in
+    both (both (both (both (both (le-leb _ _ few_nodes) (le-leb _ _ classes)) (le-leb _ _ pools)) (le-leb _ _ callers))
     posts) (le-leb _ _ ticks)

@@ -30,12 +30,13 @@ use Rattle.dv_script.specs.declared.event.Event.{Event}
 use Rattle.dv_script.specs.declared.event.Event.TheVariants as happens
 use Rattle.dv_script.specs.declared.script.Cooperator.{Cooperator}
 use Rattle.dv_script.specs.declared.script.NamedPool.{NamedPool}
-use Rattle.dv_script.specs.declared.limits.TheConstants.{MOST_DRAINED, MOST_LIMIT, MOST_PLACES, MOST_SUM, MOST_UNITS}
+use Rattle.dv_script.specs.declared.limits.TheConstants.{MOST_DRAINED, MOST_PLACES, MOST_SUM, MOST_UNITS}
 use Rattle.dv_script.specs.declared.limits.TheConstants.{MOST_WORKERS, USUAL_LIMIT}
 use Rattle.dv_clock.specs.declared.limits.TheConstants.{MOST_DELAY, MOST_TICKS}
 use Rattle.dv_forms.specs.declared.declaration.Declaration.{Declaration}
 use Rattle.dv_forms.specs.Forms.{call, IsList, Field, Key, has_only, is_comment, is_keyed_by, IsNumber, IsText, IsClass}
 use Rattle.dv_forms.specs.Forms.{IsValue, place_of}
+use Rattle.dv_forms.specs.Limits.{most_limit}
 use Rattle.dv_forms.specs.Leaving.{may_leave}
 use Rattle.dv_forms.specs.Table.{table_of, all_declared}
 use Rattle.dv_grammar.specs.declared.draft.Draft.{Draft}
@@ -768,7 +769,7 @@ script_fine (object ms) suit =
     let classes = list_field v n item_of.Declaration IsDeclaration (declaration_fine v n)
     (get_member (codes "classes") ms) (λ e is. value_fine (codes "classes") h refl is) in
     let table = table_of classes.0 in
-    let limit = number_field v n USUAL_LIMIT 0 MOST_LIMIT (get_member (codes "limit") ms)
+    let limit = number_field v n USUAL_LIMIT 0 (most_limit v) (get_member (codes "limit") ms)
     (λ e is. value_fine (codes "limit") h refl is) in
     let cooperator =
     cooperator_field v n (get_member (codes "cooperator") ms) (λ e is. value_fine (codes "cooperator") h refl is) in
@@ -798,7 +799,8 @@ script_fine (object ms) suit =
         declared = classes.1;
         all_declared = refl;
         table = refl;
-        limit = limit.1;
+        limit = subst (λ (k : ℕ). Field USUAL_LIMIT (IsNumber 0 (most_limit k)) (get_member (codes "limit") ms) limit.0)
+            same_version limit.1;
         cooperator = cooperator.1;
         pools = named.1;
         callers = callers.1;

@@ -9,12 +9,12 @@ use Rattle.dv_reader.specs.Texts.{refusal_text}
 use Rattle.dv_why.specs.declared.explaining.WhyFault.{WhyFault}
 use Rattle.dv_why.specs.declared.explaining.WhyFault.TheVariants.{OutOfMemory, ReadFault, WriteFault}
 use Rattle.dv_why.specs.Why.{Answers}
-use Rattle.dv_script.specs.declared.limits.TheConstants.{MOST_BYTES}
+use Rattle.dv_forms.specs.declared.limits.TheConstants.{WIDEST_BYTES}
 
 -- the line of the script that the source gives was written, and the answer is the line's
 abbrev pub Explains : Option (List ℕ) → Option (List ℕ) → Option (List ℕ) → Option ScriptFault → Type 0
 Explains left before after fault =
-    (bytes line : List ℕ) × IsFrontOf left (MOST_BYTES + 1) bytes × Answers bytes fault line
+    (bytes line : List ℕ) × IsFrontOf left (WIDEST_BYTES + 1) bytes × Answers bytes fault line
     × Appends before after (line ++ 10 ∷ [])
 
 -- the fault of a reader

@@ -5,8 +5,9 @@ use Rattle.serde_json.specs.Find.{get, as_str}
 use Rattle.serde_json.specs.View.{view}
 use Rattle.dv_value.specs.declared.classes.Class.{Class}
 use Rattle.dv_value.specs.Classes.{find_class}
-use Rattle.dv_script.specs.declared.limits.TheConstants.{MOST_CALLERS, MOST_CLASSES, MOST_NODES, MOST_POOLS, MOST_POSTS}
+use Rattle.dv_script.specs.declared.limits.TheConstants.{MOST_CALLERS, MOST_CLASSES, MOST_POOLS, MOST_POSTS}
 use Rattle.dv_clock.specs.declared.limits.TheConstants.{MOST_TICKS}
+use Rattle.dv_forms.specs.Limits.{most_nodes}
 use Rattle.dv_reader.specs.Limits.{nodes}
 use Rattle.dv_reader.specs.declared.error.ScriptFault.{ScriptFault}
 use Rattle.dv_reader.specs.declared.error.ScriptFault.TheVariants.{TooLong, NotJson, BadVersion, BadShape, TooMany}
@@ -40,8 +41,8 @@ IsMisshaped d m = fits (version_in d) m.want (view m.found.now) ≡ false
 
 -- TooMany: there is too much of what stands there
 pub data IsTooMuch (d : Data) (m : Misfit) : Type 0 where
-  -- of nodes in the whole
-  many_nodes : IsAt [] m → MOST_NODES < nodes d → IsTooMuch d m
+  -- of nodes in the whole, by its version
+  many_nodes : IsAt [] m → most_nodes (version_in d) < nodes d → IsTooMuch d m
   many_classes : IsAt (to_key (codes "classes") ∷ []) m → MOST_CLASSES < count_in (codes "classes") d → IsTooMuch d m
   many_pools : IsAt (to_key (codes "pools") ∷ []) m → MOST_POOLS < count_in (codes "pools") d → IsTooMuch d m
   many_callers : IsAt (to_key (codes "callers") ∷ []) m → MOST_CALLERS < count_in (codes "callers") d → IsTooMuch d m

@@ -15,7 +15,7 @@ ghost use Rattle.dv_why.specs.Reasons.{IsRefusedFor};
 ghost use Rattle.dv_forms.specs.Wants.{all_callers};
 ghost use Rattle.dv_why.specs.Wrong.{IsAt, IsTooMuch};
 
-use crate::document::{value_of, whole};
+use crate::document::{value_of, version_of, whole};
 use crate::expected::Expected;
 use crate::misfit::{Misfit, Step};
 use dv_clock::limits::MOST_TICKS;
@@ -129,8 +129,9 @@ pub fn too_many(alloc: Global, json: &Json) -> Result<(Misfit<'_>, Expected), Al
         (view json.now) found.0) }
     ensures wrong { IfOk result (λ found. IsTooMuch (view json.now) found.0) }
 {
-    if !has_few_nodes(json) {
-        return Ok((whole(alloc, json), Expected::FewNodes));
+    let version = version_of(json);
+    if !has_few_nodes(version, json) {
+        return Ok((whole(alloc, json), Expected::FewNodes(version)));
     }
     if is_long(json, "classes", MOST_CLASSES) {
         return Ok((value_of(alloc, json, "classes")?, Expected::FewClasses));
@@ -147,5 +148,5 @@ pub fn too_many(alloc: Global, json: &Json) -> Result<(Misfit<'_>, Expected), Al
     if ticks_in(items_of(json, "events")) > MOST_TICKS {
         return Ok((value_of(alloc, json, "events")?, Expected::FewTicks));
     }
-    Ok((whole(alloc, json), Expected::FewNodes))
+    Ok((whole(alloc, json), Expected::FewNodes(version)))
 }

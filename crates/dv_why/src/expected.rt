@@ -1,4 +1,5 @@
 use dv_forms::leaf::call as call_in;
+use dv_forms::limits::most_nodes;
 use dv_forms::versions::{COMMENTS_SINCE, MARKS_SINCE};
 use dv_forms::want::{Call, Item, Keyed, Leaf, Object, Pair, Want};
 use dv_forms::words::{
@@ -36,8 +37,8 @@ pub enum Expected {
     Short,
     /// A JSON text.
     JsonText,
-    /// So many nodes at most.
-    FewNodes,
+    /// So many nodes at most as a script of this version may have.
+    FewNodes(u32),
     /// So many classes at most.
     FewClasses,
     /// So many pools at most.
@@ -221,6 +222,14 @@ fn write_want(text: &mut String, version: u32, want: Want) -> Result<(), AllocEr
     text.push_str(want_text(version, want))
 }
 
+fn write_few_nodes(text: &mut String, version: u32) -> Result<(), AllocError> {
+    let most = most_nodes(version);
+    write!(
+        text,
+        "{most} nodes at most, of which each array, object, text, number, boolean and null is one"
+    )
+}
+
 fn write_forms(text: &mut String, shown: Shown) -> Result<(), AllocError> {
     let first = shown.first;
     match shown.second {
@@ -242,11 +251,11 @@ impl Expected {
             ),
             Expected::FreePool => text.push_str("the name of a pool that no pool before it has"),
             Expected::Document => text.push_str("a script: an object that has the key `version`"),
-            Expected::Short => text.push_str("a text of 1048576 bytes at most"),
-            Expected::JsonText => text.push_str("a JSON text in UTF-8, nested to 127 at most"),
-            Expected::FewNodes => text.push_str(
-                "65536 nodes at most, of which each array, object, text, number, boolean and null is one",
+            Expected::Short => text.push_str(
+                "a text of 1048576 bytes at most, or JSON of version 3 of 67108864 bytes at most",
             ),
+            Expected::JsonText => text.push_str("a JSON text in UTF-8, nested to 127 at most"),
+            Expected::FewNodes(version) => write_few_nodes(text, version),
             Expected::FewClasses => text.push_str("256 classes at most"),
             Expected::FewPools => text.push_str("4 pools at most"),
             Expected::FewCallers => text.push_str("8 callers at most"),

@@ -6,9 +6,9 @@ ghost use Rattle.dv_why.specs.Explaining.{Explains, fault_status, fault_text, en
 ghost use Rattle.dv_why.specs.Explaining.{ended_text};
 
 use crate::why::tell;
+use dv_forms::limits::WIDEST_BYTES;
 use dv_journal::sink::{Sink, SinkFault, write_all};
 use dv_reader::error::{ScriptFault, refusal_text};
-use dv_script::limits::MOST_BYTES;
 use dv_source::source::{ReadError, Source, read_up_to};
 use std::alloc::{AllocError, Global};
 
@@ -75,7 +75,7 @@ pub fn explain<R: Source, W: Sink>(
         → HasFailed (W.failures writer.old) (W.failures writer.new) }
     ensures kept { OnOk result (W.failures writer.new ≡ W.failures writer.old) }
 {
-    let bytes = read_up_to(alloc, reader, MOST_BYTES + 1)?;
+    let bytes = read_up_to(alloc, reader, WIDEST_BYTES + 1)?;
     let mut told = tell(alloc, bytes.as_slice())?;
     told.line.push('\n')?;
     write_all(writer, told.line.as_bytes())?;

@@ -9,8 +9,8 @@ from ..language import LANGUAGE, Form, Word
 
 _LIMITS = LANGUAGE.limits
 
-MOST_BYTES = _LIMITS["bytes"]
-MOST_NODES = _LIMITS["nodes"]
+#: the most bytes of a script of any version
+WIDEST_BYTES = _LIMITS["bytes"]
 MOST_CLASSES = _LIMITS["classes"]
 MOST_POOLS = _LIMITS["pools"]
 MOST_CALLERS = _LIMITS["callers"]
@@ -46,7 +46,9 @@ def _of_word(word: str, place: int) -> Form:
     return next(row.arguments[place] for row in LANGUAGE.words if row.word == word)
 
 
-LIMITS = _numbers(_of_key("script", "limit"))
+LIMITS: Dict[int, range] = {
+    version: range(0, LANGUAGE.most("limit", version) + 1) for version in LANGUAGE.versions
+}
 ADVANCES = _numbers(_of_word("advance", 0))
 DRAINS = _numbers(_of_word("drain", 0))
 DELAYS = _numbers(_of_word("later", 1))

@@ -64,9 +64,7 @@ class Script:
 
 def read(data: bytes, names_of_classes: Sequence[str]) -> Script:
     """The script that these bytes say, where these are the classes that need no declaring."""
-    if len(data) > grammar.MOST_BYTES:
-        raise Refused(TOO_LONG)
-    root = _json(data)
+    root = _root(data)
     if not _has_version(root):
         raise Refused(BAD_VERSION)
     found = _Shape(root["version"]).root(root)
@@ -75,6 +73,20 @@ def read(data: bytes, names_of_classes: Sequence[str]) -> Script:
     _refuse_classes(root, found, names_of_classes)
     _refuse_pools(root, found)
     return Script(root)
+
+
+def _root(data: bytes) -> Any:
+    """What the bytes say, which may be long only where its version allows it."""
+    if len(data) > grammar.WIDEST_BYTES:
+        raise Refused(TOO_LONG)
+    is_long = len(data) > LANGUAGE.most("bytes", 1)
+    try:
+        root = _json(data)
+    except Refused as refused:
+        raise Refused(TOO_LONG) if is_long else refused
+    if is_long and not (_has_version(root) and len(data) <= LANGUAGE.most("bytes", root["version"])):
+        raise Refused(TOO_LONG)
+    return root
 
 
 def _has_version(root: Any) -> bool:
@@ -179,7 +191,7 @@ class _Shape:
     def root(self, root: Dict[str, Any]) -> _Found:
         """What a whole script has."""
         self._keys(root, grammar.NEEDED_KEYS, grammar.KEYS[self._version])
-        self._number(root.get("limit", 0), grammar.LIMITS)
+        self._number(root.get("limit", 0), grammar.LIMITS[self._version])
         for pair in self._array(root.get("classes", [])):
             self._texts(pair, 2)
         if "cooperator" in root:
@@ -340,7 +352,7 @@ class _Shape:
 def _refuse_counts(root: Mapping[str, Any], found: _Found) -> None:
     callers = root.get("callers", [])
     if (
-        nodes(root) > grammar.MOST_NODES
+        nodes(root) > LANGUAGE.most("nodes", root["version"])
         or len(root.get("classes", [])) > grammar.MOST_CLASSES
         or len(root.get("pools", [])) > grammar.MOST_POOLS
         or len(callers) > grammar.MOST_CALLERS

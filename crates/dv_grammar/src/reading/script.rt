@@ -1,8 +1,9 @@
 ghost use Rattle.std.specs.Prelude.{[], option_map, option_and_then};
 ghost use Rattle.serde_json.specs.View.{view, items_view};
-ghost use Rattle.dv_script.specs.declared.limits.TheConstants.{MOST_LIMIT, USUAL_LIMIT};
+ghost use Rattle.dv_script.specs.declared.limits.TheConstants.{USUAL_LIMIT};
 ghost use Rattle.dv_forms.specs.Answer.{Reads, Gives};
 ghost use Rattle.dv_forms.specs.declared.versions.TheConstants.{LAST_VERSION};
+ghost use Rattle.dv_forms.specs.Limits.{most_limit};
 ghost use Rattle.dv_forms.specs.Parts.{each, field, fields_at, list_at, number_at};
 ghost use Rattle.dv_grammar.specs.Grammar.{keys_of};
 ghost use Rattle.dv_grammar.specs.Shape.{caller_at, event_at, pool_at, script_at};
@@ -12,25 +13,27 @@ use crate::reading::body::bodies;
 use crate::reading::cooperator::cooperator_or_plain;
 use crate::reading::event::events;
 use dv_forms::leaf::{array, fields, number, small, text, two};
+use dv_forms::limits::most_limit;
 use dv_forms::stop::Stop;
 use dv_forms::table::{declarations, table};
 use dv_forms::versions::LAST_VERSION;
 use dv_script::body::Body;
 use dv_script::event::Event;
-use dv_script::limits::{MOST_LEVELS, MOST_LIMIT, MOST_WORKERS, USUAL_LIMIT};
+use dv_script::limits::{MOST_LEVELS, MOST_WORKERS, USUAL_LIMIT};
 use dv_script::script::{NamedPool, Script};
 use dv_value::classes::Classes;
 use dv_value::items::Items;
 use serde_json::Value as Json;
 use std::alloc::Global;
 
-fn limit(json: Option<&Json>) -> Result<u64, Stop>
-    ensures { Reads result (field USUAL_LIMIT (number_at 0 MOST_LIMIT)
+/// What a script of this version lets its journal weigh.
+fn limit(version: u32, json: Option<&Json>) -> Result<u64, Stop>
+    ensures { Reads result (field USUAL_LIMIT (number_at 0 (most_limit version))
         (option_map (λ d. view d.now) json.entry)) }
 {
     match json {
         None => Ok(USUAL_LIMIT),
-        Some(json) => number(json, 0, MOST_LIMIT),
+        Some(json) => number(json, 0, most_limit(version)),
     }
 }
 
@@ -154,7 +157,7 @@ pub fn shape(alloc: Global, json: &Json) -> Result<Draft, Stop>
 {
     let version = version(json.get("version"))?;
     fields_of(version, json)?;
-    let limit = limit(json.get("limit"))?;
+    let limit = limit(version, json.get("limit"))?;
     let cooperator = cooperator_or_plain(json.get("cooperator"))?;
     let pools = pools(alloc, json.get("pools"))?;
     let declared = declarations(alloc, json.get("classes"))?;

@@ -96,7 +96,7 @@ def _arguments(words: List[str]) -> argparse.Namespace:
 def _once(batches: Optional[Batches]) -> int:
     """Answers the script of standard input."""
     try:
-        data = sys.stdin.buffer.read(grammar.MOST_BYTES + 1)
+        data = sys.stdin.buffer.read(grammar.WIDEST_BYTES + 1)
     except OSError as error:
         return _not_read(error)
     status, output, errors = answer(data, batches)

@@ -25,7 +25,10 @@ from .whereabouts import Acted, actions_of, whereabouts_of
 
 _FINEST = 10**9
 _LARGEST_SCALE = 10**10
-_MOST_LIMIT = grammar.LIMITS[-1]
+#: how large a recorded script may be: as large as one of the first version
+_MOST_LIMIT = LANGUAGE.most("limit", 1)
+_MOST_BYTES = LANGUAGE.most("bytes", 1)
+_MOST_NODES = LANGUAGE.most("nodes", 1)
 
 
 class CannotSay(Exception):
@@ -454,9 +457,9 @@ class Said:
         reasons: List[str] = []
         if script["limit"] == _MOST_LIMIT and self._weights()[-1] > _MOST_LIMIT:
             reasons.append("the journal weighs more than a script's may")
-        if len(self.text.encode()) > grammar.MOST_BYTES:
+        if len(self.text.encode()) > _MOST_BYTES:
             reasons.append("the script is longer than one may be")
-        elif nodes(script) > grammar.MOST_NODES:
+        elif nodes(script) > _MOST_NODES:
             reasons.append("the script has more nodes than one may have")
         return reasons
 
@@ -471,7 +474,7 @@ class Said:
             place
             for place in range(len(events) + 1)
             if place == 0
-            or (size[place] <= grammar.MOST_BYTES and count[place] <= grammar.MOST_NODES and weights[place] <= _MOST_LIMIT)
+            or (size[place] <= _MOST_BYTES and count[place] <= _MOST_NODES and weights[place] <= _MOST_LIMIT)
         )
         script["events"] = events[: self.events]
         script["version"] = self._version(script)

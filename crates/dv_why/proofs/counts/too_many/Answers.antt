@@ -1,9 +1,11 @@
 use Rattle.std.proofs.Common.{◌≡◌, true, false, codes, sym, ◌∙◌}
 use Rattle.std.proofs.lemmas.Bool.{leb-true}
 use Rattle.serde_json.specs.View.{view}
-use Rattle.dv_script.specs.declared.limits.TheConstants.{MOST_CALLERS, MOST_CLASSES, MOST_NODES, MOST_POOLS}
+use Rattle.dv_script.specs.declared.limits.TheConstants.{MOST_CALLERS, MOST_CLASSES, MOST_POOLS}
+use Rattle.dv_forms.specs.Limits.{most_nodes}
 use Rattle.dv_reader.specs.Limits.{nodes, is_small}
 use Rattle.dv_why.specs.Counts.{count_in}
+use Rattle.dv_why.specs.Documents.{version_in}
 use Rattle.dv_why.specs.Wrong.{many_posts}
 use Rattle.dv_why.proofs.Few.{few_small, not_more, not_cut}
 use Rattle.dv_why.proofs.counts.too_many.Goals as goal
@@ -18,7 +20,9 @@ returns-clause-wrong c =
     let d = view c.args.json.now in
     let draft = c.requires.0 in
     let small : is_small d draft ≡ true = few_small d draft c.requires.1.shape (record {
-      nodes = leb-true (nodes d) MOST_NODES (sym c.has_few_nodes.ensures ∙ c.if-not-has_few_nodes.false);
+      nodes =
+          leb-true (nodes d) (most_nodes (version_in d))
+          (rw c.version_of-version.ensures at (sym c.has_few_nodes.ensures ∙ c.if-not-has_few_nodes.false));
       classes = not_more MOST_CLASSES (count_in (codes "classes") d) (sym c.is_long.ensures ∙ c.if-is_long.false);
       pools = not_more MOST_POOLS (count_in (codes "pools") d) (sym c.is_long-2.ensures ∙ c.if-is_long-2.false);
       callers = not_more MOST_CALLERS (count_in (codes "callers") d) (sym c.is_long-3.ensures ∙ c.if-is_long-3.false);
