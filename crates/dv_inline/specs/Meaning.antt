@@ -13,6 +13,7 @@ use Rattle.dv_script.specs.declared.body.Statement.{Statement}
 use Rattle.dv_value.specs.Classes.{check}
 use Rattle.dv_value.specs.Failure.{class_of, failure_in, fault}
 use Rattle.dv_value.specs.Plus.{plus_to}
+use Rattle.dv_value.specs.Throw.{failure_at, thrown_or_type_error}
 use Rattle.dv_value.specs.declared.classes.Class.{Class}
 use Rattle.dv_value.specs.declared.failure.Failure.{Failure}
 use Rattle.dv_value.specs.declared.value.Value.{Value, Null, Fault, out-Value}
@@ -87,6 +88,8 @@ ended (end.Plus n) v = plus_to n (out-Value v)
 ended (end.Raise class message) v = fault class message
 ended (end.Trap listed value) v = v
 ended (end.Wait name) v = v
+ended (end.Run name) v = v
+ended (end.Throw path) v = thrown_or_type_error (failure_at path v)
 
 -- a statement by what those inside it are found to mean
 abbrev pub statement_meant : List Class → Statement-F (Action × Unit {0}) (Statement × Meant) (Body × Unit {0}) → Meant

@@ -16,6 +16,7 @@ use dv_value::failure::Failure;
 use dv_value::fault::fault;
 use dv_value::plus::plus;
 use dv_value::stack::Stack;
+use dv_value::throw::throw;
 use dv_value::value::Value;
 use std::alloc::{AllocError, Global};
 use std::marker::Model;
@@ -254,8 +255,8 @@ fn caught_by<'s>(
     Some((second, rest))
 }
 
-/// What an end returns for the present value. A body has no `Trap` and no `Wait`: they return it as
-/// it is.
+/// What an end returns for the present value. A body has no `Trap`, no `Wait` and no `Run`: they
+/// return it as it is.
 fn ended(alloc: Global, end: &End, value: Value) -> Result<Value, AllocError>
     ensures { IfOk result (λ v. v ≡ ended end.now value) }
 {
@@ -270,6 +271,7 @@ fn ended(alloc: Global, end: &End, value: Value) -> Result<Value, AllocError>
             drop(value);
             fault(alloc, *class, message.as_str())
         }
-        End::Trap(_, _) | End::Wait(_) => Ok(value),
+        End::Throw(path) => throw(alloc, path.as_slice(), &value),
+        End::Trap(_, _) | End::Wait(_) | End::Run(_) => Ok(value),
     }
 }

@@ -93,6 +93,8 @@ wording_of (entry.Job job id) = says (codes "job") (Job job ∷ Deferred id ∷ 
 wording_of (entry.Advance time) = says (codes "advance") (Time time ∷ [])
 wording_of entry.Drain = says (codes "drain") []
 wording_of (entry.Post caller index) = says (codes "post") (Number caller ∷ Number index ∷ [])
+wording_of (entry.Body name) = says (codes "body") (Object object.Body naming.Any name ∷ [])
+wording_of (entry.Units units) = says (codes "units") (Number units ∷ [])
 
 -- the parts after its word
 abbrev pub parts_of : Entry → List Part

@@ -96,6 +96,8 @@ told_of (entry.Job job id) = Other
 told_of (entry.Advance time) = Advances time
 told_of entry.Drain = Other
 told_of (entry.Post caller index) = Other
+told_of (entry.Body name) = Other
+told_of (entry.Units units) = Other
 
 -- what it logs about Deferreds
 abbrev pub change_in : Told → Change

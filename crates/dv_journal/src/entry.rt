@@ -7,7 +7,7 @@ ghost use Rattle.dv_journal.specs.Told.{is_unhandled};
 
 use crate::deferred_id::DeferredId;
 use crate::form::Naming::{Any, Last, Made};
-use crate::form::ObjectKind::{Call, Lock, Loop, Queue, Task};
+use crate::form::ObjectKind::{Body, Call, Lock, Loop, Queue, Task};
 use crate::forms;
 use crate::part::Part::{
     Bound, Deferred, Due, Fired, Job, Name, NewName, Number, Object, Outcome, Time,
@@ -126,6 +126,10 @@ pub enum Entry {
     Drain,
     /// `post C K`: the K-th post of caller C is performed, both counted from 0.
     Post(u32, u32),
+    /// `body NAME`: the body of this name in the script runs.
+    Body(Text),
+    /// `units N`: from its next tick on the cooperator takes so many steps a tick, at most.
+    Units(u32),
 }
 
 impl Entry {
@@ -238,6 +242,8 @@ impl Entry {
             Entry::Advance(time) => Line(forms::ADVANCE, One(Time(*time))),
             Entry::Drain => Line(forms::DRAIN, Nothing),
             Entry::Post(caller, index) => Line(forms::POST, Two(Number(*caller), Number(*index))),
+            Entry::Body(name) => Line(forms::BODY, One(Object(Body, Any, name))),
+            Entry::Units(units) => Line(forms::UNITS, One(Number(*units))),
         }
     }
 

@@ -10,6 +10,8 @@ pub enum ObjectKind {
     Call,
     Loop,
     Task,
+    /// Bodies that a script declares by name.
+    Body,
 }
 
 /// Which object of its kind a name in a line stands for.

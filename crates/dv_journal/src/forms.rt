@@ -5,7 +5,7 @@ ghost use Rattle.dv_journal.specs.Forms.{form_named, form_of};
 ghost use Rattle.dv_journal.specs.declared.entry.Entry.{Entry};
 
 use crate::form::Naming::{Any, Last, Made};
-use crate::form::ObjectKind::{Call, Lock, Loop, Queue, Task};
+use crate::form::ObjectKind::{Body, Call, Lock, Loop, Queue, Task};
 use crate::form::PartKind::{
     Bound, Deferred, Due, Failure, Fired, Job, Name, NewName, Number, Object, Outcome, Text, Time,
     Value,
@@ -121,8 +121,12 @@ pub const DRAIN: LineForm = row!("drain", Outer);
 
 pub const POST: LineForm = row!("post", Due, Number, Number);
 
+pub const BODY: LineForm = row!("body", Plain, Object(Body, Any));
+
+pub const UNITS: LineForm = row!("units", Plain, Number);
+
 /// The rows, in the order in which the kinds of entries are declared.
-const LINE_FORMS: [LineForm; 49] = [
+const LINE_FORMS: [LineForm; 51] = [
     NEW,
     NAME,
     ADD,
@@ -172,6 +176,8 @@ const LINE_FORMS: [LineForm; 49] = [
     ADVANCE,
     DRAIN,
     POST,
+    BODY,
+    UNITS,
 ];
 
 /// The forms of all lines, in the order in which the kinds of entries are declared.

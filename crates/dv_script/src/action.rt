@@ -49,9 +49,10 @@ pub enum Action {
     Unpause(Text),
     /// Cancels it (Twisted: `Deferred.cancel`).
     Cancel(Text),
-    /// Cancels it after so many ticks of the clock, at most 10^12, unless it has a result by then
-    /// (Twisted: `Deferred.addTimeout`).
-    AddTimeout(Text, u64),
+    /// Cancels it after so many ticks of the clock, at most 10^12, unless it has a result by then.
+    /// The body, if there is one, returns what its result is then, in place of TimeoutError
+    /// (Twisted: `Deferred.addTimeout`, `onTimeoutCancel`).
+    AddTimeout(Text, u64, Option<Body>),
     /// Writes the text to the journal.
     Note(Text),
     /// Makes a DeferredList of the children (Twisted: `DeferredList`).
@@ -94,6 +95,9 @@ pub enum Action {
     Loop(Text, Text, u64, bool, Body),
     /// Stops the loop (Twisted: `LoopingCall.stop`).
     StopLoop(Text),
+    /// Sets the most steps that each tick has from the next one on, from 1 to 1,000 (Twisted:
+    /// `Cooperator`, its `terminationPredicateFactory`).
+    Units(u32),
     /// Makes a task of the bodies (Twisted: `cooperate`).
     Cooperate(Text, Items<Body>),
     /// Makes the Deferred that is fired when the task, named second, ends (Twisted:

@@ -20,6 +20,12 @@ pub enum End {
     Trap(Items<ClassId>, Boxed<Value>),
     /// The Deferred of this name.
     Wait(Text),
+    /// What the body of this name returns for the input. It runs in place of this one, and `@`
+    /// stands for the same in it.
+    Run(Text),
+    /// The failure at this path in the input, each of whose numbers is a place in a list, from 0 on
+    /// (Twisted: `Failure.raiseException`).
+    Throw(Items<u32>),
 }
 
 /// What an inline body does, one after the other (Twisted: the lines of a function under
@@ -34,8 +40,8 @@ pub enum Statement {
     Await(Text),
     /// The first statements, and where these classes are thrown there, the second ones.
     Try(Items<Statement>, Items<ClassId>, Items<Statement>),
-    /// Leaves the inline body, whose input is the present value: `Return`, `Pass`, `Plus` or
-    /// `Raise`.
+    /// Leaves the inline body, whose input is the present value: `Return`, `Pass`, `Plus`, `Raise`
+    /// or `Throw`.
     End(End),
 }
 

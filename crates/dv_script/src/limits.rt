@@ -26,6 +26,12 @@ pub const MOST_POOLS: usize = 4;
 /// The most workers of a pool.
 pub const MOST_WORKERS: u32 = 16;
 
+/// The most bodies that a script names.
+pub const MOST_BODIES: usize = 256;
+
+/// The largest place in a list that a script names.
+pub const MOST_PLACE: u32 = 1_000_000;
+
 /// The most callers of a script.
 pub const MOST_CALLERS: u32 = 8;
 

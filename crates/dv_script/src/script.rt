@@ -21,6 +21,13 @@ pub struct NamedPool {
     pub workers: u32,
 }
 
+/// A body that a script declares by its name.
+#[derive(Drop)]
+pub struct NamedBody {
+    pub name: Text,
+    pub body: Body,
+}
+
 /// A script.
 #[derive(Drop)]
 pub struct Script {
@@ -31,6 +38,8 @@ pub struct Script {
     pub cooperator: Cooperator,
     /// The pools that it names, in order.
     pub pools: Items<NamedPool>,
+    /// The bodies that it names, in order.
+    pub bodies: Items<NamedBody>,
     /// The posts of each caller, in order.
     pub callers: Items<Items<Body>>,
     /// Its events, in order.

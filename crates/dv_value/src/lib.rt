@@ -13,6 +13,7 @@ pub mod laws;
 pub mod plus;
 pub mod stack;
 pub mod text;
+pub mod throw;
 pub mod value;
 pub mod value_text;
 pub mod writing;
