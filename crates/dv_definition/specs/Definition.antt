@@ -19,8 +19,8 @@ use Rattle.dv_definition.specs.Rule.{◌after_which◌}
 use Rattle.dv_definition.specs.Steps.{Step, Make, Name, Append, FireGuarded, Pause, Note, TellTurn, NewLock}
 use Rattle.dv_definition.specs.Steps.{NewSemaphore, Ask, Release, Forget, NewQueue, Withdraw, NewList, StartTimer}
 use Rattle.dv_definition.specs.Steps.{EndTimer, CallLater, NewLoop, ScheduleTurn, StopLoop, EndLoop, NewTask, AwaitTask}
-use Rattle.dv_definition.specs.Steps.{PauseTask, ResumeTask, HoldTask, KeepTick, BeginTick, EndTick, AddInline}
-use Rattle.dv_definition.specs.Steps.{BeginAwait, Submit, DeliverLater, Put, PutDeferred, ComeDue, Moves, Cancel}
+use Rattle.dv_definition.specs.Steps.{PauseTask, ResumeTask, HoldTask, SetUnits, KeepTick, BeginTick, EndTick, AddInline}
+use Rattle.dv_definition.specs.Steps.{BeginBody, BeginAwait, Submit, DeliverLater, Put, PutDeferred, ComeDue, Moves, Cancel}
 use Rattle.dv_definition.specs.Steps.{PutInto, GetFrom, CameTo, CancelCall, ResetCall, TakeStep, EndTask}
 use Rattle.dv_definition.specs.Steps.{ComeToInline, EndAwait}
 use Rattle.dv_definition.specs.Words.{finished, give, raise, give_end, ◌and◌, calls, places, performs, goes_through}
@@ -70,7 +70,9 @@ use Rattle.dv_script.specs.declared.action.Action.{Action, out-Action}
 use Rattle.dv_script.specs.declared.action.Action.TheOpen.{Action-F}
 use Rattle.dv_script.specs.declared.body.Body.{Body}
 use Rattle.dv_script.specs.declared.body.End.{End}
+use Rattle.dv_script.specs.declared.body.End.TheVariants as end
 use Rattle.dv_script.specs.declared.body.Statement.{Statement}
+use Rattle.dv_script.specs.declared.script.NamedBody.{NamedBody}
 use Rattle.dv_script.specs.declared.work.Work.{Work}
 use Rattle.dv_store.specs.declared.record.Record.{Record}
 use Rattle.dv_store.specs.declared.store.Step.{Step as Move}
@@ -82,7 +84,7 @@ use Rattle.dv_value.specs.declared.classes.Class.{Class}
 use Rattle.dv_value.specs.declared.failure.Failure.{Failure}
 use Rattle.dv_value.specs.declared.value.Value.{Value, Null, Fault, Text}
 use Rattle.dv_value.specs.declared.value.Value.TheVariants as value
-use Rattle.dv_world.specs.World.{World, not_paused, not_running, too_many_jobs}
+use Rattle.dv_world.specs.World.{World, body_named, not_paused, not_running, too_many_jobs}
 
 -- 5. Deferreds. How one is fired and unpaused stands in `Rule`: `fires` and `unpauses`.
 
@@ -315,12 +317,21 @@ give_gathered input = Finds (seconds_of input) (raise not_gathered) give
 -- 12. Time-outs (Twisted: `Deferred.addTimeout`).
 
 -- cancels d after so many ticks, unless its second pair has run by then. A timer is started, and d gets two pairs: one
--- turns a cancellation by the timer into TimeoutError, and one ends the timer
-abbrev pub add_timeout : ℕ → ℕ → Rule
-add_timeout d delay =
+-- turns a cancellation by the timer into TimeoutError, or performs the body, if there is one; and one ends the timer
+abbrev pub add_timeout : ℕ → ℕ → Option Body → Rule
+add_timeout d delay on_timeout =
     next_call λ t.
     StartTimer d delay next
-    add d (timing t) after_which adds d (ending t)
+    add d (timing t on_timeout) after_which adds d (ending t)
+
+-- what becomes of the value of d in the first of these pairs: if the time of the timer is over, the body is performed on
+-- it, or without a body TimeoutError takes the place of a cancellation. Else the value stays
+abbrev pub watch : ℕ → ℕ → Option Body → Value → Rule
+watch d t on_timeout input =
+    all_classes λ classes.
+    its_time_is_over t λ is_over.
+    Finds (if is_over then on_timeout else None) (give (timed classes is_over input)) λ body.
+    calls (performs (Some d) body input)
 
 -- 13. Loops (Twisted: `LoopingCall`).
 
@@ -571,8 +582,7 @@ abbrev pub run_side : ℕ → Option Side → Value → Rule
 run_side d None input = give input
 run_side d (Some (side.Body body)) input = calls (performs (Some d) body input)
 run_side d (Some (side.Fire e)) input = Fires e input
-run_side d (Some (side.Timed t)) input =
-    all_classes λ classes. its_time_is_over t λ is_over. give (timed classes is_over input)
+run_side d (Some (side.Timed t on_timeout)) input = watch d t on_timeout input
 run_side d (Some (side.EndTimer t)) input = EndTimer t next give input
 run_side d (Some (side.Come child)) input = report child input
 run_side d (Some side.Results) input = give_gathered input
@@ -625,7 +635,7 @@ carry_out itself (Action-F.Chain name after) =
 carry_out itself (Action-F.Pause name) = on_deferred itself name λ d. Pause d next finished
 carry_out itself (Action-F.Unpause name) = on_deferred itself name Unpauses
 carry_out itself (Action-F.Cancel name) = on_deferred itself name cancel
-carry_out itself (Action-F.AddTimeout name delay) = on_deferred itself name λ d. add_timeout d delay
+carry_out itself (Action-F.AddTimeout name delay body) = on_deferred itself name λ d. add_timeout d delay body
 carry_out itself (Action-F.Note text) = Note text next finished
 carry_out itself (Action-F.Lock name) = NewLock name next finished
 carry_out itself (Action-F.Semaphore name tokens) = NewSemaphore name tokens next finished
@@ -647,6 +657,7 @@ carry_out itself (Action-F.DelayCall name delay) =
     on_call name λ number. Asks (ResetCall number delay_from.Due delay) Ends
 carry_out itself (Action-F.Loop name of interval at_once body) = loop name of interval at_once body
 carry_out itself (Action-F.StopLoop name) = on_loop name stop_loop
+carry_out itself (Action-F.Units units) = SetUnits units next finished
 carry_out itself (Action-F.Cooperate name bodies) = NewTask name bodies next KeepTick next finished
 carry_out itself (Action-F.WhenDone name task) = on_task task λ t. when_done name t
 carry_out itself (Action-F.PauseTask name) = on_task name pause_task
@@ -662,8 +673,30 @@ act itself action = carry_out itself (out-Action action)
 
 -- 19. What is left of a body: its actions in order, and then what its end returns for the input. An action that raises
 -- ends it, since what is left is only gone through `unless_raised` (21).
+
+-- the body that runs in place of an end: the one that it names
+abbrev pub body_for : End → World → Option NamedBody
+body_for (end.Return v) w = None
+body_for end.Pass w = None
+body_for (end.Plus n) w = None
+body_for (end.Raise class message) w = None
+body_for (end.Trap listed v) w = None
+body_for (end.Wait name) w = None
+body_for (end.Run name) w = body_named name w.declared
+body_for (end.Throw path) w = None
+
+-- performs a body that the script declares on an input, which is logged first
+abbrev pub run_body : Option ℕ → Value → NamedBody → Rule
+run_body itself input declared =
+    Asks (BeginBody declared) λ begun. Finds begun finished λ body. calls (performs itself body input)
+
+-- what an end returns for an input, or what the body returns that runs in its place
+abbrev pub perform_end : Option ℕ → End → Value → Rule
+perform_end itself end input = By λ w. Finds (body_for end w) (give_end itself end input) (run_body itself input)
+
+-- each action, and then what is left; after the last the end
 abbrev pub perform_rest : Option ℕ → List Action → End → Value → Rule
-perform_rest itself [] end input = give_end itself end input
+perform_rest itself [] end input = perform_end itself end input
 perform_rest itself (action ∷ rest) end input = act itself action after_which goes_through itself rest end input
 
 -- 20. What goes on.

@@ -134,5 +134,5 @@ occurrences callers (event.Drain most ∷ events) batches =
 -- a script leads, where these batches of posts are taken, from a world in which nothing is made to this one
 abbrev pub Leads : Script → List Batch → World → Type 0
 Leads script batches after =
-    let first = first_world script.classes script.limit script.cooperator in
+    let first = first_world script.classes script.bodies script.limit script.cooperator in
     ComesTo (λ go. all_happen go (occurrences script.callers script.events batches) first) after

@@ -51,7 +51,9 @@ pub fn begin<'s>(
         Action::Pause(name) => pause(turn, itself, name.as_str()),
         Action::Unpause(name) => unpause(turn, itself, name.as_str()),
         Action::Cancel(name) => cancel_named(turn, itself, name.as_str()),
-        Action::AddTimeout(name, delay) => add_timeout(turn, itself, name.as_str(), *delay),
+        Action::AddTimeout(name, delay, on_timeout) => {
+            add_timeout(turn, itself, name.as_str(), *delay, on_timeout)
+        }
         Action::Lock(name) => turn.world.make_lock(name.as_str()),
         Action::Semaphore(name, tokens) => turn.world.make_semaphore(name.as_str(), *tokens),
         Action::Acquire(name, lock) => acquire(turn, TextRef::new(name), lock.as_str()),
@@ -85,6 +87,7 @@ pub fn begin<'s>(
             start_loop(turn, name, of, *interval, *at_once, BodyRef::new(body))
         }
         Action::StopLoop(name) => stop_loop(turn, name.as_str()),
+        Action::Units(units) => turn.world.set_units(*units),
         Action::Cooperate(name, bodies) => {
             cooperate(turn, TextRef::new(name), BodiesRef::new(bodies.as_slice()))
         }

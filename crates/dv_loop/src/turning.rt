@@ -1,6 +1,7 @@
 //! One turn: the frame on top of the stack, by its rule.
 
 ghost use Rattle.std.specs.Prelude.{◌≡◌, IfOk, OnOk};
+ghost use Rattle.std.specs.Option.{option_copied};
 ghost use Rattle.dv_objects.specs.declared.performed.Performed.TheVariants.{Done};
 ghost use Rattle.dv_frames.specs.Bounds.{Bounded};
 ghost use Rattle.dv_definition.specs.Definition as page;
@@ -16,16 +17,21 @@ use crate::turn_end::{TurnEnd, came};
 use crate::wanting;
 use dv_clock::task_id::TaskId;
 use dv_defer::cancelling::{cancel, end_canceller};
-use dv_frames::following::add_and_settle;
+use dv_frames::following::{add_and_settle, whole};
 use dv_frames::frame::{Frame, Purpose, Rest};
 use dv_frames::raising::tell_failure;
 use dv_frames::turn::Turn;
 use dv_inline::poller::Poller;
 use dv_journal::deferred_id::DeferredId;
+use dv_objects::input::Input;
 use dv_objects::performed::Performed;
+use dv_script::body::End;
+use dv_script::lent::BodyRef;
+use dv_script::script::NamedBody;
 use dv_task::cooperating::{end_step, go_on_ticking, notify};
 use dv_threads::maybe::{end_maybe, give_after};
 use dv_world::ending::ended;
+use dv_world::world::World;
 use std::alloc::AllocError;
 
 /// Goes on with the frame that was on top, which gets what the one above it gave.
@@ -159,16 +165,7 @@ fn go_on<'s>(turn: &mut Turn<'s>, rest: Rest<'s>) -> Result<(), AllocError>
     } = rest;
     let bound = &itself;
     match actions.split() {
-        None => {
-            turn.performed = ended(
-                turn.alloc,
-                &turn.world,
-                *bound,
-                end.get(),
-                input.into_value(),
-            )?;
-            Ok(())
-        }
+        None => end_body(turn, *bound, end.get(), input),
         Some((action, actions)) => {
             turn.stack.push(Frame::Rest(Rest {
                 itself: *bound,
@@ -178,5 +175,61 @@ fn go_on<'s>(turn: &mut Turn<'s>, rest: Rest<'s>) -> Result<(), AllocError>
             }))?;
             begin(turn, *bound, action)
         }
+    }
+}
+
+/// Ends a body on an input: with what its end returns, or with the body that runs in its place.
+fn end_body<'s>(
+    turn: &mut Turn<'s>,
+    itself: Option<DeferredId>,
+    end: &'s End,
+    input: Input,
+) -> Result<(), AllocError>
+    requires done { turn.old.performed ≡ Done }
+    ensures { OnOk result (turn.new ≡ after (page.perform_end itself end.now input) turn.old) }
+{
+    match body_for(&turn.world, end) {
+        None => {
+            turn.performed = ended(turn.alloc, &turn.world, itself, end, input.into_value())?;
+            Ok(())
+        }
+        Some(declared) => run_body(turn, itself, input, declared),
+    }
+}
+
+/// The body that runs in place of an end: the one that it names.
+fn body_for<'s>(world: &World<'s>, end: &'s End) -> Option<&'s NamedBody>
+    ensures { option_copied result ≡ page.body_for end.now world.now }
+{
+    match end {
+        End::Run(name) => world.body_named(name.as_str()),
+        End::Return(_)
+        | End::Pass
+        | End::Plus(_)
+        | End::Raise(_, _)
+        | End::Trap(_, _)
+        | End::Wait(_)
+        | End::Throw(_) => None,
+    }
+}
+
+/// Begins a body that the script declares on an input, after that is logged.
+fn run_body<'s>(
+    turn: &mut Turn<'s>,
+    itself: Option<DeferredId>,
+    input: Input,
+    declared: &'s NamedBody,
+) -> Result<(), AllocError>
+    requires done { turn.old.performed ≡ Done }
+    ensures { OnOk result (turn.new ≡ after (page.run_body itself input declared.now) turn.old) }
+{
+    match turn.world.begin_body(declared)? {
+        None => {
+            drop(input);
+            Ok(())
+        }
+        Some(body) => turn
+            .stack
+            .push(Frame::Rest(whole(itself, BodyRef::new(body), input))),
     }
 }

@@ -37,6 +37,10 @@ new_cooperator units delay = record {
   ticking = false;
 }
 
+-- each tick has so many steps from the next one on
+abbrev pub with_units : ℕ → Cooperator → Cooperator
+with_units units c = record c { units = units }
+
 -- the result of a task, for whoever waits for its end
 abbrev pub result_of : List ℕ → TaskEnd → Value
 result_of name Finished = Text name

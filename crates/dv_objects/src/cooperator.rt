@@ -59,7 +59,7 @@ impl<'s> Cooperator<'s> {
     ghost use Rattle.dv_objects.specs.Cooperator.{new_cooperator, with_new_task, with_step};
     ghost use Rattle.dv_objects.specs.Cooperator.{with_pause, with_resume, with_end, with_waiting};
     ghost use Rattle.dv_objects.specs.Cooperator.{changing, unended, next_body, waiting_for};
-    ghost use Rattle.dv_objects.specs.Cooperator.{wants_tick, idle_tick};
+    ghost use Rattle.dv_objects.specs.Cooperator.{wants_tick, idle_tick, with_units};
     ghost use Rattle.dv_objects.specs.Names.{number_of};
 
     /// A Cooperator without tasks, which takes so many steps in a tick, and from tick to tick of
@@ -244,6 +244,13 @@ impl<'s> Cooperator<'s> {
         ensures { result ≡ self.now.units }
     {
         self.units
+    }
+
+    /// Each tick has so many steps from the next one on.
+    pub fn set_units(&mut self, units: u32)
+        ensures { self.new ≡ with_units units self.old }
+    {
+        self.units = units;
     }
 
     /// This tick is scheduled, or none is.

@@ -1,6 +1,6 @@
 -- The world of a run: its Deferreds, their names, the classes of failures and the journal, and one step of each kind.
 use Rattle.std.specs.Prelude.{ℕ, ◌+◌, min, Bool, true, false, not, if◌then◌else◌, List, [], ◌∷◌, ◌++◌, length, Option}
-use Rattle.std.specs.Prelude.{None, Some, Result, Ok, Err, slice_get, bytes_eq, codes}
+use Rattle.std.specs.Prelude.{None, Some, Result, Ok, Err, slice_get, bytes_eq, codes, find}
 use Rattle.std.specs.Option.{option_map_or}
 use Rattle.dv_value.specs.Builtin.{assertion_error, runtime_error, already_called, already_cancelled}
 use Rattle.dv_value.specs.Builtin.{not_paused as paused_not}
@@ -24,6 +24,7 @@ use Rattle.dv_clock.specs.declared.delay_from.DelayFrom.{DelayFrom}
 use Rattle.dv_clock.specs.declared.limits.TheConstants.{MOST_TICKS, MOST_DELAY}
 use Rattle.dv_script.specs.declared.body.Body.{Body}
 use Rattle.dv_script.specs.declared.script.Cooperator.{Cooperator as Settings}
+use Rattle.dv_script.specs.declared.script.NamedBody.{NamedBody}
 use Rattle.dv_script.specs.declared.work.Work.{Work}
 use Rattle.dv_prims.specs.DeferredList.{Gather, came}
 use Rattle.dv_prims.specs.Queue.{Queue, may_put, receiver, put_to, got_from, withdrawn}
@@ -74,6 +75,10 @@ use Rattle.dv_objects.specs.declared.waiting.Waiting.TheVariants.{Adding}
 use Rattle.dv_objects.specs.declared.reached.Reached.{Reached}
 use Rattle.dv_objects.specs.declared.reached.Reached.TheVariants as reached
 
+-- the first body of this name that a script declares
+abbrev pub body_named : List ℕ → List NamedBody → Option NamedBody
+body_named name bodies = find (λ body. bytes_eq body.name name) bodies
+
 -- the records of all Deferreds, in order of making
 abbrev pub Records : Type 0
 Records = List (Record Pair Canceller)
@@ -81,6 +86,7 @@ Records = List (Record Pair Canceller)
 -- what a run has made so far and its journal; once an entry didn't fit it has stopped
 pub record World : Type 0 where
   pub classes : List Class
+  pub declared : List NamedBody
   pub objects : Objects
   -- the works of its jobs, and beside each the name of its pool, or nothing where that is the default one
   pub works : List Work
@@ -90,9 +96,10 @@ pub record World : Type 0 where
   pub stopped : Bool
 
 -- nothing is made and nothing is logged at first
-abbrev pub first_world : List Class → ℕ → Settings → World
-first_world classes limit settings = record {
+abbrev pub first_world : List Class → List NamedBody → ℕ → Settings → World
+first_world classes declared limit settings = record {
   classes = classes;
+  declared = declared;
   objects = no_objects settings;
   works = [];
   pools = [];
@@ -280,6 +287,10 @@ forget l d w = arrange (λ objects. lock_changed l (forgotten d) (slice_get obje
 -- what is answered, unless the run has stopped
 abbrev pub unless_stopped : {A : Type 0} → Option A → World → Option A × World
 unless_stopped answer w = (if w.stopped then None else answer, w)
+
+-- that a declared body runs is logged, and the body is answered
+abbrev pub begin_body : NamedBody → World → Option Body × World
+begin_body declared w = unless_stopped (Some declared.body) (tell (entry.Body declared.name) w)
 
 -- a value is put into the queue that is found, where it may be, and who gets it is answered
 abbrev pub put_into_found : ℕ → Value → Option Queue → World → Option (ℕ × Value) × World

@@ -28,7 +28,7 @@ use dv_prims::queue::Queue;
 use dv_prims::queue_id::QueueId;
 use dv_prims::semaphore::Semaphore;
 use dv_script::lent::{BodyRef, TextRef};
-use dv_script::script::Cooperator as Settings;
+use dv_script::script::{Cooperator as Settings, NamedBody};
 use dv_store::error::{AlreadyCalled, NotPaused};
 use dv_store::record::Record;
 use dv_store::store::{Fired, Step, Store};
@@ -42,6 +42,7 @@ use std::mem;
 
 mod clock;
 pub mod cooperating;
+mod declaring;
 pub mod inlining;
 pub mod jobs;
 pub mod looping;
@@ -57,6 +58,7 @@ pub mod looping;
 pub struct World<'s> {
     alloc: Global,
     classes: &'s Classes,
+    declared: &'s [NamedBody],
     names: Names<DeferredId>,
     locks: Names<LockId>,
     semaphores: Vec<Semaphore>,
@@ -122,6 +124,7 @@ impl<'s> Model for World<'s> {
 
     ghost view = { λ w. record {
       classes = w.classes.now;
+      declared = w.declared.now;
       objects = record {
         names = w.names;
         locks = w.locks;
@@ -158,22 +161,25 @@ impl<'s> World<'s> {
     ghost use Rattle.std.specs.Option.{option_copied};
     ghost use Rattle.dv_journal.specs.declared.entry.Entry.TheVariants as entry;
 
-    /// A world in which nothing is made, whose journal takes so much weight, and whose Cooperator
-    /// takes its steps so. Names are hashed with these keys.
+    /// A world in which nothing is made, of a script with these classes and declared bodies, whose
+    /// journal takes so much weight, and whose Cooperator takes its steps so. Names are hashed with
+    /// these keys.
     pub fn new(
         alloc: Global,
         keys: RandomState,
         classes: &'s Classes,
+        declared: &'s [NamedBody],
         limit: u64,
         settings: Settings,
     ) -> World<'s>
         requires { limit < 2 ^ 32 }
-        ensures { result ≡ first_world classes.now limit settings }
+        ensures { result ≡ first_world classes.now declared.now limit settings }
     {
         let Settings { units, delay } = settings;
         World {
             alloc,
             classes,
+            declared,
             names: Names::new(alloc, keys),
             locks: Names::new(alloc, keys),
             semaphores: Vec::new(alloc),
@@ -792,6 +798,7 @@ impl<'s> World<'s> {
         let World {
             alloc: _,
             classes: _,
+            declared: _,
             names: _,
             locks: _,
             semaphores,

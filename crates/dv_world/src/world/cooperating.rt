@@ -27,6 +27,7 @@ impl<'s> World<'s> {
     ghost use Rattle.dv_world.specs.World.{aside, arrange, take_step, pause_task, resume_task};
     ghost use Rattle.dv_world.specs.World.{hold_task, end_task, await_task, keep_tick};
     ghost use Rattle.dv_world.specs.World.{schedule_tick, begin_tick, end_tick};
+    ghost use Rattle.dv_objects.specs.Cooperator.{with_units};
 
     /// Makes a task of bodies, and binds its name to it, also where that was bound to another; it
     /// takes turns, last (Twisted: `Cooperator.cooperate`).
@@ -238,6 +239,24 @@ impl<'s> World<'s> {
             self.cooperator.set_ticking(true);
         }
         units
+    }
+
+    /// Each tick has so many steps from the next one on.
+    #[tactic(auto, unfolding(crate::specs::World::aside))]
+    pub fn set_units(&mut self, units: u32) -> Result<(), AllocError>
+        ensures { OnOk result
+            (self.new ≡ aside (entry.Units units) (cooperating (with_units units)) self.old) }
+    {
+        if self.stopped {
+            return Ok(());
+        }
+        match self.journal.write(Entry::Units(units)) {
+            Ok(()) => {
+                self.cooperator.set_units(units);
+                Ok(())
+            }
+            Err(stop) => self.stopped_by(stop, ()),
+        }
     }
 
     /// No tick is under way any more.
