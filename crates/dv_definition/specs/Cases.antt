@@ -81,9 +81,8 @@ FiredListsStay =
 -- a firing ends the timer
 abbrev pub FiringsEndTimers : Type 0
 FiringsEndTimers =
-    (d delay : ℕ) (body : Option Body) (w : World)
-    → (let t = length w.objects.clock.calls in run (add_timeout d delay body) w
-    ≡ (frame.Settle d ∷ frame.Add d (ending t) ∷ [], Done, world.append d (timing t body) (world.start_timer d delay w)))
+    (d delay : ℕ) (w : World) → (let t = length w.objects.clock.calls in run (add_timeout d delay) w
+    ≡ (frame.Settle d ∷ frame.Add d (ending t) ∷ [], Done, world.append d (timing t) (world.start_timer d delay w)))
 
 -- after a turn of a loop that runs the next is scheduled
 abbrev pub TurnsFollow : Type 0

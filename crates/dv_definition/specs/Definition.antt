@@ -317,21 +317,12 @@ give_gathered input = Finds (seconds_of input) (raise not_gathered) give
 -- 12. Time-outs (Twisted: `Deferred.addTimeout`).
 
 -- cancels d after so many ticks, unless its second pair has run by then. A timer is started, and d gets two pairs: one
--- turns a cancellation by the timer into TimeoutError, or performs the body, if there is one; and one ends the timer
-abbrev pub add_timeout : ℕ → ℕ → Option Body → Rule
-add_timeout d delay on_timeout =
+-- turns a cancellation by the timer into TimeoutError, and one ends the timer
+abbrev pub add_timeout : ℕ → ℕ → Rule
+add_timeout d delay =
     next_call λ t.
     StartTimer d delay next
-    add d (timing t on_timeout) after_which adds d (ending t)
-
--- what becomes of the value of d in the first of these pairs: if the time of the timer is over, the body is performed on
--- it, or without a body TimeoutError takes the place of a cancellation. Else the value stays
-abbrev pub watch : ℕ → ℕ → Option Body → Value → Rule
-watch d t on_timeout input =
-    all_classes λ classes.
-    its_time_is_over t λ is_over.
-    Finds (if is_over then on_timeout else None) (give (timed classes is_over input)) λ body.
-    calls (performs (Some d) body input)
+    add d (timing t) after_which adds d (ending t)
 
 -- 13. Loops (Twisted: `LoopingCall`).
 
@@ -582,7 +573,8 @@ abbrev pub run_side : ℕ → Option Side → Value → Rule
 run_side d None input = give input
 run_side d (Some (side.Body body)) input = calls (performs (Some d) body input)
 run_side d (Some (side.Fire e)) input = Fires e input
-run_side d (Some (side.Timed t on_timeout)) input = watch d t on_timeout input
+run_side d (Some (side.Timed t)) input =
+    all_classes λ classes. its_time_is_over t λ is_over. give (timed classes is_over input)
 run_side d (Some (side.EndTimer t)) input = EndTimer t next give input
 run_side d (Some (side.Come child)) input = report child input
 run_side d (Some side.Results) input = give_gathered input
@@ -635,7 +627,7 @@ carry_out itself (Action-F.Chain name after) =
 carry_out itself (Action-F.Pause name) = on_deferred itself name λ d. Pause d next finished
 carry_out itself (Action-F.Unpause name) = on_deferred itself name Unpauses
 carry_out itself (Action-F.Cancel name) = on_deferred itself name cancel
-carry_out itself (Action-F.AddTimeout name delay body) = on_deferred itself name λ d. add_timeout d delay body
+carry_out itself (Action-F.AddTimeout name delay) = on_deferred itself name λ d. add_timeout d delay
 carry_out itself (Action-F.Note text) = Note text next finished
 carry_out itself (Action-F.Lock name) = NewLock name next finished
 carry_out itself (Action-F.Semaphore name tokens) = NewSemaphore name tokens next finished

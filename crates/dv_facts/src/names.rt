@@ -76,6 +76,8 @@ pub struct Objects<'e> {
     pub calls: Names<'e>,
     pub loops: Names<'e>,
     pub tasks: Names<'e>,
+    /// None is ever made: a script declares its bodies.
+    pub bodies: Names<'e>,
 }
 
 fn word_of(kind: ObjectKind) -> &'static str {
@@ -85,6 +87,7 @@ fn word_of(kind: ObjectKind) -> &'static str {
         ObjectKind::Call => "call",
         ObjectKind::Loop => "loop",
         ObjectKind::Task => "task",
+        ObjectKind::Body => "body",
     }
 }
 
@@ -96,6 +99,7 @@ impl<'e> Objects<'e> {
             calls: Names::new(alloc),
             loops: Names::new(alloc),
             tasks: Names::new(alloc),
+            bodies: Names::new(alloc),
         }
     }
 
@@ -106,6 +110,7 @@ impl<'e> Objects<'e> {
             ObjectKind::Call => &self.calls,
             ObjectKind::Loop => &self.loops,
             ObjectKind::Task => &self.tasks,
+            ObjectKind::Body => &self.bodies,
         }
     }
 
@@ -116,6 +121,7 @@ impl<'e> Objects<'e> {
             ObjectKind::Call => self.calls.make(name),
             ObjectKind::Loop => self.loops.make(name),
             ObjectKind::Task => self.tasks.make(name),
+            ObjectKind::Body => self.bodies.make(name),
         }
     }
 

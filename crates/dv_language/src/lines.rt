@@ -20,6 +20,7 @@ fn object_name(kind: ObjectKind) -> &'static str
         ObjectKind::Call => "call",
         ObjectKind::Loop => "loop",
         ObjectKind::Task => "task",
+        ObjectKind::Body => "body",
     }
 }
 

@@ -718,6 +718,9 @@ step_quiet (steps.ResumeTask t) w m =
 step_quiet (steps.HoldTask t e) w m =
     told_task_comes (λ x. entry.Hold x.name e) _ (slice_get w.objects.cooperator.tasks t) w (λ x. refl)
     (λ x. tt) (λ x. (refl, refl, refl)) (λ x g. task_beside _ _ _ (beside.TaskPaused t x g refl) refl refl refl)
+step_quiet (steps.SetUnits units) w m =
+    by_aside (entry.Units units) _ w refl tt (λ k. Leaves (refl, refl, refl)) (λ k. k)
+    (resting _ _ _ refl refl refl refl refl refl refl refl refl)
 step_quiet steps.KeepTick w m = keep_comes w w (same w)
 step_quiet steps.BeginTick w m = by_arrange _ w refl Stays (λ k. k) (arranging _ _ refl refl refl refl refl)
 step_quiet steps.EndTick w m = by_arrange _ w refl Stays (λ k. k) (arranging _ _ refl refl refl refl refl)
@@ -749,6 +752,9 @@ turn_comes None w h = same w
 turn_comes (Some t) w h = step_taken_comes t (slice_get w.objects.cooperator.tasks t) w h refl
 
 pub question_quiet : (question : Question) (w : World) → AsksQuietly question → Quietly w (steps.asked question w).1
+question_quiet (steps.BeginBody declared) w m =
+    by_aside (entry.Body declared.name) _ w refl tt (λ k. Leaves (refl, refl, refl)) (λ k. k)
+    (resting _ _ _ refl refl refl refl refl refl refl refl refl)
 question_quiet (steps.Cancel d) w m = absurd m
 question_quiet (steps.PutInto k v) w m = absurd m
 question_quiet (steps.GetFrom k d) w m = absurd m
@@ -789,6 +795,7 @@ step_calm step o w h m = quietly w (stepped step w) (step_quiet step w tt)
 
 -- whom a question tells that a cancel reaches
 abbrev pub reached_by : (question : Question) → Reply question → Option Reached
+reached_by (steps.BeginBody declared) r = None
 reached_by (steps.Cancel d) r = Some r
 reached_by (steps.PutInto k v) r = None
 reached_by (steps.GetFrom k d) r = None
@@ -896,6 +903,7 @@ IsWithdrawing d k (Over rule frames) = ⊥
 -- who is answered to have got a value is fired with it, and who is cancelled while waiting for one waits no longer; one
 -- that asks a queue is made
 abbrev pub AsksCalmly : World → (question : Question) → (Reply question → Rule) → Type 0
+AsksCalmly w (steps.BeginBody declared) rule = Unit {0}
 AsksCalmly w (steps.Cancel of) rule = (d k : ℕ) → IsWithdrawing d k (rule (reached.ForItem d k))
 AsksCalmly w (steps.PutInto k v) rule = (who : ℕ × Value) → IsFiring who.0 who.1 (rule (Some who))
 AsksCalmly w (steps.GetFrom k d) rule =
@@ -1215,6 +1223,7 @@ carry_mild itself (Action-F.ResetCall name delay) w = search [] depth 20
 carry_mild itself (Action-F.DelayCall name delay) w = search [] depth 20
 carry_mild itself (Action-F.Loop name of interval at_once body) w = search [] depth 20
 carry_mild itself (Action-F.StopLoop name) w = search [] depth 20
+carry_mild itself (Action-F.Units units) w = search [] depth 20
 carry_mild itself (Action-F.Cooperate name bodies) w = search [] depth 20
 carry_mild itself (Action-F.WhenDone name task) w = search [] depth 20
 carry_mild itself (Action-F.PauseTask name) w = search [] depth 20
@@ -1226,7 +1235,7 @@ carry_mild itself (Action-F.ThreadIn name pool delay work) w = search [] depth 2
 
 rest_mild : (itself : Option ℕ) (actions : List Action) (end : End) (input : Value) (w : World)
     → Mildly None w (page.perform_rest itself actions end input)
-rest_mild itself [] end input w = tt
+rest_mild itself [] end input w = (tt, λ declared. (tt, λ begun. (tt, λ body. (tt, (tt, tt)))))
 rest_mild itself (action ∷ rest) end input w = (carry_mild itself (out-Action action) w, (tt, tt))
 
 wanted_mild : (i : Inline) (o : Option Want) (p : Position) (w : World) → Mildly None w (page.do_wanted i o p)

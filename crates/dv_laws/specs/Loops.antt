@@ -66,6 +66,8 @@ looping_of (entry.Job job id) = Unlooped
 looping_of (entry.Advance time) = Unlooped
 looping_of entry.Drain = Unlooped
 looping_of (entry.Post caller index) = Unlooped
+looping_of (entry.Body name) = Unlooped
+looping_of (entry.Units units) = Unlooped
 
 -- it counts one where it is that a loop of this name is started
 abbrev pub starts_by : List ℕ → Looping → ℕ

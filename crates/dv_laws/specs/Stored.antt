@@ -71,6 +71,8 @@ queueing_of (entry.Job job id) = Unqueued
 queueing_of (entry.Advance time) = Unqueued
 queueing_of entry.Drain = Unqueued
 queueing_of (entry.Post caller index) = Unqueued
+queueing_of (entry.Body name) = Unqueued
+queueing_of (entry.Units units) = Unqueued
 
 -- the room of a queue, and whether it has no bound, as a count
 abbrev pub room_in : Option ℕ → ℕ

@@ -65,6 +65,8 @@ tasking_of (entry.Job job id) = Untasked
 tasking_of (entry.Advance time) = Untasked
 tasking_of entry.Drain = Untasked
 tasking_of (entry.Post caller index) = Untasked
+tasking_of (entry.Body name) = Untasked
+tasking_of (entry.Units units) = Untasked
 
 -- it counts one where it is that a task of this name is made, or ends
 abbrev pub makes_by : List ℕ → Tasking → ℕ

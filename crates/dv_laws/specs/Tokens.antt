@@ -69,6 +69,8 @@ holding_of (entry.Job job id) = Unheld
 holding_of (entry.Advance time) = Unheld
 holding_of entry.Drain = Unheld
 holding_of (entry.Post caller index) = Unheld
+holding_of (entry.Body name) = Unheld
+holding_of (entry.Units units) = Unheld
 
 -- it counts one where it is that a token of a lock of this name is asked for, or released
 abbrev pub asks_by : List ℕ → Holding → ℕ

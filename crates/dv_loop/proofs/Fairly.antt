@@ -11,7 +11,8 @@ use Rattle.dv_definition.specs.Definition.{answer_of}
 use Rattle.dv_definition.specs.Rule.{found, Rule, Ends, By, If, Finds, Then, Asks, Fires, Unpauses, Over, run}
 use Rattle.dv_definition.specs.Scripts as scripts
 use Rattle.dv_definition.specs.Steps.{Question, stepped, asked, Cancel, PutInto, GetFrom, CameTo, CancelCall, ResetCall}
-use Rattle.dv_definition.specs.Steps.{TakeStep}
+use Rattle.dv_definition.specs.Steps.{TakeStep, BeginBody}
+use Rattle.dv_definition.specs.Words as words
 use Rattle.dv_definition.specs.Steps.{EndTask, ComeToInline, EndAwait, ComeDue, Moves}
 use Rattle.dv_frames.specs.Turn.{Turned, settle_next, ◌over◌}
 use Rattle.dv_frames.specs.declared.frame.Frame.TheVariants as frame
@@ -83,6 +84,7 @@ end_await_same i e p w =
     (end_same i e p (slice_get w.objects.inlines i) w.objects.inlines)
 
 known : (question : Question) (w : World) → Known question (asked question w).0
+known (BeginBody declared) w = tt
 known (Cancel d) w = tt
 known (PutInto k v) w = tt
 known (GetFrom k d) w = tt
@@ -121,6 +123,8 @@ plain_pays question w = omega (arith, pays w (asked question w).1 (question_come
 
 asked_pays : (question : Question) (w : World)
     → can (asked question w).1 + paid_by question (asked question w).0 ≤ can w
+asked_pays (BeginBody declared) w =
+    unless_pays declared.body (entry.Body declared.name) (λ objects. objects) w _ refl refl
 asked_pays (Cancel d) w = cancel_took d w
 asked_pays (PutInto k v) w = plain_pays (PutInto k v) w
 asked_pays (GetFrom k d) w = plain_pays (GetFrom k d) w
@@ -242,9 +246,17 @@ go_where i p o h =
 await : (m : ℕ) (i : Inline) (name : List ℕ) (p : Position) → waiting_text p < m → Within m (page.await i name p)
 await m i name p q = λ w. (go_with m i _ p (omega (arith, q)), λ e k. ((tt, (omega (arith, q), tt)), (q, tt)))
 
+-- that a declared body begins is logged, which pays for it
+body_begun : (m : ℕ) (itself : Option ℕ) (input : Value) (o : Option Body)
+    → Or (1 ≤ one_if_some o)
+    (Within m (Finds o words.finished (λ body. words.calls (words.performs itself body input))))
+body_begun m itself input None = Light (tt, λ body e. absurd cc)
+body_begun m itself input (Some body) = Pays (omega arith)
+
 perform_rest : (itself : Option ℕ) (actions : List Action) (end : End) (input : Value)
     → Within (1 + actions_size actions) (page.perform_rest itself actions end input)
-perform_rest itself [] end input = λ w. tt
+perform_rest itself [] end input =
+    λ w. ((λ u. tt), λ declared e. λ begun known. body_begun (1 + actions_size []) itself input begun)
 perform_rest itself (action ∷ rest) end input =
     (carry_out _ itself (out-Action action) (omega (arith, begun_fits action)), (omega (arith, begun_fits action), tt))
 

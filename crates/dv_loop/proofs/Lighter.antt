@@ -6,7 +6,7 @@ use Rattle.dv_definition.specs.Definition as page
 use Rattle.dv_definition.specs.Flags.{list_flags, gather_flags}
 use Rattle.dv_definition.specs.Rule.{Rule, Ends, By, If, Finds, Then, Asks, Fires, Unpauses, Over}
 use Rattle.dv_definition.specs.Steps.{Question, Reply, Cancel, PutInto, GetFrom, CameTo, CancelCall, ResetCall}
-use Rattle.dv_definition.specs.Steps.{TakeStep, EndTask}
+use Rattle.dv_definition.specs.Steps.{BeginBody, TakeStep, EndTask}
 use Rattle.dv_definition.specs.Steps.{ComeToInline, EndAwait, ComeDue, Moves}
 use Rattle.dv_definition.specs.Words as words
 use Rattle.dv_frames.specs.declared.frame.Frame.TheVariants as frame
@@ -70,6 +70,7 @@ action_within (Action-F.ResetCall name delay) = 0
 action_within (Action-F.DelayCall name delay) = 0
 action_within (Action-F.Loop name deferred interval at_once body) = 1 + body
 action_within (Action-F.StopLoop name) = 0
+action_within (Action-F.Units units) = 0
 action_within (Action-F.Cooperate name bodies) = total bodies
 action_within (Action-F.WhenDone name task) = 0
 action_within (Action-F.PauseTask name) = 0
@@ -194,6 +195,7 @@ one_if_some None = 0
 one_if_some (Some a) = 1
 
 abbrev pub paid_by : (question : Question) → Reply question → ℕ
+paid_by (BeginBody declared) a = one_if_some a
 paid_by (Cancel d) a = reaches a
 paid_by (PutInto k v) a = 0
 paid_by (GetFrom k d) a = 0
@@ -213,6 +215,7 @@ IsSame p None = Unit {0}
 IsSame p (Some came) = came.0 ≡ p
 
 abbrev pub Known : (question : Question) → Reply question → Type 0
+Known (BeginBody declared) a = Unit {0}
 Known (Cancel d) a = Unit {0}
 Known (PutInto k v) a = Unit {0}
 Known (GetFrom k d) a = Unit {0}
@@ -346,6 +349,7 @@ carry_out m itself (Action-F.ResetCall name delay) q = λ w. (tt, λ number e. �
 carry_out m itself (Action-F.DelayCall name delay) q = λ w. (tt, λ number e. λ a known. Light tt)
 carry_out m itself (Action-F.Loop name of interval at_once body) q = λ w v. (turn m 0 body (omega (arith, q)), tt)
 carry_out m itself (Action-F.StopLoop name) q = λ w. (tt, λ l e. stop_loop m l (omega (arith, q)))
+carry_out m itself (Action-F.Units units) q = tt
 carry_out m itself (Action-F.Cooperate name bodies) q = tt
 carry_out m itself (Action-F.WhenDone name task) q = λ w. (tt, λ t e. λ v. notify m 0 t (omega (arith, q)))
 carry_out m itself (Action-F.PauseTask name) q = λ w. (tt, λ t e. λ v. (tt, λ x k. (tt, λ end j. tt)))

@@ -28,7 +28,7 @@ use Rattle.dv_definition.specs.Steps.{Step, stepped, Question, asked, Make, Name
 use Rattle.dv_definition.specs.Steps.{TellTurn, TellUnhandled, NewLock, NewSemaphore, Ask, Release, Forget, NewQueue}
 use Rattle.dv_definition.specs.Steps.{Withdraw, NewList, StartTimer, EndTimer, CallLater, NewLoop, ScheduleTurn}
 use Rattle.dv_definition.specs.Steps.{StopLoop, EndLoop, NewTask, AwaitTask, PauseTask, ResumeTask, HoldTask, KeepTick}
-use Rattle.dv_definition.specs.Steps.{BeginTick, EndTick, AddInline, BeginAwait, Submit, DeliverLater, Advance}
+use Rattle.dv_definition.specs.Steps.{SetUnits, BeginBody, BeginTick, EndTick, AddInline, BeginAwait, Submit, DeliverLater, Advance}
 use Rattle.dv_definition.specs.Steps.{TellDrain, TellPost, Put, PutDeferred, ComeDue, Moves, Cancel, PutInto, GetFrom}
 use Rattle.dv_definition.specs.Steps.{CameTo, CancelCall, ResetCall, TakeStep, EndTask, ComeToInline, EndAwait}
 use Rattle.dv_value.specs.declared.value.Value.{Value}
@@ -221,6 +221,7 @@ step_comes (AwaitTask t d) w = told_task_comes _ _ (slice_get w.objects.cooperat
 step_comes (PauseTask t) w = told_task_comes _ _ (slice_get w.objects.cooperator.tasks t) w (λ x. refl)
 step_comes (ResumeTask t) w = told_task_comes _ _ (slice_get w.objects.cooperator.tasks t) w (λ x. refl)
 step_comes (HoldTask t e) w = told_task_comes _ _ (slice_get w.objects.cooperator.tasks t) w (λ x. refl)
+step_comes (SetUnits units) w = by_aside (entry.Units units) _ w refl
 step_comes KeepTick w = keep_comes w w (same w)
 step_comes BeginTick w = record { keeps = λ R l. l.by_arrange _ w }
 step_comes EndTick w = record { keeps = λ R l. l.by_arrange _ w }
@@ -235,6 +236,7 @@ step_comes (Put d v) w = record { keeps = λ R l. l.by_put d v w }
 step_comes (PutDeferred d e) w = record { keeps = λ R l. l.by_put_deferred d e w }
 
 pub question_comes : (question : Question) (w : World) → Comes w (asked question w).1
+question_comes (BeginBody declared) w = by_aside (entry.Body declared.name) _ w refl
 question_comes (Cancel d) w = record { keeps = λ R l. l.by_cancel d w }
 question_comes (PutInto k v) w = put_comes k v (slice_get w.objects.queues k) w
 question_comes (GetFrom k d) w = get_comes k d (slice_get w.objects.queues k) w

@@ -51,9 +51,7 @@ pub fn begin<'s>(
         Action::Pause(name) => pause(turn, itself, name.as_str()),
         Action::Unpause(name) => unpause(turn, itself, name.as_str()),
         Action::Cancel(name) => cancel_named(turn, itself, name.as_str()),
-        Action::AddTimeout(name, delay, on_timeout) => {
-            add_timeout(turn, itself, name.as_str(), *delay, on_timeout)
-        }
+        Action::AddTimeout(name, delay) => add_timeout(turn, itself, name.as_str(), *delay),
         Action::Lock(name) => turn.world.make_lock(name.as_str()),
         Action::Semaphore(name, tokens) => turn.world.make_semaphore(name.as_str(), *tokens),
         Action::Acquire(name, lock) => acquire(turn, TextRef::new(name), lock.as_str()),

@@ -18,10 +18,10 @@ use dv_objects::given::Given;
 use dv_objects::input::Input;
 use dv_objects::pair::{Pair, Side};
 use dv_objects::performed::Performed;
+use dv_objects::timed::timed;
 use dv_store::store::Step;
 use dv_task::cooperating::{end_hold, fail_where};
 use dv_task::looping::{end_turn, fail_turn};
-use dv_task::timing::watch;
 use dv_threads::inlining::resume;
 use dv_value::value::Value;
 use dv_world::world::World;
@@ -99,7 +99,12 @@ fn begin<'s>(
             turn.stack.push(Frame::Rest(whole(Some(id), body, input)))
         }
         Side::Fire(to) => fire_and_settle(turn, to, input),
-        Side::Timed(timer, on_timeout) => watch(turn, id, timer, on_timeout, input),
+        Side::Timed(timer) => {
+            let over = turn.world.has_timed_out(timer);
+            let given = timed(turn.alloc, turn.world.classes(), over, input)?;
+            turn.performed = Performed::Gave(given);
+            Ok(())
+        }
         Side::EndTimer(timer) => {
             turn.world.end_timer(timer);
             turn.performed = Performed::Gave(Given::own(input));

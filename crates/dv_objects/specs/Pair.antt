@@ -30,9 +30,9 @@ both on_value on_failure = record { callback = Some (side.Body on_value); errbac
 abbrev pub chain : ℕ → Pair
 chain to = record { callback = Some (side.Fire to); errback = Some (side.Fire to) }
 
--- both turn a cancellation into TimeoutError if the time of a timer has come, or then perform the body, if there is one
-abbrev pub timing : ℕ → Option Body → Pair
-timing t body = record { callback = Some (side.Timed t body); errback = Some (side.Timed t body) }
+-- both turn a cancellation into TimeoutError where the time of a timer has come
+abbrev pub timing : ℕ → Pair
+timing t = record { callback = Some (side.Timed t); errback = Some (side.Timed t) }
 
 -- both end a timer
 abbrev pub ending : ℕ → Pair
@@ -72,7 +72,7 @@ pair_of (kind.Callback body) = callback body
 pair_of (kind.Errback body) = errback body
 pair_of (kind.Both on_value on_failure) = both on_value on_failure
 pair_of (kind.Chain to) = chain to
-pair_of (kind.Timing t body) = timing t body
+pair_of (kind.Timing t) = timing t
 pair_of (kind.Ending t) = ending t
 pair_of (kind.Coming child) = coming child
 pair_of kind.Results = results

@@ -32,10 +32,9 @@ pub enum Side<'s> {
     /// This Deferred is fired with the value, and the side returns null (Twisted: what
     /// `Deferred.chainDeferred` adds).
     Fire(DeferredId),
-    /// The value is passed on, but if the time of this timer has come, TimeoutError in place of a
-    /// cancellation; or then the body runs on the value (Twisted: the first of the two that
-    /// `Deferred.addTimeout` adds, and its `onTimeoutCancel`).
-    Timed(CallId, Option<BodyRef<'s>>),
+    /// The value is passed on, but TimeoutError in place of a cancellation where the time of this
+    /// timer has come (Twisted: the first of the two that `Deferred.addTimeout` adds).
+    Timed(CallId),
     /// This timer ends, where its time hasn't come, and the value is passed on (Twisted: the second
     /// of the two).
     EndTimer(CallId),
@@ -78,7 +77,7 @@ enum Kind<'s> {
     /// A body for each.
     Both(BodyRef<'s>, BodyRef<'s>),
     Chain(DeferredId),
-    Timing(CallId, Option<BodyRef<'s>>),
+    Timing(CallId),
     Ending(CallId),
     Coming(Child),
     Results,
@@ -160,13 +159,13 @@ impl<'s> Pair<'s> {
         }
     }
 
-    /// Both turn a cancellation into TimeoutError if the time of a timer has come, or then run the
-    /// body, if there is one (Twisted: `Deferred.addTimeout`).
-    pub fn timing(timer: CallId, body: Option<BodyRef<'s>>) -> Pair<'s>
-        ensures { result ≡ timing timer body.entry }
+    /// Both turn a cancellation into TimeoutError where the time of a timer has come (Twisted:
+    /// `Deferred.addTimeout`).
+    pub fn timing(timer: CallId) -> Pair<'s>
+        ensures { result ≡ timing timer }
     {
         Pair {
-            kind: Kind::Timing(timer, body),
+            kind: Kind::Timing(timer),
         }
     }
 
@@ -264,7 +263,7 @@ fn callback_of<'s>(kind: Kind<'s>) -> Option<Side<'s>>
         Kind::Callback(body) | Kind::Both(body, _) => Some(Side::Body(body)),
         Kind::Errback(_) => None,
         Kind::Chain(to) => Some(Side::Fire(to)),
-        Kind::Timing(timer, body) => Some(Side::Timed(timer, body)),
+        Kind::Timing(timer) => Some(Side::Timed(timer)),
         Kind::Ending(timer) => Some(Side::EndTimer(timer)),
         Kind::Coming(child) => Some(Side::Come(child)),
         Kind::Results => Some(Side::Results),
@@ -284,7 +283,7 @@ fn errback_of<'s>(kind: Kind<'s>) -> Option<Side<'s>>
         Kind::Errback(body) | Kind::Both(_, body) => Some(Side::Body(body)),
         Kind::Callback(_) | Kind::Results | Kind::Holding(..) => None,
         Kind::Chain(to) => Some(Side::Fire(to)),
-        Kind::Timing(timer, body) => Some(Side::Timed(timer, body)),
+        Kind::Timing(timer) => Some(Side::Timed(timer)),
         Kind::Ending(timer) => Some(Side::EndTimer(timer)),
         Kind::Coming(child) => Some(Side::Come(child)),
         Kind::Releasing(lock) => Some(Side::Release(lock)),
@@ -303,7 +302,7 @@ fn lacks<'s>(kind: &Kind<'s>, failed: bool) -> bool
         Kind::Errback(_) => !failed,
         Kind::Both(..)
         | Kind::Chain(_)
-        | Kind::Timing(_, _)
+        | Kind::Timing(_)
         | Kind::Ending(_)
         | Kind::Coming(_)
         | Kind::Releasing(_)

@@ -49,10 +49,9 @@ pub enum Action {
     Unpause(Text),
     /// Cancels it (Twisted: `Deferred.cancel`).
     Cancel(Text),
-    /// Cancels it after so many ticks of the clock, at most 10^12, unless it has a result by then.
-    /// The body, if there is one, returns what its result is then, in place of TimeoutError
-    /// (Twisted: `Deferred.addTimeout`, `onTimeoutCancel`).
-    AddTimeout(Text, u64, Option<Body>),
+    /// Cancels it after so many ticks of the clock, at most 10^12, unless it has a result by then
+    /// (Twisted: `Deferred.addTimeout`).
+    AddTimeout(Text, u64),
     /// Writes the text to the journal.
     Note(Text),
     /// Makes a DeferredList of the children (Twisted: `DeferredList`).
