@@ -1,5 +1,5 @@
 -- What the parts of what a place asks for are asked to be, but for the arguments of words.
-use Rattle.std.specs.Prelude.{ℕ, nat_eq, if◌then◌else◌, List, [], ◌∷◌, bytes_eq, codes}
+use Rattle.std.specs.Prelude.{ℕ, nat_eq, nat_lt, if◌then◌else◌, List, [], ◌∷◌, bytes_eq, codes}
 use Rattle.dv_forms.specs.declared.want.Object.TheVariants as object
 use Rattle.dv_forms.specs.declared.want.Leaf.TheVariants as leaf
 use Rattle.dv_forms.specs.declared.want.Call.TheVariants as call
@@ -12,9 +12,9 @@ use Rattle.dv_forms.specs.declared.want.Item.TheVariants as item
 use Rattle.dv_forms.specs.declared.want.Want.{Want}
 use Rattle.dv_forms.specs.declared.want.Want.TheVariants as want
 use Rattle.dv_clock.specs.declared.limits.TheConstants.{MOST_DELAY}
-use Rattle.dv_script.specs.declared.limits.TheConstants.{MOST_UNITS, MOST_WORKERS}
+use Rattle.dv_script.specs.declared.limits.TheConstants.{MOST_PLACE, MOST_UNITS, MOST_WORKERS}
 use Rattle.dv_forms.specs.Limits.{most_limit}
-use Rattle.dv_forms.specs.declared.versions.TheConstants.{LAST_VERSION}
+use Rattle.dv_forms.specs.declared.versions.TheConstants.{BODIES_SINCE, LAST_VERSION}
 
 -- the name of a Deferred that is looked up
 abbrev pub a_deferred : Want
@@ -54,6 +54,8 @@ item_want item.ListFlag = want.Leaf leaf.ListFlag
 item_want item.GatherFlag = want.Leaf leaf.GatherFlag
 item_want item.Declaration = want.Pair pair.Declaration
 item_want item.Pool = want.Pair pair.Pool
+item_want item.Place = want.Leaf (leaf.Number 0 MOST_PLACE)
+item_want item.NamedBody = want.Pair pair.Body
 
 -- what the value of a script's key is
 abbrev pub script_want : ℕ → List ℕ → Want
@@ -66,6 +68,8 @@ script_want version key =
     if bytes_eq key (codes "callers") then want.Array item.Caller else
     if bytes_eq key (codes "pools")
     then (if nat_eq version 1 then want.Other (keyed.Script version) else want.Array item.Pool) else
+    if bytes_eq key (codes "bodies")
+    then (if nat_lt version BODIES_SINCE then want.Other (keyed.Script version) else want.Array item.NamedBody) else
     if bytes_eq key (codes "comment") then a_comment else want.Other (keyed.Script version)
 
 -- what the value of a cooperator's key is
@@ -92,8 +96,10 @@ key_want keyed.Body key = body_want key
 abbrev pub keys_in : Keyed → List (List ℕ)
 keys_in (keyed.Script version) =
     codes "version" ∷ codes "limit" ∷ codes "cooperator"
-    ∷ (if nat_eq version 1 then codes "classes" ∷ codes "callers" ∷ codes "events" ∷ codes "comment" ∷ []
-    else codes "pools" ∷ codes "classes" ∷ codes "callers" ∷ codes "events" ∷ codes "comment" ∷ [])
+    ∷ (if nat_eq version 1 then codes "classes" ∷ codes "callers" ∷ codes "events" ∷ codes "comment" ∷ [] else
+    codes "pools" ∷ codes "classes"
+    ∷ (if nat_eq version 2 then codes "callers" ∷ codes "events" ∷ codes "comment" ∷ []
+    else codes "bodies" ∷ codes "callers" ∷ codes "events" ∷ codes "comment" ∷ []))
 keys_in keyed.Cooperator = codes "units" ∷ codes "delay" ∷ codes "comment" ∷ []
 keys_in keyed.Body = codes "do" ∷ codes "end" ∷ codes "comment" ∷ []
 
@@ -101,6 +107,7 @@ keys_in keyed.Body = codes "do" ∷ codes "end" ∷ codes "comment" ∷ []
 abbrev pub pair_wants : Pair → List Want
 pair_wants pair.Declaration = want.Leaf (leaf.New object.Class) ∷ a_text ∷ []
 pair_wants pair.Pool = want.Leaf (leaf.New object.Pool) ∷ want.Leaf (leaf.Number 0 MOST_WORKERS) ∷ []
+pair_wants pair.Body = want.Leaf (leaf.New object.Body) ∷ a_body ∷ []
 
 -- the callers of a script
 abbrev pub all_callers : Want
@@ -109,6 +116,10 @@ all_callers = want.Array item.Caller
 -- its pools
 abbrev pub all_pools : Want
 all_pools = want.Array item.Pool
+
+-- the bodies that it names
+abbrev pub all_bodies : Want
+all_bodies = want.Array item.NamedBody
 
 -- the classes that it declares
 abbrev pub all_classes : Want

@@ -1,14 +1,14 @@
 ghost use Rattle.serde_json.specs.View.{items_view};
 ghost use Rattle.dv_clock.specs.declared.limits.TheConstants.{MOST_DELAY};
-ghost use Rattle.dv_script.specs.declared.limits.TheConstants.{MOST_PLACES};
+ghost use Rattle.dv_script.specs.declared.limits.TheConstants.{MOST_PLACE, MOST_PLACES};
 ghost use Rattle.dv_forms.specs.Answer.{Reads};
 ghost use Rattle.dv_forms.specs.Parts.{text_at, integer_at, number_at, bound_at, value_at};
 ghost use Rattle.dv_forms.specs.Parts.{class_at, list_flag_at, gather_flag_at, list_at, sole, pair};
 ghost use Rattle.dv_forms.specs.Parts.{triple};
 
 use crate::leaf::{
-    bound, class, classes_in, gather_flags_in, integer, list_flags_in, number, one, small, text,
-    texts_in, three, two,
+    bound, class, classes_in, gather_flags_in, integer, list_flags_in, number, one, places_in,
+    small, text, texts_in, three, two,
 };
 use crate::stop::Stop;
 use crate::value::value;
@@ -62,6 +62,14 @@ pub fn one_small(arguments: &[Json], low: u32, high: u32) -> Result<u32, Stop>
     ensures { Reads result (sole (number_at low high) (items_view arguments.now)) }
 {
     small(one(arguments)?, low, high)
+}
+
+/// Places in lists alone.
+#[tactic(auto, unfolding(crate::specs::Parts::sole))]
+pub fn one_path(alloc: Global, arguments: &[Json]) -> Result<Items<u32>, Stop>
+    ensures { Reads result (sole (list_at (number_at 0 MOST_PLACE)) (items_view arguments.now)) }
+{
+    places_in(alloc, one(arguments)?)
 }
 
 /// Two texts.

@@ -2,6 +2,7 @@ ghost use Rattle.std.specs.Prelude.{◌≡◌, ◌≤◌, map, option_map, bytes
 ghost use Rattle.std.specs.List.{list_any};
 ghost use Rattle.serde_json.specs.View.{view, items_view, members_view};
 ghost use Rattle.serde_json.specs.Find.{as_array, as_bool};
+ghost use Rattle.dv_script.specs.declared.limits.TheConstants.{MOST_PLACE};
 ghost use Rattle.dv_forms.specs.Forms.{has_only, is_comment};
 ghost use Rattle.dv_forms.specs.Answer.{Reads, Gives};
 ghost use Rattle.dv_forms.specs.Parts.{text_at, integer_at, number_at, bound_at, class_at};
@@ -11,7 +12,7 @@ ghost use Rattle.dv_forms.specs.Parts.{three, four, five, fields_at};
 
 use crate::stop::Stop;
 use dv_script::action::{GatherFlag, ListFlag};
-use dv_script::limits::MOST_PLACES;
+use dv_script::limits::{MOST_PLACE, MOST_PLACES};
 use dv_value::class_id::ClassId;
 use dv_value::classes::Classes;
 use dv_value::items::Items;
@@ -109,6 +110,18 @@ pub fn texts_in(alloc: Global, json: &Json) -> Result<Items<Text>, Stop>
         texts.push(text(alloc, item)?)?;
     }
     Ok(texts)
+}
+
+/// An array of places in lists.
+pub fn places_in(alloc: Global, json: &Json) -> Result<Items<u32>, Stop>
+    ensures { Reads result (list_at (number_at 0 MOST_PLACE) (view json.now)) }
+{
+    let items = array(json)?;
+    let mut places = Items::new(alloc);
+    for item in items {
+        places.push(small(item, 0, MOST_PLACE)?)?;
+    }
+    Ok(places)
 }
 
 fn list_flag_named(word: &str) -> Option<ListFlag>

@@ -8,7 +8,7 @@ pub fn may_leave(end: &End) -> bool
     ensures { result ≡ may_leave end.now }
 {
     match end {
-        End::Return(_) | End::Pass | End::Plus(_) | End::Raise(_, _) => true,
-        End::Trap(_, _) | End::Wait(_) => false,
+        End::Return(_) | End::Pass | End::Plus(_) | End::Raise(_, _) | End::Throw(_) => true,
+        End::Trap(_, _) | End::Wait(_) | End::Run(_) => false,
     }
 }

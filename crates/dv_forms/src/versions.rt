@@ -9,5 +9,8 @@ pub const MARKS_SINCE: u32 = 3;
 /// The first version whose scripts may be larger.
 pub const WIDE_SINCE: u32 = 3;
 
+/// The first version in which a script may name bodies.
+pub const BODIES_SINCE: u32 = 3;
+
 /// The first version in which an object may have a comment.
 pub const COMMENTS_SINCE: u32 = 3;

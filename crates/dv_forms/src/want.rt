@@ -5,9 +5,9 @@ ghost use Rattle.dv_forms.specs.Wants.{item_want, key_want, keys_in, script_want
 ghost use Rattle.dv_forms.specs.Wants.{body_want, pair_wants};
 
 use crate::limits::most_limit;
-use crate::versions::LAST_VERSION;
+use crate::versions::{BODIES_SINCE, LAST_VERSION};
 use dv_clock::limits::MOST_DELAY;
-use dv_script::limits::{MOST_UNITS, MOST_WORKERS};
+use dv_script::limits::{MOST_PLACE, MOST_UNITS, MOST_WORKERS};
 
 /// What has a name.
 #[derive(Clone, Copy, Drop)]
@@ -22,6 +22,8 @@ pub enum Object {
     Task,
     Pool,
     Class,
+    /// A body that the script declares.
+    Body,
 }
 
 /// What stands at a place, where nothing is looked for in it.
@@ -63,6 +65,8 @@ pub enum Call {
 pub enum Pair {
     Declaration,
     Pool,
+    /// A name, and the body that it names.
+    Body,
 }
 
 /// What an object may be.
@@ -89,6 +93,9 @@ pub enum Item {
     GatherFlag,
     Declaration,
     Pool,
+    /// A place in a list, from 0.
+    Place,
+    NamedBody,
 }
 
 /// What a place asks for.
@@ -124,6 +131,8 @@ impl Item {
             Item::GatherFlag => Want::Leaf(Leaf::GatherFlag),
             Item::Declaration => Want::Pair(Pair::Declaration),
             Item::Pool => Want::Pair(Pair::Pool),
+            Item::Place => Want::Leaf(Leaf::Number(0, MOST_PLACE as u64)),
+            Item::NamedBody => Want::Pair(Pair::Body),
         }
     }
 }
@@ -138,6 +147,10 @@ impl Pair {
             Pair::Pool => &[
                 Want::Leaf(Leaf::New(Object::Pool)),
                 Want::Leaf(Leaf::Number(0, MOST_WORKERS as u64)),
+            ],
+            Pair::Body => &[
+                Want::Leaf(Leaf::New(Object::Body)),
+                Want::Keyed(Keyed::Body),
             ],
         }
     }
@@ -157,6 +170,11 @@ fn script_want(version: u32, key: &str) -> Want
             Want::Other(Keyed::Script(version))
         } else {
             Want::Array(Item::Pool)
+        },
+        "bodies" => if version < BODIES_SINCE {
+            Want::Other(Keyed::Script(version))
+        } else {
+            Want::Array(Item::NamedBody)
         },
         "comment" => Want::Leaf(Leaf::Comment),
         _ => Want::Other(Keyed::Script(version)),
@@ -211,12 +229,23 @@ impl Keyed {
                 "events",
                 "comment",
             ],
+            Keyed::Script(2) => &[
+                "version",
+                "limit",
+                "cooperator",
+                "pools",
+                "classes",
+                "callers",
+                "events",
+                "comment",
+            ],
             Keyed::Script(_) => &[
                 "version",
                 "limit",
                 "cooperator",
                 "pools",
                 "classes",
+                "bodies",
                 "callers",
                 "events",
                 "comment",

@@ -8,7 +8,7 @@ ghost use Rattle.dv_forms.specs.Words.{wants_in, wants_of, work_word};
 
 use crate::want::{Call, Item, Keyed, Leaf, Object, Want};
 use dv_clock::limits::{MOST_DELAY, MOST_TICKS};
-use dv_script::limits::{MOST_DRAINED, MOST_PLACES, MOST_SUM};
+use dv_script::limits::{MOST_DRAINED, MOST_PLACES, MOST_SUM, MOST_UNITS};
 
 /// The word of an action.
 #[derive(Clone, Copy, Drop)]
@@ -51,6 +51,7 @@ pub enum ActionWord {
     Inline,
     Thread,
     ThreadIn,
+    Units,
 }
 
 /// The word of an event that is no action.
@@ -78,6 +79,8 @@ pub enum EndWord {
     Raise,
     Trap,
     Wait,
+    Run,
+    Throw,
 }
 
 /// The word of a work.
@@ -148,7 +151,7 @@ const STATEMENTS: Want = Want::Array(Item::Statement);
 const WORK: Want = Want::Call(Call::Work);
 
 /// The forms of the actions.
-pub const ACTION_FORMS: [Form<ActionWord>; 39] = [
+pub const ACTION_FORMS: [Form<ActionWord>; 40] = [
     (
         ActionWord::Deferred,
         "deferred",
@@ -404,6 +407,13 @@ pub const ACTION_FORMS: [Form<ActionWord>; 39] = [
         "[\"threadIn\",D,POOL,N,WORK]",
         2,
     ),
+    (
+        ActionWord::Units,
+        "units",
+        &[Want::Leaf(Leaf::Number(1, MOST_UNITS as u64))],
+        "[\"units\",N]",
+        3,
+    ),
 ];
 
 /// The forms of the events that are no actions.
@@ -457,7 +467,7 @@ pub const STATEMENT_FORMS: [Form<StatementWord>; 4] = [
 ];
 
 /// The forms of the ends by which an inline body may be left.
-pub const LEAVING_FORMS: [Form<EndWord>; 4] = [
+pub const LEAVING_FORMS: [Form<EndWord>; 5] = [
     (EndWord::Return, "return", &[VALUE], "[\"return\",VALUE]", 1),
     (EndWord::Pass, "pass", &[], "[\"pass\"]", 1),
     (
@@ -474,10 +484,17 @@ pub const LEAVING_FORMS: [Form<EndWord>; 4] = [
         "[\"raise\",CLASS,TEXT]",
         1,
     ),
+    (
+        EndWord::Throw,
+        "throw",
+        &[Want::Array(Item::Place)],
+        "[\"throw\",[I..]]",
+        3,
+    ),
 ];
 
 /// The forms of the other ends.
-pub const END_FORMS: [Form<EndWord>; 2] = [
+pub const END_FORMS: [Form<EndWord>; 3] = [
     (
         EndWord::Trap,
         "trap",
@@ -486,6 +503,13 @@ pub const END_FORMS: [Form<EndWord>; 2] = [
         1,
     ),
     (EndWord::Wait, "wait", &[DEFERRED], "[\"wait\",D]", 1),
+    (
+        EndWord::Run,
+        "run",
+        &[Want::Leaf(Leaf::Found(Object::Body))],
+        "[\"run\",NAME]",
+        3,
+    ),
 ];
 
 /// The forms of the works of threads.
@@ -562,7 +586,7 @@ fn form_at<W: Copy>(
 /// The row of `ACTION_FORMS` in which the first form of a word likely stands, by `likely_place`. A
 /// row that is wrong costs time, and nothing else: all rows are searched then.
 const LIKELY_ROWS: [u8; 128] = [
-    0, 0, 0, 0, 0, 0, 0, 0, 0, 7, 0, 16, 35, 0, 0, 34, 13, 0, 0, 12, 0, 5, 0, 4, 27, 15, 0, 0, 29,
+    0, 0, 0, 0, 0, 0, 0, 39, 0, 7, 0, 16, 35, 0, 0, 34, 13, 0, 0, 12, 0, 5, 0, 4, 27, 15, 0, 0, 29,
     0, 0, 2, 9, 0, 0, 0, 0, 0, 0, 22, 0, 11, 0, 3, 0, 0, 0, 24, 37, 26, 20, 0, 0, 0, 28, 0, 0, 0,
     25, 19, 0, 18, 0, 0, 38, 0, 0, 8, 0, 0, 0, 10, 0, 0, 0, 0, 0, 31, 0, 0, 0, 0, 0, 0, 14, 30, 17,
     32, 0, 0, 0, 0, 21, 0, 0, 0, 0, 0, 0, 0, 0, 6, 0, 0, 0, 0, 0, 0, 0, 0, 23, 0, 0, 36, 0, 0, 0,
@@ -725,6 +749,7 @@ impl ActionWord {
             "inline" => Some(ActionWord::Inline),
             "thread" => Some(ActionWord::Thread),
             "threadIn" => Some(ActionWord::ThreadIn),
+            "units" => Some(ActionWord::Units),
             _ => None,
         }
     }
@@ -768,8 +793,10 @@ impl EndWord {
             "pass" => Some(EndWord::Pass),
             "plus" => Some(EndWord::Plus),
             "raise" => Some(EndWord::Raise),
+            "throw" => Some(EndWord::Throw),
             "trap" => Some(EndWord::Trap),
             "wait" => Some(EndWord::Wait),
+            "run" => Some(EndWord::Run),
             _ => None,
         }
     }

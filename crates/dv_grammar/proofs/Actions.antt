@@ -16,8 +16,8 @@ use Rattle.dv_script.specs.declared.action.Action.{Note, List as ListOf, Gather,
 use Rattle.dv_script.specs.declared.action.Action.{Release, RunWith, Queue, Put, Get, Later, CancelCall, ResetCall}
 use Rattle.dv_script.specs.declared.action.Action.{DelayCall, StopLoop}
 use Rattle.dv_script.specs.declared.action.Action.{Cooperate, WhenDone, PauseTask, StopTask, ResumeTask, Inline, Thread}
-use Rattle.dv_script.specs.declared.action.Action.{map-Action, out-Action, Loop, ThreadIn}
-use Rattle.dv_script.specs.declared.limits.TheConstants.{MOST_PLACES}
+use Rattle.dv_script.specs.declared.action.Action.{map-Action, out-Action, Loop, ThreadIn, Units}
+use Rattle.dv_script.specs.declared.limits.TheConstants.{MOST_PLACES, MOST_UNITS}
 use Rattle.dv_clock.specs.declared.limits.TheConstants.{MOST_DELAY}
 use Rattle.dv_forms.specs.Forms.{call, IsList, IsText, IsNumber, IsClass, IsValue}
 use Rattle.dv_forms.specs.declared.words.ActionWord.{ActionWord}
@@ -29,7 +29,8 @@ use Rattle.dv_grammar.specs.Grammar.{add_callbacks, chain, pause, unpause, cance
 use Rattle.dv_grammar.specs.Grammar.{maybe, lock, semaphore, acquire, release, run_with, queue, put, get, later}
 use Rattle.dv_grammar.specs.Grammar.{cancel_call, reset_call, delay_call, loop, stop_loop, cooperate, when_done}
 use Rattle.dv_grammar.specs.Grammar.{pause_task, stop_task}
-use Rattle.dv_grammar.specs.Grammar.{resume_task, inline, thread, thread_in, AreActions, no_actions, more_actions, IsDo}
+use Rattle.dv_grammar.specs.Grammar.{resume_task, inline, thread, thread_in, units, AreActions, no_actions}
+use Rattle.dv_grammar.specs.Grammar.{more_actions, IsDo}
 use Rattle.dv_grammar.specs.Grammar.{does_nothing, does, IsBody, body, AreBodies, no_bodies, more_bodies, IsStatement}
 use Rattle.dv_grammar.specs.Grammar.{performs, awaits, tries, leaves, AreStatements, no_statements, more_statements}
 use Rattle.dv_grammar.specs.Grammar.{is_delay, is_interval, action_step, body_step, statement_step, times_action}
@@ -61,7 +62,7 @@ use Rattle.dv_script.specs.declared.action.Action.TheVariants.{outs-Put, outs-Ge
 use Rattle.dv_script.specs.declared.action.Action.TheVariants.{outs-ResetCall, outs-DelayCall}
 use Rattle.dv_script.specs.declared.action.Action.TheVariants.{outs-Loop, outs-StopLoop, outs-Cooperate, outs-WhenDone}
 use Rattle.dv_script.specs.declared.action.Action.TheVariants.{outs-PauseTask, outs-StopTask, outs-ResumeTask}
-use Rattle.dv_script.specs.declared.action.Action.TheVariants.{outs-Inline, outs-Thread, outs-ThreadIn}
+use Rattle.dv_script.specs.declared.action.Action.TheVariants.{outs-Inline, outs-Thread, outs-ThreadIn, outs-Units}
 use Rattle.dv_script.specs.declared.body.Statement.TheVariants.{outs-Do, outs-Await, outs-Try, outs-End}
 use Rattle.dv_script.specs.declared.action.Action.TheFolds.{fold_out-Action, fold_out-Statement, fold_out-Body}
 
@@ -256,6 +257,8 @@ module _ (table : List Class) (r : Readers) (sound : AreSound table r) where
       named_with_two table (number_at 0 MOST_DELAY) (IsNumber 0 MOST_DELAY) (number_is 0 MOST_DELAY) (work_at table)
       (IsWork table) (sound_work table) Thread (codes "thread") thread &
       thread_in_read &
+      (λ ds x e. one_read (number_at 1 MOST_UNITS) Units ds x e
+      (λ d n ds_is n_is made. rw (ds_is, ← made) (units d n (number_is 1 MOST_UNITS d n n_is)))) &
       tt
 
   pub sound_action : (d : Data) (x : Action) → action_with table r d ≡ Some x → IsAction table d x
@@ -401,6 +404,7 @@ mutual
       rw (complete_number 0 MOST_DELAY c delay g, complete_work table d job k) refl
   complete_action table n (thread_in name pool c d delay job g k) h =
       rw (complete_number 0 MOST_DELAY c delay g, complete_work table d job k) refl
+  complete_action table n (units d m g) h = rw (complete_number 1 MOST_UNITS d m g) refl
 
   pub complete_actions : (table : List Class) {ds : Items} {xs : List Action} (n : ℕ) → AreActions table ds xs
       → items_depth ds ≤ n → each (action_at table n) ds ≡ Some xs
@@ -541,6 +545,7 @@ mutual
       by_action (Thread name delay job) (rw (outs-Thread name delay job) (rw (delay_is g) refl))
   short_action (thread_in name pool c d delay job g k) =
       by_action (ThreadIn name pool delay job) (rw (outs-ThreadIn name pool delay job) (rw (delay_is g) refl))
+  short_action (units d m g) = by_action (Units m) (rw (outs-Units m) refl)
 
   short_actions : {table : List Class} {ds : Items} {xs : List Action} → AreActions table ds xs
       → list_all (λ b. b) (map times_action xs) ≡ true

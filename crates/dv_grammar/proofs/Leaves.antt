@@ -10,18 +10,18 @@ use Rattle.serde_json.specs.Find.{as_i64, as_bool, as_array}
 use Rattle.dv_value.specs.declared.value.Value.{Value}
 use Rattle.dv_value.specs.declared.classes.Class.{Class}
 use Rattle.dv_script.specs.declared.body.End.{End}
-use Rattle.dv_script.specs.declared.body.End.TheVariants.{Return, Plus, Raise, Trap, Wait}
+use Rattle.dv_script.specs.declared.body.End.TheVariants.{Return, Plus, Raise, Trap, Wait, Run, Throw}
 use Rattle.dv_script.specs.declared.work.Work.{Work}
 use Rattle.dv_script.specs.declared.action.ListFlag.{ListFlag}
 use Rattle.dv_script.specs.declared.action.GatherFlag.{GatherFlag}
-use Rattle.dv_script.specs.declared.limits.TheConstants.{MOST_PLACES, MOST_SUM}
+use Rattle.dv_script.specs.declared.limits.TheConstants.{MOST_PLACE, MOST_PLACES, MOST_SUM}
 use Rattle.dv_forms.specs.Forms.{Each, IsList, Field, Key, is_keyed_by, IsText, IsInteger, IsNumber, IsClass, IsValue}
 use Rattle.dv_forms.specs.Forms.{a_null, a_bool, an_int, a_text, a_list, AreValues, no_values, more_values}
 use Rattle.dv_forms.specs.Leaving.{may_leave}
 use Rattle.dv_forms.specs.declared.words.EndWord.{EndWord}
 use Rattle.dv_forms.specs.declared.words.WorkWord.{WorkWord}
 use Rattle.dv_forms.specs.Words.{end_word, end_words, work_word, work_words}
-use Rattle.dv_grammar.specs.Grammar.{IsEnd, returns, passes, adds, raises, traps, waits, IsWork, gives, fails, sums}
+use Rattle.dv_grammar.specs.Grammar.{IsEnd, returns, passes, adds, raises, traps, waits, runs, throws, IsWork, gives, fails, sums}
 use Rattle.dv_grammar.specs.Grammar.{IsListFlag, fires_on_callback, fires_on_errback, consumes_errors, IsGatherFlag}
 use Rattle.dv_grammar.specs.Grammar.{gathers_errors, IsBound, no_bound, a_bound}
 use Rattle.dv_forms.specs.Parts.{value_at, values_at, each, list_at, text_at, integer_at, number_at, within, bound_at}
@@ -272,10 +272,14 @@ sound_ends table =
     one_read integer_at Plus ds x e (λ d n ds_is n_is made. rw (ds_is, ← made) (adds d n (integer_is d n n_is)))) &
     (λ ds x e. two_read (class_at table) text_at Raise ds x e
     (λ d f c t ds_is c_is t_is made. rw (ds_is, text_is f t t_is, ← made) (raises d c t (class_is table d c c_is)))) &
+    (λ ds x e. one_read (list_at (number_at 0 MOST_PLACE)) Throw ds x e (λ d path ds_is path_is made.
+    rw (ds_is, ← made) (throws d path (sound_list (IsNumber 0 MOST_PLACE) (number_at 0 MOST_PLACE)
+    (number_is 0 MOST_PLACE) d path path_is)))) &
     (λ ds x e. two_read (list_at (class_at table)) value_at Trap ds x e (λ d f cs v ds_is cs_is v_is made.
     rw (ds_is, ← made) (traps d cs f v (sound_list (IsClass table) (class_at table) (class_is table) d cs cs_is)
     (sound_value f v v_is)))) &
     (λ ds x e. one_read text_at Wait ds x e (λ d n ds_is n_is made. rw (ds_is, text_is d n n_is, ← made) (waits n))) &
+    (λ ds x e. one_read text_at Run ds x e (λ d n ds_is n_is made. rw (ds_is, text_is d n n_is, ← made) (runs n))) &
     tt
 
 pub sound_end : (table : List Class) (d : Data) (x : End) → end_at table d ≡ Some x → IsEnd table d x
@@ -393,6 +397,9 @@ complete_end table _ _ (adds d n h) = rw (h.1, h.2) refl
 complete_end table _ _ (raises c class text h) = rw (complete_class table c class h) refl
 complete_end table _ _ (traps c classes d v h g) = rw (complete_classes table c classes h, complete_value g) refl
 complete_end table _ _ (waits name) = refl
+complete_end table _ _ (runs name) = refl
+complete_end table _ _ (throws d path h) =
+    rw (complete_list (IsNumber 0 MOST_PLACE) (number_at 0 MOST_PLACE) (complete_number 0 MOST_PLACE) d path h) refl
 
 pub complete_work : (table : List Class) (d : Data) (w : Work) → IsWork table d w → work_at table d ≡ Some w
 unfolding work_at work_of call_at none first one two sole pair

@@ -10,6 +10,7 @@ use Rattle.dv_script.specs.declared.body.Body.{Body}
 use Rattle.dv_script.specs.declared.action.Action.{Action}
 use Rattle.dv_script.specs.declared.event.Event.{Event}
 use Rattle.dv_script.specs.declared.script.Cooperator.{Cooperator}
+use Rattle.dv_script.specs.declared.script.NamedBody.{NamedBody}
 use Rattle.dv_script.specs.declared.script.NamedPool.{NamedPool}
 use Rattle.dv_script.specs.declared.limits.TheConstants.{MOST_DRAINED, MOST_UNITS, MOST_WORKERS}
 use Rattle.dv_script.specs.declared.limits.TheConstants.{USUAL_LIMIT}
@@ -24,10 +25,11 @@ use Rattle.dv_forms.specs.declared.words.EventWord.{EventWord}
 use Rattle.dv_forms.specs.Words.{event_word, event_words}
 use Rattle.dv_grammar.specs.Grammar.{cooperator_keys, keys_of, plain_cooperator, IsAction, IsBody, IsEvent, acts}
 use Rattle.dv_grammar.specs.Grammar.{advances, drains, IsDeclaration, declares, IsPool, pools, IsCooperator, IsScript}
+use Rattle.dv_grammar.specs.Grammar.{IsNamedBody, names_body}
 use Rattle.dv_forms.specs.Parts.{each, list_at, text_at, number_at, within, call_at, none, first, one, two, sole, pair}
 use Rattle.dv_forms.specs.Parts.{fields_at, field, declaration_at, table_for}
 use Rattle.dv_grammar.specs.Shape.{action_by, readers, body_at, action_at, event_by, event_at, event_of, other_event}
-use Rattle.dv_grammar.specs.Shape.{cooperator_at, pool_at, caller_at, script_at}
+use Rattle.dv_grammar.specs.Shape.{cooperator_at, named_body_at, pool_at, caller_at, script_at}
 use Rattle.dv_grammar.proofs.Steps.{some_injective, bind}
 use Rattle.dv_grammar.proofs.WordsLemmas.{◌&◌, EachWord, found_word}
 use Rattle.dv_script.specs.declared.event.Event.TheVariants as happens
@@ -104,6 +106,15 @@ sound_pool d x e =
     two_read text_at (number_at 0 MOST_WORKERS) _ ds x ds_then (λ c f n k items_are n_is k_is made.
     rw (array_is d ds ds_is, items_are, text_is c n n_is, ← made) (pools n f k (number_is 0 MOST_WORKERS f k k_is))))
 
+sound_named_body : (table : List Class) (d : Data) (x : NamedBody) → named_body_at table d ≡ Some x
+    → IsNamedBody table d x
+unfolding named_body_at
+sound_named_body table d x e =
+    bind (as_array d) _ x e (λ ds ds_is ds_then.
+    two_read text_at (body_at table max_depth) _ ds x ds_then (λ c f n b items_are n_is b_is made.
+    rw (array_is d ds ds_is, items_are, text_is c n n_is, ← made)
+    (names_body n f b ((sound_readers table max_depth).body f b b_is))))
+
 sound_caller : (table : List Class) (d : Data) (posts : List Body) → caller_at table d ≡ Some posts
     → IsList (IsBody table) d posts
 sound_caller table = sound_list (IsBody table) (body_at table max_depth) (sound_readers table max_depth).body
@@ -119,7 +130,9 @@ sound_script (object ms) draft e =
     bind (field plain_cooperator cooperator_at (get_member (codes "cooperator") ms)) _ draft l_then (λ o o_is o_then.
     bind (field [] (list_at pool_at) (get_member (codes "pools") ms)) _ draft o_then (λ q q_is q_then.
     bind (field [] (list_at declaration_at) (get_member (codes "classes") ms)) _ draft q_then (λ c c_is c_then.
-    bind (field [] (list_at (caller_at (table_of c))) (get_member (codes "callers") ms)) _ draft c_then
+    bind (field [] (list_at (named_body_at (table_of c))) (get_member (codes "bodies") ms)) _ draft c_then
+    (λ z z_is z_then.
+    bind (field [] (list_at (caller_at (table_of c))) (get_member (codes "callers") ms)) _ draft z_then
     (λ p p_is p_then.
     bind (option_and_then (list_at (event_at (table_of c))) (get_member (codes "events") ms)) _ draft p_then
     (λ y y_is y_then.
@@ -145,6 +158,10 @@ sound_script (object ms) draft e =
       pools =
           sound_field [] q (IsList IsPool) (list_at pool_at) (sound_list IsPool pool_at sound_pool)
           (get_member (codes "pools") ms) q_is;
+      bodies =
+          sound_field [] z (IsList (IsNamedBody (table_of c))) (list_at (named_body_at (table_of c)))
+          (sound_list (IsNamedBody (table_of c)) (named_body_at (table_of c)) (sound_named_body (table_of c)))
+          (get_member (codes "bodies") ms) z_is;
       callers =
           sound_field [] p (IsList (IsList (IsBody (table_of c)))) (list_at (caller_at (table_of c)))
           (sound_list (IsList (IsBody (table_of c))) (caller_at (table_of c)) (sound_caller (table_of c)))
@@ -153,7 +170,7 @@ sound_script (object ms) draft e =
           sound_key y (IsList (IsEvent (table_of c))) (list_at (event_at (table_of c)))
           (sound_list (IsEvent (table_of c)) (event_at (table_of c)) (sound_event (table_of c)))
           (get_member (codes "events") ms) y_is;
-    })))))))))
+    }))))))))))
 sound_script _ draft e = cc
 
 -- ---- events, posts, scripts
@@ -185,6 +202,20 @@ complete_caller : (table : List Class) (d : Data) (posts : List Body) → depth 
     → IsList (IsBody table) d posts → caller_at table d ≡ Some posts
 complete_caller table =
     complete_list_deep (IsBody table) (body_at table max_depth) (λ d b deep h. complete_body table max_depth h deep)
+
+complete_named_body : (table : List Class) (d : Data) (b : NamedBody) → depth d ≤ max_depth → IsNamedBody table d b
+    → named_body_at table d ≡ Some b
+unfolding named_body_at none first one two pair
+complete_named_body table _ _ deep (names_body name d b h) =
+    rw (complete_body table max_depth h (omega (arith, deep))) refl
+
+complete_named_bodies : (table : List Class) (bodies : List NamedBody)
+    → (o : Option Data) → ((d : Data) → o ≡ Some d → depth d ≤ max_depth)
+    → Field [] (IsList (IsNamedBody table)) o bodies
+    → field [] (list_at (named_body_at table)) o ≡ Some bodies
+complete_named_bodies table bodies None within h = rw h refl
+complete_named_bodies table bodies (Some d) within h =
+    complete_list_deep (IsNamedBody table) (named_body_at table) (complete_named_body table) d bodies (within d refl) h
 
 complete_declaration : (d : Data) (c : Declaration) → IsDeclaration d c → declaration_at d ≡ Some c
 unfolding declaration_at none first one two pair
@@ -230,6 +261,7 @@ same_draft : (draft : Draft) (table : List Class) (all : Bool) → draft.script.
         limit = draft.script.limit;
         cooperator = draft.script.cooperator;
         pools = draft.script.pools;
+        bodies = draft.script.bodies;
         callers = draft.script.callers;
         events = draft.script.events;
       };
@@ -244,6 +276,10 @@ complete_script d draft deep h =
     let within : (key : List ℕ) (e : Data) → get_member key h.members ≡ Some e → depth e ≤ max_depth =
     (λ key e is. let below : depth e ≤ members_depth h.members = depth-get_member key h.members e is in
     omega (arith, inside, below)) in
+    let bodies : field [] (list_at (named_body_at (table_of draft.declared))) (get_member (codes "bodies") h.members)
+    ≡ Some draft.script.bodies =
+    complete_named_bodies (table_of draft.declared) draft.script.bodies (get_member (codes "bodies") h.members)
+    (within (codes "bodies")) (rw h.table at h.bodies) in
     let callers : field [] (list_at (caller_at (table_of draft.declared))) (get_member (codes "callers") h.members)
     ≡ Some draft.script.callers =
     complete_callers (table_of draft.declared) h.members draft.script.callers (omega (arith, inside))
@@ -266,6 +302,7 @@ complete_script d draft deep h =
       complete_field [] draft.declared (IsList IsDeclaration) (list_at declaration_at)
           (complete_list IsDeclaration declaration_at complete_declaration)
           (get_member (codes "classes") h.members) h.declared,
+      bodies,
       callers,
       events,
     ) (ap Some (same_draft draft _ _ h.table h.all_declared)))))

@@ -1,13 +1,13 @@
 -- The grammar of scripts: which JSON stands for what, a rule a line (Twisted: the methods of `Deferred`, and of the
 -- objects round it).
-use Rattle.std.specs.Prelude.{◌≡◌, ℕ, nat_eq, if◌then◌else◌, ℤ, Bool, true, List, [], ◌∷◌, Option, Some, None, codes}
+use Rattle.std.specs.Prelude.{◌≡◌, ℕ, nat_eq, nat_lt, if◌then◌else◌, ℤ, Bool, true, List, [], ◌∷◌, Option, Some, None, codes}
 use Rattle.std.specs.Prelude.{◌&&◌, min, max}
 use Rattle.serde_json.specs.Data.{Data, null, boolean, string, array, object, Items, no_items, item, Members}
 use Rattle.serde_json.specs.Find.{get_member}
 use Rattle.dv_value.specs.declared.value.Value.{Value}
 use Rattle.dv_value.specs.declared.classes.Class.{Class}
 use Rattle.dv_script.specs.declared.body.End.{End}
-use Rattle.dv_script.specs.declared.body.End.TheVariants.{Return, Pass, Plus, Raise, Trap, Wait}
+use Rattle.dv_script.specs.declared.body.End.TheVariants.{Return, Pass, Plus, Raise, Trap, Wait, Run, Throw}
 use Rattle.dv_script.specs.declared.body.Body.{Body}
 use Rattle.dv_script.specs.declared.body.Statement.{Statement, Do, Await, Try, End as Leave}
 use Rattle.dv_script.specs.declared.work.Work.{Work}
@@ -19,15 +19,16 @@ use Rattle.dv_script.specs.declared.action.Action.{Note, List as ListOf, Gather,
 use Rattle.dv_script.specs.declared.action.Action.{Release, RunWith, Queue, Put, Get, Later, CancelCall, ResetCall}
 use Rattle.dv_script.specs.declared.action.Action.{DelayCall, Loop, StopLoop}
 use Rattle.dv_script.specs.declared.action.Action.{Cooperate, WhenDone, PauseTask, StopTask, ResumeTask, Inline, Thread}
-use Rattle.dv_script.specs.declared.action.Action.{ThreadIn}
+use Rattle.dv_script.specs.declared.action.Action.{ThreadIn, Units}
 use Rattle.dv_script.specs.declared.event.Event.{Event}
 use Rattle.dv_script.specs.declared.script.Cooperator.{Cooperator}
+use Rattle.dv_script.specs.declared.script.NamedBody.{NamedBody}
 use Rattle.dv_script.specs.declared.script.NamedPool.{NamedPool}
-use Rattle.dv_script.specs.declared.limits.TheConstants.{MOST_DRAINED, MOST_PLACES, MOST_SUM, MOST_UNITS}
+use Rattle.dv_script.specs.declared.limits.TheConstants.{MOST_DRAINED, MOST_PLACE, MOST_PLACES, MOST_SUM, MOST_UNITS}
 use Rattle.dv_script.specs.declared.limits.TheConstants.{MOST_WORKERS, USUAL_LIMIT}
 use Rattle.dv_clock.specs.declared.limits.TheConstants.{MOST_DELAY, MOST_TICKS}
 use Rattle.dv_forms.specs.declared.declaration.Declaration.{Declaration}
-use Rattle.dv_forms.specs.declared.versions.TheConstants.{LAST_VERSION}
+use Rattle.dv_forms.specs.declared.versions.TheConstants.{BODIES_SINCE, LAST_VERSION}
 use Rattle.dv_grammar.specs.declared.draft.Draft.{Draft}
 use Rattle.dv_forms.specs.Leaving.{may_leave}
 use Rattle.dv_forms.specs.Forms.{call, IsList, Field, Key, is_keyed_by, IsText, IsInteger, IsNumber, IsClass, IsValue}
@@ -54,9 +55,11 @@ abbrev pub script_keys : List (List ℕ)
 script_keys =
     codes "version" ∷ codes "events" ∷ codes "limit" ∷ codes "classes" ∷ codes "cooperator" ∷ codes "callers" ∷ []
 
--- the keys of a script of this version: from the second on there is one more
+-- the keys of a script of this version: from the second on there is one more, and another from the third on
 abbrev pub keys_of : ℕ → List (List ℕ)
-keys_of version = if nat_eq version 1 then script_keys else codes "pools" ∷ script_keys
+keys_of version =
+    if nat_eq version 1 then script_keys else
+    if nat_lt version BODIES_SINCE then codes "pools" ∷ script_keys else codes "bodies" ∷ codes "pools" ∷ script_keys
 
 -- END: how a body gives its result
 pub data IsEnd (table : List Class) : Data → End → Type 0 where
@@ -74,6 +77,11 @@ pub data IsEnd (table : List Class) : Data → End → Type 0 where
       → IsEnd table (call (codes "trap") (c ∷ d ∷ [])) (Trap classes v)
   -- ["wait",D]
   waits : (name : List ℕ) → IsEnd table (call (codes "wait") (string name ∷ [])) (Wait name)
+  -- ["run",NAME]
+  runs : (name : List ℕ) → IsEnd table (call (codes "run") (string name ∷ [])) (Run name)
+  -- ["throw",[I..]]
+  throws : (d : Data) (path : List ℕ) → IsList (IsNumber 0 MOST_PLACE) d path
+      → IsEnd table (call (codes "throw") (d ∷ [])) (Throw path)
 
 -- WORK: what a thread does
 pub data IsWork (table : List Class) : Data → Work → Type 0 where
@@ -217,6 +225,9 @@ mutual
         → IsWork table d job
         → IsAction table (call (codes "threadIn") (string name ∷ string pool ∷ c ∷ d ∷ []))
         (ThreadIn name pool delay job)
+    -- ["units",N]
+    units : (d : Data) (n : ℕ) → IsNumber 1 MOST_UNITS d n
+        → IsAction table (call (codes "units") (d ∷ [])) (Units n)
 
   -- the items of an array of actions
   pub data AreActions (table : List Class) : Items → List Action → Type 0 where
@@ -284,6 +295,11 @@ pub data IsPool : Data → NamedPool → Type 0 where
   pools : (name : List ℕ) (d : Data) (workers : ℕ) → IsNumber 0 MOST_WORKERS d workers
       → IsPool (array (item (string name) (item d no_items))) (record { name = name; workers = workers })
 
+-- a body that is named: [NAME,BODY]
+pub data IsNamedBody (table : List Class) : Data → NamedBody → Type 0 where
+  names_body : (name : List ℕ) (d : Data) (b : Body) → IsBody table d b
+      → IsNamedBody table (array (item (string name) (item d no_items))) (record { name = name; body = b })
+
 -- an object with exactly the keys `units` and `delay`, but for a comment
 pub record IsCooperator (d : Data) (c : Cooperator) : Type 0 where
   pub members : Members
@@ -310,6 +326,8 @@ pub record IsScript (d : Data) (draft : Draft) : Type 0 where
       (get_member (codes "limit") members) draft.script.limit
   pub cooperator : Field plain_cooperator IsCooperator (get_member (codes "cooperator") members) draft.script.cooperator
   pub pools : Field [] (IsList IsPool) (get_member (codes "pools") members) draft.script.pools
+  pub bodies : Field [] (IsList (IsNamedBody draft.script.classes))
+      (get_member (codes "bodies") members) draft.script.bodies
   pub callers : Field [] (IsList (IsList (IsBody draft.script.classes)))
       (get_member (codes "callers") members) draft.script.callers
   pub events : Key (IsList (IsEvent draft.script.classes)) (get_member (codes "events") members) draft.script.events
@@ -369,6 +387,7 @@ action_step (Action-F.ResumeTask name) = true
 action_step (Action-F.Inline name statements) = list_all (λ b. b) statements
 action_step (Action-F.Thread name delay job) = is_delay delay
 action_step (Action-F.ThreadIn name pool delay job) = is_delay delay
+action_step (Action-F.Units n) = true
 
 -- of a statement
 abbrev pub statement_step : Statement-F Bool Bool Bool → Bool

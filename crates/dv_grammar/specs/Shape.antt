@@ -5,7 +5,7 @@ use Rattle.serde_json.specs.Find.{as_array, as_bool, get}
 use Rattle.serde_json.specs.Read.{max_depth}
 use Rattle.dv_value.specs.declared.classes.Class.{Class}
 use Rattle.dv_script.specs.declared.body.End.{End}
-use Rattle.dv_script.specs.declared.body.End.TheVariants.{Return, Pass, Plus, Raise, Trap, Wait}
+use Rattle.dv_script.specs.declared.body.End.TheVariants.{Return, Pass, Plus, Raise, Trap, Wait, Run, Throw}
 use Rattle.dv_script.specs.declared.body.Body.{Body}
 use Rattle.dv_script.specs.declared.body.Statement.{Statement, Do, Await, Try, End as Leave}
 use Rattle.dv_script.specs.declared.work.Work.{Work}
@@ -16,12 +16,13 @@ use Rattle.dv_script.specs.declared.action.Action.{Note, List as ListOf, Gather,
 use Rattle.dv_script.specs.declared.action.Action.{Release, RunWith, Queue, Put, Get, Later, CancelCall, ResetCall}
 use Rattle.dv_script.specs.declared.action.Action.{DelayCall, Loop, StopLoop}
 use Rattle.dv_script.specs.declared.action.Action.{Cooperate, WhenDone, PauseTask, StopTask, ResumeTask, Inline, Thread}
-use Rattle.dv_script.specs.declared.action.Action.{ThreadIn}
+use Rattle.dv_script.specs.declared.action.Action.{ThreadIn, Units}
 use Rattle.dv_script.specs.declared.event.Event.{Event}
 use Rattle.dv_script.specs.declared.event.Event.TheVariants as happens
 use Rattle.dv_script.specs.declared.script.Cooperator.{Cooperator}
+use Rattle.dv_script.specs.declared.script.NamedBody.{NamedBody}
 use Rattle.dv_script.specs.declared.script.NamedPool.{NamedPool}
-use Rattle.dv_script.specs.declared.limits.TheConstants.{MOST_DRAINED, MOST_PLACES, MOST_SUM, MOST_UNITS}
+use Rattle.dv_script.specs.declared.limits.TheConstants.{MOST_DRAINED, MOST_PLACE, MOST_PLACES, MOST_SUM, MOST_UNITS}
 use Rattle.dv_script.specs.declared.limits.TheConstants.{MOST_WORKERS, USUAL_LIMIT}
 use Rattle.dv_clock.specs.declared.limits.TheConstants.{MOST_DELAY, MOST_TICKS}
 use Rattle.dv_forms.specs.declared.versions.TheConstants.{LAST_VERSION}
@@ -56,6 +57,8 @@ end_of table end.Plus ds = one_of integer_at Plus ds
 end_of table end.Raise ds = two_of (class_at table) text_at Raise ds
 end_of table end.Trap ds = two_of (list_at (class_at table)) value_at Trap ds
 end_of table end.Wait ds = one_of text_at Wait ds
+end_of table end.Run ds = one_of text_at Run ds
+end_of table end.Throw ds = one_of (list_at (number_at 0 MOST_PLACE)) Throw ds
 
 -- an end
 unfoldable pub end_at : List Class → Data → Option End
@@ -160,6 +163,7 @@ action_of table body statement word.ResumeTask ds = one_of text_at ResumeTask ds
 action_of table body statement word.Inline ds = two_of text_at (list_at statement) Inline ds
 action_of table body statement word.Thread ds = three_of text_at (number_at 0 MOST_DELAY) (work_at table) Thread ds
 action_of table body statement word.ThreadIn ds = thread_in_of table ds
+action_of table body statement word.Units ds = one_of (number_at 1 MOST_UNITS) Units ds
 
 -- an action, whose bodies and statements are read so
 unfoldable pub action_by : List Class → (Data → Option Body) → (Data → Option Statement) → Data → Option Action
@@ -256,6 +260,12 @@ pool_at d = do
   ds ← as_array d
   two_of text_at (number_at 0 MOST_WORKERS) (λ name workers. record { name = name; workers = workers }) ds
 
+-- a body that is named
+unfoldable pub named_body_at : List Class → Data → Option NamedBody
+named_body_at table d = do
+  ds ← as_array d
+  two_of text_at (body_at table max_depth) (λ name b. record { name = name; body = b }) ds
+
 -- the posts of a caller
 abbrev pub caller_at : List Class → Data → Option (List Body)
 caller_at table = list_at (body_at table max_depth)
@@ -270,6 +280,7 @@ script_at d = do
   pools ← field [] (list_at pool_at) (get (codes "pools") d)
   declared ← field [] (list_at declaration_at) (get (codes "classes") d)
   table ← table_for declared
+  bodies ← field [] (list_at (named_body_at table.0)) (get (codes "bodies") d)
   callers ← field [] (list_at (caller_at table.0)) (get (codes "callers") d)
   events ← get (codes "events") d >>= list_at (event_at table.0)
   Some (record {
@@ -281,6 +292,7 @@ script_at d = do
       limit = limit;
       cooperator = cooperator;
       pools = pools;
+      bodies = bodies;
       callers = callers;
       events = events;
     };

@@ -3,6 +3,7 @@ use Rattle.std.specs.Prelude.{ℕ, Bool, true, false, not, ◌&&◌, ◌||◌, n
 use Rattle.std.specs.List.{list_any}
 use Rattle.dv_value.specs.declared.classes.Class.{Class}
 use Rattle.dv_value.specs.Classes.{find_class}
+use Rattle.dv_script.specs.declared.script.NamedBody.{NamedBody}
 use Rattle.dv_script.specs.declared.script.NamedPool.{NamedPool}
 use Rattle.dv_forms.specs.declared.want.Object.{Object}
 use Rattle.dv_forms.specs.declared.want.Object.TheVariants as object
@@ -25,6 +26,7 @@ is_found_named version object.Loop name = is_name version name
 is_found_named version object.Task name = is_name version name
 is_found_named version object.Pool name = is_name version name
 is_found_named version object.Class name = true
+is_found_named version object.Body name = is_name version name
 
 -- whether a name has the form that its place asks for in a script of this version
 abbrev pub is_named : ℕ → Leaf → List ℕ → Bool
@@ -65,6 +67,7 @@ is_class (leaf.Found object.Loop) = false
 is_class (leaf.Found object.Task) = false
 is_class (leaf.Found object.Pool) = false
 is_class (leaf.Found object.Class) = true
+is_class (leaf.Found object.Body) = false
 is_class leaf.Integer = false
 is_class (leaf.Number low high) = false
 is_class leaf.Boolean = false
@@ -85,6 +88,7 @@ is_pool (leaf.Found object.Loop) = false
 is_pool (leaf.Found object.Task) = false
 is_pool (leaf.Found object.Pool) = true
 is_pool (leaf.Found object.Class) = false
+is_pool (leaf.Found object.Body) = false
 is_pool leaf.Integer = false
 is_pool (leaf.Number low high) = false
 is_pool leaf.Boolean = false
@@ -92,6 +96,27 @@ is_pool leaf.Bound = false
 is_pool leaf.ListFlag = false
 is_pool leaf.GatherFlag = false
 is_pool leaf.Comment = false
+
+-- whether a body is looked up there
+abbrev pub is_body : Leaf → Bool
+is_body leaf.Text = false
+is_body (leaf.New o) = false
+is_body (leaf.Found object.Deferred) = false
+is_body (leaf.Found object.Lock) = false
+is_body (leaf.Found object.Queue) = false
+is_body (leaf.Found object.Call) = false
+is_body (leaf.Found object.Loop) = false
+is_body (leaf.Found object.Task) = false
+is_body (leaf.Found object.Pool) = false
+is_body (leaf.Found object.Class) = false
+is_body (leaf.Found object.Body) = true
+is_body leaf.Integer = false
+is_body (leaf.Number low high) = false
+is_body leaf.Boolean = false
+is_body leaf.Bound = false
+is_body leaf.ListFlag = false
+is_body leaf.GatherFlag = false
+is_body leaf.Comment = false
 
 -- whether a class that is looked up is in this table
 abbrev pub is_known : List Class → Leaf → List ℕ → Bool
@@ -104,6 +129,14 @@ is_among name pools = list_any (λ pool. bytes_eq pool.name name) pools
 -- whether a pool that is looked up is one of these
 abbrev pub is_pooled : List NamedPool → Leaf → List ℕ → Bool
 is_pooled pools l name = not (is_pool l) || is_among name pools
+
+-- whether one of these bodies has this name
+abbrev pub has_body : List ℕ → List NamedBody → Bool
+has_body name bodies = list_any (λ body. bytes_eq body.name name) bodies
+
+-- whether a body that is looked up is one of these
+abbrev pub is_declared : List NamedBody → Leaf → List ℕ → Bool
+is_declared bodies l name = not (is_body l) || has_body name bodies
 
 -- a question: what it asks of a text at the place of a leaf, and of the word of a call
 pub record Asked : Type 0 where
@@ -126,10 +159,16 @@ classes table = record { of_leaf = is_known table; of_word = λ c word. true }
 abbrev pub pools : List NamedPool → Asked
 pools declared = record { of_leaf = is_pooled declared; of_word = λ c word. true }
 
--- all four
-abbrev pub every : ℕ → List Class → List NamedPool → Asked
-every version table declared = record {
-  of_leaf = λ l name. stands version l && is_named version l name && is_known table l name && is_pooled declared l name;
+-- whether each body that is used by its name is one of these
+abbrev pub bodies : List NamedBody → Asked
+bodies named = record { of_leaf = is_declared named; of_word = λ c word. true }
+
+-- all five
+abbrev pub every : ℕ → List Class → List NamedPool → List NamedBody → Asked
+every version table declared named = record {
+  of_leaf = λ l name.
+      stands version l && is_named version l name && is_known table l name && is_pooled declared l name
+      && is_declared named l name;
   of_word = λ c word. may_stand c word version;
 }
 
@@ -139,4 +178,5 @@ asked_by (question.Words version) = words version
 asked_by (question.Names version) = names version
 asked_by (question.Classes table) = classes table.now
 asked_by (question.Pools declared) = pools declared.now
-asked_by (question.Every version table declared) = every version table.now declared.now
+asked_by (question.Bodies named) = bodies named.now
+asked_by (question.Every version table declared named) = every version table.now declared.now named.now

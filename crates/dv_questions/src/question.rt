@@ -3,13 +3,14 @@
 ghost use Rattle.std.specs.Prelude.{◌≡◌, ◌≤◌, ◌&&◌, ℕ, true};
 ghost use Rattle.dv_forms.specs.Words.{may_stand};
 ghost use Rattle.dv_questions.specs.Questions.{is_found_named, is_named, is_class, is_pool, stands};
-ghost use Rattle.dv_questions.specs.Questions.{is_known, is_among, is_pooled, asked_by};
+ghost use Rattle.dv_questions.specs.Questions.{is_known, is_among, is_pooled, is_body, asked_by};
+ghost use Rattle.dv_questions.specs.Questions.{has_body, is_declared};
 
 use crate::names::{is_name, names_one};
 use dv_forms::versions::COMMENTS_SINCE;
 use dv_forms::want::{Call, Leaf, Object};
 use dv_forms::words::may_stand;
-use dv_script::script::NamedPool;
+use dv_script::script::{NamedBody, NamedPool};
 use dv_value::classes::Classes;
 
 /// What is asked of the texts of a script.
@@ -23,8 +24,10 @@ pub enum Question<'q> {
     Classes(&'q Classes),
     /// Whether each pool that is used is one of these.
     Pools(&'q [NamedPool]),
-    /// All four, of a script of this version with this table and these pools.
-    Every(u32, &'q Classes, &'q [NamedPool]),
+    /// Whether each body that is used by its name is one of these.
+    Bodies(&'q [NamedBody]),
+    /// All five, of a script of this version with this table, these pools and these bodies.
+    Every(u32, &'q Classes, &'q [NamedPool], &'q [NamedBody]),
 }
 
 fn is_found_named(version: u32, object: Object, name: &str) -> bool
@@ -33,8 +36,13 @@ fn is_found_named(version: u32, object: Object, name: &str) -> bool
     match object {
         Object::Deferred => names_one(version, name),
         Object::Class => true,
-        Object::Lock | Object::Queue | Object::Call | Object::Loop | Object::Task | Object::Pool =>
-            is_name(version, name),
+        Object::Lock
+        | Object::Queue
+        | Object::Call
+        | Object::Loop
+        | Object::Task
+        | Object::Pool
+        | Object::Body => is_name(version, name),
     }
 }
 
@@ -87,7 +95,8 @@ pub fn is_class(leaf: Leaf) -> bool
             | Object::Call
             | Object::Loop
             | Object::Task
-            | Object::Pool => false,
+            | Object::Pool
+            | Object::Body => false,
         },
         Leaf::Text
         | Leaf::New(_)
@@ -114,6 +123,35 @@ pub fn is_pool(leaf: Leaf) -> bool
             | Object::Call
             | Object::Loop
             | Object::Task
+            | Object::Class
+            | Object::Body => false,
+        },
+        Leaf::Text
+        | Leaf::New(_)
+        | Leaf::Integer
+        | Leaf::Number(_, _)
+        | Leaf::Boolean
+        | Leaf::Bound
+        | Leaf::ListFlag
+        | Leaf::GatherFlag
+        | Leaf::Comment => false,
+    }
+}
+
+/// Whether a body is looked up there.
+pub fn is_body(leaf: Leaf) -> bool
+    ensures { result ≡ is_body leaf }
+{
+    match leaf {
+        Leaf::Found(object) => match object {
+            Object::Body => true,
+            Object::Deferred
+            | Object::Lock
+            | Object::Queue
+            | Object::Call
+            | Object::Loop
+            | Object::Task
+            | Object::Pool
             | Object::Class => false,
         },
         Leaf::Text
@@ -149,16 +187,39 @@ fn is_pooled(pools: &[NamedPool], leaf: Leaf, name: &str) -> bool
     !is_pool(leaf) || is_among(name, pools)
 }
 
+/// Whether one of these bodies has this name.
+pub fn has_body(name: &str, bodies: &[NamedBody]) -> bool
+    ensures { result ≡ has_body name.now bodies.now }
+{
+    bodies.iter().any(|body| body.name.as_str() == name)
+}
+
+/// Whether a body that is looked up is one of these.
+fn is_declared(bodies: &[NamedBody], leaf: Leaf, name: &str) -> bool
+    ensures { result ≡ is_declared bodies.now leaf name.now }
+{
+    !is_body(leaf) || has_body(name, bodies)
+}
+
 /// Whether a text at the place of a leaf may stand there in a script of this version, is well
-/// named, and is found if a class or a pool is looked up there.
-fn suits_every(version: u32, classes: &Classes, pools: &[NamedPool], leaf: Leaf, name: &str) -> bool
+/// named, and is found if a class, a pool or a body is looked up there.
+fn suits_every(
+    version: u32,
+    classes: &Classes,
+    pools: &[NamedPool],
+    bodies: &[NamedBody],
+    leaf: Leaf,
+    name: &str,
+) -> bool
     ensures { result ≡ (stands version leaf && is_named version leaf name.now
-        && is_known classes.now leaf name.now && is_pooled pools.now leaf name.now) }
+        && is_known classes.now leaf name.now && is_pooled pools.now leaf name.now
+        && is_declared bodies.now leaf name.now) }
 {
     match leaf {
         Leaf::Found(Object::Deferred) => names_one(version, name),
         Leaf::Found(Object::Class) => classes.find(name).is_some(),
         Leaf::Found(Object::Pool) => is_name(version, name) && is_among(name, pools),
+        Leaf::Found(Object::Body) => is_name(version, name) && has_body(name, bodies),
         Leaf::New(_)
         | Leaf::Found(Object::Lock | Object::Queue | Object::Call | Object::Loop | Object::Task) =>
             is_name(version, name),
@@ -183,8 +244,9 @@ impl Question<'_> {
             Question::Names(version) => is_named(*version, leaf, name),
             Question::Classes(classes) => is_known(classes, leaf, name),
             Question::Pools(pools) => is_pooled(pools, leaf, name),
-            Question::Every(version, classes, pools) => {
-                suits_every(*version, classes, pools, leaf, name)
+            Question::Bodies(bodies) => is_declared(bodies, leaf, name),
+            Question::Every(version, classes, pools, bodies) => {
+                suits_every(*version, classes, pools, bodies, leaf, name)
             }
         }
     }
@@ -194,10 +256,11 @@ impl Question<'_> {
         ensures { result ≡ (asked_by self.now).of_word call word.now }
     {
         match self {
-            Question::Words(version) | Question::Every(version, _, _) => {
+            Question::Words(version) | Question::Every(version, _, _, _) => {
                 may_stand(call, word, *version)
             }
-            Question::Names(_) | Question::Classes(_) | Question::Pools(_) => true,
+            Question::Names(_) | Question::Classes(_) | Question::Pools(_) | Question::Bodies(_) =>
+                true,
         }
     }
 
@@ -207,10 +270,11 @@ impl Question<'_> {
         ensures { result ≡ (asked_by self.now).of_word call word.now }
     {
         match self {
-            Question::Words(version) | Question::Every(version, _, _) => {
+            Question::Words(version) | Question::Every(version, _, _, _) => {
                 since <= *version || may_stand(call, word, *version)
             }
-            Question::Names(_) | Question::Classes(_) | Question::Pools(_) => true,
+            Question::Names(_) | Question::Classes(_) | Question::Pools(_) | Question::Bodies(_) =>
+                true,
         }
     }
 }

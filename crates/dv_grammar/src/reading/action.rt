@@ -2,7 +2,7 @@ ghost use Rattle.std.specs.Prelude.{option_map};
 ghost use Rattle.serde_json.specs.View.{view, items_view};
 ghost use Rattle.dv_clock.specs.declared.limits.TheConstants.{MOST_DELAY};
 ghost use Rattle.dv_forms.specs.Answer.{Reads};
-ghost use Rattle.dv_script.specs.declared.limits.TheConstants.{MOST_PLACES};
+ghost use Rattle.dv_script.specs.declared.limits.TheConstants.{MOST_PLACES, MOST_UNITS};
 ghost use Rattle.dv_forms.specs.Parts.{text_at, number_at, bound_at, value_at, class_at};
 ghost use Rattle.dv_forms.specs.Parts.{list_flag_at, gather_flag_at, list_at, one_of, two_of};
 ghost use Rattle.dv_forms.specs.Parts.{three_of, each, if_there};
@@ -15,13 +15,14 @@ use crate::reading::work::{thread, thread_in};
 use dv_clock::limits::MOST_DELAY;
 use dv_forms::arguments::{
     named_bounds, named_delay, named_failure, named_gathering, named_list, named_places,
-    named_value, one_text, two_texts,
+    named_value, one_small, one_text, two_texts,
 };
 use dv_forms::leaf::{array, boolean, call, five, number, one_or_two, text, three, two};
 use dv_forms::stop::Stop;
 use dv_forms::words::ActionWord;
 use dv_script::action::Action;
 use dv_script::body::Body;
+use dv_script::limits::MOST_UNITS;
 use dv_value::classes::Classes;
 use dv_value::items::Items;
 use dv_value::text::Text;
@@ -101,6 +102,7 @@ pub fn action(alloc: Global, classes: &Classes, levels: u32, json: &Json) -> Res
         ActionWord::Inline => inline(alloc, classes, levels, arguments),
         ActionWord::Thread => thread(alloc, classes, arguments),
         ActionWord::ThreadIn => thread_in(alloc, classes, arguments),
+        ActionWord::Units => units(arguments),
     }
 }
 
@@ -478,4 +480,12 @@ fn resume_task(alloc: Global, arguments: &[Json]) -> Result<Action, Stop>
     ensures { Reads result (one_of text_at Action.ResumeTask (items_view arguments.now)) }
 {
     Ok(Action::ResumeTask(one_text(alloc, arguments)?))
+}
+
+#[inline(never)]
+fn units(arguments: &[Json]) -> Result<Action, Stop>
+    ensures { Reads result
+        (one_of (number_at 1 MOST_UNITS) Action.Units (items_view arguments.now)) }
+{
+    Ok(Action::Units(one_small(arguments, 1, MOST_UNITS)?))
 }

@@ -2,7 +2,9 @@ ghost use Rattle.serde_json.specs.View.{view, items_view};
 ghost use Rattle.dv_forms.specs.Answer.{Reads};
 ghost use Rattle.dv_grammar.specs.Shape.{end_at, end_of, leave_at};
 
-use dv_forms::arguments::{class_and_message, classes_and_value, one_integer, one_text, one_value};
+use dv_forms::arguments::{
+    class_and_message, classes_and_value, one_integer, one_path, one_text, one_value,
+};
 use dv_forms::leaf::{call, none};
 use dv_forms::leaving::may_leave;
 use dv_forms::stop::Stop;
@@ -45,6 +47,8 @@ fn end_of(alloc: Global, classes: &Classes, word: EndWord, arguments: &[Json]) -
             Ok(End::Trap(listed, Boxed::new(alloc, value)?))
         }
         EndWord::Wait => Ok(End::Wait(one_text(alloc, arguments)?)),
+        EndWord::Run => Ok(End::Run(one_text(alloc, arguments)?)),
+        EndWord::Throw => Ok(End::Throw(one_path(alloc, arguments)?)),
     }
 }
 

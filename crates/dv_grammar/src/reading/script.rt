@@ -6,21 +6,21 @@ ghost use Rattle.dv_forms.specs.declared.versions.TheConstants.{LAST_VERSION};
 ghost use Rattle.dv_forms.specs.Limits.{most_limit};
 ghost use Rattle.dv_forms.specs.Parts.{each, field, fields_at, list_at, number_at};
 ghost use Rattle.dv_grammar.specs.Grammar.{keys_of};
-ghost use Rattle.dv_grammar.specs.Shape.{caller_at, event_at, pool_at, script_at};
+ghost use Rattle.dv_grammar.specs.Shape.{caller_at, event_at, named_body_at, pool_at, script_at};
 
 use crate::draft::Draft;
-use crate::reading::body::bodies;
+use crate::reading::body::{bodies, body};
 use crate::reading::cooperator::cooperator_or_plain;
 use crate::reading::event::events;
 use dv_forms::leaf::{array, fields, number, small, text, two};
 use dv_forms::limits::most_limit;
 use dv_forms::stop::Stop;
 use dv_forms::table::{declarations, table};
-use dv_forms::versions::LAST_VERSION;
+use dv_forms::versions::{BODIES_SINCE, LAST_VERSION};
 use dv_script::body::Body;
 use dv_script::event::Event;
 use dv_script::limits::{MOST_LEVELS, MOST_WORKERS, USUAL_LIMIT};
-use dv_script::script::{NamedPool, Script};
+use dv_script::script::{NamedBody, NamedPool, Script};
 use dv_value::classes::Classes;
 use dv_value::items::Items;
 use serde_json::Value as Json;
@@ -104,10 +104,24 @@ fn fields_of(version: u32, json: &Json) -> Result<(), Stop>
                 "callers",
             ],
         )
+    } else if version < BODIES_SINCE {
+        fields(
+            json,
+            &[
+                "pools",
+                "version",
+                "events",
+                "limit",
+                "classes",
+                "cooperator",
+                "callers",
+            ],
+        )
     } else {
         fields(
             json,
             &[
+                "bodies",
                 "pools",
                 "version",
                 "events",
@@ -150,6 +164,45 @@ fn pool(alloc: Global, json: &Json) -> Result<NamedPool, Stop>
     Ok(NamedPool { name, workers })
 }
 
+/// The bodies that a script names, which it may leave out.
+fn named_bodies(
+    alloc: Global,
+    classes: &Classes,
+    json: Option<&Json>,
+) -> Result<Items<NamedBody>, Stop>
+    ensures { Reads result (field [] (list_at (named_body_at classes.now))
+        (option_map (λ d. view d.now) json.entry)) }
+{
+    match json {
+        None => Ok(Items::new(alloc)),
+        Some(json) => each_named_body(alloc, classes, array(json)?),
+    }
+}
+
+fn each_named_body(
+    alloc: Global,
+    classes: &Classes,
+    items: &[Json],
+) -> Result<Items<NamedBody>, Stop>
+    ensures { Reads result (each (named_body_at classes.now) (items_view items.now)) }
+{
+    let mut bodies = Items::new(alloc);
+    for item in items {
+        bodies.push(named_body(alloc, classes, item)?)?;
+    }
+    Ok(bodies)
+}
+
+#[tactic(auto, unfolding(crate::specs::Shape::named_body_at, dv_forms::specs::Parts::pair))]
+fn named_body(alloc: Global, classes: &Classes, json: &Json) -> Result<NamedBody, Stop>
+    ensures { Reads result (named_body_at classes.now (view json.now)) }
+{
+    let (name, json) = two(array(json)?)?;
+    let name = text(alloc, name)?;
+    let body = body(alloc, classes, MOST_LEVELS, json)?;
+    Ok(NamedBody { name, body })
+}
+
 /// A script by its shape alone.
 #[tactic(auto, unfolding(crate::specs::Shape::script_at))]
 pub fn shape(alloc: Global, json: &Json) -> Result<Draft, Stop>
@@ -162,6 +215,7 @@ pub fn shape(alloc: Global, json: &Json) -> Result<Draft, Stop>
     let pools = pools(alloc, json.get("pools"))?;
     let declared = declarations(alloc, json.get("classes"))?;
     let (classes, all_declared) = table(alloc, declared.as_slice())?;
+    let bodies = named_bodies(alloc, &classes, json.get("bodies"))?;
     let callers = callers(alloc, &classes, json.get("callers"))?;
     let events = all_events(alloc, &classes, json.get("events"))?;
     Ok(Draft {
@@ -173,6 +227,7 @@ pub fn shape(alloc: Global, json: &Json) -> Result<Draft, Stop>
             limit,
             cooperator,
             pools,
+            bodies,
             callers,
             events,
         },
