@@ -13,6 +13,7 @@ _LIMITS = LANGUAGE.limits
 WIDEST_BYTES = _LIMITS["bytes"]
 MOST_CLASSES = _LIMITS["classes"]
 MOST_POOLS = _LIMITS["pools"]
+MOST_BODIES = _LIMITS["bodies"]
 MOST_CALLERS = _LIMITS["callers"]
 MOST_POSTS = _LIMITS["posts"]
 MOST_JOBS = _LIMITS["jobs"]
@@ -59,6 +60,8 @@ TOKENS = _numbers(_of_word("semaphore", 1))
 BOUNDS = _numbers(_of_word("queue", 1))
 SUMS = _numbers(_of_word("sum", 0))
 UNITS = _numbers(_of_key("cooperator", "units"))
+#: the places in lists
+PLACES = _numbers(_of_word("throw", 0)["of"])
 WORKERS = _numbers(_of_key("script", "pools")["of"]["parts"][1])
 
 
@@ -79,6 +82,7 @@ class Kind(enum.Enum):
     NEW_TASK = "a name for a task that is made"
     TASK = "a task"
     POOL = "a pool of threads, which the key `pools` declares"
+    NAMED_BODY = "a body that the key `bodies` declares"
     VALUE = "a value"
     BODY = "a body"
     BODIES = "an array of bodies"
@@ -96,6 +100,8 @@ class Kind(enum.Enum):
     INTERVAL = "an interval"
     INTEGER = "an integer of 64 bits"
     SUM = "how far a sum goes"
+    UNITS = "how many steps a tick has"
+    PLACES = "an array of places in lists"
     ACTION = "an action"
     END = "how a body ends"
     WORK = "a work"
@@ -107,6 +113,7 @@ NUMBERS: Dict[Kind, range] = {
     Kind.INTERVAL: INTERVALS,
     Kind.INTEGER: _numbers(_of_word("plus", 0)),
     Kind.SUM: SUMS,
+    Kind.UNITS: UNITS,
 }
 
 FLAGS: Dict[Kind, FrozenSet[str]] = {
@@ -117,7 +124,7 @@ FLAGS: Dict[Kind, FrozenSet[str]] = {
 #: the kinds that name an object of a kind, or make one
 MADE: FrozenSet[Kind] = frozenset(kind for kind in Kind if kind.name.startswith("NEW_"))
 FOUND: FrozenSet[Kind] = frozenset(
-    {Kind.DEFERRED, Kind.LOCK, Kind.QUEUE, Kind.CALL, Kind.LOOP, Kind.TASK, Kind.POOL}
+    {Kind.DEFERRED, Kind.LOCK, Kind.QUEUE, Kind.CALL, Kind.LOOP, Kind.TASK, Kind.POOL, Kind.NAMED_BODY}
 )
 
 Arguments = Tuple[Kind, ...]
@@ -154,10 +161,14 @@ def kind_of(form: Form) -> Kind:
     of: Any = form.get("of")
     if kind == "number":
         return _NUMBERS[_numbers(form)]
+    if (kind, of) == ("found", "body"):
+        return Kind.NAMED_BODY
     if kind in ("new", "found"):
         return Kind[f"{'NEW_' * (kind == 'new')}{of.upper()}"]
     if kind == "words":
         return _WORDS[of]
+    if kind == "array" and of["type"] == "number":
+        return Kind.PLACES
     if kind == "array":
         return _FLAGS[frozenset(of["words"])] if of["type"] == "flag" else _ARRAYS[kind_of(of)]
     return _PLAIN[kind]
@@ -176,8 +187,8 @@ def _kinds(row: Word) -> Arguments:
 
 
 ACTIONS = _table("action")
-#: the first version that has an action
-SINCE: Dict[str, int] = {row.word: row.since for row in LANGUAGE.at("action")}
+#: the first version that has an action, or an end
+SINCE: Dict[str, int] = {row.word: row.since for place in ("action", "end") for row in LANGUAGE.at(place)}
 ENDS = _table("end")
 #: how an inline body may end
 INLINE_ENDS = _table("leaving")
@@ -225,6 +236,7 @@ _LEVEL_OF_WORD: Dict[str, str] = {
     "maybe": "lists",
     "resetCall": "version-3",
     "delayCall": "version-3",
+    "units": "version-3",
 }
 
 

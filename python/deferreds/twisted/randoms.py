@@ -49,6 +49,9 @@ _NAMES: Dict[str, str] = {
 
 _POOLS = ("io", "net", "a")
 
+#: the bodies that a script may declare
+_BODIES = ("f", "g", "h")
+
 #: what the names of a script with marks end with
 _MARKS = "-1.a:"
 
@@ -65,7 +68,9 @@ class Scripts:
         self._level = level
         self._random = random.Random()
         self._known = grammar.actions_up_to(level)
+        self._version_of = 1
         self._pools: List[str] = []
+        self._named: List[str] = []
         self._paused: List[str] = []
         self._is_third = False
         self._marks = ""
@@ -73,6 +78,7 @@ class Scripts:
 
     def _take_words(self, version: int) -> None:
         """Has actions be those of the level that a version has; only with a pool may one be submitted to."""
+        self._version_of = version
         known = [word for word in self._known if grammar.SINCE[word] <= version]
         words = [word for word in known if word != "threadIn" or self._pools]
         self._words = words
@@ -89,6 +95,8 @@ class Scripts:
         if self._has("version-3"):
             self._third(root)
         self._take_words(root["version"])
+        if self._named:
+            root["bodies"] = [[name, self._body(0)] for name in self._named]
         if self._one_in(5):
             root["limit"] = self._random.randint(0, 60)
         if "cooperate" in self._words:
@@ -114,8 +122,10 @@ class Scripts:
         """Has half of the scripts be of version 3, with marks in the names of some, and comments."""
         self._is_third = self._one_in(2)
         self._marks = _MARKS if self._is_third and self._one_in(2) else ""
+        self._named = []
         if self._is_third:
             root["version"] = 3
+            self._named = self._random.sample(_BODIES, self._random.randint(0, 3))
             self._commented(root)
 
     def _commented(self, keyed: Dict[str, Any]) -> Dict[str, Any]:
@@ -192,6 +202,8 @@ class Scripts:
             Kind.INTERVAL: lambda depth: self._random.randint(1, 4),
             Kind.INTEGER: lambda depth: self._random.randint(-1, 3),
             Kind.SUM: lambda depth: self._random.randint(0, 9),
+            Kind.UNITS: lambda depth: self._random.randint(1, 4),
+            Kind.PLACES: lambda depth: self._random.choice(([0], [1], [0, 1], [1, 1], [])),
             Kind.ACTION: self._action,
             Kind.END: lambda depth: self._end(grammar.INLINE_ENDS, depth),
             Kind.WORK: lambda depth: self._end(grammar.WORKS, depth),
@@ -199,6 +211,7 @@ class Scripts:
         for kind in (*grammar.MADE, *grammar.FOUND):
             makers[kind] = self._naming(kind)
         makers[Kind.POOL] = lambda depth: self._random.choice(self._pools)
+        makers[Kind.NAMED_BODY] = lambda depth: self._random.choice(self._named)
         for kind, flags in grammar.FLAGS.items():
             makers[kind] = self._flagging(sorted(flags))
         return makers
@@ -239,9 +252,11 @@ class Scripts:
         return [self._body(depth) for _ in range(self._random.randint(0, 4))]
 
     def _end(self, table: Dict[str, List[grammar.Arguments]], depth: int) -> List[Any]:
-        words = list(table)
+        words = [word for word in table if grammar.SINCE.get(word, 1) <= self._version_of]
         if "wait" in words and self._one_in(3):
             return ["wait", self._name("DEFERRED", depth)]
+        if "run" in words and not self._named:
+            words.remove("run")
         word = self._random.choice(words)
         return [word, *self._arguments(table[word], depth)]
 

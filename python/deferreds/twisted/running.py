@@ -179,6 +179,7 @@ class Player:
         for name, parent in script.classes:
             self.teller.classes.declare(name, parent)
         self.clock = task.Clock()
+        self.units = script.units
         self.cooperator = task.Cooperator(
             terminationPredicateFactory=self._terminator,
             scheduler=lambda tick: self.clock.callLater(script.delay, tick),
@@ -211,7 +212,7 @@ class Player:
         return run
 
     def _terminator(self) -> Callable[[], bool]:
-        left = [self.script.units]
+        left = [self.units]
 
         def is_over() -> bool:
             left[0] -= 1
@@ -296,7 +297,16 @@ class Player:
             raise self.teller.classes.make(end[1], end[2])
         if word == "trap":
             return self._trap(given, end[1], end[2])
+        if word == "throw":
+            return self._throw(given, end[1])
+        if word == "run":
+            return self._run_body(end[1], given, here)
         return self._deferred(end[1], here)
+
+    def _run_body(self, name: str, given: object, here: Optional[Deferred[Any]]) -> Any:
+        """Runs a body that the script declares."""
+        self.teller.tell(f"body {name}")
+        return self._body(self.script.bodies[name], given, here)
 
     def _plus(self, given: object, number: int) -> int:
         if type(given) is not int:
@@ -313,6 +323,16 @@ class Player:
         trap: Callable[..., object] = given.trap
         trap(*[self.teller.classes.get(name) for name in classes])
         return value
+
+    def _throw(self, given: object, path: List[int]) -> object:
+        """Raises the failure at a path, each of whose numbers is a place in a list."""
+        found = given
+        for place in path:
+            found = found[place] if isinstance(found, (list, tuple)) and place < len(found) else None
+        if not isinstance(found, Failure):
+            raise self.teller.classes.make("TypeError", "throw")
+        raises: Callable[[], object] = found.raiseException
+        return raises()
 
     def _side(self, body: Dict[str, Any], here: Deferred[Any]) -> Callable[[object], Any]:
         return lambda given: self._body(body, given, here)
@@ -494,6 +514,11 @@ class Player:
     def _stop_loop(self, action: List[Any], here: Optional[Deferred[Any]]) -> None:
         self._thing("loop", action[1]).stop()
 
+    def _set_units(self, action: List[Any], here: Optional[Deferred[Any]]) -> None:
+        """Each tick has so many steps from the next one on."""
+        self.teller.tell(f"units {action[1]}")
+        self.units = action[1]
+
     def _cooperate(self, action: List[Any], here: Optional[Deferred[Any]]) -> None:
         self.teller.name_next(action[1])
         made = self.cooperator.cooperate(Steps(action[2], self._body))
@@ -657,6 +682,7 @@ _OTHERS: Dict[str, Callable[[Player, List[Any], Optional[Deferred[Any]]], None]]
     "advance": Player._advance,
     "loop": Player._loop,
     "stopLoop": Player._stop_loop,
+    "units": Player._set_units,
     "cooperate": Player._cooperate,
     "whenDone": Player._when_done,
     "pauseTask": Player._pause_task,

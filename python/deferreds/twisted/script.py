@@ -34,6 +34,7 @@ TOO_MANY = _reason("TooMany")
 BAD_NAME = _reason("BadName")
 BAD_CLASS = _reason("BadClass")
 BAD_POOL = _reason("BadPool")
+BAD_BODY = _reason("BadBody")
 
 
 class Refused(Exception):
@@ -59,6 +60,7 @@ class Script:
         self.delay: int = cooperator["delay"]
         #: the names of the pools; no line shows how many workers one has
         self.pools: List[str] = [name for name, _ in root.get("pools", [])]
+        self.bodies: Dict[str, Dict[str, Any]] = dict(root.get("bodies", []))
         self.callers: List[List[Dict[str, Any]]] = root.get("callers", [])
 
 
@@ -71,7 +73,8 @@ def read(data: bytes, names_of_classes: Sequence[str]) -> Script:
     _refuse_counts(root, found)
     _refuse_names(root, found)
     _refuse_classes(root, found, names_of_classes)
-    _refuse_pools(root, found)
+    _refuse_twice_or_unknown(root.get("pools", []), found.pools, BAD_POOL)
+    _refuse_twice_or_unknown(root.get("bodies", []), found.bodies, BAD_BODY)
     return Script(root)
 
 
@@ -175,8 +178,9 @@ class _Found:
         self.names: List[str] = []
         #: names of Deferreds that exist
         self.deferreds: List[str] = []
-        #: names of pools that are used
+        #: names of pools and of declared bodies that are used
         self.pools: List[str] = []
+        self.bodies: List[str] = []
         self.classes: List[str] = []
         self.advanced = 0
 
@@ -198,6 +202,8 @@ class _Shape:
             self._cooperator(root["cooperator"])
         for pool in self._array(root.get("pools", [])):
             self._pool(pool)
+        for pair in self._array(root.get("bodies", [])):
+            self._named_body(pair)
         for posts in self._array(root.get("callers", [])):
             self._bodies(posts)
         for event in self._array(root["events"]):
@@ -214,6 +220,12 @@ class _Shape:
             self._refuse(value)
         self.found.names.append(self._text(value[0]))
         self._number(value[1], grammar.WORKERS)
+
+    def _named_body(self, value: Any) -> None:
+        if len(self._array(value)) != 2:
+            self._refuse(value)
+        self.found.names.append(self._text(value[0]))
+        self._body(value[1])
 
     def _event(self, event: Any) -> None:
         word = self._word(event)
@@ -247,6 +259,8 @@ class _Shape:
             names.append(self._text(value))
             if kind is Kind.POOL:
                 self.found.pools.append(value)
+            if kind is Kind.NAMED_BODY:
+                self.found.bodies.append(value)
         else:
             self._other(kind, value)
 
@@ -262,6 +276,9 @@ class _Shape:
         elif kind is Kind.STATEMENTS:
             for statement in self._array(value):
                 self._said(statement, grammar.STATEMENTS)
+        elif kind is Kind.PLACES:
+            for place in self._array(value):
+                self._number(place, grammar.PLACES)
         elif kind is Kind.CLASS:
             self.found.classes.append(self._text(value))
         elif kind is Kind.CLASSES:
@@ -355,6 +372,7 @@ def _refuse_counts(root: Mapping[str, Any], found: _Found) -> None:
         nodes(root) > LANGUAGE.most("nodes", root["version"])
         or len(root.get("classes", [])) > grammar.MOST_CLASSES
         or len(root.get("pools", [])) > grammar.MOST_POOLS
+        or len(root.get("bodies", [])) > grammar.MOST_BODIES
         or len(callers) > grammar.MOST_CALLERS
         or any(len(posts) > grammar.MOST_POSTS for posts in callers)
         or found.advanced > grammar.LONGEST_TIME
@@ -396,10 +414,11 @@ def _refuse_classes(root: Mapping[str, Any], found: _Found, built_in: Sequence[s
             raise Refused(BAD_CLASS, name)
 
 
-def _refuse_pools(root: Mapping[str, Any], found: _Found) -> None:
-    declared = [name for name, _ in root.get("pools", [])]
+def _refuse_twice_or_unknown(pairs: Sequence[Sequence[Any]], used: Sequence[str], reason: Reason) -> None:
+    """Refuses what is declared twice, and what is used and not declared."""
+    declared = [name for name, _ in pairs]
     if len(set(declared)) < len(declared):
-        raise Refused(BAD_POOL)
-    for name in found.pools:
+        raise Refused(reason)
+    for name in used:
         if name not in declared:
-            raise Refused(BAD_POOL, name)
+            raise Refused(reason, name)
