@@ -73,7 +73,7 @@ use Rattle.dv_laws.specs.Loops.{Unlooped, looping_of}
 use Rattle.dv_laws.specs.Stored.{Unqueued, queueing_of}
 use Rattle.dv_laws.specs.Tasks.{Untasked, tasking_of}
 use Rattle.dv_laws.specs.Tokens.{Unheld, holding_of}
-use Rattle.dv_objects.specs.Objects.{with_lock}
+use Rattle.dv_objects.specs.Objects.{naming, with_lock}
 use Rattle.dv_prims.specs.Tokens.{released}
 use Rattle.dv_laws.proofs.Beside as beside
 use Rattle.dv_laws.proofs.Beside.{Tasks, Locks, Queues, Loops, Beside, Arranged, resting, arranging}
@@ -158,7 +158,8 @@ abbrev pub ReachesNoItem : Reached → Type 0
 ReachesNoItem (reached.ForItem d k) = ⊥
 ReachesNoItem r = Unit {0}
 
--- what is kept by the steps that fire, unpause and settle nothing, and add no pair
+-- what is kept by the steps that fire, unpause and settle nothing, add no pair, and bind no name but that of a Deferred
+-- that is made
 pub record Quiet (R : World → World → Type 0) : Type 0 where
   pub stays : (w : World) → R w w
   pub joins : (u v w : World) → R u v → R v w → R u w
@@ -169,11 +170,11 @@ pub record Quiet (R : World → World → Type 0) : Type 0 where
       → LeavesQueues (queueing_of e)
       → (Regular w.objects.loops → Clocks e w.objects.clock (change w.objects).clock)
       → (Regular w.objects.loops → Regular (change w.objects).loops) → Beside e w.objects (change w.objects)
-      → R w (aside e change w)
+      → (change w.objects).names ≡ w.objects.names → R w (aside e change w)
   pub by_arrange : (change : Objects → Objects) (w : World) → (change w.objects).queues ≡ w.objects.queues
       → Arranges w.objects.clock (change w.objects).clock
       → (Regular w.objects.loops → Regular (change w.objects).loops) → Arranged w.objects (change w.objects)
-      → R w (arrange change w)
+      → (change w.objects).names ≡ w.objects.names → R w (arrange change w)
   pub by_submit : (d : ℕ) (pool : Option (List ℕ)) (work : Work) (w : World) → R w (submit d pool work w)
 
 pub record Quietly (w u : World) : Type 1 where
@@ -202,7 +203,8 @@ abbrev pub handed_to : ℕ → Option Value → World → World
 handed_to d None w = w
 handed_to d (Some value) w = (fire d value w).1
 
--- and by the steps that add a pair, fire and unpause, and those of a queue, each with the firing that follows
+-- and by the steps that bind a name, add a pair, fire and unpause, and those of a queue, each with the firing that
+-- follows
 pub record Calm (R : World → World → Type 0) : Type 0 where
   pub quiet : Quiet R
   pub stops : (w : World) → R w (with_stop w)
@@ -212,6 +214,7 @@ pub record Calm (R : World → World → Type 0) : Type 0 where
       → (let a = world.get_from k d w in R w (handed_to d a.0 a.1))
   pub by_withdraw : (of d k : ℕ) (w : World) → (cancel of w).0 ≡ reached.ForItem d k
       → R w (fire d cancelled (world.withdraw k d (cancel of w).1)).1
+  pub by_name : (d : ℕ) (name : List ℕ) (w : World) → R w (aside (entry.Name d (Some name)) (naming name d) w)
   pub by_append : (d : ℕ) (pair : Pair) (w : World) → R w (append d pair w)
   pub by_fire : (d : ℕ) (value : Value) (w : World) → R w (fire d value w).1
   pub by_fire_guarded : (d : ℕ) (w : World) → WasCancelled d w → R w (fire_guarded d w)
@@ -254,14 +257,14 @@ join u v w a b = record { keeps = λ R l. l.joins u v w (a.keeps R l) (b.keeps R
 by_aside : (e : Entry) (change : Objects → Objects) (w : World) → change_of e ≡ Aside → LeavesQueues (queueing_of e)
     → (Regular w.objects.loops → Clocks e w.objects.clock (change w.objects).clock)
     → (Regular w.objects.loops → Regular (change w.objects).loops) → Beside e w.objects (change w.objects)
-    → Quietly w (aside e change w)
-by_aside e change w a q c r t = record { keeps = λ R l. l.by_aside e change w a q c r t }
+    → (change w.objects).names ≡ w.objects.names → Quietly w (aside e change w)
+by_aside e change w a q c r t n = record { keeps = λ R l. l.by_aside e change w a q c r t n }
 
 by_arrange : (change : Objects → Objects) (w : World) → (change w.objects).queues ≡ w.objects.queues
     → Arranges w.objects.clock (change w.objects).clock
     → (Regular w.objects.loops → Regular (change w.objects).loops) → Arranged w.objects (change w.objects)
-    → Quietly w (arrange change w)
-by_arrange change w q s r t = record { keeps = λ R l. l.by_arrange change w q s r t }
+    → (change w.objects).names ≡ w.objects.names → Quietly w (arrange change w)
+by_arrange change w q s r t n = record { keeps = λ R l. l.by_arrange change w q s r t n }
 
 by_make : (name : Option (List ℕ)) (canceller : Option Canceller) (w : World) → Quietly w (make name canceller w)
 by_make name canceller w = record { keeps = λ R l. l.by_make name canceller w }
@@ -325,7 +328,7 @@ ask_comes : (l d : ℕ) (o : Option Semaphore) (w : World) → slice_get w.objec
 ask_comes l d None w h = same w
 ask_comes l d (Some s) w h =
     by_aside (entry.Acquire s.name d) _ w refl tt (λ k. Leaves (refl, refl, refl)) (λ k. k)
-    (lock_beside _ _ _ (beside.LockAsked l d s h refl) refl refl refl refl refl refl)
+    (lock_beside _ _ _ (beside.LockAsked l d s h refl) refl refl refl refl refl refl) refl
 
 released_comes : (b : Bool) (l : ℕ) (s : Semaphore) (w : World) → is_unheld s ≡ b
     → slice_get w.objects.semaphores l ≡ Some s
@@ -333,7 +336,7 @@ released_comes : (b : Bool) (l : ℕ) (s : Semaphore) (w : World) → is_unheld 
 released_comes true l s w u h = same w
 released_comes false l s w u h =
     by_aside (entry.Release s.name) _ w refl tt (λ k. Leaves (refl, refl, refl)) (λ k. k)
-    (lock_beside _ _ _ (beside.LockReleased l s h u refl) refl refl refl refl refl refl)
+    (lock_beside _ _ _ (beside.LockReleased l s h u refl) refl refl refl refl refl refl) refl
 
 release_comes : (l : ℕ) (o : Option Semaphore) (w : World) → slice_get w.objects.semaphores l ≡ o
     → Quietly w (release_found l o w)
@@ -355,6 +358,11 @@ lock_queues : (l : ℕ) (change : Semaphore → Semaphore) (o : Option Semaphore
 lock_queues l change None objects = refl
 lock_queues l change (Some s) objects = refl
 
+lock_names : (l : ℕ) (change : Semaphore → Semaphore) (o : Option Semaphore) (objects : Objects)
+    → (lock_changed l change o objects).names ≡ objects.names
+lock_names l change None objects = refl
+lock_names l change (Some s) objects = refl
+
 lock_arranged : (l d : ℕ) (o : Option Semaphore) (objects : Objects) → slice_get objects.semaphores l ≡ o
     → Arranged objects (lock_changed l (forgotten d) o objects)
 lock_arranged l d None objects h = arranging _ _ refl refl refl refl refl
@@ -371,11 +379,12 @@ forget_comes l d w =
     by_arrange _ w (lock_queues l (forgotten d) (slice_get w.objects.semaphores l) w.objects)
     (lock_same l (forgotten d) (slice_get w.objects.semaphores l) w.objects)
     (lock_loops l (forgotten d) (slice_get w.objects.semaphores l) w.objects) (lock_arranged l d _ w.objects refl)
+    (lock_names l (forgotten d) (slice_get w.objects.semaphores l) w.objects)
 
 came_comes : (l i : ℕ) (v : Value) (o : Option Gather) (w : World) → Quietly w (came_to_found l i v o w).1
 came_comes l i v None w = same w
 came_comes l i v (Some g) w =
-    by_arrange (with_list l (came i v g).1) w refl Stays (λ k. k) (arranging _ _ refl refl refl refl refl)
+    by_arrange (with_list l (came i v g).1) w refl Stays (λ k. k) (arranging _ _ refl refl refl refl refl) refl
 
 came_to_comes : (l i : ℕ) (v : Value) (w : World) → Quietly w (came_to l i v w).1
 unfolding came_to
@@ -390,7 +399,7 @@ scheduled_comes l (Some x) w h =
     by_aside (entry.LaterLoop x.name (next_due x w.objects.clock)) (with_turn l x) w refl tt
     (λ k. Adds (what.Turn x.name l) (next_due x w.objects.clock) refl (turn_later x w.objects.clock (k.each l x h)))
     (λ k. regular_set l x _ w.objects.loops h refl k)
-    (loop_beside _ _ _ (beside.LoopTurns l x _ h refl refl refl refl) refl refl refl refl refl refl)
+    (loop_beside _ _ _ (beside.LoopTurns l x _ h refl refl refl refl) refl refl refl refl refl refl) refl
 
 dropped_same : (e : Entry) (o : Option ℕ) (c : Clock) → IsPlain e → Clocks e c (turn_dropped o c)
 dropped_same e None c p = Leaves p
@@ -404,6 +413,7 @@ loop_stopped_comes l (Some x) w h =
     (λ k. dropped_same (entry.Stop x.name) x.turn w.objects.clock
     (refl, refl, refl)) (λ k. regular_set l x _ w.objects.loops h refl k)
     (loop_beside _ _ _ (beside.LoopsRest _ refl (beside.LoopSet l x _ h refl refl refl)) refl refl refl refl refl refl)
+    refl
 
 ended_same : (l : ℕ) (o : Option LoopingCall) (objects : Objects)
     → Arranges objects.clock (with_ended l o objects).clock
@@ -413,6 +423,10 @@ ended_same l (Some x) objects = Stays
 ended_queues : (l : ℕ) (o : Option LoopingCall) (objects : Objects) → (with_ended l o objects).queues ≡ objects.queues
 ended_queues l None objects = refl
 ended_queues l (Some x) objects = refl
+
+ended_names : (l : ℕ) (o : Option LoopingCall) (objects : Objects) → (with_ended l o objects).names ≡ objects.names
+ended_names l None objects = refl
+ended_names l (Some x) objects = refl
 
 ended_loops : (l : ℕ) (o : Option LoopingCall) (objects : Objects) → slice_get objects.loops l ≡ o
     → Regular objects.loops → Regular (with_ended l o objects).loops
@@ -435,6 +449,7 @@ end_loop_comes l w =
     by_arrange _ w (ended_queues l (slice_get w.objects.loops l) w.objects)
     (ended_same l (slice_get w.objects.loops l) w.objects) (ended_loops l (slice_get w.objects.loops l) w.objects refl)
     (loop_arranged l (slice_get w.objects.loops l) w.objects refl)
+    (ended_names l (slice_get w.objects.loops l) w.objects)
 
 told_task_comes : (e : Task → Entry) (change : Task → Cooperator → Cooperator) (o : Option Task) (w : World)
     → ((x : Task) → change_of (e x) ≡ Aside) → ((x : Task) → LeavesQueues (queueing_of (e x)))
@@ -443,18 +458,18 @@ told_task_comes : (e : Task → Entry) (change : Task → Cooperator → Coopera
     → Quietly w (task_told e change o w)
 told_task_comes e change None w a l t k = same w
 told_task_comes e change (Some x) w a l t k =
-    by_aside (e x) (cooperating (change x)) w (a x) (l x) (λ r. Leaves (t x)) (λ r. r) (k x refl)
+    by_aside (e x) (cooperating (change x)) w (a x) (l x) (λ r. Leaves (t x)) (λ r. r) (k x refl) refl
 
 dropped_comes : (o : Option ℕ) (w : World) → Quietly w (tick_dropped o w)
 dropped_comes None w = same w
 dropped_comes (Some number) w =
-    by_arrange (without_tick number) w refl (Loses number) (λ k. k) (arranging _ _ refl refl refl refl refl)
+    by_arrange (without_tick number) w refl (Loses number) (λ k. k) (arranging _ _ refl refl refl refl refl) refl
 
 later_comes : (w : World) → Quietly w (schedule_tick w)
 later_comes w =
     by_aside (entry.LaterTick (w.objects.clock.time + w.objects.cooperator.delay))
     (with_tick (w.objects.clock.time + w.objects.cooperator.delay)) w refl tt (λ k. Adds what.Tick _ refl (omega arith))
-    (λ k. k) (resting _ _ _ refl refl refl refl refl refl refl refl refl)
+    (λ k. k) (resting _ _ _ refl refl refl refl refl refl refl refl refl) refl
 
 keep_comes : (w u : World) → Quietly w u → Quietly w (keep_tick u)
 keep_comes w u c =
@@ -476,28 +491,28 @@ task_ended_comes t end None w h = same w
 task_ended_comes t end (Some x) w h =
     let found = unended_is (slice_get w.objects.cooperator.tasks t) x h in
     by_aside (entry.End x.name (result_of x.name end)) _ w refl tt (λ k. Leaves (refl, refl, refl)) (λ k. k)
-    (task_beside _ _ _ (beside.TaskEnds t end x found.0 found.1 refl) refl refl refl)
+    (task_beside _ _ _ (beside.TaskEnds t end x found.0 found.1 refl) refl refl refl) refl
 
 inlining_comes : (i : ℕ) (v : Value) (w : World) → Quietly w (come_to_inline i v w).1
 unfolding come_to_inline
 inlining_comes i v w =
     let t = come_to i v w.objects.inlines in
     first_comes w.stopped (None, w) (t.0, arrange (inlining (λ inlines. t.1)) w) w (same w)
-    (by_arrange _ w refl Stays (λ k. k) (arranging _ _ refl refl refl refl refl))
+    (by_arrange _ w refl Stays (λ k. k) (arranging _ _ refl refl refl refl refl) refl)
 
 end_await_comes : (i e : ℕ) (p : Position) (w : World) → Quietly w (end_await i e p w).1
 unfolding end_await
 end_await_comes i e p w =
     let t = end_adding i e p w.objects.inlines in
     first_comes w.stopped (None, w) (t.0, arrange (inlining (λ inlines. t.1)) w) w (same w)
-    (by_arrange _ w refl Stays (λ k. k) (arranging _ _ refl refl refl refl refl))
+    (by_arrange _ w refl Stays (λ k. k) (arranging _ _ refl refl refl refl refl) refl)
 
 waiting_comes : (number at : ℕ) (due : Due) (w : World)
     → slice_get w.objects.clock.calls number ≡ Some (record { due = at; state = call_state.Waiting due })
     → Quietly w (waiting_cancelled number due w)
 waiting_comes number at (what.Call name key) w h =
     by_aside (entry.Uncall name) (with_ended_call number call_state.Cancelled) w refl tt
-    (λ k. Cancels number at name key h refl) (λ k. k) (resting _ _ _ refl refl refl refl refl refl refl refl refl)
+    (λ k. Cancels number at name key h refl) (λ k. k) (resting _ _ _ refl refl refl refl refl refl refl refl refl) refl
 waiting_comes number at (what.Turn name key) w h = same w
 waiting_comes number at what.Tick w h = same w
 waiting_comes number at (what.Delivery job key) w h = same w
@@ -534,7 +549,7 @@ waiting_anew number from delay at (what.Call name key) w h =
     let new = new_due from (min delay MOST_DELAY) at now in
     by_aside (entry.Reset name new) (with_moved_call number new) w refl tt
     (λ k. Moves number at new name key h refl (new_later from (min delay MOST_DELAY) at now)) (λ k. k)
-    (resting _ _ _ refl refl refl refl refl refl refl refl refl)
+    (resting _ _ _ refl refl refl refl refl refl refl refl refl) refl
 waiting_anew number from delay at (what.Turn name key) w h = same w
 waiting_anew number from delay at what.Tick w h = same w
 waiting_anew number from delay at (what.Delivery job key) w h = same w
@@ -565,19 +580,19 @@ call_later_comes name delay body w =
     let due = w.objects.clock.time + min delay MOST_DELAY in by_aside (entry.LaterCall name due)
     (with_new_call name due body) w refl tt
     (λ k. Adds (what.Call name (length w.objects.bodies)) due refl (omega arith))
-    (λ k. k) (resting _ _ _ refl refl refl refl refl refl refl refl refl)
+    (λ k. k) (resting _ _ _ refl refl refl refl refl refl refl refl refl) refl
 
 timer_comes : (d delay : ℕ) (w : World) → Quietly w (start_timer d delay w)
 timer_comes d delay w =
     let due = w.objects.clock.time + min delay MOST_DELAY in
     by_aside (entry.LaterTimeout d due) (with_timer d due) w refl tt (λ k. Adds (what.Timeout d) due refl (omega arith))
-    (λ k. k) (resting _ _ _ refl refl refl refl refl refl refl refl refl)
+    (λ k. k) (resting _ _ _ refl refl refl refl refl refl refl refl refl) refl
 
 delivery_comes : (job d delay : ℕ) (w : World) → Quietly w (deliver_later job d delay w)
 delivery_comes job d delay w =
     let due = w.objects.clock.time + min delay MOST_DELAY in
     by_aside (entry.LaterJob job due) (with_delivery job d due) w refl tt (λ k. Adds (what.Delivery job d) due refl
-    (omega arith)) (λ k. k) (resting _ _ _ refl refl refl refl refl refl refl refl refl)
+    (omega arith)) (λ k. k) (resting _ _ _ refl refl refl refl refl refl refl refl refl) refl
 
 due_aside : (due : Due) → change_of (coming_due due) ≡ Aside
 due_aside (what.Call name key) = refl
@@ -623,7 +638,7 @@ upcoming_comes (Some call) w h =
     by_aside (coming_due call.what) (with_ended_call call.number call_state.Called) w (due_aside call.what)
     (due_leaves call.what)
     (λ k. Runs call h refl) (λ k. k) (resting _ _ _ (due_untasked call.what) (due_unheld call.what)
-    (due_unqueued call.what) (due_unlooped call.what) refl refl refl refl refl)
+    (due_unqueued call.what) (due_unlooped call.what) refl refl refl refl refl) refl
 
 -- 1. Steps: all but those by which a Deferred is settled and time goes on.
 
@@ -633,6 +648,7 @@ abbrev pub IsQuiet : steps.Step → Type 0
 IsQuiet (steps.Put d v) = ⊥
 IsQuiet (steps.PutDeferred d e) = ⊥
 IsQuiet (steps.Advance ticks) = ⊥
+IsQuiet (steps.Name d name) = ⊥
 IsQuiet (steps.Append d pair) = ⊥
 IsQuiet (steps.FireGuarded d) = ⊥
 IsQuiet (steps.Withdraw k d) = ⊥
@@ -663,49 +679,49 @@ AsksQuietly question = Unit {0}
 
 pub step_quiet : (step : steps.Step) (w : World) → IsQuiet step → Quietly w (stepped step w)
 step_quiet (steps.Make name canceller) w m = by_make name canceller w
-step_quiet (steps.Name d name) w m =
-    by_aside (entry.Name d (Some name)) _ w refl tt (λ k. Leaves (refl, refl, refl)) (λ k. k)
-    (resting _ _ _ refl refl refl refl refl refl refl refl refl)
+step_quiet (steps.Name d name) w m = absurd m
 step_quiet (steps.Append d pair) w m = absurd m
 step_quiet (steps.FireGuarded d) w m = absurd m
 step_quiet (steps.Pause d) w m = record { keeps = λ R l. l.by_pause d w }
 step_quiet (steps.Note text) w m =
     by_aside (entry.Note text) _ w refl tt (λ k. Leaves (refl, refl, refl)) (λ k. k)
-    (resting _ _ _ refl refl refl refl refl refl refl refl refl)
+    (resting _ _ _ refl refl refl refl refl refl refl refl refl) refl
 step_quiet (steps.TellTurn name) w m =
     by_aside (entry.Turn name) _ w refl tt (λ k. Leaves (refl, refl, refl)) (λ k. k)
-    (resting _ _ _ refl refl refl refl refl refl refl refl refl)
+    (resting _ _ _ refl refl refl refl refl refl refl refl refl) refl
 step_quiet (steps.TellUnhandled failure) w m =
     by_aside (entry.Unhandled failure) _ w refl tt (λ k. Leaves (refl, refl, refl)) (λ k. k)
-    (resting _ _ _ refl refl refl refl refl refl refl refl refl)
+    (resting _ _ _ refl refl refl refl refl refl refl refl refl) refl
 step_quiet (steps.NewLock name) w m =
     by_aside (entry.Lock name) _ w refl tt (λ k. Leaves (refl, refl, refl)) (λ k. k)
-    (lock_beside _ _ _ (beside.LockMade name 1 refl) refl refl refl refl refl refl)
+    (lock_beside _ _ _ (beside.LockMade name 1 refl) refl refl refl refl refl refl) refl
 step_quiet (steps.NewSemaphore name tokens) w m =
     by_aside (entry.Semaphore name tokens) _ w refl tt (λ k. Leaves (refl, refl, refl)) (λ k. k)
-    (lock_beside _ _ _ (beside.LockMade name tokens refl) refl refl refl refl refl refl)
+    (lock_beside _ _ _ (beside.LockMade name tokens refl) refl refl refl refl refl refl) refl
 step_quiet (steps.Ask l d) w m = ask_comes l d (slice_get w.objects.semaphores l) w refl
 step_quiet (steps.Release l) w m = release_comes l (slice_get w.objects.semaphores l) w refl
 step_quiet (steps.Forget l d) w m = forget_comes l d w
 step_quiet (steps.NewQueue name size backlog) w m =
     by_aside (entry.Queue name size backlog) _ w refl tt (λ k. Leaves (refl, refl, refl)) (λ k. k)
-    (queue_beside _ _ _ (beside.QueueMade name size backlog refl) refl refl refl refl refl refl)
+    (queue_beside _ _ _ (beside.QueueMade name size backlog refl) refl refl refl refl refl refl) refl
 step_quiet (steps.Withdraw k d) w m = absurd m
-step_quiet (steps.NewList n flags) w m = by_arrange _ w refl Stays (λ k. k) (arranging _ _ refl refl refl refl refl)
+step_quiet (steps.NewList n flags) w m =
+    by_arrange _ w refl Stays (λ k. k) (arranging _ _ refl refl refl refl refl) refl
 step_quiet (steps.StartTimer d delay) w m = timer_comes d delay w
 step_quiet (steps.EndTimer t) w m =
-    by_arrange (with_ended_call t call_state.Dropped) w refl (Loses t) (λ k. k) (arranging _ _ refl refl refl refl refl)
+    by_arrange (with_ended_call t call_state.Dropped) w refl (Loses t) (λ k. k)
+    (arranging _ _ refl refl refl refl refl) refl
 step_quiet (steps.CallLater name delay body) w m = call_later_comes name delay body w
 step_quiet (steps.NewLoop name d interval body) w m =
     by_aside (entry.Loop name d) _ w refl tt (λ k. Leaves (refl, refl, refl))
     (λ k. regular_push (new_loop name d w.objects.clock.time interval body) w.objects.loops (new_regular interval) k)
-    (loop_beside _ _ _ (beside.LoopStarts name d interval body refl) refl refl refl refl refl refl)
+    (loop_beside _ _ _ (beside.LoopStarts name d interval body refl) refl refl refl refl refl refl) refl
 step_quiet (steps.ScheduleTurn l) w m = scheduled_comes l (slice_get w.objects.loops l) w refl
 step_quiet (steps.StopLoop l) w m = loop_stopped_comes l (slice_get w.objects.loops l) w refl
 step_quiet (steps.EndLoop l) w m = end_loop_comes l w
 step_quiet (steps.NewTask name bodies) w m =
     by_aside (entry.Task name) _ w refl tt (λ k. Leaves (refl, refl, refl)) (λ k. k)
-    (task_beside _ _ _ (beside.TaskMade name bodies refl) refl refl refl)
+    (task_beside _ _ _ (beside.TaskMade name bodies refl) refl refl refl) refl
 step_quiet (steps.AwaitTask t d) w m =
     told_task_comes (λ x. entry.WhenDone x.name d) _ (slice_get w.objects.cooperator.tasks t) w (λ x. refl)
     (λ x. tt) (λ x. (refl, refl, refl)) (λ x g. task_beside _ _ _ (beside.TaskAwaited t d x g refl) refl refl refl)
@@ -719,21 +735,21 @@ step_quiet (steps.HoldTask t e) w m =
     told_task_comes (λ x. entry.Hold x.name e) _ (slice_get w.objects.cooperator.tasks t) w (λ x. refl)
     (λ x. tt) (λ x. (refl, refl, refl)) (λ x g. task_beside _ _ _ (beside.TaskPaused t x g refl) refl refl refl)
 step_quiet steps.KeepTick w m = keep_comes w w (same w)
-step_quiet steps.BeginTick w m = by_arrange _ w refl Stays (λ k. k) (arranging _ _ refl refl refl refl refl)
-step_quiet steps.EndTick w m = by_arrange _ w refl Stays (λ k. k) (arranging _ _ refl refl refl refl refl)
-step_quiet steps.AddInline w m = by_arrange _ w refl Stays (λ k. k) (arranging _ _ refl refl refl refl refl)
+step_quiet steps.BeginTick w m = by_arrange _ w refl Stays (λ k. k) (arranging _ _ refl refl refl refl refl) refl
+step_quiet steps.EndTick w m = by_arrange _ w refl Stays (λ k. k) (arranging _ _ refl refl refl refl refl) refl
+step_quiet steps.AddInline w m = by_arrange _ w refl Stays (λ k. k) (arranging _ _ refl refl refl refl refl) refl
 step_quiet (steps.BeginAwait i e) w m =
     by_aside (entry.Await i.of e) _ w refl tt (λ k. Leaves (refl, refl, refl)) (λ k. k)
-    (resting _ _ _ refl refl refl refl refl refl refl refl refl)
+    (resting _ _ _ refl refl refl refl refl refl refl refl refl) refl
 step_quiet (steps.Submit d pool work) w m = record { keeps = λ R l. l.by_submit d pool work w }
 step_quiet (steps.DeliverLater job d delay) w m = delivery_comes job d delay w
 step_quiet (steps.Advance ticks) w m = absurd m
 step_quiet steps.TellDrain w m =
     by_aside entry.Drain _ w refl tt (λ k. Leaves (refl, refl, refl)) (λ k. k)
-    (resting _ _ _ refl refl refl refl refl refl refl refl refl)
+    (resting _ _ _ refl refl refl refl refl refl refl refl refl) refl
 step_quiet (steps.TellPost caller index) w m =
     by_aside (entry.Post caller index) _ w refl tt (λ k. Leaves (refl, refl, refl)) (λ k. k)
-    (resting _ _ _ refl refl refl refl refl refl refl refl refl)
+    (resting _ _ _ refl refl refl refl refl refl refl refl refl) refl
 step_quiet (steps.Put d v) w m = absurd m
 step_quiet (steps.PutDeferred d e) w m = absurd m
 
@@ -742,7 +758,7 @@ step_taken_comes : (t : ℕ) (o : Option Task) (w : World) → turn_of w.objects
 step_taken_comes t None w h g = same w
 step_taken_comes t (Some x) w h g =
     by_aside (entry.Step x.name) (cooperating (with_step t x)) w refl tt (λ k. Leaves (refl, refl, refl)) (λ k. k)
-    (task_beside _ _ _ (beside.TaskSteps t x h g refl) refl refl refl)
+    (task_beside _ _ _ (beside.TaskSteps t x h g refl) refl refl refl) refl
 
 turn_comes : (o : Option ℕ) (w : World) → turn_of w.objects.cooperator.turns ≡ o → Quietly w (turn_taken o w).1
 turn_comes None w h = same w
@@ -784,6 +800,7 @@ step_calm (steps.PutDeferred d e) o w h m = absurd m
 step_calm (steps.Advance ticks) o w h m = absurd m
 step_calm (steps.FireGuarded d) o w h m = by_guarded o d w h m
 step_calm (steps.Withdraw k d) o w h m = absurd (no_withdrawal o k d w h m)
+step_calm (steps.Name d name) o w h m = record { keeps = λ R l. l.by_name d name w }
 step_calm (steps.Append d pair) o w h m = record { keeps = λ R l. l.by_append d pair w }
 step_calm step o w h m = quietly w (stepped step w) (step_quiet step w tt)
 
@@ -1344,11 +1361,11 @@ action_mild action w =
 pub drain_mild : (w : World) → Mild w (done (world.tell entry.Drain w))
 drain_mild w = record {
   comes = quietly w _ (by_aside entry.Drain _ w refl tt (λ k. Leaves (refl, refl, refl)) (λ k. k)
-      (resting _ _ _ refl refl refl refl refl refl refl refl refl));
+      (resting _ _ _ refl refl refl refl refl refl refl refl refl) refl);
   free = tt;
 }
 
 pub post_comes : (caller index : ℕ) (w : World) → Calmly w (world.tell (entry.Post caller index) w)
 post_comes caller index w =
     quietly w _ (by_aside (entry.Post caller index) _ w refl tt (λ k. Leaves (refl, refl, refl)) (λ k. k)
-    (resting _ _ _ refl refl refl refl refl refl refl refl refl))
+    (resting _ _ _ refl refl refl refl refl refl refl refl refl) refl)

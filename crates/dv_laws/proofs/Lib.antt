@@ -6,6 +6,8 @@ pub mod Beside
 pub mod Calm
 pub mod Steps
 pub mod Stays
+pub mod Made
+pub mod MadeRules
 pub mod Still
 pub mod Settles
 pub mod HandOversLemmas
@@ -18,6 +20,7 @@ pub mod CallsLemmas
 pub mod ReadyLemmas
 pub mod OrderLemmas
 pub mod Settlings
+pub mod Idle
 pub mod SettledLemmas
 pub mod TasksLemmas
 pub mod TokensLemmas

@@ -18,7 +18,7 @@ use Rattle.dv_store.specs.Pausing.{with_pauses}
 use Rattle.dv_store.specs.Record.{with_item, new_record, changing}
 use Rattle.dv_store.specs.declared.record.Item.{Item}
 use Rattle.dv_store.specs.declared.record.Item.TheVariants as item
-use Rattle.dv_objects.specs.Objects.{Objects, naming_where}
+use Rattle.dv_objects.specs.Objects.{Objects, naming, naming_where}
 use Rattle.dv_objects.specs.Pair.{Pair}
 use Rattle.dv_objects.specs.Refusals.{cancelled}
 use Rattle.dv_objects.specs.declared.canceller.Canceller.{Canceller}
@@ -225,12 +225,12 @@ module _ (name : List ℕ) where
           (λ s. pause_cases w (Goes name w) (stays name w) (stops name w) d
           (λ r x g. rests name (entry.Pause d) w _ s refl refl refl (λ of q. absurd cc) (λ n q. absurd cc)
           (reads.pauses d r (state_of w) x g) (alike_set d r (with_pauses (r.pauses + 1) r) w.records g refl refl)));
-      by_aside = λ e change w a l c t b.
+      by_aside = λ e change w a l c t b n.
           live (Goes name w) w (aside e change w) (stays name w) (aside_stays e change w)
           (λ s. aside_cases w (Goes name w) (stays name w) (stops name w) e change
           (λ x.
           aside_by name e w _ s refl a (reads.asides e (state_of w) a x) (alike_same w.records) _ refl b.queues l));
-      by_arrange = λ change w q s l t.
+      by_arrange = λ change w q s l t n.
           arrange_cases w (Goes name w) (stays name w) (stops name w) change (arranged name change w q);
       by_submit = λ d pool work w.
           live (Goes name w) w (submit d pool work w) (stays name w) (submit_stays d pool work w)
@@ -246,6 +246,12 @@ module _ (name : List ℕ) where
         get_from_cases w (λ o u. Goes name w (handed_to d o u)) (stays name w) (stops name w) key d
         (λ q s x g. record { goes_on = get_served name key d q w s x g (i s) });
     by_withdraw = λ of d key w e. record { goes_on = withdraw_served name of d key w e };
+    by_name = λ d given w.
+        let e = entry.Name d (Some given) in
+        live (Goes name w) w (aside e (naming given d) w) (stays name w) (aside_stays e (naming given d) w)
+        (λ s. aside_cases w (Goes name w) (stays name w) (stops name w) e (naming given d)
+        (λ x. rests name e w _ s refl refl refl (λ of q. absurd cc) (λ n q. absurd cc)
+        (reads.asides e (state_of w) refl x) (alike_same w.records)));
     by_append = λ d pair w.
         live (Goes name w) w (append d pair w) (stays name w) (append_stays d pair w)
         (λ s. append_cases w (Goes name w) (stays name w) (stops name w) d pair

@@ -147,10 +147,10 @@ pub not_running : (r : Kind) → callbacks.is_ready r ≡ true → running_of r 
 not_running r h = ap (λ b. cond b 1 0) (ready_idle r h)
 
 -- the sides that run are the same
-record SameRunning (w u : World) : Type 0 where
-  same : (n : ℕ) → running_at n u ≡ running_at n w
+pub record SameRunning (w u : World) : Type 0 where
+  pub same : (n : ℕ) → running_at n u ≡ running_at n w
 
-same_running : Still SameRunning
+pub same_running : Still SameRunning
 same_running = record {
   stays = λ w. record { same = λ n. refl };
   joins = λ u v w p q. record { same = λ n. q.same n ∙ p.same n };
@@ -173,13 +173,13 @@ same_running = record {
 }
 
 -- what a step begins to run, and what a put ends
-abbrev placing : ℕ → ℕ → Step Pair → ℕ
+abbrev pub placing : ℕ → ℕ → Step Pair → ℕ
 placing n d Nothing = 0
 placing n d Passed = 0
 placing n d (Run pair) = cond (nat_eq d n) 1 0
 placing n d (Handed c) = 0
 
-step_runs : (n d : ℕ) (w : World) → running_at n (step d w).1 ≡ running_at n w + placing n d (step d w).0
+pub step_runs : (n d : ℕ) (w : World) → running_at n (step d w).1 ≡ running_at n w + placing n d (step d w).0
 step_runs n d w =
     step_cases w (λ move u. running_at n u ≡ running_at n w + placing n d move) (omega arith) (omega arith) d
     (λ r pair rest g e a. omega (arith, set_at running_of n d r (record r { items = rest }) w.records g refl))
@@ -229,7 +229,7 @@ place_ends n d (Raised failure) w = put_ends n d (Fault failure) w
 place_ends n d (Awaits e) w = put_deferred_ends n d e w
 
 -- for how many frames a side of n is to be put in place
-abbrev place_of : ℕ → Frame → ℕ
+abbrev pub place_of : ℕ → Frame → ℕ
 place_of n (frame.Settle d) = 0
 place_of n (frame.Place d) = cond (nat_eq d n) 1 0
 place_of n (frame.Rest rest) = 0
@@ -245,7 +245,7 @@ place_of n frame.Tell = 0
 place_of n frame.Due = 0
 place_of n (frame.Inline inlining) = 0
 
-abbrev places : ℕ → List Frame → ℕ
+abbrev pub places : ℕ → List Frame → ℕ
 places n fs = sum_by (place_of n) fs
 
 free_place : (n : ℕ) (f : Frame) → PutsNothing f → place_of n f ≡ 0
@@ -264,7 +264,7 @@ free_place n frame.Tell h = refl
 free_place n frame.Due h = refl
 free_place n (frame.Inline inlining) h = refl
 
-free_places : (n : ℕ) (fs : List Frame) → AllPutNothing fs → places n fs ≡ 0
+pub free_places : (n : ℕ) (fs : List Frame) → AllPutNothing fs → places n fs ≡ 0
 free_places n [] h = refl
 free_places n (f ∷ fs) h = omega (arith, sum_by-cons (place_of n) f fs, free_place n f h.0, free_places n fs h.1)
 
