@@ -1,7 +1,6 @@
 -- No side of a Deferred is left running: each that runs is to be put in place, unless the run has stopped.
 use Rattle.std.proofs.Common.{◌≡◌, ℕ, zero, suc, ◌+◌, ◌≤◌, ◌++◌, Bool, true, false, nat_eq, List, [], ◌∷◌, Option, None}
 use Rattle.std.proofs.Common.{Some, Result, Ok, Err, refl, sym, ap, subst, ◌∙◌, arith, slice_get, slice_set, cond}
-use Rattle.std.proofs.Common.{sum_by}
 use Rattle.std.proofs.lemmas.Bool.{eqb-true}
 use Rattle.std.proofs.lemmas.List.Sums.{sum_by-append, sum_by-cons}
 use Rattle.dv_value.specs.Failure.{is_fault}
@@ -49,14 +48,14 @@ use Rattle.dv_loop.proofs.StepsCome.{step_comes, question_comes}
 use Rattle.dv_world.specs.World as world
 use Rattle.dv_world.specs.World.{World, Records, state_of, step, put, put_deferred, first_world, value_of}
 use Rattle.dv_laws.proofs.At.{counted_of, at, set_by, changing_at, changing_by}
-use Rattle.dv_laws.proofs.Calm.{Mild, AllPutNothing, IsMild, side_mild, turned_mild, action_mild, drain_mild}
-use Rattle.dv_laws.proofs.Calm.{post_comes}
+use Rattle.dv_laws.proofs.Mild.{Mild, IsMild, side_mild, turned_mild, action_mild, drain_mild}
+use Rattle.dv_laws.proofs.Mild.{post_comes}
 use Rattle.dv_laws.proofs.Made.{is_there, not_there, grows, Bound, none_bound, Made, MadeResult, Holds, rule_holds}
 use Rattle.dv_laws.proofs.Made.{all_on, all_append}
 use Rattle.dv_laws.proofs.MadeRules.{rule_sound, happens_sound}
 use Rattle.dv_laws.proofs.Settles.{running_of, running_at, SameRunning, same_running, placing, step_runs, place_of}
 use Rattle.dv_laws.proofs.Settles.{places}
-use Rattle.dv_laws.proofs.Settles.{free_places, is_itself, place_runs}
+use Rattle.dv_laws.proofs.Settles.{is_itself, place_runs}
 use Rattle.dv_laws.proofs.Steps.{put_cases, put_deferred_cases, aside_cases}
 use Rattle.dv_laws.proofs.Still.{calm}
 

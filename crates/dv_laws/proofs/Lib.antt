@@ -4,6 +4,7 @@ pub mod OnceLemmas
 pub mod Clocks
 pub mod Beside
 pub mod Calm
+pub mod Mild
 pub mod Steps
 pub mod Stays
 pub mod Made

@@ -1,7 +1,7 @@
 -- Deferreds that are made: what is made stays so, each name is bound to one that is made, and so is each Deferred that
 -- a rule returns.
 use Rattle.std.proofs.Common.{◌≡◌, ℕ, zero, suc, ◌++◌, Bool, true, false, if◌then◌else◌, List, [], ◌∷◌, Option, None}
-use Rattle.std.proofs.Common.{Some, length, refl, sym, ap, subst, ◌∙◌, slice_get, slice_set, cond}
+use Rattle.std.proofs.Common.{Some, length, refl, sym, ap, subst, ◌∙◌, slice_get, cond}
 use Rattle.std.proofs.Common.{Result, Ok, Err, arith}
 use Rattle.std.specs.Prelude.{bytes_eq}
 use Rattle.dv_value.specs.declared.value.Value.{Value}
@@ -37,13 +37,12 @@ use Rattle.dv_objects.specs.declared.reached.Reached.TheVariants as reached
 use Rattle.dv_store.specs.Callbacks.{with_handed, with_result}
 use Rattle.dv_store.specs.Chaining as chaining
 use Rattle.dv_store.specs.Fire.{with_guard}
-use Rattle.dv_store.specs.Record.{with_item, new_record, changing}
+use Rattle.dv_store.specs.Record.{with_item, new_record}
 use Rattle.dv_store.specs.declared.record.Item.TheVariants as item
 use Rattle.dv_store.specs.declared.store.Step.{Step as Move}
-use Rattle.dv_store.specs.declared.store.Step.TheVariants.{Nothing, Passed, Run, Handed}
+use Rattle.dv_store.specs.declared.store.Step.TheVariants.{Run}
 use Rattle.dv_loop.proofs.Kept.{Both, Kind, Kept, telling_of, every_step}
 use Rattle.dv_loop.proofs.Lasting.{Lasting, Comes}
-use Rattle.dv_loop.proofs.RuleComes.{rule_comes}
 use Rattle.dv_loop.proofs.StepsCome as come
 use Rattle.dv_loop.proofs.StepsCome.{step_comes, question_comes}
 use Rattle.dv_world.specs.World as world

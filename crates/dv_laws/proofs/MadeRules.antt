@@ -1,6 +1,6 @@
 -- Each rule of the page is sound: each Deferred that it returns, binds a name to, or calls for is made.
-use Rattle.std.proofs.Common.{◌≡◌, ℕ, zero, suc, ◌+◌, Bool, true, false, List, [], ◌∷◌, Option, None, Some, length}
-use Rattle.std.proofs.Common.{refl, sym, ap, subst, ◌∙◌, cond}
+use Rattle.std.proofs.Common.{◌≡◌, ℕ, ◌+◌, Bool, true, false, List, [], ◌∷◌, Option, None, Some, length}
+use Rattle.std.proofs.Common.{refl, subst, cond}
 use Rattle.std.specs.Prelude.{bytes_eq, codes}
 use Rattle.dv_value.specs.Failure.{is_fault}
 use Rattle.dv_value.specs.declared.value.Value.{Value}
@@ -20,7 +20,6 @@ use Rattle.dv_inline.specs.declared.want.Want.TheVariants.{Do, Await}
 use Rattle.dv_prims.specs.declared.gather.Flags.{Flags}
 use Rattle.dv_objects.specs.Names.{number_of}
 use Rattle.dv_objects.specs.Pair.{Pair, callback, errback, both, chain, side_for}
-use Rattle.dv_objects.specs.declared.canceller.Canceller.{Canceller}
 use Rattle.dv_objects.specs.declared.inline_id.Inline.{Inline}
 use Rattle.dv_objects.specs.declared.pair.Side.{Side}
 use Rattle.dv_objects.specs.declared.pair.Side.TheVariants as side
@@ -34,7 +33,7 @@ use Rattle.dv_store.specs.declared.store.Step.{Step as Move}
 use Rattle.dv_store.specs.declared.store.Step.TheVariants.{Nothing, Passed, Run, Handed}
 use Rattle.dv_definition.specs.Definition as page
 use Rattle.dv_definition.specs.Flags as page_flags
-use Rattle.dv_definition.specs.Rule.{Rule, Ends, Fires, run}
+use Rattle.dv_definition.specs.Rule.{Rule, Fires, run}
 use Rattle.dv_definition.specs.Scripts as scripts
 use Rattle.dv_definition.specs.Scripts.{Occurrence, Occurs, Comes}
 use Rattle.dv_definition.specs.Steps as steps
@@ -52,7 +51,7 @@ use Rattle.dv_world.specs.Found.{deferreds_at}
 use Rattle.dv_world.specs.World.{World, deferred_at, make, value_of}
 use Rattle.dv_world.specs.declared.found.Found.{Found}
 use Rattle.dv_world.specs.declared.found.Found.TheVariants.{All, Unbound}
-use Rattle.dv_laws.proofs.Made.{Grows, grows, Bound, Made, MadeResult, MadeItself, MadeFrame, AllMade, MadeReached}
+use Rattle.dv_laws.proofs.Made.{grows, Bound, Made, MadeResult, MadeItself, MadeFrame, AllMade, MadeReached}
 use Rattle.dv_laws.proofs.Made.{MadeMove, Sound, made_on, itself_on, made_new}
 
 -- 1. What a body returns.

@@ -7,7 +7,6 @@ use Rattle.std.specs.Prelude.{◌&&◌, not, is_none}
 use Rattle.std.specs.List.{flat_map}
 use Rattle.std.proofs.lemmas.List.{append-nil}
 use Rattle.dv_journal.specs.Journal.{Written}
-use Rattle.dv_journal.specs.declared.entry.Entry.{Entry}
 use Rattle.dv_script.specs.declared.script.Script.{Script}
 use Rattle.dv_store.specs.Callbacks as callbacks
 use Rattle.dv_store.specs.Cancelling.{link, follow, end_of_chain, EndsAt, Circles, ChainsEnd}
@@ -33,7 +32,6 @@ use Rattle.dv_laws.proofs.HandOversLemmas.{to_of, owed_in, world_in_turn}
 use Rattle.dv_laws.proofs.OneAtATimeLemmas.{world_used}
 use Rattle.dv_laws.proofs.Idle.{none_runs}
 use Rattle.dv_laws.proofs.ReadBackLemmas.{Reads, ReadsBack, reads, shown_of}
-use Rattle.dv_laws.proofs.ReadBackLemmas.{at as shown_at}
 use Rattle.dv_laws.proofs.ServedWaiters.{ends_comes}
 use Rattle.dv_laws.proofs.Settles.{running_of, is_itself}
 use Rattle.dv_laws.proofs.Settlings.{some_of, owes_of, all_settled}

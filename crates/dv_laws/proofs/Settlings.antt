@@ -56,10 +56,12 @@ use Rattle.dv_world.specs.World as world
 use Rattle.dv_world.specs.World.{World, Records, state_of, with_state, with_stop, append, fire, fired, fire_guarded}
 use Rattle.dv_world.specs.World.{guarded, unpause, unpaused, step, put, put_deferred, first_world, value_of}
 use Rattle.dv_laws.proofs.At.{counted_of, at, set_at, changing_at, push_at, set_by, changing_by}
-use Rattle.dv_laws.proofs.Calm.{Quiet, Calmly, IsCalm, settled_by, SettlesFirst, CallsToSettle, Follows, Mildly, IsMild}
-use Rattle.dv_laws.proofs.Calm.{AsksCalmly, reached_by, step_quiet, question_quiet, rule_mild, side_rule_mild}
-use Rattle.dv_laws.proofs.Calm.{carry_mild}
-use Rattle.dv_laws.proofs.Calm.{side_mild, turned_mild, action_mild, drain_mild, post_comes}
+use Rattle.dv_laws.proofs.Calm.{Quiet, Calmly, IsCalm}
+use Rattle.dv_laws.proofs.Mild.{settled_by, SettlesFirst, CallsToSettle, Follows, Mildly, IsMild}
+use Rattle.dv_laws.proofs.Calm.{reached_by, step_quiet, question_quiet}
+use Rattle.dv_laws.proofs.Mild.{AsksCalmly, rule_mild, side_rule_mild}
+use Rattle.dv_laws.proofs.Mild.{carry_mild}
+use Rattle.dv_laws.proofs.Mild.{side_mild, turned_mild, action_mild, drain_mild, post_comes}
 use Rattle.dv_laws.proofs.Still.{Still, calm}
 use Rattle.dv_laws.proofs.Settles.{place_runs}
 use Rattle.dv_objects.specs.Objects.{with_time}

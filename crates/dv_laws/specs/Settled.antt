@@ -1,5 +1,5 @@
 -- What is left to run at the end of a run (Twisted: the Deferred Reference, "Callbacks"; `Deferred._runCallbacks`).
-use Rattle.std.specs.Prelude.{ℕ, ◌≡◌, ◌<◌, ◌&&◌, Bool, true, false, nat_eq, List, [], Option, None, Some, is_none}
+use Rattle.std.specs.Prelude.{ℕ, ◌≡◌, ◌<◌, ◌&&◌, Bool, true, false, nat_eq, List, [], Some, is_none}
 use Rattle.std.specs.Prelude.{slice_get}
 use Rattle.dv_definition.specs.Scripts.{Leads}
 use Rattle.dv_journal.specs.declared.entry.Entry.{Entry}
