@@ -196,7 +196,7 @@ class Fold:
             "job": self._job,
             "deliver": self._deliver,
         }
-        for word in ("note", "step", "drain", "post"):
+        for word in ("note", "step", "drain", "post", "body", "units"):
             handlers[word] = _nothing
         return handlers
 
