@@ -27,6 +27,7 @@ _TITLES: Dict[str, str] = {
     "loop": "the name of a loop",
     "task": "the name of a task",
     "pool": "the name of a pool",
+    "body": "the name of a body",
     "class": "the name of a class of failures",
 }
 

@@ -39,6 +39,14 @@ class Case(NamedTuple):
 
 # ---- what fits
 
+#: the names of what is declared, and those of a Deferred
+_FOUND: Dict[str, List[Json]] = {
+    "class": ["ValueError", "Mine"],
+    "pool": ["io"],
+    "body": ["f"],
+    "deferred": ["a", "@"],
+}
+
 _FITTING: Dict[str, Callable[[Form], List[Json]]] = {
     "text": lambda form: ["no", ""],
     "value": lambda form: [[1, "x", None], True, -(2**63)],
@@ -46,7 +54,7 @@ _FITTING: Dict[str, Callable[[Form], List[Json]]] = {
     "number": lambda form: [form["least"], form["most"]],
     "bound": lambda form: [None, form["least"], form["most"]],
     "new": lambda form: ["a", "b_1", "0-.:", "n" * LANGUAGE.limits["name"]],
-    "found": lambda form: {"class": ["ValueError", "Mine"], "pool": ["io"], "deferred": ["a", "@"]}.get(form["of"], ["a"]),
+    "found": lambda form: _FOUND.get(form["of"], ["a"]),
     "flag": lambda form: list(form["words"]),
     "object": lambda form: [_BODY, {}],
     "words": lambda form: [_SAMPLES[form["of"]]],
@@ -87,16 +95,24 @@ def _misshapen(form: Form) -> List[Json]:
     return _MISSHAPEN[form["type"]](form)
 
 
+#: why a name is refused that nothing of its kind has, where it has the form of one
+_UNDECLARED: Dict[str, List[Case]] = {
+    "pool": [Case("other", "BadPool")],
+    "body": [Case("other", "BadBody")],
+}
+
+
 def _misnamed(form: Form) -> List[Case]:
-    """Names in another form, and classes and pools that aren't there."""
+    """Names in another form, and classes, pools and bodies that aren't there."""
     kind, of = form["type"], form.get("of")
     long = "n" * (LANGUAGE.limits["name"] + 1)
     bad = [Case(name, "BadName") for name in ("", "a b", "é", "@@", "-a", long)]
-    if kind == "new" or kind == "found" and of not in ("class", "deferred", "pool"):
+    if kind == "new" or kind == "found" and of not in _FOUND:
         return [*bad, Case("@", "BadName")]
     if kind == "found":
-        unknown = {"class": [Case(name, "BadClass") for name in ("Zed", "valueError", "@")]}
-        return unknown.get(of, [*bad, Case("other", "BadPool")] if of == "pool" else bad)
+        if of == "class":
+            return [Case(name, "BadClass") for name in ("Zed", "valueError", "@")]
+        return [*bad, *_UNDECLARED.get(of, [])]
     if kind == "array":
         return [Case([_first(of), case.part], case.refusal) for case in _misnamed(of)]
     if kind == "object":
@@ -171,7 +187,8 @@ _FRAMES: Dict[str, List[Callable[[Json], Dict[str, Json]]]] = {
 
 def _script(frame: Callable[[Json], Dict[str, Json]], part: Json, version: int) -> str:
     pools = {"pools": [["io", 1]]} if version > 1 else {}
-    return json.dumps({"version": version, "classes": [["Mine", "ValueError"]], **pools, **frame(part)})
+    bodies = {"bodies": [["f", {}]]} if version > 2 else {}
+    return json.dumps({"version": version, "classes": [["Mine", "ValueError"]], **pools, **bodies, **frame(part)})
 
 
 class OfTheWords(unittest.TestCase):

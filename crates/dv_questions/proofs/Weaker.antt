@@ -4,6 +4,7 @@ use Rattle.std.proofs.lemmas.Bool.{and_parts}
 use Rattle.serde_json.specs.Data.{Data, Items, no_items, item}
 use Rattle.serde_json.specs.Find.{as_str, as_array, get}
 use Rattle.dv_value.specs.declared.classes.Class.{Class}
+use Rattle.dv_script.specs.declared.script.NamedBody.{NamedBody}
 use Rattle.dv_script.specs.declared.script.NamedPool.{NamedPool}
 use Rattle.dv_forms.specs.declared.want.Want.{Want}
 use Rattle.dv_forms.specs.declared.want.Want.TheVariants as want
@@ -12,8 +13,8 @@ use Rattle.dv_forms.specs.declared.want.Call.{Call}
 use Rattle.dv_forms.specs.declared.want.Keyed.{Keyed}
 use Rattle.dv_forms.specs.Wants.{item_want, key_want, keys_in, pair_wants}
 use Rattle.dv_forms.specs.Words.{wants_of}
-use Rattle.dv_questions.specs.Questions.{Asked, words, names, classes, pools, every, stands, is_named}
-use Rattle.dv_questions.specs.Questions.{is_known, is_pooled}
+use Rattle.dv_questions.specs.Questions.{Asked, words, names, classes, pools, bodies, every, stands, is_named}
+use Rattle.dv_questions.specs.Questions.{is_known, is_pooled, is_declared}
 use Rattle.dv_questions.specs.Asking.{count, if_there, each_item, one_for_one, arguments_suit, word_suits, call_suits}
 use Rattle.dv_questions.specs.Asking.{keys_suit, in_parts, all_suit}
 
@@ -90,40 +91,53 @@ unfolding all_suit
 weaker a b weak zero w d h = refl
 weaker a b weak (suc n) w d h = parts_too a b (all_suit a n) (all_suit b n) weak (weaker a b weak n) w d h
 
--- ---- each of the four is weaker than all
+-- ---- each of the five is weaker than all
 
--- what answers all four well at the place of a leaf answers each
-four_parts : (v : ℕ) (table : List Class) (declared : List NamedPool) (l : Leaf) (x : List ℕ)
-    → (every v table declared).of_leaf l x ≡ true
+-- what answers all five well at the place of a leaf answers each
+five_parts : (v : ℕ) (table : List Class) (declared : List NamedPool) (named : List NamedBody) (l : Leaf) (x : List ℕ)
+    → (every v table declared named).of_leaf l x ≡ true
     → (stands v l ≡ true) × (is_named v l x ≡ true) × (is_known table l x ≡ true) × (is_pooled declared l x ≡ true)
-four_parts v table declared l x h =
-    let three = and_parts (stands v l && is_named v l x && is_known table l x) (is_pooled declared l x) h in
+    × (is_declared named l x ≡ true)
+five_parts v table declared named l x h =
+    let four =
+    and_parts (stands v l && is_named v l x && is_known table l x && is_pooled declared l x)
+    (is_declared named l x) h in
+    let three = and_parts (stands v l && is_named v l x && is_known table l x) (is_pooled declared l x) four.0 in
     let two = and_parts (stands v l && is_named v l x) (is_known table l x) three.0 in
     let one = and_parts (stands v l) (is_named v l x) two.0 in
-    (one.0, one.1, two.1, three.1)
+    (one.0, one.1, two.1, three.1, four.1)
 
-pub words_too : (v : ℕ) (table : List Class) (declared : List NamedPool) → IsWeaker (every v table declared) (words v)
-words_too v table declared = record {
-  leaf = λ l x h. (four_parts v table declared l x h).0;
+pub words_too : (v : ℕ) (table : List Class) (declared : List NamedPool) (named : List NamedBody)
+    → IsWeaker (every v table declared named) (words v)
+words_too v table declared named = record {
+  leaf = λ l x h. (five_parts v table declared named l x h).0;
   word = λ c x h. h;
 }
 
-pub names_too : (v : ℕ) (table : List Class) (declared : List NamedPool) → IsWeaker (every v table declared) (names v)
-names_too v table declared = record {
-  leaf = λ l x h. (four_parts v table declared l x h).1;
+pub names_too : (v : ℕ) (table : List Class) (declared : List NamedPool) (named : List NamedBody)
+    → IsWeaker (every v table declared named) (names v)
+names_too v table declared named = record {
+  leaf = λ l x h. (five_parts v table declared named l x h).1;
   word = λ c x h. refl;
 }
 
-pub classes_too : (v : ℕ) (table : List Class) (declared : List NamedPool)
-    → IsWeaker (every v table declared) (classes table)
-classes_too v table declared = record {
-  leaf = λ l x h. (four_parts v table declared l x h).2;
+pub classes_too : (v : ℕ) (table : List Class) (declared : List NamedPool) (named : List NamedBody)
+    → IsWeaker (every v table declared named) (classes table)
+classes_too v table declared named = record {
+  leaf = λ l x h. (five_parts v table declared named l x h).2;
   word = λ c x h. refl;
 }
 
-pub pools_too : (v : ℕ) (table : List Class) (declared : List NamedPool)
-    → IsWeaker (every v table declared) (pools declared)
-pools_too v table declared = record {
-  leaf = λ l x h. (four_parts v table declared l x h).3;
+pub pools_too : (v : ℕ) (table : List Class) (declared : List NamedPool) (named : List NamedBody)
+    → IsWeaker (every v table declared named) (pools declared)
+pools_too v table declared named = record {
+  leaf = λ l x h. (five_parts v table declared named l x h).3;
+  word = λ c x h. refl;
+}
+
+pub bodies_too : (v : ℕ) (table : List Class) (declared : List NamedPool) (named : List NamedBody)
+    → IsWeaker (every v table declared named) (bodies named)
+bodies_too v table declared named = record {
+  leaf = λ l x h. (five_parts v table declared named l x h).4;
   word = λ c x h. refl;
 }

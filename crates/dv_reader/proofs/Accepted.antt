@@ -6,7 +6,7 @@ use Rattle.dv_grammar.specs.declared.draft.Draft.{Draft}
 use Rattle.dv_grammar.specs.Shape.{script_at}
 use Rattle.dv_reader.specs.declared.error.ScriptFault.{ScriptFault}
 use Rattle.dv_reader.specs.declared.error.ScriptFault.TheVariants.{TooLong, NotJson, BadVersion, BadShape, TooMany}
-use Rattle.dv_reader.specs.declared.error.ScriptFault.TheVariants.{BadName, BadClass, OutOfMemory, BadPool}
+use Rattle.dv_reader.specs.declared.error.ScriptFault.TheVariants.{BadName, BadClass, OutOfMemory, BadPool, BadBody}
 use Rattle.dv_reader.specs.Refusal.{keeps_version}
 use Rattle.dv_reader.specs.Passes.{is_version, shape_at, Accepts, Judged}
 
@@ -17,7 +17,7 @@ shape_found d draft is keeps = rw (is, keeps) refl
 
 pub accepted : (d : Data) (draft : Draft) (t : ⊤) → is_version d ≡ true → script_at d ≡ Some draft
     → Accepts d draft (Ok t) → Judged d (Ok draft.script)
-accepted d draft t version is h = (draft, version, shape_found d draft is h.0, refl, h.1, h.2, h.3, h.4)
+accepted d draft t version is h = (draft, version, shape_found d draft is h.0, refl, h.1, h.2, h.3, h.4, h.5)
 
 pub refused : (d : Data) (draft : Draft) (fault : ScriptFault) → is_version d ≡ true → script_at d ≡ Some draft
     → Accepts d draft (Err fault) → Judged d (Err fault)
@@ -30,3 +30,4 @@ refused d draft BadName version is h = (draft, version, shape_found d draft is h
 refused d draft BadClass version is h = (draft, version, shape_found d draft is h.0, h.1, h.2, h.3)
 refused d draft OutOfMemory version is h = absurd h
 refused d draft BadPool version is h = (draft, version, shape_found d draft is h.0, h.1, h.2, h.3, h.4)
+refused d draft BadBody version is h = (draft, version, shape_found d draft is h.0, h.1, h.2, h.3, h.4, h.5)

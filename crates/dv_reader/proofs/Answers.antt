@@ -9,7 +9,7 @@ use Rattle.dv_script.specs.declared.script.Script.{Script}
 use Rattle.dv_script.specs.declared.limits.TheConstants.{MOST_POOLS, USUAL_LIMIT}
 use Rattle.dv_reader.specs.declared.error.ScriptFault.{ScriptFault}
 use Rattle.dv_reader.specs.declared.error.ScriptFault.TheVariants.{TooLong, NotJson, BadVersion, BadShape, TooMany}
-use Rattle.dv_reader.specs.declared.error.ScriptFault.TheVariants.{BadName, BadClass, OutOfMemory, BadPool}
+use Rattle.dv_reader.specs.declared.error.ScriptFault.TheVariants.{BadName, BadClass, OutOfMemory, BadPool, BadBody}
 use Rattle.dv_forms.specs.Forms.{Field, IsNumber}
 use Rattle.dv_forms.specs.Limits.{most_limit, most_nodes}
 use Rattle.dv_forms.specs.declared.limits.TheConstants.{WIDEST_LIMIT, WIDEST_NODES}
@@ -64,6 +64,7 @@ says bytes (Ok s) h = let j = h.4 in record {
   named = j.5;
   known = j.6;
   pooled = j.7;
+  bodied = j.8;
 }
 says bytes (Err fault) h = tt
 
@@ -87,6 +88,8 @@ refuses bytes (Err BadClass) h =
 refuses bytes (Err OutOfMemory) h = tt
 refuses bytes (Err BadPool) h =
     let j = h.4 in (h.0, j.0, shaped bytes h.0 j.0 (document bytes (Err BadPool) h) j.1 j.2, j.3, j.4, j.5, j.6)
+refuses bytes (Err BadBody) h =
+    let j = h.4 in (h.0, j.0, shaped bytes h.0 j.0 (document bytes (Err BadBody) h) j.1 j.2, j.3, j.4, j.5, j.6, j.7)
 
 pub few : (bytes : List ℕ) (r : Result Script ScriptFault) → Passes bytes r
     → IfOk r (λ s. length s.events ≤ WIDEST_NODES)
@@ -96,7 +99,7 @@ few bytes (Ok s) h =
     let few_events : length j.0.script.events ≤ nodes h.0 =
     events_few h.0 j.0 (sound_script h.0 j.0 (shape_is h.0 j.0 j.2).0) in
     let few_nodes : nodes h.0 ≤ most_nodes j.0.version = leb-true (nodes h.0) (most_nodes j.0.version)
-    (and_parts _ _ (and_parts _ _ (and_parts _ _ (and_parts _ _ (and_parts _ _ j.4).0).0).0).0).0 in
+    (and_parts _ _ (and_parts _ _ (and_parts _ _ (and_parts _ _ (and_parts _ _ (and_parts _ _ j.4).0).0).0).0).0).0 in
     omega (arith, same, few_events, few_nodes, nodes_most j.0.version)
 few bytes (Err fault) h = tt
 
@@ -117,7 +120,7 @@ limited bytes (Err fault) h = tt
 small_pools : (d : Data) (draft : Draft) → is_small d draft ≡ true → length draft.script.pools ≤ MOST_POOLS
 small_pools d draft e =
     leb-true (length draft.script.pools) MOST_POOLS
-    (and_parts _ _ (and_parts _ _ (and_parts _ _ (and_parts _ _ e).0).0).0).1
+    (and_parts _ _ (and_parts _ _ (and_parts _ _ (and_parts _ _ (and_parts _ _ e).0).0).0).0).1
 
 pub few_pools : (bytes : List ℕ) (r : Result Script ScriptFault) → Passes bytes r
     → IfOk r (λ s. length s.pools ≤ MOST_POOLS)

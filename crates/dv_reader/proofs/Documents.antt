@@ -6,11 +6,11 @@ use Rattle.serde_json.proofs.Nesting.{depth-read}
 use Rattle.dv_script.specs.declared.script.Script.{Script}
 use Rattle.dv_grammar.specs.declared.draft.Draft.{Draft}
 use Rattle.dv_reader.specs.declared.error.ScriptFault.TheVariants.{TooLong, NotJson, BadVersion, BadShape, TooMany}
-use Rattle.dv_reader.specs.declared.error.ScriptFault.TheVariants.{BadName, BadClass, OutOfMemory, BadPool}
+use Rattle.dv_reader.specs.declared.error.ScriptFault.TheVariants.{BadName, BadClass, OutOfMemory, BadPool, BadBody}
 use Rattle.dv_grammar.specs.Grammar.{IsScript}
 use Rattle.dv_reader.specs.Limits.{is_small}
 use Rattle.dv_reader.specs.Refusal.{IsDocument, HasVersion, HasShape, keeps_version, are_named, are_known, are_pooled}
-use Rattle.dv_reader.specs.Refusal.{Says}
+use Rattle.dv_reader.specs.Refusal.{have_bodies, Says}
 use Rattle.dv_reader.specs.Passes.{is_version, shape_at}
 use Rattle.dv_reader.specs.Laws.{IsRefused, SaysOneAtMost, RefusedSaysNone, SaysOrIsRefused}
 use Rattle.dv_grammar.proofs.Steps.{some_injective}
@@ -81,6 +81,12 @@ refused_says_none bytes BadPool s other h a =
     let good : are_pooled a.json a.draft ≡ true = a.pooled in
     let bad : are_pooled h.0 h.1 ≡ false = h.6 in
     cc
+refused_says_none bytes BadBody s other h a =
+    let same : have_bodies a.json a.draft ≡ have_bodies h.0 h.1 =
+    same_test have_bodies bytes a.json h.0 a.draft h.1 a.shape h.2 in
+    let good : have_bodies a.json a.draft ≡ true = a.bodied in
+    let bad : have_bodies h.0 h.1 ≡ false = h.7 in
+    cc
 
 pub tested : (b : Bool) → (b ≡ true) ⊎ (b ≡ false)
 tested true = inl refl
@@ -93,10 +99,10 @@ looked None = inr refl
 abbrev Answered : List ℕ → Type 0
 Answered bytes = ((s : Script) × Says bytes s) ⊎ IsRefused bytes
 
-pooled_or_not : (bytes : List ℕ) (d : Data) (draft : Draft) → HasShape bytes d draft → is_small d draft ≡ true
-    → are_named d draft ≡ true → are_known d draft ≡ true → Answered bytes
-pooled_or_not bytes d draft shape small named known = elim (tested (are_pooled d draft)) [
-  | inl pooled ↦ inl (
+bodied_or_not : (bytes : List ℕ) (d : Data) (draft : Draft) → HasShape bytes d draft → is_small d draft ≡ true
+    → are_named d draft ≡ true → are_known d draft ≡ true → are_pooled d draft ≡ true → Answered bytes
+bodied_or_not bytes d draft shape small named known pooled = elim (tested (have_bodies d draft)) [
+  | inl bodied ↦ inl (
     draft.script,
     record {
       json = d;
@@ -107,8 +113,16 @@ pooled_or_not bytes d draft shape small named known = elim (tested (are_pooled d
       named = named;
       known = known;
       pooled = pooled;
+      bodied = bodied;
     },
   )
+  | inr bodiless ↦ inr (BadBody, (λ e. cc), (d, draft, shape, small, named, known, pooled, bodiless))
+]
+
+pooled_or_not : (bytes : List ℕ) (d : Data) (draft : Draft) → HasShape bytes d draft → is_small d draft ≡ true
+    → are_named d draft ≡ true → are_known d draft ≡ true → Answered bytes
+pooled_or_not bytes d draft shape small named known = elim (tested (are_pooled d draft)) [
+  | inl pooled ↦ bodied_or_not bytes d draft shape small named known pooled
   | inr unpooled ↦ inr (BadPool, (λ e. cc), (d, draft, shape, small, named, known, unpooled))
 ]
 

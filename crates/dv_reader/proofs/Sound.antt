@@ -1,26 +1,29 @@
--- A document that answers all four questions at once answers each.
+-- A document that answers all five questions at once answers each.
 use Rattle.std.proofs.Common.{◌≡◌, suc, true}
 use Rattle.serde_json.specs.Data.{Data}
 use Rattle.dv_script.specs.declared.limits.TheConstants.{MOST_LEVELS}
 use Rattle.dv_forms.specs.declared.want.Want.TheVariants as want
 use Rattle.dv_forms.specs.declared.want.Keyed.TheVariants as keyed
 use Rattle.dv_grammar.specs.declared.draft.Draft.{Draft}
-use Rattle.dv_questions.specs.Questions.{Asked, words, names, classes, pools, every}
-use Rattle.dv_questions.proofs.Weaker.{IsWeaker, weaker, words_too, names_too, classes_too, pools_too}
+use Rattle.dv_questions.specs.Questions.{Asked, words, names, classes, pools, bodies, every}
+use Rattle.dv_questions.proofs.Weaker.{IsWeaker, weaker, words_too, names_too, classes_too, pools_too, bodies_too}
 use Rattle.dv_reader.specs.Refusal.{answers}
 use Rattle.dv_reader.specs.Passes.{IsSound}
 
 pub sound : (d : Data) (draft : Draft)
-    → answers (every draft.version draft.script.classes draft.script.pools) d draft ≡ true → IsSound d draft
+    → answers (every draft.version draft.script.classes draft.script.pools draft.script.bodies) d draft ≡ true
+    → IsSound d draft
 sound d draft h =
     let v = draft.version in
     let table = draft.script.classes in
     let ps = draft.script.pools in
-    let each : (a : Asked) → IsWeaker (every v table ps) a → answers a d draft ≡ true =
-    λ a weak. weaker (every v table ps) a weak (suc MOST_LEVELS) (want.Keyed (keyed.Script v)) d h in
+    let bs = draft.script.bodies in
+    let each : (a : Asked) → IsWeaker (every v table ps bs) a → answers a d draft ≡ true =
+    λ a weak. weaker (every v table ps bs) a weak (suc MOST_LEVELS) (want.Keyed (keyed.Script v)) d h in
     record {
-      words_suit = each (words v) (words_too v table ps);
-      names_suit = each (names v) (names_too v table ps);
-      classes_suit = each (classes table) (classes_too v table ps);
-      pools_suit = each (pools ps) (pools_too v table ps);
+      words_suit = each (words v) (words_too v table ps bs);
+      names_suit = each (names v) (names_too v table ps bs);
+      classes_suit = each (classes table) (classes_too v table ps bs);
+      pools_suit = each (pools ps) (pools_too v table ps bs);
+      bodies_suit = each (bodies bs) (bodies_too v table ps bs);
     }

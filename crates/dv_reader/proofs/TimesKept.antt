@@ -7,15 +7,16 @@ use Rattle.serde_json.specs.Find.{get_member}
 use Rattle.dv_clock.specs.declared.limits.TheConstants.{MOST_DELAY, MOST_TICKS}
 use Rattle.dv_script.specs.declared.event.Event.{Event}
 use Rattle.dv_script.specs.declared.script.Cooperator.{Cooperator}
+use Rattle.dv_script.specs.declared.script.NamedBody.{NamedBody}
 use Rattle.dv_value.specs.declared.classes.Class.{Class}
 use Rattle.dv_forms.specs.Forms.{Each, Field, IsList, IsNumber, Key}
 use Rattle.dv_reader.specs.Laws.{TimesAreKept}
 use Rattle.dv_reader.specs.Limits.{ticks_in}
 use Rattle.dv_script.specs.declared.body.Body.{Body}
 use Rattle.dv_grammar.specs.Grammar.{plain_cooperator, IsBody, IsEvent, acts, advances, drains, IsCooperator}
-use Rattle.dv_grammar.specs.Grammar.{is_interval, times_body}
+use Rattle.dv_grammar.specs.Grammar.{is_interval, times_body, IsNamedBody, names_body}
 use Rattle.dv_grammar.proofs.Actions.{interval_is, short_action, short_body}
-use Rattle.dv_reader.specs.Times.{times_event, KeepsTimes}
+use Rattle.dv_reader.specs.Times.{times_event, times_named, KeepsTimes}
 
 short_event : (table : List Class) (d : Data) (e : Event) → IsEvent table d e → times_event e ≡ true
 short_event table d _ (acts _ a g) = short_action g
@@ -46,6 +47,14 @@ posts_short table callers (Some d) h =
     all_in (IsList (IsBody table)) (λ posts. list_all times_body posts)
     (λ d posts k. all_in (IsBody table) times_body (λ d b l. short_body l) d posts k) d callers h
 
+short_named : (table : List Class) (d : Data) (b : NamedBody) → IsNamedBody table d b → times_named b ≡ true
+short_named table _ _ (names_body name d b g) = short_body g
+
+bodies_short : (table : List Class) (bodies : List NamedBody) (o : Option Data)
+    → Field [] (IsList (IsNamedBody table)) o bodies → list_all times_named bodies ≡ true
+bodies_short table bodies None h = rw h refl
+bodies_short table bodies (Some d) h = all_in (IsNamedBody table) times_named (short_named table) d bodies h
+
 delay_short : (delay : ℕ) (o : Option Data) → Key (IsNumber 1 MOST_DELAY) o delay → is_interval delay ≡ true
 delay_short delay None h = absurd h
 delay_short delay (Some d) h = interval_is h
@@ -67,6 +76,9 @@ times_are_kept bytes s h =
       posts =
           posts_short h.draft.script.classes h.draft.script.callers
           (get_member (codes "callers") shape.members) shape.callers;
+      bodies =
+          bodies_short h.draft.script.classes h.draft.script.bodies
+          (get_member (codes "bodies") shape.members) shape.bodies;
       cooperator =
           cooperator_short h.draft.script.cooperator (get_member (codes "cooperator") shape.members) shape.cooperator;
       advances = omega (arith, few);

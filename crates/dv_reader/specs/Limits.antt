@@ -1,5 +1,5 @@
 -- How much a script may have: bytes; nodes, of which each array, object and scalar is one and a key is none; classes,
--- pools, callers, posts; and ticks of the clock.
+-- pools, bodies, callers, posts; and ticks of the clock.
 use Rattle.std.specs.Prelude.{ℕ, ◌+◌, Bool, ◌&&◌, nat_le, if◌then◌else◌, List, length, map, sum, Option, Some, None}
 use Rattle.std.specs.Prelude.{option_and_then, codes}
 use Rattle.std.specs.List.{list_all}
@@ -10,7 +10,8 @@ use Rattle.dv_script.specs.declared.event.Event.{Event}
 use Rattle.dv_script.specs.declared.event.Event.TheVariants.{Action, Advance, Drain}
 use Rattle.dv_grammar.specs.declared.draft.Draft.{Draft}
 use Rattle.dv_script.specs.declared.body.Body.{Body}
-use Rattle.dv_script.specs.declared.limits.TheConstants.{MOST_CALLERS, MOST_CLASSES, MOST_POOLS, MOST_POSTS}
+use Rattle.dv_script.specs.declared.limits.TheConstants.{MOST_BODIES, MOST_CALLERS, MOST_CLASSES, MOST_POOLS}
+use Rattle.dv_script.specs.declared.limits.TheConstants.{MOST_POSTS}
 use Rattle.dv_clock.specs.declared.limits.TheConstants.{MOST_TICKS}
 use Rattle.dv_forms.specs.Limits.{most_bytes, most_nodes}
 use Rattle.dv_forms.specs.declared.versions.TheConstants.{LAST_VERSION}
@@ -63,6 +64,7 @@ is_small d draft =
     nat_le (nodes d) (most_nodes draft.version)
     && nat_le (length draft.declared) MOST_CLASSES
     && nat_le (length draft.script.pools) MOST_POOLS
+    && nat_le (length draft.script.bodies) MOST_BODIES
     && nat_le (length draft.script.callers) MOST_CALLERS
     && list_all are_few draft.script.callers
     && nat_le (ticks_in draft.script.events) MOST_TICKS

@@ -4,6 +4,7 @@ use Rattle.std.specs.Prelude.{None, IsUtf8, codes, ⊤}
 use Rattle.serde_json.specs.Data.{Data, number, unsigned}
 use Rattle.serde_json.specs.Find.{get}
 use Rattle.serde_json.specs.Read.{read}
+use Rattle.dv_script.specs.declared.script.NamedBody.{NamedBody}
 use Rattle.dv_script.specs.declared.script.NamedPool.{NamedPool}
 use Rattle.dv_script.specs.declared.script.Script.{Script}
 use Rattle.dv_script.specs.declared.limits.TheConstants.{MOST_BYTES, MOST_LEVELS}
@@ -13,10 +14,10 @@ use Rattle.dv_forms.specs.declared.want.Keyed.TheVariants as keyed
 use Rattle.dv_grammar.specs.declared.draft.Draft.{Draft}
 use Rattle.dv_reader.specs.declared.error.ScriptFault.{ScriptFault}
 use Rattle.dv_reader.specs.declared.error.ScriptFault.TheVariants.{TooLong, NotJson, BadVersion, BadShape, TooMany}
-use Rattle.dv_reader.specs.declared.error.ScriptFault.TheVariants.{BadName, BadClass, OutOfMemory, BadPool}
+use Rattle.dv_reader.specs.declared.error.ScriptFault.TheVariants.{BadName, BadClass, OutOfMemory, BadPool, BadBody}
 use Rattle.dv_grammar.specs.Grammar.{IsScript}
 use Rattle.dv_questions.specs.Asking.{all_suit}
-use Rattle.dv_questions.specs.Questions.{Asked, words, names, classes, pools, is_among}
+use Rattle.dv_questions.specs.Questions.{Asked, words, names, classes, pools, bodies, is_among, has_body}
 use Rattle.dv_reader.specs.Limits.{is_small, most_bytes_of}
 
 -- the bytes are the JSON text of this value, and not too long for its version
@@ -67,8 +68,17 @@ are_distinct (pool ∷ pools) = not (is_among pool.name pools) && are_distinct p
 abbrev pub are_pooled : Data → Draft → Bool
 are_pooled d draft = are_distinct draft.script.pools && answers (pools draft.script.pools) d draft
 
--- the bytes say this script: they have its shape, it is small enough, its names are good and its classes and pools are
--- known
+-- no body has the name of a later one
+abbrev pub have_own_names : List NamedBody → Bool
+have_own_names [] = true
+have_own_names (body ∷ bodies) = not (has_body body.name bodies) && have_own_names bodies
+
+-- no name of a body is given twice, and each body that the document uses by its name is declared
+abbrev pub have_bodies : Data → Draft → Bool
+have_bodies d draft = have_own_names draft.script.bodies && answers (bodies draft.script.bodies) d draft
+
+-- the bytes say this script: they have its shape, it is small enough, its names are good and its classes, pools and
+-- bodies are known
 pub record Says (bytes : List ℕ) (script : Script) : Type 0 where
   pub json : Data
   pub draft : Draft
@@ -78,6 +88,7 @@ pub record Says (bytes : List ℕ) (script : Script) : Type 0 where
   pub named : are_named json draft ≡ true
   pub known : are_known json draft ≡ true
   pub pooled : are_pooled json draft ≡ true
+  pub bodied : have_bodies json draft ≡ true
 
 -- the bytes are more than a script of the first version may have, and more than that of their value may
 abbrev pub IsTooLong : List ℕ → Type 0
@@ -100,3 +111,6 @@ Refuses OutOfMemory bytes = ⊤
 Refuses BadPool bytes =
     (d : Data) × (draft : Draft) × HasShape bytes d draft × (is_small d draft ≡ true) × (are_named d draft ≡ true)
     × (are_known d draft ≡ true) × (are_pooled d draft ≡ false)
+Refuses BadBody bytes =
+    (d : Data) × (draft : Draft) × HasShape bytes d draft × (is_small d draft ≡ true) × (are_named d draft ≡ true)
+    × (are_known d draft ≡ true) × (are_pooled d draft ≡ true) × (have_bodies d draft ≡ false)

@@ -17,12 +17,12 @@ pub enum ScriptFault {
     /// It is outside the grammar, or a number is outside its range.
     BadShape,
     /// It has more than 65,536 nodes, or in version 3 more than 1,000,000 (each array, object and
-    /// scalar is one); 256 classes, 4 pools, 8 callers or 256 posts of a caller; or its advances
-    /// sum to more than 10^15.
+    /// scalar is one); 256 classes, 4 pools, 256 bodies that it names, 8 callers or 256 posts of a
+    /// caller; or its advances sum to more than 10^15.
     TooMany,
-    /// A name of an object, of a pool or of a declared class isn't of 1 to 32 of A to Z, a to z, 0
-    /// to 9 and `_`, and in version 3 `-`, `.` and `:` after the first, nor `@` where a Deferred
-    /// that is there is named.
+    /// A name of an object, of a pool, of a body or of a declared class isn't of 1 to 32 of A to Z,
+    /// a to z, 0 to 9 and `_`, and in version 3 `-`, `.` and `:` after the first, nor `@` where a
+    /// Deferred that is there is named.
     BadName,
     /// A declared class has a name that is taken; or a parent, or a class that is used, isn't in
     /// the table.
@@ -31,6 +31,8 @@ pub enum ScriptFault {
     OutOfMemory,
     /// A pool's name is given twice, or a pool that is used isn't declared.
     BadPool,
+    /// A body's name is given twice, or a body that is used by its name isn't declared.
+    BadBody,
 }
 
 impl From<Stop> for ScriptFault {
@@ -48,7 +50,7 @@ impl From<Stop> for ScriptFault {
 }
 
 /// The refusals, by number.
-pub const REFUSALS: [ScriptFault; 9] = [
+pub const REFUSALS: [ScriptFault; 10] = [
     ScriptFault::TooLong,
     ScriptFault::NotJson,
     ScriptFault::BadVersion,
@@ -58,6 +60,7 @@ pub const REFUSALS: [ScriptFault; 9] = [
     ScriptFault::BadClass,
     ScriptFault::OutOfMemory,
     ScriptFault::BadPool,
+    ScriptFault::BadBody,
 ];
 
 /// The number of a refusal.
@@ -74,6 +77,7 @@ pub fn refusal_number(refusal: ScriptFault) -> u32
         ScriptFault::BadClass => 7,
         ScriptFault::OutOfMemory => 8,
         ScriptFault::BadPool => 9,
+        ScriptFault::BadBody => 10,
     }
 }
 
@@ -91,6 +95,7 @@ pub fn refusal_name(refusal: ScriptFault) -> &'static str
         ScriptFault::BadClass => "BadClass",
         ScriptFault::OutOfMemory => "OutOfMemory",
         ScriptFault::BadPool => "BadPool",
+        ScriptFault::BadBody => "BadBody",
     }
 }
 
@@ -108,5 +113,6 @@ pub fn refusal_text(refusal: ScriptFault) -> &'static str
         ScriptFault::BadClass => "script refused: 7 BadClass",
         ScriptFault::OutOfMemory => "script refused: 8 OutOfMemory",
         ScriptFault::BadPool => "script refused: 9 BadPool",
+        ScriptFault::BadBody => "script refused: 10 BadBody",
     }
 }

@@ -6,7 +6,8 @@ ghost use Rattle.dv_script.specs.declared.limits.TheConstants.{MOST_POOLS};
 ghost use Rattle.dv_forms.specs.declared.limits.TheConstants.{WIDEST_LIMIT, WIDEST_NODES};
 ghost use Rattle.dv_questions.specs.Questions.{asked_by};
 ghost use Rattle.dv_reader.specs.Refusal.{answers, keeps_version, are_named, are_known};
-ghost use Rattle.dv_reader.specs.Refusal.{are_distinct, are_pooled, Says, Refuses};
+ghost use Rattle.dv_reader.specs.Refusal.{are_distinct, are_pooled, have_own_names, have_bodies};
+ghost use Rattle.dv_reader.specs.Refusal.{Says, Refuses};
 ghost use Rattle.dv_reader.specs.Passes.{is_version, Accepts, IsSound, Judged, Passes};
 
 use crate::error::ScriptFault;
@@ -17,9 +18,9 @@ use dv_forms::want::{Keyed, Want};
 use dv_grammar::draft::Draft;
 use dv_grammar::reading::script::shape;
 use dv_questions::asking::all_suit;
-use dv_questions::question::{Question, is_among};
+use dv_questions::question::{Question, has_body, is_among};
 use dv_script::limits::{MOST_BYTES, MOST_LEVELS};
-use dv_script::script::{NamedPool, Script};
+use dv_script::script::{NamedBody, NamedPool, Script};
 use serde_json::Value as Json;
 use std::alloc::Global;
 
@@ -43,12 +44,13 @@ fn answers(question: &Question<'_>, json: &Json, draft: &Draft) -> bool
     all_suit(question, MOST_LEVELS + 1, script, json)
 }
 
-/// Whether the document answers all four questions well, which are asked in one pass.
+/// Whether the document answers all five questions well, which are asked in one pass.
 fn is_sound(json: &Json, draft: &Draft) -> bool
     ensures { result ≡ true → IsSound (view json.now) draft.now }
 {
     let pools = draft.script.pools.as_slice();
-    let every = Question::Every(draft.version, &draft.script.classes, pools);
+    let bodies = draft.script.bodies.as_slice();
+    let every = Question::Every(draft.version, &draft.script.classes, pools, bodies);
     answers(&every, json, draft)
 }
 
@@ -90,9 +92,26 @@ fn are_pooled(sound: bool, json: &Json, draft: &Draft) -> bool
     are_distinct(pools) && (sound || answers(&Question::Pools(pools), json, draft))
 }
 
+fn have_own_names(bodies: &[NamedBody]) -> bool
+    ensures { result ≡ have_own_names bodies.now }
+{
+    match bodies.split_first() {
+        None => true,
+        Some((body, rest)) => !has_body(body.name.as_str(), rest) && have_own_names(rest),
+    }
+}
+
+fn have_bodies(sound: bool, json: &Json, draft: &Draft) -> bool
+    requires { sound ≡ true → IsSound (view json.now) draft.now }
+    ensures { result ≡ have_bodies (view json.now) draft.now }
+{
+    let bodies = draft.script.bodies.as_slice();
+    have_own_names(bodies) && (sound || answers(&Question::Bodies(bodies), json, draft))
+}
+
 /// Whether a draft of this JSON value keeps to its version, is small enough, is named well and
-/// knows its classes and pools, or the least refusal. The questions are asked one by one only where
-/// the pass that asks all at once has failed.
+/// knows its classes, pools and bodies, or the least refusal. The questions are asked one by one
+/// only where the pass that asks all at once has failed.
 fn accept(json: &Json, draft: &Draft) -> Result<(), ScriptFault>
     ensures { Accepts (view json.now) draft.now result }
 {
@@ -111,6 +130,9 @@ fn accept(json: &Json, draft: &Draft) -> Result<(), ScriptFault>
     }
     if !are_pooled(sound, json, draft) {
         return Err(ScriptFault::BadPool);
+    }
+    if !have_bodies(sound, json, draft) {
+        return Err(ScriptFault::BadBody);
     }
     Ok(())
 }

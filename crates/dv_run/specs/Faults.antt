@@ -24,6 +24,7 @@ of_script script.BadName = ScriptRefused script.BadName
 of_script script.BadClass = ScriptRefused script.BadClass
 of_script script.OutOfMemory = OutOfMemory
 of_script script.BadPool = ScriptRefused script.BadPool
+of_script script.BadBody = ScriptRefused script.BadBody
 
 -- a writer that failed is a write fault, and out of memory stays that
 abbrev pub of_print : PrintFault → RunFault

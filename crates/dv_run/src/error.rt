@@ -61,7 +61,8 @@ impl From<ScriptFault> for RunFault {
             | ScriptFault::TooMany
             | ScriptFault::BadName
             | ScriptFault::BadClass
-            | ScriptFault::BadPool => RunFault::ScriptRefused(refusal),
+            | ScriptFault::BadPool
+            | ScriptFault::BadBody => RunFault::ScriptRefused(refusal),
             ScriptFault::OutOfMemory => RunFault::OutOfMemory,
         }
     }

@@ -1,10 +1,12 @@
 -- What a question of names is asked of: each part, down to the last level.
 use Rattle.std.proofs.Common.{Ordering, Less, Equal, Greater, is_eq, true≢false, nat_cmp, ◌≡◌, ℕ, zero, suc, ◌+◌, ◌<◌}
-use Rattle.std.proofs.Common.{◌≤◌, Bool, true, false, if◌then◌else◌, nat_eq, List, [], ◌∷◌, length, get_or, Option}
+use Rattle.std.proofs.Common.{◌≤◌, Bool, true, false, if◌then◌else◌, nat_eq, nat_lt, List, [], ◌∷◌, length, get_or}
+use Rattle.std.proofs.Common.{Option}
 use Rattle.std.proofs.Common.{Some, None, bytes_eq, refl, sym, ap, subst, ◌∙◌, arith, codes, ◌⊎◌, inl, inr}
 use Rattle.std.specs.Prelude.{⊤}
 use Rattle.std.specs.Ordering.{match_ordering}
 use Rattle.std.specs.Cmp.Lexicographic.{slice_cmp}
+use Rattle.std.proofs.lemmas.Bool.{eqb-true}
 use Rattle.std.proofs.lemmas.Map.Text.{is_eq-slice_cmp}
 use Rattle.std.proofs.lemmas.Slice.Eq.{bytes_eq-Decides}
 use Rattle.serde_json.specs.Data.{Data, null, boolean, number, string, array, object, Items, no_items, item, Members}
@@ -23,6 +25,7 @@ use Rattle.dv_forms.specs.declared.want.Pair.{Pair}
 use Rattle.dv_forms.specs.declared.want.Item.{Item}
 use Rattle.dv_why.specs.declared.question.Question.{Question}
 use Rattle.dv_why.specs.declared.question.Question.TheVariants as question
+use Rattle.dv_forms.specs.declared.versions.TheConstants.{BODIES_SINCE}
 use Rattle.dv_forms.specs.Wants.{key_want, keys_in, script_want, cooperator_want, body_want}
 use Rattle.dv_why.specs.Fits.{first_other, is_other, suits}
 use Rattle.dv_why.specs.AllSuit.{AllSuit, all_suit, ItemsSuit, KnownSuit, OthersOf, OthersSuit, ValuesSuit}
@@ -159,12 +162,18 @@ cooperator_key P key all other =
     either key (codes "comment") (λ t e. subst P e all.1.1.0) (λ f2.
     other (rw (f0, f1, f2) refl))))
 
-script_key : (P : List ℕ → Type 0) (version : ℕ) (b : Bool) → nat_eq version 1 ≡ b → (key : List ℕ)
-    → EachKey P (keys_in (keyed.Script version)) → (script_want version key ≡ want.Other (keyed.Script version) → P key)
+-- the first two versions are before that which may name bodies
+early : (version n : ℕ) → nat_eq version n ≡ true → nat_lt n BODIES_SINCE ≡ true → nat_lt version BODIES_SINCE ≡ true
+early version n is h = rw (eqb-true version n is) h
+
+script_key : (P : List ℕ → Type 0) (version : ℕ) (b c : Bool) → nat_eq version 1 ≡ b → nat_eq version 2 ≡ c
+    → (key : List ℕ) → EachKey P (keys_in (keyed.Script version))
+    → (script_want version key ≡ want.Other (keyed.Script version) → P key)
     → P key
-script_key P version true one key all other =
+script_key P version true c one two key all other =
     let rest : EachKey P (codes "classes" ∷ codes "callers" ∷ codes "events" ∷ codes "comment" ∷ []) =
     rw one at all.1.1.1 in
+    let before : nat_lt version BODIES_SINCE ≡ true = early version 1 one refl in
     either key (codes "version") (λ t e. subst P e all.0) (λ f0.
     either key (codes "events") (λ t e. subst P e rest.1.1.0) (λ f1.
     either key (codes "limit") (λ t e. subst P e all.1.0) (λ f2.
@@ -172,11 +181,13 @@ script_key P version true one key all other =
     either key (codes "cooperator") (λ t e. subst P e all.1.1.0) (λ f4.
     either key (codes "callers") (λ t e. subst P e rest.1.0) (λ f5.
     either key (codes "pools") (λ t e. other (rw (f0, f1, f2, f3, f4, f5, t, one) refl)) (λ f6.
-    either key (codes "comment") (λ t e. subst P e rest.1.1.1.0) (λ f7.
-    other (rw (f0, f1, f2, f3, f4, f5, f6, f7) refl)))))))))
-script_key P version false two key all other =
+    either key (codes "bodies") (λ t e. other (rw (f0, f1, f2, f3, f4, f5, f6, t, before) refl)) (λ f7.
+    either key (codes "comment") (λ t e. subst P e rest.1.1.1.0) (λ f8.
+    other (rw (f0, f1, f2, f3, f4, f5, f6, f7, f8) refl))))))))))
+script_key P version false true one two key all other =
     let rest : EachKey P (codes "pools" ∷ codes "classes" ∷ codes "callers" ∷ codes "events" ∷ codes "comment" ∷ []) =
-    rw two at all.1.1.1 in
+    rw (one, two) at all.1.1.1 in
+    let before : nat_lt version BODIES_SINCE ≡ true = early version 2 two refl in
     either key (codes "version") (λ t e. subst P e all.0) (λ f0.
     either key (codes "events") (λ t e. subst P e rest.1.1.1.0) (λ f1.
     either key (codes "limit") (λ t e. subst P e all.1.0) (λ f2.
@@ -184,13 +195,28 @@ script_key P version false two key all other =
     either key (codes "cooperator") (λ t e. subst P e all.1.1.0) (λ f4.
     either key (codes "callers") (λ t e. subst P e rest.1.1.0) (λ f5.
     either key (codes "pools") (λ t e. subst P e rest.0) (λ f6.
-    either key (codes "comment") (λ t e. subst P e rest.1.1.1.1.0) (λ f7.
-    other (rw (f0, f1, f2, f3, f4, f5, f6, f7) refl)))))))))
+    either key (codes "bodies") (λ t e. other (rw (f0, f1, f2, f3, f4, f5, f6, t, before) refl)) (λ f7.
+    either key (codes "comment") (λ t e. subst P e rest.1.1.1.1.0) (λ f8.
+    other (rw (f0, f1, f2, f3, f4, f5, f6, f7, f8) refl))))))))))
+script_key P version false false one two key all other =
+    let rest : EachKey P (codes "pools" ∷ codes "classes" ∷ codes "bodies" ∷ codes "callers" ∷ codes "events"
+    ∷ codes "comment" ∷ []) = rw (one, two) at all.1.1.1 in
+    either key (codes "version") (λ t e. subst P e all.0) (λ f0.
+    either key (codes "events") (λ t e. subst P e rest.1.1.1.1.0) (λ f1.
+    either key (codes "limit") (λ t e. subst P e all.1.0) (λ f2.
+    either key (codes "classes") (λ t e. subst P e rest.1.0) (λ f3.
+    either key (codes "cooperator") (λ t e. subst P e all.1.1.0) (λ f4.
+    either key (codes "callers") (λ t e. subst P e rest.1.1.1.0) (λ f5.
+    either key (codes "pools") (λ t e. subst P e rest.0) (λ f6.
+    either key (codes "bodies") (λ t e. subst P e rest.1.1.0) (λ f7.
+    either key (codes "comment") (λ t e. subst P e rest.1.1.1.1.1.0) (λ f8.
+    other (rw (f0, f1, f2, f3, f4, f5, f6, f7, f8) refl))))))))))
 
 -- a key is one that the object may have, or its value is another
 pub known_key : (P : List ℕ → Type 0) (k : Keyed) (key : List ℕ) → EachKey P (keys_in k)
     → (key_want k key ≡ want.Other k → P key) → P key
-known_key P (keyed.Script version) key all other = script_key P version (nat_eq version 1) refl key all other
+known_key P (keyed.Script version) key all other =
+    script_key P version (nat_eq version 1) (nat_eq version 2) refl refl key all other
 known_key P keyed.Cooperator key all other = cooperator_key P key all other
 known_key P keyed.Body key all other = body_key P key all other
 
@@ -228,6 +254,8 @@ other_wants (question.Classes classes) w (want.Other k) d e ow ou h = refl
 other_wants (question.Classes classes) w u d e ow ou h = cc
 other_wants (question.Pools ps) w (want.Other k) d e ow ou h = refl
 other_wants (question.Pools ps) w u d e ow ou h = cc
+other_wants (question.Bodies bs) w (want.Other k) d e ow ou h = refl
+other_wants (question.Bodies bs) w u d e ow ou h = cc
 
 all_other : (q : Question) (u : Want) (e : Data) → is_other u ≡ true → suits q u e ≡ true → AllSuit q u e
 all_other q (want.Other k) e ou h = other_suits q k e h

@@ -1,28 +1,33 @@
--- Where each class and each pool is as a question asks, the script knows its classes and its pools.
-use Rattle.std.proofs.Common.{◌≡◌, ◌≢◌, ℕ, zero, suc, ◌≤◌, Bool, true, false, not, ◌||◌, nat_eq, nat_le, List, [], ◌∷◌}
+-- Where each class, each pool and each body is as a question asks, the script knows its classes, its pools and its
+-- bodies.
+use Rattle.std.proofs.Common.{◌≡◌, ◌≢◌, ℕ, zero, suc, ◌≤◌, Bool, true, false, not, ◌||◌, nat_eq, nat_le, nat_lt, List}
+use Rattle.std.proofs.Common.{[], ◌∷◌}
 use Rattle.std.proofs.Common.{length, Option, Some, None, option_and_then, bytes_eq, refl, sym, ap, subst, ◌∙◌, arith}
 use Rattle.std.proofs.Common.{codes}
 use Rattle.std.proofs.Common.{inl, inr}
+use Rattle.std.specs.List.{list_any}
 use Rattle.std.proofs.lemmas.Bool.{and_parts, leb-true}
 use Rattle.std.proofs.Math.Bool.{or-true}
 use Rattle.std.proofs.lemmas.Slice.Eq.{bytes_eq-Decides}
 use Rattle.serde_json.specs.Data.{Data, string, Items, no_items, item, depth}
 use Rattle.serde_json.specs.Find.{as_array, get, get_member}
 use Rattle.dv_value.specs.declared.classes.Class.{Class}
+use Rattle.dv_script.specs.declared.script.NamedBody.{NamedBody}
 use Rattle.dv_script.specs.declared.script.NamedPool.{NamedPool}
 use Rattle.dv_script.specs.declared.limits.TheConstants.{MOST_CLASSES, MOST_LEVELS}
 use Rattle.dv_forms.specs.Forms.{Each, IsList, Field}
 use Rattle.dv_grammar.specs.declared.draft.Draft.{Draft}
-use Rattle.dv_grammar.specs.Grammar.{IsPool, pools, IsScript}
+use Rattle.dv_grammar.specs.Grammar.{IsNamedBody, names_body, IsPool, pools, IsScript}
 use Rattle.dv_grammar.proofs.Steps.{some_injective}
 use Rattle.dv_questions.specs.Questions.{Asked, words, names, classes, pools as pools_asked, is_known, is_pool}
-use Rattle.dv_questions.specs.Questions.{is_among, stands}
-use Rattle.dv_forms.specs.declared.versions.TheConstants.{COMMENTS_SINCE}
+use Rattle.dv_questions.specs.Questions.{is_among, stands, bodies as bodies_asked, is_body, has_body}
+use Rattle.dv_forms.specs.declared.versions.TheConstants.{BODIES_SINCE, COMMENTS_SINCE}
 use Rattle.dv_forms.specs.declared.want.Leaf.{Leaf}
 use Rattle.dv_forms.specs.declared.want.Leaf.TheVariants as leaf
 use Rattle.dv_reader.specs.Limits.{is_small}
-use Rattle.dv_reader.specs.Refusal.{answers, are_named, are_known, are_distinct, are_pooled}
-use Rattle.dv_reader.specs.declared.error.ScriptFault.TheVariants.{BadShape, BadName, BadClass, BadPool}
+use Rattle.dv_reader.specs.Refusal.{answers, are_named, are_known, are_distinct, are_pooled, have_own_names}
+use Rattle.dv_reader.specs.Refusal.{have_bodies}
+use Rattle.dv_reader.specs.declared.error.ScriptFault.TheVariants.{BadShape, BadName, BadClass, BadPool, BadBody}
 use Rattle.dv_why.specs.Fits.{is_declared, leaf_fits}
 use Rattle.dv_why.specs.declared.question.Question.{Question}
 use Rattle.dv_why.specs.declared.question.Question.TheVariants as question
@@ -32,18 +37,20 @@ use Rattle.serde_json.specs.View.{items_view}
 use Rattle.serde_json.specs.declared.value.Value.{Value}
 use Rattle.dv_why.specs.Declaring.{AllMayDeclare, table_in}
 use Rattle.dv_why.specs.Documents.{or_no_items, list_in, name_in, script_in, version_in, AreDistinct, PoolsDistinct}
+use Rattle.dv_why.specs.Documents.{BodiesDistinct}
 use Rattle.dv_why.specs.Finds.{Misfits}
 use Rattle.dv_why.specs.Reasons.{IsRefusedFor}
-use Rattle.dv_why.specs.Wrong.{IsMisshaped, IsMisnamed, IsBadClass, IsBadPool}
+use Rattle.dv_why.specs.Wrong.{IsMisshaped, IsMisnamed, IsBadClass, IsBadPool, IsBadBody}
 use Rattle.dv_why.specs.declared.misfit.Misfit.{Misfit}
 use Rattle.dv_forms.specs.declared.want.Want.TheVariants as want
 use Rattle.dv_forms.specs.declared.want.Keyed.TheVariants as keyed
 use Rattle.dv_why.proofs.Parts.{both}
 use Rattle.dv_why.proofs.Texts.{Tells, texts_suit}
 use Rattle.dv_why.proofs.Reading.{script_fine}
-use Rattle.dv_why.proofs.PoolNames.{declared_one}
-use Rattle.dv_why.proofs.Versions.{first_has_no_pools, same_version}
-use Rattle.dv_why.proofs.Suits.{IsOfClasses, IsOfPools, misnamed, misused_class, misused_pool}
+use Rattle.dv_why.proofs.GivenNames.{declared_one}
+use Rattle.dv_why.proofs.Versions.{early_has_no_bodies, first_has_no_pools, same_version}
+use Rattle.dv_why.proofs.Suits.{IsOfBodies, IsOfClasses, IsOfPools, misnamed, misused_body, misused_class}
+use Rattle.dv_why.proofs.Suits.{misused_pool}
 use Rattle.dv_why.proofs.Tables.{tables_same}
 
 -- where each part answers well, each text does
@@ -67,6 +74,7 @@ classes_asked (question.Names version) d table of same = absurd of
 classes_asked (question.Classes given) d table of same =
     record { leaf = λ l x h. ap (λ t. is_known t l x) (sym (of ∙ same)) ∙ h; word = λ c x h. refl }
 classes_asked (question.Pools ps) d table of same = absurd of
+classes_asked (question.Bodies bs) d table of same = absurd of
 
 few_declared : (d : Data) (draft : Draft) → is_small d draft ≡ true → length draft.declared ≤ MOST_CLASSES
 few_declared d draft h =
@@ -74,7 +82,8 @@ few_declared d draft h =
     let b = and_parts _ _ a.0 in
     let c = and_parts _ _ b.0 in
     let e = and_parts _ _ c.0 in
-    leb-true (length draft.declared) MOST_CLASSES (and_parts _ _ e.0).1
+    let f = and_parts _ _ e.0 in
+    leb-true (length draft.declared) MOST_CLASSES (and_parts _ _ f.0).1
 
 -- a script in which each class may be declared and each that is used is in the table knows its classes
 pub classes_good : (q : Question) (d : Data) (draft : Draft) → IsOfClasses d q
@@ -91,20 +100,6 @@ classes_good q d draft of may g small h =
 
 -- ---- pools
 
-name_of_pool : (d : Data) (ds : Items) (p : NamedPool) → IsPool d p → name_in 0 (item d ds) ≡ Some p.name
-name_of_pool _ ds _ (pools name d workers g) = refl
-
--- a name that a pool has is among them
-among_some : (ds : Items) (ps : List NamedPool) → Each IsPool ds ps → (n : ℕ) (name : List ℕ) → name_in n ds ≡ Some name
-    → is_among name ps ≡ true
-among_some no_items [] g n name is = cc
-among_some no_items (p ∷ ps) g n name is = absurd g
-among_some (item d ds) [] g n name is = absurd g
-among_some (item d ds) (p ∷ ps) g zero name is =
-    let same : p.name ≡ name = some_injective (sym (name_of_pool d ds p g.0) ∙ is) in
-    rw ((bytes_eq-Decides p.name name).1 same) refl
-among_some (item d ds) (p ∷ ps) g (suc n) name is = rw (among_some ds ps g.1 n name is) (or-true (bytes_eq p.name name))
-
 differ : (xs ys : List ℕ) (b : Bool) → bytes_eq xs ys ≡ b → xs ≢ ys → b ≡ false
 differ xs ys true e other = absurd (other ((bytes_eq-Decides xs ys).0 e))
 differ xs ys false e other = refl
@@ -112,33 +107,62 @@ differ xs ys false e other = refl
 neither : {a b : Bool} → a ≡ false → b ≡ false → (a || b) ≡ false
 neither h k = rw (h, k) refl
 
--- a name that no pool has isn't
-among_none : (ds : Items) (ps : List NamedPool) → Each IsPool ds ps → (name : List ℕ)
-    → ((n : ℕ) → name_in n ds ≢ Some name) → is_among name ps ≡ false
-among_none no_items [] g name none = refl
-among_none no_items (p ∷ ps) g name none = absurd g
-among_none (item d ds) [] g name none = absurd g
-among_none (item d ds) (p ∷ ps) g name none =
-    neither (differ p.name name (bytes_eq p.name name) refl (λ same. none 0 (name_of_pool d ds p g.0 ∙ ap Some same)))
-    (among_none ds ps g.1 name (λ n. none (suc n)))
+-- each begins with its name
+abbrev Begins : {X : Type 0} → (X → List ℕ) → (Data → X → Type 0) → Type 0
+Begins {X = X} name_of Is = (d : Data) (ds : Items) (x : X) → Is d x → name_in 0 (item d ds) ≡ Some (name_of x)
+
+-- a name that one has is among them
+some_named : {X : Type 0} (name_of : X → List ℕ) (Is : Data → X → Type 0) → Begins name_of Is → (ds : Items)
+    (xs : List X) → Each Is ds xs → (n : ℕ) (name : List ℕ) → name_in n ds ≡ Some name
+    → list_any (λ x. bytes_eq (name_of x) name) xs ≡ true
+some_named name_of Is begins no_items [] g n name is = cc
+some_named name_of Is begins no_items (x ∷ xs) g n name is = absurd g
+some_named name_of Is begins (item d ds) [] g n name is = absurd g
+some_named name_of Is begins (item d ds) (x ∷ xs) g zero name is =
+    let same : name_of x ≡ name = some_injective (sym (begins d ds x g.0) ∙ is) in
+    rw ((bytes_eq-Decides (name_of x) name).1 same) refl
+some_named name_of Is begins (item d ds) (x ∷ xs) g (suc n) name is =
+    rw (some_named name_of Is begins ds xs g.1 n name is) (or-true (bytes_eq (name_of x) name))
+
+-- a name that none has isn't
+none_named : {X : Type 0} (name_of : X → List ℕ) (Is : Data → X → Type 0) → Begins name_of Is → (ds : Items)
+    (xs : List X) → Each Is ds xs → (name : List ℕ) → ((n : ℕ) → name_in n ds ≢ Some name)
+    → list_any (λ x. bytes_eq (name_of x) name) xs ≡ false
+none_named name_of Is begins no_items [] g name none = refl
+none_named name_of Is begins no_items (x ∷ xs) g name none = absurd g
+none_named name_of Is begins (item d ds) [] g name none = absurd g
+none_named name_of Is begins (item d ds) (x ∷ xs) g name none =
+    neither (differ (name_of x) name (bytes_eq (name_of x) name) refl
+    (λ same. none 0 (begins d ds x g.0 ∙ ap Some same)))
+    (none_named name_of Is begins ds xs g.1 name (λ n. none (suc n)))
+
+field_named : {X : Type 0} (name_of : X → List ℕ) (Is : Data → X → Type 0) → Begins name_of Is → (o : Option Data)
+    (xs : List X) → Field [] (IsList Is) o xs → (n : ℕ) (name : List ℕ)
+    → name_in n (or_no_items (option_and_then as_array o)) ≡ Some name
+    → list_any (λ x. bytes_eq (name_of x) name) xs ≡ true
+field_named name_of Is begins None xs g n name is = cc
+field_named name_of Is begins (Some d) xs g n name is =
+    some_named name_of Is begins g.0 xs g.2 n name (rw (g.1) at is)
+
+abbrev pool_name : NamedPool → List ℕ
+pool_name pool = pool.name
+
+name_of_pool : (d : Data) (ds : Items) (p : NamedPool) → IsPool d p → name_in 0 (item d ds) ≡ Some p.name
+name_of_pool _ ds _ (pools name d workers g) = refl
 
 distinct : (ds : Items) (ps : List NamedPool) → Each IsPool ds ps → AreDistinct ds → are_distinct ps ≡ true
 distinct no_items [] g h = refl
 distinct no_items (p ∷ ps) g h = absurd g
 distinct (item d ds) [] g h = absurd g
 distinct (item d ds) (p ∷ ps) g h =
-    both (ap not (among_none ds ps g.1 p.name (λ n is. h (suc n) 0 p.name (omega arith) (name_of_pool d ds p g.0) is)))
+    both (ap not (none_named pool_name IsPool name_of_pool ds ps g.1 p.name
+    (λ n is. h (suc n) 0 p.name (omega arith) (name_of_pool d ds p g.0) is)))
     (distinct ds ps g.1 (λ n k name less is. h (suc n) (suc k) name (omega (arith, less)) is))
 
 field_distinct : (o : Option Data) (ps : List NamedPool) → Field [] (IsList IsPool) o ps
     → AreDistinct (or_no_items (option_and_then as_array o)) → are_distinct ps ≡ true
 field_distinct None ps g h = rw g refl
 field_distinct (Some d) ps g h = distinct g.0 ps g.2 (rw (g.1) at h)
-
-field_among : (o : Option Data) (ps : List NamedPool) → Field [] (IsList IsPool) o ps → (n : ℕ) (name : List ℕ)
-    → name_in n (or_no_items (option_and_then as_array o)) ≡ Some name → is_among name ps ≡ true
-field_among None ps g n name is = cc
-field_among (Some d) ps g n name is = among_some g.0 ps g.2 n name (rw (g.1) at is)
 
 or_also : (a b c : Bool) → (b ≡ true → c ≡ true) → (a || b) ≡ true → (a || c) ≡ true
 or_also true b c k h = refl
@@ -151,7 +175,7 @@ among_declared d draft ps of g x h =
     let value : list_in (codes "pools") d
     ≡ or_no_items (option_and_then as_array (get_member (codes "pools") g.members)) =
     ap (λ e. or_no_items (option_and_then as_array (get (codes "pools") e))) g.whole in
-    field_among (get_member (codes "pools") g.members) draft.script.pools g.pools one.0 x
+    field_named pool_name IsPool name_of_pool (get_member (codes "pools") g.members) draft.script.pools g.pools one.0 x
     (ap (name_in one.0) (sym (of ∙ value)) ∙ one.1)
 
 pools_tell : (q : Question) (d : Data) (draft : Draft) → IsOfPools d q → IsScript d draft
@@ -159,6 +183,7 @@ pools_tell : (q : Question) (d : Data) (draft : Draft) → IsOfPools d q → IsS
 pools_tell (question.Shape version) d draft of g = absurd of
 pools_tell (question.Names version) d draft of g = absurd of
 pools_tell (question.Classes given) d draft of g = absurd of
+pools_tell (question.Bodies bs) d draft of g = absurd of
 pools_tell (question.Pools ps) d draft of g = record {
   leaf =
       λ l x h. or_also (not (is_pool l)) (is_declared ps.now x) (is_among x draft.script.pools)
@@ -182,6 +207,75 @@ pub pools_good : (q : Question) (d : Data) (draft : Draft) → IsOfPools d q →
     → AllSuit q (script_in d) d → are_pooled d draft ≡ true
 pools_good q d draft of h g suit =
     both (all_distinct d draft (nat_eq (version_in d) 1) refl g h) (answered d draft (pools_tell q d draft of g) g suit)
+
+-- ---- bodies
+
+abbrev body_name : NamedBody → List ℕ
+body_name named = named.name
+
+name_of_body : (table : List Class) (d : Data) (ds : Items) (b : NamedBody) → IsNamedBody table d b
+    → name_in 0 (item d ds) ≡ Some b.name
+name_of_body table _ ds _ (names_body name d b g) = refl
+
+own_names : (table : List Class) (ds : Items) (bs : List NamedBody) → Each (IsNamedBody table) ds bs → AreDistinct ds
+    → have_own_names bs ≡ true
+own_names table no_items [] g h = refl
+own_names table no_items (b ∷ bs) g h = absurd g
+own_names table (item d ds) [] g h = absurd g
+own_names table (item d ds) (b ∷ bs) g h =
+    both (ap not (none_named body_name (IsNamedBody table) (name_of_body table) ds bs g.1 b.name
+    (λ n is. h (suc n) 0 b.name (omega arith) (name_of_body table d ds b g.0) is)))
+    (own_names table ds bs g.1 (λ n k name less is. h (suc n) (suc k) name (omega (arith, less)) is))
+
+field_own_names : (table : List Class) (o : Option Data) (bs : List NamedBody)
+    → Field [] (IsList (IsNamedBody table)) o bs
+    → AreDistinct (or_no_items (option_and_then as_array o)) → have_own_names bs ≡ true
+field_own_names table None bs g h = rw g refl
+field_own_names table (Some d) bs g h = own_names table g.0 bs g.2 (rw (g.1) at h)
+
+body_declared : (d : Data) (draft : Draft) (bs : List Value) → items_view bs ≡ list_in (codes "bodies") d
+    → IsScript d draft → (x : List ℕ) → is_declared bs x ≡ true → has_body x draft.script.bodies ≡ true
+body_declared d draft bs of g x h =
+    let one = declared_one bs x h in
+    let value : list_in (codes "bodies") d
+    ≡ or_no_items (option_and_then as_array (get_member (codes "bodies") g.members)) =
+    ap (λ e. or_no_items (option_and_then as_array (get (codes "bodies") e))) g.whole in
+    field_named body_name (IsNamedBody draft.script.classes) (name_of_body draft.script.classes)
+    (get_member (codes "bodies") g.members) draft.script.bodies g.bodies one.0 x
+    (ap (name_in one.0) (sym (of ∙ value)) ∙ one.1)
+
+bodies_tell : (q : Question) (d : Data) (draft : Draft) → IsOfBodies d q → IsScript d draft
+    → Tells q (bodies_asked draft.script.bodies)
+bodies_tell (question.Shape version) d draft of g = absurd of
+bodies_tell (question.Names version) d draft of g = absurd of
+bodies_tell (question.Classes given) d draft of g = absurd of
+bodies_tell (question.Pools ps) d draft of g = absurd of
+bodies_tell (question.Bodies bs) d draft of g = record {
+  leaf =
+      λ l x h. or_also (not (is_body l)) (is_declared bs.now x) (has_body x draft.script.bodies)
+      (body_declared d draft bs.now of g x) h;
+  word = λ c x h. refl;
+}
+
+all_own_names : (d : Data) (draft : Draft) (b : Bool) → nat_lt (version_in d) BODIES_SINCE ≡ b → IsScript d draft
+    → BodiesDistinct d → have_own_names draft.script.bodies ≡ true
+all_own_names d draft true early g h =
+    let none : Field [] (IsList (IsNamedBody draft.script.classes)) None draft.script.bodies =
+    rw (early_has_no_bodies d draft g early) at g.bodies in
+    rw none refl
+all_own_names d draft false late g h =
+    let value : list_in (codes "bodies") d
+    ≡ or_no_items (option_and_then as_array (get_member (codes "bodies") g.members)) =
+    ap (λ e. or_no_items (option_and_then as_array (get (codes "bodies") e))) g.whole in
+    field_own_names draft.script.classes (get_member (codes "bodies") g.members) draft.script.bodies g.bodies
+    (subst AreDistinct value (h late))
+
+-- a script in which no name of a body is given twice and each body that is used is declared has its bodies
+pub bodies_good : (q : Question) (d : Data) (draft : Draft) → IsOfBodies d q → BodiesDistinct d → IsScript d draft
+    → AllSuit q (script_in d) d → have_bodies d draft ≡ true
+bodies_good q d draft of h g suit =
+    both (all_own_names d draft (nat_lt (version_in d) BODIES_SINCE) refl g h)
+    (answered d draft (bodies_tell q d draft of g) g suit)
 
 -- ---- what is found where a script is refused so
 
@@ -211,6 +305,13 @@ pub found_pool : (q : Question) (d : Data) (m : Misfit) → IsOfPools d q → Po
 found_pool q d m of once h shallow (inl bad) = misused_pool q d m of bad
 found_pool q d m of once h shallow (inr whole) =
     differs (are_pooled d h.0) (pools_good q d h.0 of once h.1.shape (whole.1 shallow)) h.5
+
+-- refused for a body, a body is found, where each has a name of its own
+pub found_body : (q : Question) (d : Data) (m : Misfit) → IsOfBodies d q → BodiesDistinct d → IsRefusedFor BadBody d
+    → depth d ≤ MOST_LEVELS → Misfits q d m → IsBadBody d m
+found_body q d m of once h shallow (inl bad) = misused_body q d m of bad
+found_body q d m of once h shallow (inr whole) =
+    differs (have_bodies d h.0) (bodies_good q d h.0 of once h.1.shape (whole.1 shallow)) h.6
 
 -- ---- shapes
 

@@ -1,6 +1,7 @@
 -- Where each part of a value fits, it reads.
 use Rattle.std.proofs.Common.{Ordering, Less, Equal, Greater, is_eq, nat_cmp, ◌≡◌, ℕ, zero, suc, ◌≤◌, nat_eq, nat_le}
-use Rattle.std.proofs.Common.{Bool, true, false, ◌||◌, List, [], ◌∷◌, Option, Some, None, is_some, option_and_then}
+use Rattle.std.proofs.Common.{nat_lt}
+use Rattle.std.proofs.Common.{Bool, true, false, ◌||◌, List, [], ◌∷◌, Option, Some, None, is_some}
 use Rattle.std.proofs.Common.{bytes_eq, refl}
 use Rattle.std.proofs.Common.{sym, ap, subst, ◌∙◌, arith, codes}
 use Rattle.std.specs.List.{list_any}
@@ -11,10 +12,10 @@ use Rattle.std.proofs.lemmas.Map.Text.{is_eq-slice_cmp}
 use Rattle.std.proofs.lemmas.Slice.Eq.{bytes_eq-Decides}
 use Rattle.serde_json.specs.Data.{Data, string, array, object, Items, no_items, item, Members, no_members, member}
 use Rattle.serde_json.specs.Data.{depth}
-use Rattle.serde_json.specs.Find.{at, get_item, get_member, as_number, as_u64, as_str}
+use Rattle.serde_json.specs.Find.{at, get_item, get_member, as_str}
 use Rattle.dv_value.specs.declared.classes.Class.{Class}
 use Rattle.dv_script.specs.declared.body.End.{End}
-use Rattle.dv_script.specs.declared.body.End.TheVariants.{Return, Pass, Plus, Raise, Trap, Wait}
+use Rattle.dv_script.specs.declared.body.End.TheVariants.{Return, Pass, Plus, Raise, Trap, Wait, Run, Throw}
 use Rattle.dv_script.specs.declared.body.Body.{Body}
 use Rattle.dv_script.specs.declared.body.Statement.{Statement, Do, Await, Try, End as Leave}
 use Rattle.dv_script.specs.declared.work.Work.{Work}
@@ -25,12 +26,13 @@ use Rattle.dv_script.specs.declared.action.Action.{Note, List as ListOf, Gather,
 use Rattle.dv_script.specs.declared.action.Action.{Release, RunWith, Queue, Put, Get, Later, CancelCall, ResetCall}
 use Rattle.dv_script.specs.declared.action.Action.{DelayCall, Loop, StopLoop}
 use Rattle.dv_script.specs.declared.action.Action.{Cooperate, WhenDone, PauseTask, StopTask, ResumeTask, Inline, Thread}
-use Rattle.dv_script.specs.declared.action.Action.{ThreadIn}
+use Rattle.dv_script.specs.declared.action.Action.{ThreadIn, Units}
 use Rattle.dv_script.specs.declared.event.Event.{Event}
 use Rattle.dv_script.specs.declared.event.Event.TheVariants as happens
 use Rattle.dv_script.specs.declared.script.Cooperator.{Cooperator}
+use Rattle.dv_script.specs.declared.script.NamedBody.{NamedBody}
 use Rattle.dv_script.specs.declared.script.NamedPool.{NamedPool}
-use Rattle.dv_script.specs.declared.limits.TheConstants.{MOST_DRAINED, MOST_PLACES, MOST_SUM, MOST_UNITS}
+use Rattle.dv_script.specs.declared.limits.TheConstants.{MOST_DRAINED, MOST_PLACE, MOST_PLACES, MOST_SUM, MOST_UNITS}
 use Rattle.dv_script.specs.declared.limits.TheConstants.{MOST_WORKERS, USUAL_LIMIT}
 use Rattle.dv_clock.specs.declared.limits.TheConstants.{MOST_DELAY, MOST_TICKS}
 use Rattle.dv_forms.specs.declared.declaration.Declaration.{Declaration}
@@ -41,19 +43,21 @@ use Rattle.dv_forms.specs.Leaving.{may_leave}
 use Rattle.dv_forms.specs.Table.{table_of, all_declared}
 use Rattle.dv_grammar.specs.declared.draft.Draft.{Draft}
 use Rattle.dv_grammar.specs.Grammar.{body_keys, cooperator_keys, keys_of, plain_cooperator, IsEnd, returns, passes}
-use Rattle.dv_grammar.specs.Grammar.{adds, raises, traps, waits, IsWork, gives, fails, sums, IsListFlag, IsGatherFlag}
-use Rattle.dv_grammar.specs.Grammar.{IsAction, deferred, deferred_with, callback, errback, add_callback, add_errback}
+use Rattle.dv_grammar.specs.Grammar.{adds, raises, traps, waits, runs, throws, IsWork, gives, fails, sums, IsListFlag}
+use Rattle.dv_grammar.specs.Grammar.{IsGatherFlag, IsAction, deferred, deferred_with, callback, errback, add_callback}
+use Rattle.dv_grammar.specs.Grammar.{add_errback}
 use Rattle.dv_grammar.specs.Grammar.{add_both, add_callbacks, chain, pause, unpause, cancel, add_timeout, note, list}
 use Rattle.dv_grammar.specs.Grammar.{gather, maybe, lock, semaphore, acquire, release, run_with, queue, put, get, later}
 use Rattle.dv_grammar.specs.Grammar.{cancel_call, reset_call, delay_call, loop, stop_loop, cooperate, when_done}
 use Rattle.dv_grammar.specs.Grammar.{pause_task, stop_task}
-use Rattle.dv_grammar.specs.Grammar.{resume_task, inline, thread, thread_in, AreActions, no_actions, more_actions, IsDo}
+use Rattle.dv_grammar.specs.Grammar.{resume_task, inline, thread, thread_in, units as units_rule, AreActions}
+use Rattle.dv_grammar.specs.Grammar.{no_actions, more_actions, IsDo}
 use Rattle.dv_grammar.specs.Grammar.{does_nothing, does, IsBody, body, AreBodies, no_bodies, more_bodies, IsStatement}
 use Rattle.dv_grammar.specs.Grammar.{performs, awaits, tries, leaves, AreStatements, no_statements, more_statements}
 use Rattle.dv_grammar.specs.Grammar.{IsEvent, acts, advances, drains, IsDeclaration, declares, IsPool, pools}
-use Rattle.dv_grammar.specs.Grammar.{IsCooperator, IsScript, IsBound}
+use Rattle.dv_grammar.specs.Grammar.{IsCooperator, IsScript, IsBound, IsNamedBody, names_body}
 use Rattle.dv_grammar.proofs.WordsLemmas.{◌&◌}
-use Rattle.dv_forms.specs.declared.versions.TheConstants.{COMMENTS_SINCE, LAST_VERSION}
+use Rattle.dv_forms.specs.declared.versions.TheConstants.{BODIES_SINCE, COMMENTS_SINCE, LAST_VERSION}
 use Rattle.dv_forms.specs.declared.want.Want.{Want}
 use Rattle.dv_forms.specs.declared.want.Want.TheVariants as want
 use Rattle.dv_forms.specs.declared.want.Leaf.TheVariants as leaf
@@ -77,7 +81,7 @@ use Rattle.dv_why.proofs.Fine.{boolean_of, bound_of, list_flag_of, gather_flag_o
 use Rattle.dv_why.proofs.Fine.{AreFine, are_fine, no_args, one_arg, more_args, open_call}
 use Rattle.dv_why.proofs.Forms.{EachForm, either_found, found_form}
 use Rattle.dv_why.proofs.Parts.{both, here, value}
-use Rattle.dv_why.proofs.Versions.{version_of}
+use Rattle.dv_why.proofs.Versions.{least_version, since_third, version_of}
 
 -- ---- texts and classes
 
@@ -223,6 +227,10 @@ leavings v n table =
     let c = class_fine v n table a.a a.one in
     let t = text_of a.b (fits_fine a.two) in
     rw (a.items, t.1) (Raise c.0 t.0, raises a.a c.0 t.0 c.1, refl)) &
+    (λ ds h.
+    let a = one_arg v n (want.Array item_of.Place) ds h in
+    let p = list_of v n item_of.Place (IsNumber 0 MOST_PLACE) (number_fine v n 0 MOST_PLACE) a.a a.fine in
+    rw (a.items) (Throw p.0, throws a.a p.0 p.1, refl)) &
     tt
 
 other_ends : (v n : ℕ) (table : List Class) → EachForm (IsEndRead v n table) (own_forms call_of.End)
@@ -236,6 +244,10 @@ other_ends v n table =
     let a = one_arg v n a_deferred ds h in
     let t = text_of a.a (fits_fine a.fine) in
     rw (a.items, t.1) (Wait t.0, waits t.0)) &
+    (λ ds h.
+    let a = one_arg v n (want.Leaf (leaf.Found object.Body)) ds h in
+    let t = text_of a.a (fits_fine a.fine) in
+    rw (a.items, t.1) (Run t.0, runs t.0)) &
     tt
 
 end_by : (v n : ℕ) (table : List Class) (word : List ℕ) (wants : List Want) (ds : Items)
@@ -353,16 +365,21 @@ cooperator_only v ms h = both (only_of cooperator_keys ms (λ key e is.
     (λ other. absurd (not_other v keyed.Cooperator ms h key e is other))))
     (comment_of v keyed.Cooperator ms refl h)
 
-each_script_key : (v : ℕ) (b : Bool) → nat_eq v 1 ≡ b
+each_script_key : (v : ℕ) → 1 ≤ v → (b c : Bool) → nat_eq v 1 ≡ b → nat_eq v 2 ≡ c
     → EachKey (λ x. is_key (keys_of v) x ≡ true) (keys_in (keyed.Script v))
-each_script_key v true one = simp one (refl, (refl, (refl, (refl, (refl, (refl, (refl, tt)))))))
-each_script_key v false two = simp two (refl, (refl, (refl, (refl, (refl, (refl, (refl, (refl, tt))))))))
+each_script_key v low true c one two = simp one (refl, (refl, (refl, (refl, (refl, (refl, (refl, tt)))))))
+each_script_key v low false true one two =
+    let early : nat_lt v BODIES_SINCE ≡ true = rw (eqb-true v 2 two) refl in
+    simp (one, two, early) (refl, (refl, (refl, (refl, (refl, (refl, (refl, (refl, tt))))))))
+each_script_key v low false false one two =
+    let late : nat_lt v BODIES_SINCE ≡ false = since_third v low one two in
+    simp (one, two, late) (refl, (refl, (refl, (refl, (refl, (refl, (refl, (refl, (refl, tt)))))))))
 
-script_only : (v : ℕ) (ms : Members) → AllSuit (question.Shape v) (want.Keyed (keyed.Script v)) (object ms)
+script_only : (v : ℕ) → 1 ≤ v → (ms : Members) → AllSuit (question.Shape v) (want.Keyed (keyed.Script v)) (object ms)
     → is_keyed_by (keys_of v) ms ≡ true
-script_only v ms h = both (only_of (keys_of v) ms (λ key e is.
+script_only v low ms h = both (only_of (keys_of v) ms (λ key e is.
     let P : List ℕ → Type 0 = λ x. (is_key (keys_of v) x ≡ true) in
-    known_key P (keyed.Script v) key (each_script_key v (nat_eq v 1) refl)
+    known_key P (keyed.Script v) key (each_script_key v low (nat_eq v 1) (nat_eq v 2) refl refl)
     (λ other. absurd (not_other v (keyed.Script v) ms h key e is other))))
     (comment_of v (keyed.Script v) ms refl h)
 
@@ -541,6 +558,10 @@ actions v n table read =
     let r = number_fine v n 0 MOST_DELAY a.c a.three in
     let s = work_fine v n table a.d a.four in
     rw (a.items, p.1, q.1) (ThreadIn p.0 q.0 r.0 s.0, thread_in p.0 q.0 a.c a.d r.0 s.0 r.1 s.1)) &
+    (λ ds h.
+    let a = one_arg v n (want.Leaf (leaf.Number 1 MOST_UNITS)) ds h in
+    let k = number_fine v n 1 MOST_UNITS a.a a.fine in
+    rw (a.items) (Units k.0, units_rule a.a k.0 k.1)) &
     tt
 
 action_fine : (v n : ℕ) (table : List Class) → AreRead v n table → (d : Data) → IsFine v n (want.Call call_of.Action) d
@@ -693,6 +714,16 @@ pool_pair_fine v n (array ds) h =
     rw (a.items, t.1) (record { name = t.0; workers = k.0 }, pools t.0 a.b k.0 k.1)
 pool_pair_fine v n d h = let fit : fits v (item_want item_of.Pool) d ≡ true = fits_fine h in cc
 
+named_body_fine : (v n : ℕ) (table : List Class) (d : Data) → IsFine v n (item_want item_of.NamedBody) d
+    → (b : NamedBody) × IsNamedBody table d b
+named_body_fine v n table (array ds) h =
+    let a = pair_fine v n (want.Leaf (leaf.New object.Body)) a_body (array ds) ds refl
+    (fits_fine h) (λ k u e wants is. same k h wants is) in
+    let t = text_of a.a (fits_fine a.one) in
+    let b = (are_read v n table).of_body a.b a.two in
+    rw (a.items, t.1) (record { name = t.0; body = b.0 }, names_body t.0 a.b b.0 b.1)
+named_body_fine v n table d h = let fit : fits v (item_want item_of.NamedBody) d ≡ true = fits_fine h in cc
+
 number_key : (v n low high : ℕ) (o : Option Data) → is_some o ≡ true
     → ((e : Data) → o ≡ Some e → IsFine v n (want.Leaf (leaf.Number low high)) e)
     → (k : ℕ) × Key (IsNumber low high) o k
@@ -753,6 +784,17 @@ pools_field v n false two ms h =
     list_field v n item_of.Pool IsPool (pool_pair_fine v n) (get_member (codes "pools") ms)
     (λ e is. value_fine (codes "pools") h (rw two refl) is)
 
+bodies_field : (v n : ℕ) (table : List Class) (b : Bool) → nat_lt v BODIES_SINCE ≡ b → (ms : Members)
+    → IsFine v n (want.Keyed (keyed.Script v)) (object ms)
+    → (xs : List NamedBody) × Field [] (IsList (IsNamedBody table)) (get_member (codes "bodies") ms) xs
+bodies_field v n table true early ms h =
+    let none : get_member (codes "bodies") ms ≡ None = no_value (get_member (codes "bodies") ms)
+    (λ e is. not_other v (keyed.Script v) ms h.suit (codes "bodies") e is (rw early refl)) in
+    rw none ([], refl)
+bodies_field v n table false late ms h =
+    list_field v n item_of.NamedBody (IsNamedBody table) (named_body_fine v n table) (get_member (codes "bodies") ms)
+    (λ e is. value_fine (codes "bodies") h (rw late refl) is)
+
 -- a document of which each part fits is a script
 pub script_fine : (d : Data) → AllSuit (question.Shape (version_in d)) (script_in d) d
     → (draft : Draft) × IsScript d draft
@@ -765,6 +807,7 @@ script_fine (object ms) suit =
     let version =
     number_key v n 1 LAST_VERSION (get_member (codes "version") ms) keys.0
     (λ e is. value_fine (codes "version") h refl is) in
+    let least : 1 ≤ version.0 = least_version (get_member (codes "version") ms) version.0 version.1 in
     let same_version : v ≡ version.0 = version_of (get_member (codes "version") ms) version.0 version.1 in
     let classes = list_field v n item_of.Declaration IsDeclaration (declaration_fine v n)
     (get_member (codes "classes") ms) (λ e is. value_fine (codes "classes") h refl is) in
@@ -774,6 +817,7 @@ script_fine (object ms) suit =
     let cooperator =
     cooperator_field v n (get_member (codes "cooperator") ms) (λ e is. value_fine (codes "cooperator") h refl is) in
     let named = pools_field v n (nat_eq v 1) refl ms h in
+    let bodied = bodies_field v n table (nat_lt v BODIES_SINCE) refl ms h in
     let callers = list_field v n item_of.Caller (IsList (IsBody table)) (list_of v n item_of.Body (IsBody table)
     (are_read v n table).of_body) (get_member (codes "callers") ms) (λ e is. value_fine (codes "callers") h refl is) in
     let events = list_key v n item_of.Event (IsEvent table) (event_fine v n table)
@@ -787,6 +831,7 @@ script_fine (object ms) suit =
           limit = limit.0;
           cooperator = cooperator.0;
           pools = named.0;
+          bodies = bodied.0;
           callers = callers.0;
           events = events.0;
         };
@@ -795,7 +840,9 @@ script_fine (object ms) suit =
         members = ms;
         whole = refl;
         version = version.1;
-        only = subst (λ (k : ℕ). is_keyed_by (keys_of k) ms ≡ true) same_version (script_only v ms suit);
+        only =
+            subst (λ (k : ℕ). is_keyed_by (keys_of k) ms ≡ true) same_version
+            (script_only v (omega (arith, least, same_version)) ms suit);
         declared = classes.1;
         all_declared = refl;
         table = refl;
@@ -803,6 +850,7 @@ script_fine (object ms) suit =
             same_version limit.1;
         cooperator = cooperator.1;
         pools = named.1;
+        bodies = bodied.1;
         callers = callers.1;
         events = events.1;
       },

@@ -6,7 +6,7 @@ use Rattle.dv_grammar.specs.declared.draft.Draft.{Draft}
 use Rattle.dv_grammar.proofs.Steps.{some_injective}
 use Rattle.dv_reader.specs.declared.error.ScriptFault.{ScriptFault}
 use Rattle.dv_reader.specs.declared.error.ScriptFault.TheVariants.{TooLong, NotJson, BadVersion, BadShape, TooMany}
-use Rattle.dv_reader.specs.declared.error.ScriptFault.TheVariants.{BadName, BadClass, OutOfMemory, BadPool}
+use Rattle.dv_reader.specs.declared.error.ScriptFault.TheVariants.{BadName, BadClass, OutOfMemory, BadPool, BadBody}
 use Rattle.dv_reader.specs.Refusal.{IsDocument, HasShape, Refuses}
 use Rattle.dv_why.specs.Reasons.{HasShapeOf, IsRefusedFor}
 
@@ -34,3 +34,6 @@ refused_for OutOfMemory bytes d is h = tt
 refused_for BadPool bytes d is h =
     subst (IsRefusedFor BadPool) (same_value bytes d h.0 is h.2.document)
     (h.1, shape_of bytes h.0 h.1 h.2, h.3, h.4, h.5, h.6)
+refused_for BadBody bytes d is h =
+    subst (IsRefusedFor BadBody) (same_value bytes d h.0 is h.2.document)
+    (h.1, shape_of bytes h.0 h.1 h.2, h.3, h.4, h.5, h.6, h.7)

@@ -16,10 +16,10 @@ use Rattle.dv_why.specs.declared.question.Question.{Question}
 use Rattle.dv_why.specs.declared.question.Question.TheVariants as question
 use Rattle.dv_why.specs.Declaring.{table_in}
 use Rattle.dv_why.specs.Documents.{list_in, name_in, version_in}
-use Rattle.dv_questions.specs.Questions.{is_class, is_pool}
+use Rattle.dv_questions.specs.Questions.{is_body, is_class, is_pool}
 use Rattle.dv_why.specs.Fits.{is_declared, leaf_suits, name_suits, names_suit, suits}
-use Rattle.dv_why.specs.Wrong.{IsMisnamed, IsBadClass, unknown_class, IsBadPool, unknown_pool}
-use Rattle.dv_why.proofs.PoolNames.{declared_none}
+use Rattle.dv_why.specs.Wrong.{IsMisnamed, IsBadClass, unknown_class, IsBadPool, unknown_pool, IsBadBody, unknown_body}
+use Rattle.dv_why.proofs.GivenNames.{declared_none}
 
 -- a text stands where a leaf is asked for
 record IsBadText (q : Question) (w : Want) (d : Data) : Type 0 where
@@ -54,6 +54,10 @@ pool_is : (l : Leaf) → is_pool l ≡ true → l ≡ leaf.Found object.Pool
 pool_is (leaf.Found object.Pool) h = refl
 pool_is _ h = cc
 
+body_is : (l : Leaf) → is_body l ≡ true → l ≡ leaf.Found object.Body
+body_is (leaf.Found object.Body) h = refl
+body_is _ h = cc
+
 -- a part that answers badly is a name that hasn't its form
 pub misnamed : (d : Data) (m : Misfit) → suits (question.Names (version_in d)) m.want (view m.found.now) ≡ false
     → IsMisnamed d m
@@ -67,6 +71,7 @@ IsOfClasses d (question.Shape version) = ⊥
 IsOfClasses d (question.Names version) = ⊥
 IsOfClasses d (question.Classes classes) = classes.now ≡ table_in d
 IsOfClasses d (question.Pools pools) = ⊥
+IsOfClasses d (question.Bodies bodies) = ⊥
 
 -- a part that answers badly is a class that isn't in the table
 pub misused_class : (q : Question) (d : Data) (m : Misfit) → IsOfClasses d q → suits q m.want (view m.found.now) ≡ false
@@ -74,6 +79,7 @@ pub misused_class : (q : Question) (d : Data) (m : Misfit) → IsOfClasses d q �
 misused_class (question.Shape version) d m of h = absurd of
 misused_class (question.Names version) d m of h = absurd of
 misused_class (question.Pools pools) d m of h = absurd of
+misused_class (question.Bodies bodies) d m of h = absurd of
 misused_class (question.Classes classes) d m of bad =
     let b = bad_text (question.Classes classes) m.want (view m.found.now) bad in
     let c = or_not (is_class b.leaf) (is_some (find_class b.name classes.now)) b.bad in
@@ -86,6 +92,7 @@ IsOfPools d (question.Shape version) = ⊥
 IsOfPools d (question.Names version) = ⊥
 IsOfPools d (question.Classes classes) = ⊥
 IsOfPools d (question.Pools pools) = items_view pools.now ≡ list_in (codes "pools") d
+IsOfPools d (question.Bodies bodies) = ⊥
 
 -- a part that answers badly is a pool that isn't declared
 pub misused_pool : (q : Question) (d : Data) (m : Misfit) → IsOfPools d q → suits q m.want (view m.found.now) ≡ false
@@ -93,12 +100,35 @@ pub misused_pool : (q : Question) (d : Data) (m : Misfit) → IsOfPools d q → 
 misused_pool (question.Shape version) d m of h = absurd of
 misused_pool (question.Names version) d m of h = absurd of
 misused_pool (question.Classes classes) d m of h = absurd of
+misused_pool (question.Bodies bodies) d m of h = absurd of
 misused_pool (question.Pools pools) d m of bad =
     let b = bad_text (question.Pools pools) m.want (view m.found.now) bad in
     let c = or_not (is_pool b.leaf) (is_declared pools.now b.name) b.bad in
     let none : (n : ℕ) → name_in n (list_in (codes "pools") d) ≢ Some b.name =
     subst (λ (ds : Items). (n : ℕ) → name_in n ds ≢ Some b.name) of (declared_none pools.now b.name c.1) in
     unknown_pool b.name (b.asks ∙ ap (λ (l : Leaf). want.Leaf l) (pool_is b.leaf c.0)) b.text none
+
+-- the question asks for the bodies of this document
+abbrev pub IsOfBodies : Data → Question → Type 0
+IsOfBodies d (question.Shape version) = ⊥
+IsOfBodies d (question.Names version) = ⊥
+IsOfBodies d (question.Classes classes) = ⊥
+IsOfBodies d (question.Pools pools) = ⊥
+IsOfBodies d (question.Bodies bodies) = items_view bodies.now ≡ list_in (codes "bodies") d
+
+-- a part that answers badly is a body that isn't declared
+pub misused_body : (q : Question) (d : Data) (m : Misfit) → IsOfBodies d q → suits q m.want (view m.found.now) ≡ false
+    → IsBadBody d m
+misused_body (question.Shape version) d m of h = absurd of
+misused_body (question.Names version) d m of h = absurd of
+misused_body (question.Classes classes) d m of h = absurd of
+misused_body (question.Pools pools) d m of h = absurd of
+misused_body (question.Bodies bodies) d m of bad =
+    let b = bad_text (question.Bodies bodies) m.want (view m.found.now) bad in
+    let c = or_not (is_body b.leaf) (is_declared bodies.now b.name) b.bad in
+    let none : (n : ℕ) → name_in n (list_in (codes "bodies") d) ≢ Some b.name =
+    subst (λ (ds : Items). (n : ℕ) → name_in n ds ≢ Some b.name) of (declared_none bodies.now b.name c.1) in
+    unknown_body b.name (b.asks ∙ ap (λ (l : Leaf). want.Leaf l) (body_is b.leaf c.0)) b.text none
 
 -- what two clauses say of a result
 pub both_ok : {X E : Type 0} (r : Result X E) (P Q R : X → Type 0) → ((x : X) → P x → Q x → R x) → IfOk r P → IfOk r Q

@@ -27,9 +27,9 @@ undeclarable_under table path s m n u (taken_name name at has taken) =
 undeclarable_under table path s m n u (missing_parent name at has none) =
     missing_parent name (at_under s m n _ u at) (text_under s m n name u has) none
 
-pub given_under : (pools : Items) (path : List Part) (s : Step) (m n : Misfit) → IsUnder s m n
-    → IsGivenTwice pools path m → IsGivenTwice pools (part_of s ∷ path) n
-given_under pools path s m n u h = record {
+pub given_under : (arrays : Items) (path : List Part) (s : Step) (m n : Misfit) → IsUnder s m n
+    → IsGivenTwice arrays path m → IsGivenTwice arrays (part_of s ∷ path) n
+given_under arrays path s m n u h = record {
   first = h.first;
   second = h.second;
   order = h.order;

@@ -1,20 +1,21 @@
--- The version that a document says, and that a script of the first has no pools.
+-- The version that a document says, and that a script of the first has no pools, and one before the third no bodies.
 use Rattle.std.proofs.Common.{is_eq, true≢false, Ordering, Less, Equal, Greater, nat_cmp, ◌≡◌, ℕ, ◌≤◌, Bool, true}
 use Rattle.std.proofs.Common.{false}
-use Rattle.std.proofs.Common.{◌||◌, nat_eq, List, Option, Some, None, option_and_then, bytes_eq, refl, sym, ap, ◌∙◌}
-use Rattle.std.proofs.Common.{codes}
+use Rattle.std.proofs.Common.{◌||◌, nat_eq, nat_lt, List, ◌∷◌, Option, Some, None, option_and_then, bytes_eq, refl, sym}
+use Rattle.std.proofs.Common.{ap, subst, ◌∙◌, arith, codes}
 use Rattle.std.specs.List.{list_any}
 use Rattle.std.proofs.lemmas.Bool.{and_parts, le-leb}
+use Rattle.std.proofs.lemmas.Bool.Decides.{nat_tests}
 use Rattle.std.proofs.lemmas.Map.Text.{is_eq-slice_cmp}
 use Rattle.std.proofs.lemmas.Slice.Eq.{bytes_eq-Decides}
 use Rattle.std.specs.Ordering.{match_ordering}
 use Rattle.std.specs.Cmp.Lexicographic.{slice_cmp}
 use Rattle.serde_json.specs.Data.{Data, Members, no_members, member}
 use Rattle.serde_json.specs.Find.{get_member, as_number, as_u64}
-use Rattle.dv_forms.specs.Forms.{Key, has_only, IsNumber}
-use Rattle.dv_forms.specs.declared.versions.TheConstants.{LAST_VERSION}
+use Rattle.dv_forms.specs.Forms.{Key, has_only, is_keyed_by, IsNumber}
+use Rattle.dv_forms.specs.declared.versions.TheConstants.{BODIES_SINCE, LAST_VERSION}
 use Rattle.dv_grammar.specs.declared.draft.Draft.{Draft}
-use Rattle.dv_grammar.specs.Grammar.{script_keys, IsScript}
+use Rattle.dv_grammar.specs.Grammar.{keys_of, script_keys, IsScript}
 use Rattle.dv_why.specs.Documents.{version_in, or_last}
 
 within_last : (n : ℕ) → 1 ≤ n → n ≤ LAST_VERSION → or_last (Some n) ≡ n
@@ -37,19 +38,44 @@ differ : (xs ys : List ℕ) (b : Bool) → bytes_eq xs ys ≡ b → (xs ≡ ys �
 differ xs ys true e other = absurd (other ((bytes_eq-Decides xs ys).0 e))
 differ xs ys false e other = refl
 
--- an object of the keys of the first version has no pools
-no_pools : (ms : Members) → has_only script_keys ms ≡ true → get_member (codes "pools") ms ≡ None
+-- an object that may not have this key hasn't it
+lacks : (word : List ℕ) (keys : List (List ℕ))
+    → (list_any (λ k. bytes_eq word k) keys || bytes_eq word (codes "comment")) ≡ false → (ms : Members)
+    → has_only keys ms ≡ true → get_member word ms ≡ None
 unfolding has_only
-no_pools no_members h = refl
-no_pools (member key d ms) h =
-    let parts = and_parts (list_any (λ k. bytes_eq key k) script_keys || bytes_eq key (codes "comment"))
-    (has_only script_keys ms) h in
-    let other : codes "pools" ≡ key → ⊥ = λ e. true≢false (sym (rw (← e) at parts.0)) in
-    either_side (slice_cmp nat_cmp (codes "pools") key) _ _
-    (is_eq-slice_cmp (codes "pools") key ∙ differ (codes "pools") key _ refl other) ∙ no_pools ms parts.1
+lacks word keys may_not no_members h = refl
+lacks word keys may_not (member key d ms) h =
+    let parts =
+    and_parts (list_any (λ k. bytes_eq key k) keys || bytes_eq key (codes "comment")) (has_only keys ms) h in
+    let P : List ℕ → Type 0 = λ x. ((list_any (λ k. bytes_eq x k) keys || bytes_eq x (codes "comment")) ≡ true) in
+    let other : word ≡ key → ⊥ = λ e. true≢false (sym (subst P (sym e) parts.0) ∙ may_not) in
+    either_side (slice_cmp nat_cmp word key) _ _ (is_eq-slice_cmp word key ∙ differ word key _ refl other)
+    ∙ lacks word keys may_not ms parts.1
 
 pub first_has_no_pools : (d : Data) (draft : Draft) (g : IsScript d draft) → nat_eq (version_in d) 1 ≡ true
     → get_member (codes "pools") g.members ≡ None
 first_has_no_pools d draft g one =
     let same : nat_eq draft.version 1 ≡ true = ap (λ v. nat_eq v 1) (sym (same_version d draft g)) ∙ one in
-    no_pools g.members (and_parts _ _ (rw same at g.only)).0
+    lacks (codes "pools") script_keys refl g.members (and_parts _ _ (rw same at g.only)).0
+
+-- an object of the keys of a version before the third has no bodies
+no_bodies : (v : ℕ) (b : Bool) → nat_eq v 1 ≡ b → nat_lt v BODIES_SINCE ≡ true → (ms : Members)
+    → is_keyed_by (keys_of v) ms ≡ true → get_member (codes "bodies") ms ≡ None
+no_bodies v true one early ms h = lacks (codes "bodies") script_keys refl ms (and_parts _ _ (rw one at h)).0
+no_bodies v false two early ms h =
+    lacks (codes "bodies") (codes "pools" ∷ script_keys) refl ms (and_parts _ _ (rw (two, early) at h)).0
+
+pub early_has_no_bodies : (d : Data) (draft : Draft) (g : IsScript d draft) → nat_lt (version_in d) BODIES_SINCE ≡ true
+    → get_member (codes "bodies") g.members ≡ None
+early_has_no_bodies d draft g early =
+    no_bodies draft.version (nat_eq draft.version 1) refl
+    (ap (λ v. nat_lt v BODIES_SINCE) (sym (same_version d draft g)) ∙ early) g.members g.only
+
+-- a version is 1 at least
+pub least_version : (o : Option Data) (n : ℕ) → Key (IsNumber 1 LAST_VERSION) o n → 1 ≤ n
+least_version None n h = absurd h
+least_version (Some d) n h = h.1
+
+-- one that is neither the first nor the second may name bodies
+pub since_third : (v : ℕ) → 1 ≤ v → nat_eq v 1 ≡ false → nat_eq v 2 ≡ false → nat_lt v BODIES_SINCE ≡ false
+since_third v low one two = grind (arith, nat_tests)

@@ -1,9 +1,9 @@
 -- What a document says as a whole: its version, and the lists of its keys.
-use Rattle.std.specs.Prelude.{◌≡◌, ◌≢◌, ◌<◌, ◌&&◌, false, ℕ, nat_eq, nat_le, if◌then◌else◌, List, Option, Some, None}
-use Rattle.std.specs.Prelude.{option_and_then, codes}
+use Rattle.std.specs.Prelude.{◌≡◌, ◌≢◌, ◌<◌, ◌&&◌, false, ℕ, nat_eq, nat_le, nat_lt, if◌then◌else◌, List, Option, Some}
+use Rattle.std.specs.Prelude.{None, option_and_then, codes}
 use Rattle.serde_json.specs.Data.{Data, Items, no_items}
 use Rattle.serde_json.specs.Find.{get, at, get_item, as_array, as_number, as_str, as_u64}
-use Rattle.dv_forms.specs.declared.versions.TheConstants.{LAST_VERSION}
+use Rattle.dv_forms.specs.declared.versions.TheConstants.{BODIES_SINCE, LAST_VERSION}
 use Rattle.dv_forms.specs.declared.want.Want.{Want}
 use Rattle.dv_forms.specs.declared.want.Want.TheVariants as want
 use Rattle.dv_forms.specs.declared.want.Keyed.TheVariants as keyed
@@ -49,3 +49,7 @@ AreDistinct ds = (n : ℕ) → IsNew n ds
 -- no two pools have the same name, where the version may have pools
 abbrev pub PoolsDistinct : Data → Type 0
 PoolsDistinct d = nat_eq (version_in d) 1 ≡ false → AreDistinct (list_in (codes "pools") d)
+
+-- no two bodies have the same name, where the version may name bodies
+abbrev pub BodiesDistinct : Data → Type 0
+BodiesDistinct d = nat_lt (version_in d) BODIES_SINCE ≡ false → AreDistinct (list_in (codes "bodies") d)

@@ -10,7 +10,7 @@ use Rattle.serde_json.specs.View.{view}
 use Rattle.serde_json.specs.declared.value.Value.{Value}
 use Rattle.dv_forms.specs.Parts.{text_at, integer_at, number_at, bound_at, list_flag_at, gather_flag_at}
 use Rattle.dv_questions.specs.Asking.{count}
-use Rattle.dv_questions.specs.Questions.{is_known, is_named, is_pool}
+use Rattle.dv_questions.specs.Questions.{is_body, is_known, is_named, is_pool}
 use Rattle.dv_forms.specs.declared.want.Leaf.{Leaf}
 use Rattle.dv_forms.specs.declared.want.Leaf.TheVariants as leaf
 use Rattle.dv_forms.specs.declared.want.Call.{Call}
@@ -104,19 +104,19 @@ abbrev pub first_other : Keyed → Members → Option (List ℕ)
 first_other k no_members = None
 first_other k (member key d ms) = if is_other (key_want k key) then Some key else first_other k ms
 
--- whether a pool that is declared so has this name
+-- whether a pool or a body that is declared so has this name
 abbrev pub has_name : List ℕ → Option (List ℕ) → Bool
 has_name name None = false
 has_name name (Some other) = bytes_eq other name
 
--- whether a pool of this name is declared
+-- whether one of these arrays declares a pool or a body of this name
 abbrev pub is_declared : List Value → List ℕ → Bool
-is_declared pools name = list_any (λ pool. has_name name (option_and_then as_str (at 0 (view pool)))) pools
+is_declared arrays name = list_any (λ array. has_name name (option_and_then as_str (at 0 (view array)))) arrays
 
 -- the same of a name that may be absent
 abbrev pub is_given : List Value → Option (List ℕ) → Bool
-is_given pools None = false
-is_given pools (Some name) = is_declared pools name
+is_given arrays None = false
+is_given arrays (Some name) = is_declared arrays name
 
 -- whether a name is what is looked for
 abbrev pub name_suits : Question → Leaf → List ℕ → Bool
@@ -124,6 +124,7 @@ name_suits (question.Shape version) l name = true
 name_suits (question.Names version) l name = is_named version l name
 name_suits (question.Classes classes) l name = is_known classes.now l name
 name_suits (question.Pools pools) l name = not (is_pool l) || is_declared pools.now name
+name_suits (question.Bodies bodies) l name = not (is_body l) || is_declared bodies.now name
 
 -- whether a leaf is what is looked for, where it is a text
 abbrev pub leaf_suits : Question → Leaf → Option (List ℕ) → Bool
@@ -147,3 +148,4 @@ suits (question.Shape version) w d = fits version w d
 suits (question.Names version) w d = names_suit (question.Names version) w d
 suits (question.Classes classes) w d = names_suit (question.Classes classes) w d
 suits (question.Pools pools) w d = names_suit (question.Pools pools) w d
+suits (question.Bodies bodies) w d = names_suit (question.Bodies bodies) w d

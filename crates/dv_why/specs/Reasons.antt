@@ -5,9 +5,10 @@ use Rattle.dv_grammar.specs.declared.draft.Draft.{Draft}
 use Rattle.dv_grammar.specs.Grammar.{IsScript}
 use Rattle.dv_reader.specs.declared.error.ScriptFault.{ScriptFault}
 use Rattle.dv_reader.specs.declared.error.ScriptFault.TheVariants.{TooLong, NotJson, BadVersion, BadShape, TooMany}
-use Rattle.dv_reader.specs.declared.error.ScriptFault.TheVariants.{BadName, BadClass, OutOfMemory, BadPool}
+use Rattle.dv_reader.specs.declared.error.ScriptFault.TheVariants.{BadName, BadClass, OutOfMemory, BadPool, BadBody}
 use Rattle.dv_reader.specs.Limits.{is_small}
 use Rattle.dv_reader.specs.Refusal.{HasVersion, IsMisshapen, keeps_version, are_named, are_known, are_pooled}
+use Rattle.dv_reader.specs.Refusal.{have_bodies}
 
 -- a document has the shape of this script
 pub record HasShapeOf (d : Data) (draft : Draft) : Type 0 where
@@ -29,3 +30,6 @@ IsRefusedFor OutOfMemory d = ⊤
 IsRefusedFor BadPool d =
     (draft : Draft) × HasShapeOf d draft × (is_small d draft ≡ true) × (are_named d draft ≡ true)
     × (are_known d draft ≡ true) × (are_pooled d draft ≡ false)
+IsRefusedFor BadBody d =
+    (draft : Draft) × HasShapeOf d draft × (is_small d draft ≡ true) × (are_named d draft ≡ true)
+    × (are_known d draft ≡ true) × (are_pooled d draft ≡ true) × (have_bodies d draft ≡ false)

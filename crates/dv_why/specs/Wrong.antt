@@ -5,14 +5,18 @@ use Rattle.serde_json.specs.Find.{get, as_str}
 use Rattle.serde_json.specs.View.{view}
 use Rattle.dv_value.specs.declared.classes.Class.{Class}
 use Rattle.dv_value.specs.Classes.{find_class}
-use Rattle.dv_script.specs.declared.limits.TheConstants.{MOST_CALLERS, MOST_CLASSES, MOST_POOLS, MOST_POSTS}
+use Rattle.dv_script.specs.declared.limits.TheConstants.{MOST_BODIES, MOST_CALLERS, MOST_CLASSES, MOST_POOLS}
+use Rattle.dv_script.specs.declared.limits.TheConstants.{MOST_POSTS}
 use Rattle.dv_clock.specs.declared.limits.TheConstants.{MOST_TICKS}
 use Rattle.dv_forms.specs.Limits.{most_nodes}
 use Rattle.dv_reader.specs.Limits.{nodes}
 use Rattle.dv_reader.specs.declared.error.ScriptFault.{ScriptFault}
 use Rattle.dv_reader.specs.declared.error.ScriptFault.TheVariants.{TooLong, NotJson, BadVersion, BadShape, TooMany}
-use Rattle.dv_reader.specs.declared.error.ScriptFault.TheVariants.{BadName, BadClass, OutOfMemory, BadPool}
+use Rattle.dv_reader.specs.declared.error.ScriptFault.TheVariants.{BadName, BadClass, OutOfMemory, BadPool, BadBody}
 use Rattle.dv_forms.specs.declared.want.Leaf.{Leaf}
+use Rattle.dv_forms.specs.declared.want.Leaf.TheVariants as leaf_of
+use Rattle.dv_forms.specs.declared.want.Object.TheVariants as object
+use Rattle.dv_forms.specs.declared.want.Want.{Want}
 use Rattle.dv_forms.specs.declared.want.Want.TheVariants as want
 use Rattle.dv_why.specs.declared.misfit.Misfit.{Misfit}
 use Rattle.dv_why.specs.Places.{Part, to_item, to_key, path_of, path_to}
@@ -45,6 +49,7 @@ pub data IsTooMuch (d : Data) (m : Misfit) : Type 0 where
   many_nodes : IsAt [] m → most_nodes (version_in d) < nodes d → IsTooMuch d m
   many_classes : IsAt (to_key (codes "classes") ∷ []) m → MOST_CLASSES < count_in (codes "classes") d → IsTooMuch d m
   many_pools : IsAt (to_key (codes "pools") ∷ []) m → MOST_POOLS < count_in (codes "pools") d → IsTooMuch d m
+  many_bodies : IsAt (to_key (codes "bodies") ∷ []) m → MOST_BODIES < count_in (codes "bodies") d → IsTooMuch d m
   many_callers : IsAt (to_key (codes "callers") ∷ []) m → MOST_CALLERS < count_in (codes "callers") d → IsTooMuch d m
   -- of posts of a caller
   many_posts : (n : ℕ) → IsAt (to_key (codes "callers") ∷ to_item n ∷ []) m → MOST_POSTS < posts_of n d → IsTooMuch d m
@@ -75,21 +80,31 @@ pub data IsBadClass (d : Data) (m : Misfit) : Type 0 where
   unknown_class : (name : List ℕ) → m.want ≡ a_class → HasText name m → find_class name (table_in d) ≡ None
       → IsBadClass d m
 
--- the second of two pools of the list at this path has the name of the first
-pub record IsGivenTwice (pools : Items) (path : List Part) (m : Misfit) : Type 0 where
+-- the second of two arrays of the list at this path begins with the name with which the first does
+pub record IsGivenTwice (arrays : Items) (path : List Part) (m : Misfit) : Type 0 where
   pub first : ℕ
   pub second : ℕ
   pub order : first < second
   pub name : List ℕ
   pub place : IsAt (path ++ to_item second ∷ to_item 0 ∷ []) m
   pub found : HasText name m
-  pub same : name_in first pools ≡ Some name
+  pub same : name_in first arrays ≡ Some name
 
 -- BadPool: a pool has the name of one before it, or a pool is used whose name none has
 pub data IsBadPool (d : Data) (m : Misfit) : Type 0 where
   given_twice : IsGivenTwice (list_in (codes "pools") d) (to_key (codes "pools") ∷ []) m → IsBadPool d m
   unknown_pool : (name : List ℕ) → m.want ≡ a_pool → HasText name m
       → ((n : ℕ) → name_in n (list_in (codes "pools") d) ≢ Some name) → IsBadPool d m
+
+-- the name of a body that is looked up
+abbrev pub a_named_body : Want
+a_named_body = want.Leaf (leaf_of.Found object.Body)
+
+-- BadBody: a body has the name of one before it, or a body is used by a name that none has
+pub data IsBadBody (d : Data) (m : Misfit) : Type 0 where
+  named_twice : IsGivenTwice (list_in (codes "bodies") d) (to_key (codes "bodies") ∷ []) m → IsBadBody d m
+  unknown_body : (name : List ℕ) → m.want ≡ a_named_body → HasText name m
+      → ((n : ℕ) → name_in n (list_in (codes "bodies") d) ≢ Some name) → IsBadBody d m
 
 -- what is wrong where a script is refused so
 abbrev pub IsWrong : ScriptFault → Data → Misfit → Type 0
@@ -102,3 +117,4 @@ IsWrong BadName d m = IsMisnamed d m
 IsWrong BadClass d m = IsBadClass d m
 IsWrong OutOfMemory d m = ⊤
 IsWrong BadPool d m = IsBadPool d m
+IsWrong BadBody d m = IsBadBody d m

@@ -21,7 +21,7 @@ use crate::misfit::{Misfit, Step};
 use dv_clock::limits::MOST_TICKS;
 use dv_forms::want::Item;
 use dv_reader::limits::has_few_nodes;
-use dv_script::limits::{MOST_CALLERS, MOST_CLASSES, MOST_POOLS, MOST_POSTS};
+use dv_script::limits::{MOST_BODIES, MOST_CALLERS, MOST_CLASSES, MOST_POOLS, MOST_POSTS};
 use serde_json::Value as Json;
 use std::alloc::{AllocError, Global};
 
@@ -138,6 +138,9 @@ pub fn too_many(alloc: Global, json: &Json) -> Result<(Misfit<'_>, Expected), Al
     }
     if is_long(json, "pools", MOST_POOLS) {
         return Ok((value_of(alloc, json, "pools")?, Expected::FewPools));
+    }
+    if is_long(json, "bodies", MOST_BODIES) {
+        return Ok((value_of(alloc, json, "bodies")?, Expected::FewBodies));
     }
     if is_long(json, "callers", MOST_CALLERS as usize) {
         return Ok((value_of(alloc, json, "callers")?, Expected::FewCallers));

@@ -1,6 +1,6 @@
 use dv_forms::leaf::call as call_in;
 use dv_forms::limits::most_nodes;
-use dv_forms::versions::{COMMENTS_SINCE, MARKS_SINCE};
+use dv_forms::versions::{BODIES_SINCE, COMMENTS_SINCE, MARKS_SINCE};
 use dv_forms::want::{Call, Item, Keyed, Leaf, Object, Pair, Want};
 use dv_forms::words::{
     ACTION_FORMS, END_FORMS, EVENT_FORMS, Form, LEAVING_FORMS, STATEMENT_FORMS, WORK_FORMS,
@@ -31,6 +31,8 @@ pub enum Expected {
     Parent,
     /// A name that no pool before has.
     FreePool,
+    /// A name that no body before has.
+    FreeBody,
     /// An object with a version.
     Document,
     /// A text of so many bytes at most.
@@ -43,6 +45,8 @@ pub enum Expected {
     FewClasses,
     /// So many pools at most.
     FewPools,
+    /// So many named bodies at most.
+    FewBodies,
     /// So many callers at most.
     FewCallers,
     /// So many posts at most.
@@ -79,6 +83,9 @@ fn found_text(version: u32, object: Object) -> &'static str {
     match object {
         Object::Deferred => deferred_text(version),
         Object::Pool => pool_text(version),
+        Object::Body => {
+            "the name of a body that the key `bodies` declares: a text of 1 to 32 of A to Z, a to z, 0 to 9 and _, and after the first also -, . and :"
+        }
         Object::Class => {
             "the name of a class: one that every script has, or one that the key `classes` declares"
         }
@@ -112,30 +119,58 @@ fn leaf_text(version: u32, leaf: Leaf) -> &'static str {
     }
 }
 
-fn call_text(call: Call) -> &'static str {
+fn end_text(version: u32) -> &'static str {
+    if version < BODIES_SINCE {
+        "an end: an array of one of the words return, pass, plus, raise, trap and wait, and its arguments"
+    } else {
+        "an end: an array of one of the words return, pass, plus, raise, throw, trap, wait and run, and its arguments"
+    }
+}
+
+fn leaving_text(version: u32) -> &'static str {
+    if version < BODIES_SINCE {
+        "an end of an inline body: an array of one of the words return, pass, plus and raise, and its arguments"
+    } else {
+        "an end of an inline body: an array of one of the words return, pass, plus, raise and throw, and its arguments"
+    }
+}
+
+fn call_text(version: u32, call: Call) -> &'static str {
     match call {
         Call::Event => "an event: an array of a word and its arguments",
         Call::Action => "an action: an array of a word and its arguments",
         Call::Statement =>
             "a statement: an array of one of the words do, await, try and end, and its arguments",
-        Call::End => {
-            "an end: an array of one of the words return, pass, plus, raise, trap and wait, and its arguments"
-        }
-        Call::Leaving => {
-            "an end of an inline body: an array of one of the words return, pass, plus and raise, and its arguments"
-        }
+        Call::End => end_text(version),
+        Call::Leaving => leaving_text(version),
         Call::Work =>
             "a work: an array of one of the words value, raise and sum, and its arguments",
     }
 }
 
-fn word_text(call: Call) -> &'static str {
+fn end_word_text(version: u32) -> &'static str {
+    if version < BODIES_SINCE {
+        "the word of an end: return, pass, plus, raise, trap or wait"
+    } else {
+        "the word of an end: return, pass, plus, raise, throw, trap, wait or run"
+    }
+}
+
+fn leaving_word_text(version: u32) -> &'static str {
+    if version < BODIES_SINCE {
+        "the word of an end of an inline body: return, pass, plus or raise"
+    } else {
+        "the word of an end of an inline body: return, pass, plus, raise or throw"
+    }
+}
+
+fn word_text(version: u32, call: Call) -> &'static str {
     match call {
         Call::Event => "the word of an action, advance or drain",
         Call::Action => "the word of an action",
         Call::Statement => "the word of a statement: do, await, try or end",
-        Call::End => "the word of an end: return, pass, plus, raise, trap or wait",
-        Call::Leaving => "the word of an end of an inline body: return, pass, plus or raise",
+        Call::End => end_word_text(version),
+        Call::Leaving => leaving_word_text(version),
         Call::Work => "the word of a work: value, raise or sum",
     }
 }
@@ -144,6 +179,7 @@ fn pair_text(pair: Pair) -> &'static str {
     match pair {
         Pair::Declaration => "a class: an array [NAME,PARENT] of two texts",
         Pair::Pool => "a pool: an array [NAME,WORKERS] of a text and an integer from 0 to 16",
+        Pair::Body => "a named body: an array [NAME,BODY] of a text and a body",
     }
 }
 
@@ -168,6 +204,8 @@ fn array_text(item: Item) -> &'static str {
         Item::ListFlag | Item::GatherFlag => "an array of flags",
         Item::Declaration => "an array of classes [NAME,PARENT]",
         Item::Pool => "an array of pools [NAME,WORKERS]",
+        Item::Place => "an array of places in lists, each an integer from 0 to 1000000",
+        Item::NamedBody => "an array of named bodies [NAME,BODY]",
     }
 }
 
@@ -176,11 +214,11 @@ fn want_text(version: u32, want: Want) -> &'static str {
         Want::Leaf(leaf) => leaf_text(version, leaf),
         Want::Value =>
             "a value: null, true, false, an integer of 64 bits, a text or an array of values",
-        Want::Call(call) => call_text(call),
+        Want::Call(call) => call_text(version, call),
         Want::Pair(pair) => pair_text(pair),
         Want::Keyed(keyed) => keyed_text(keyed),
         Want::Array(item) => array_text(item),
-        Want::Word(call) => word_text(call),
+        Want::Word(call) => word_text(version, call),
         Want::Other(keyed) => keys_text(version, keyed),
     }
 }
@@ -210,7 +248,7 @@ fn script_keys_text(version: u32) -> &'static str {
             "no such key: a script of version 2 has version, events, limit, classes, cooperator, pools and callers"
         }
         _ => {
-            "no such key: a script of version 3 has version, events, limit, classes, cooperator, pools, callers and comment"
+            "no such key: a script of version 3 has version, events, limit, classes, cooperator, pools, bodies, callers and comment"
         }
     }
 }
@@ -250,6 +288,7 @@ impl Expected {
                 "the name of a class that is in the table already, of those that every script has or declared before",
             ),
             Expected::FreePool => text.push_str("the name of a pool that no pool before it has"),
+            Expected::FreeBody => text.push_str("the name of a body that no body before it has"),
             Expected::Document => text.push_str("a script: an object that has the key `version`"),
             Expected::Short => text.push_str(
                 "a text of 1048576 bytes at most, or JSON of version 3 of 67108864 bytes at most",
@@ -258,6 +297,7 @@ impl Expected {
             Expected::FewNodes(version) => write_few_nodes(text, version),
             Expected::FewClasses => text.push_str("256 classes at most"),
             Expected::FewPools => text.push_str("4 pools at most"),
+            Expected::FewBodies => text.push_str("256 named bodies at most"),
             Expected::FewCallers => text.push_str("8 callers at most"),
             Expected::FewPosts => text.push_str("256 posts of a caller at most"),
             Expected::FewTicks => { text.push_str("advances that sum to 1000000000000000 at most") }

@@ -2,6 +2,7 @@
 //! there.
 #![tactic(auto)]
 
+mod bodies;
 mod classes;
 mod counts;
 mod document;
@@ -12,6 +13,7 @@ mod fits;
 mod leaf;
 mod line;
 mod misfit;
+mod names;
 mod place;
 mod pools;
 mod question;

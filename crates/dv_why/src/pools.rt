@@ -1,19 +1,18 @@
 //! The names of the pools that a script declares.
 
-ghost use Rattle.std.specs.Prelude.{◌≡◌, ◌∷◌, true, false, [], None, Some, IfOk, IfSome, codes};
-ghost use Rattle.serde_json.specs.Find.{as_array, as_str, at};
+ghost use Rattle.std.specs.Prelude.{◌≡◌, ◌∷◌, [], None, IfOk, IfSome, codes};
+ghost use Rattle.serde_json.specs.Find.{as_array};
 ghost use Rattle.serde_json.specs.View.{view};
-ghost use Rattle.dv_why.specs.Documents.{AreDistinct, PoolsDistinct, first_text, list_in};
-ghost use Rattle.dv_why.specs.Documents.{or_no_items, script_in};
+ghost use Rattle.dv_why.specs.Documents.{AreDistinct, PoolsDistinct, list_in, or_no_items};
+ghost use Rattle.dv_why.specs.Documents.{script_in};
 ghost use Rattle.dv_why.specs.Finds.{Leads};
-ghost use Rattle.dv_why.specs.Fits.{is_given};
 ghost use Rattle.dv_why.specs.Places.{to_key};
 ghost use Rattle.dv_forms.specs.Wants.{all_pools};
 ghost use Rattle.dv_why.specs.Wrong.{IsGivenTwice};
 
 use crate::document::version_of;
 use crate::misfit::{Misfit, Step};
-use crate::question::is_declared;
+use crate::names::second_name;
 use dv_forms::want::{Leaf, Object, Want};
 use serde_json::Value as Json;
 use std::alloc::{AllocError, Global};
@@ -59,28 +58,4 @@ fn in_pools(alloc: Global, pools: &Json) -> Result<Option<Misfit<'_>>, AllocErro
         }
     }
     Ok(None)
-}
-
-/// The name of a pool, where one of those before it has the same.
-fn second_name<'j>(before: &[Json], pool: &'j Json) -> Option<&'j Json>
-    ensures name { IfSome result (λ name. at 0 (view pool.now) ≡ Some (view name.now)) }
-    ensures given { IfSome result (λ name. is_given before.now (as_str (view name.now)) ≡ true) }
-    ensures none { result ≡ None → is_given before.now (first_text (view pool.now)) ≡ false }
-{
-    let name = pool.get(0usize)?;
-    if is_given(before, name) {
-        Some(name)
-    } else {
-        None
-    }
-}
-
-/// Whether it is the name of one of these pools.
-fn is_given(pools: &[Json], name: &Json) -> bool
-    ensures { result ≡ is_given pools.now (as_str (view name.now)) }
-{
-    match name.as_str() {
-        Some(name) => is_declared(pools, name),
-        None => false,
-    }
 }

@@ -6,7 +6,7 @@ ghost use Rattle.dv_why.specs.Fits.{suits};
 
 use crate::fits::fits;
 use dv_forms::want::{Leaf, Want};
-use dv_questions::question::{is_known, is_named, is_pool};
+use dv_questions::question::{is_body, is_known, is_named, is_pool};
 use dv_value::classes::Classes;
 use serde_json::Value as Json;
 
@@ -21,12 +21,14 @@ pub enum Question<'q> {
     Classes(&'q Classes),
     /// A pool that isn't among these.
     Pools(&'q [Json]),
+    /// A body that isn't among these.
+    Bodies(&'q [Json]),
 }
 
-fn has_name(name: &str, pool: &Json) -> bool
-    ensures { result ≡ has_name name.now (option_and_then as_str (at 0 (view pool.now))) }
+fn has_name(name: &str, array: &Json) -> bool
+    ensures { result ≡ has_name name.now (option_and_then as_str (at 0 (view array.now))) }
 {
-    match pool.get(0usize) {
+    match array.get(0usize) {
         Some(json) => match json.as_str() {
             Some(other) => other == name,
             None => false,
@@ -35,11 +37,11 @@ fn has_name(name: &str, pool: &Json) -> bool
     }
 }
 
-/// Whether a pool of this name is among those that are declared.
-pub fn is_declared(pools: &[Json], name: &str) -> bool
-    ensures { result ≡ is_declared pools.now name.now }
+/// Whether one of these arrays declares a pool or a body of this name.
+pub fn is_declared(arrays: &[Json], name: &str) -> bool
+    ensures { result ≡ is_declared arrays.now name.now }
 {
-    pools.iter().any(|pool| has_name(name, pool))
+    arrays.iter().any(|array| has_name(name, array))
 }
 
 fn name_suits(question: Question<'_>, leaf: Leaf, name: &str) -> bool
@@ -50,6 +52,7 @@ fn name_suits(question: Question<'_>, leaf: Leaf, name: &str) -> bool
         Question::Names(version) => is_named(version, leaf, name),
         Question::Classes(classes) => is_known(classes, leaf, name),
         Question::Pools(pools) => !is_pool(leaf) || is_declared(pools, name),
+        Question::Bodies(bodies) => !is_body(leaf) || is_declared(bodies, name),
     }
 }
 
@@ -83,7 +86,7 @@ pub fn suits(question: Question<'_>, want: Want, json: &Json) -> bool
 {
     match question {
         Question::Shape(version) => fits(version, want, json),
-        Question::Names(_) | Question::Classes(_) | Question::Pools(_) => {
+        Question::Names(_) | Question::Classes(_) | Question::Pools(_) | Question::Bodies(_) => {
             names_suit(question, want, json)
         }
     }

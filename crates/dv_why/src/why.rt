@@ -6,13 +6,15 @@ ghost use Rattle.dv_reader.specs.Refusal.{Refuses};
 ghost use Rattle.dv_reader.specs.declared.error.ScriptFault.TheVariants.{NotJson, BadVersion};
 ghost use Rattle.dv_reader.specs.declared.error.ScriptFault.TheVariants.{BadShape, BadName};
 ghost use Rattle.dv_reader.specs.declared.error.ScriptFault.TheVariants.{BadClass, BadPool};
-ghost use Rattle.dv_why.specs.Documents.{PoolsDistinct, list_in, script_in};
+ghost use Rattle.dv_reader.specs.declared.error.ScriptFault.TheVariants.{BadBody};
+ghost use Rattle.dv_why.specs.Documents.{BodiesDistinct, PoolsDistinct, list_in, script_in};
 ghost use Rattle.dv_why.specs.Finds.{IsTableOf, Leads, Misfits};
 ghost use Rattle.dv_why.specs.Reasons.{IsRefusedFor};
 ghost use Rattle.dv_why.specs.Why.{accepted, first_characters, refused, refused_text, Shows};
 ghost use Rattle.dv_why.specs.Why.{Explains, TellsOf, TellsOfJson, TellsOfText, IsToldOf, Answers};
 ghost use Rattle.dv_why.specs.Wrong.{IsAtVersion, IsWrong};
 
+use crate::bodies::second_body;
 use crate::classes::{Table, make_table};
 use crate::counts::{items_of, too_many};
 use crate::document::{script_of, value_of, version_of, whole};
@@ -80,7 +82,8 @@ fn refusal(alloc: Global, fault: ScriptFault, bytes: &[u8]) -> Result<Json, Allo
         | ScriptFault::BadName
         | ScriptFault::BadClass
         | ScriptFault::OutOfMemory
-        | ScriptFault::BadPool => of_json(alloc, fault, bytes),
+        | ScriptFault::BadPool
+        | ScriptFault::BadBody => of_json(alloc, fault, bytes),
     }
 }
 
@@ -224,6 +227,7 @@ fn misfit_of(
         ScriptFault::BadName => bad_name(alloc, json),
         ScriptFault::BadClass => bad_class(alloc, json),
         ScriptFault::BadPool => bad_pool(alloc, json),
+        ScriptFault::BadBody => bad_body(alloc, json),
         ScriptFault::TooLong | ScriptFault::NotJson | ScriptFault::OutOfMemory => Ok((
             whole(alloc, json),
             Expected::Wanted(version_of(json), script_of(json)),
@@ -335,4 +339,30 @@ fn unknown_pool<'j>(
     ensures { IfOk result (λ found. Explains BadPool (view json.now) found.0) }
 {
     in_script(alloc, Question::Pools(pools), json)
+}
+
+fn bad_body(alloc: Global, json: &Json) -> Result<(Misfit<'_>, Expected), AllocError>
+    requires refused { IsRefusedFor BadBody (view json.now) }
+    requires shallow { depth (view json.now) ≤ MOST_LEVELS }
+    ensures { IfOk result (λ found. Explains BadBody (view json.now) found.0) }
+{
+    match second_body(alloc, json)? {
+        Some(misfit) => Ok((misfit, Expected::FreeBody)),
+        None => unknown_body(alloc, items_of(json, "bodies"), json),
+    }
+}
+
+/// The first body that is used by its name and isn't among those of the document.
+fn unknown_body<'j>(
+    alloc: Global,
+    bodies: &[Json],
+    json: &'j Json,
+) -> Result<(Misfit<'j>, Expected), AllocError>
+    requires refused { IsRefusedFor BadBody (view json.now) }
+    requires shallow { depth (view json.now) ≤ MOST_LEVELS }
+    requires once { BodiesDistinct (view json.now) }
+    requires bodies { items_view bodies.now ≡ list_in (codes "bodies") (view json.now) }
+    ensures { IfOk result (λ found. Explains BadBody (view json.now) found.0) }
+{
+    in_script(alloc, Question::Bodies(bodies), json)
 }

@@ -1,5 +1,5 @@
-use Rattle.std.proofs.Common.{refl, arith}
-use Rattle.std.proofs.lemmas.Fmt.{decimal_digit}
+use Rattle.std.proofs.Common.{◌≡◌, ◌++◌, codes, decimal, refl, ap, ◌∙◌, arith}
+use Rattle.std.proofs.lemmas.Fmt.{decimal_digit, decimal_step}
 use Rattle.dv_reader.proofs.error.refusal_text.Goals as goal
 
 pub returns-in-TooLong : goal.returns-in-TooLong
@@ -28,3 +28,9 @@ returns-in-OutOfMemory c = rw c.in-OutOfMemory.is (rw (decimal_digit 8 (omega ar
 
 pub returns-in-BadPool : goal.returns-in-BadPool
 returns-in-BadPool c = rw c.in-BadPool.is (rw (decimal_digit 9 (omega arith)) refl)
+
+ten : decimal 10 ≡ codes "10"
+ten = decimal_step 10 (omega arith) (omega arith) ∙ ap (λ digits. digits ++ codes "0") (decimal_digit 1 (omega arith))
+
+pub returns-in-BadBody : goal.returns-in-BadBody
+returns-in-BadBody c = rw c.in-BadBody.is (rw ten refl)

@@ -9,5 +9,7 @@ pub returns : goal.returns
 returns c = λ is.
     let d = view c.args.json.now in
     let draft = c.args.draft.now in
-    sound d draft (ap (λ ps. answers (every draft.version draft.script.classes ps) d draft)
-    (sym c.as_slice-pools.ensures) ∙ sym c.answers.ensures ∙ is)
+    sound d draft (ap (λ ps. answers (every draft.version draft.script.classes ps draft.script.bodies) d draft)
+    (sym c.as_slice-pools.ensures)
+    ∙ ap (λ bs. answers (every draft.version draft.script.classes c.as_slice-pools.result.now bs) d draft)
+    (sym c.as_slice-bodies.ensures) ∙ sym c.answers.ensures ∙ is)

@@ -8,7 +8,7 @@ use Rattle.dv_why.specs.declared.misfit.Step.TheVariants as step
 use Rattle.dv_why.specs.Documents.{AreDistinct, or_no_items, name_in}
 use Rattle.dv_why.specs.Fits.{is_given}
 use Rattle.dv_why.specs.Places.{path_of}
-use Rattle.dv_why.proofs.PoolNames.{all_new, given_some, is_new}
+use Rattle.dv_why.proofs.GivenNames.{all_new, given_some, is_new}
 use Rattle.dv_why.proofs.Under.{at_under}
 use Rattle.dv_why.proofs.pools.in_pools.Goals as goal
 use Rattle.dv_why.proofs.pools.in_pools.Goals.{in_default-via-in-None-1, in_default-via-in-Some+in-None-1}
