@@ -21,7 +21,8 @@ use Rattle.dv_forms.specs.declared.want.Keyed.TheVariants as keyed
 use Rattle.dv_forms.specs.declared.want.Leaf.TheVariants as leaf
 use Rattle.dv_forms.specs.declared.want.Want.{Want}
 use Rattle.dv_forms.specs.declared.want.Want.TheVariants as want
-use Rattle.dv_forms.specs.Forms.{Key, IsClass, IsNumber, IsText, IsValue, a_null, a_bool, an_int, a_text as a_string, a_list}
+use Rattle.dv_forms.specs.Forms.{Key, IsClass, IsNumber, IsText, IsValue, a_null, a_bool, an_int, a_text as a_string}
+use Rattle.dv_forms.specs.Forms.{a_list}
 use Rattle.dv_forms.specs.Forms.{IsMember}
 use Rattle.dv_forms.specs.Forms.{a_value, a_fault, AreMembers, no_more, one_more, IsFailure, a_failure, a_first_error}
 use Rattle.dv_forms.specs.Forms.{failure_keys, first_error, first_error_keys, has_none_but, is_first_error, place_of}
