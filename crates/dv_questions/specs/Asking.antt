@@ -1,6 +1,6 @@
 -- A question is asked of each text and each object of a value, by the table of words: of what each place asks for.
-use Rattle.std.specs.Prelude.{ℕ, zero, suc, Bool, true, ◌&&◌, List, [], ◌∷◌, Option, Some, None}
-use Rattle.serde_json.specs.Data.{Data, Items, no_items, item}
+use Rattle.std.specs.Prelude.{ℕ, zero, suc, Bool, true, false, ◌&&◌, List, [], ◌∷◌, Option, Some, None}
+use Rattle.serde_json.specs.Data.{Data, null, boolean, number, string, array, object, Items, no_items, item}
 use Rattle.serde_json.specs.Find.{as_str, as_array, get}
 use Rattle.dv_forms.specs.declared.want.Want.{Want}
 use Rattle.dv_forms.specs.declared.want.Want.TheVariants as want
@@ -24,6 +24,15 @@ if_there good (Some x) = good x
 abbrev pub each_item : (Data → Bool) → Items → Bool
 each_item good no_items = true
 each_item good (item d ds) = good d && each_item good ds
+
+-- whether a value is neither an array nor an object
+abbrev pub is_scalar : Data → Bool
+is_scalar null = true
+is_scalar (boolean b) = true
+is_scalar (number x) = true
+is_scalar (string text) = true
+is_scalar (array ds) = false
+is_scalar (object ms) = false
 
 -- of each member of an array of a value
 abbrev pub each_member : (Want → Data → Bool) → Items → Bool

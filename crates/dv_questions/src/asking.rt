@@ -6,11 +6,12 @@ ghost use Rattle.serde_json.specs.Find.{as_array, as_str, get};
 ghost use Rattle.dv_forms.specs.Wants.{key_want, keys_in, member_want};
 ghost use Rattle.dv_forms.specs.Words.{may_stand};
 ghost use Rattle.dv_questions.specs.Asking.{all_suit, call_suits, each_item, each_member};
-ghost use Rattle.dv_questions.specs.Asking.{if_there, keys_suit, one_for_one, word_suits};
+ghost use Rattle.dv_questions.specs.Asking.{if_there, is_scalar, keys_suit, one_for_one};
+ghost use Rattle.dv_questions.specs.Asking.{word_suits};
 ghost use Rattle.dv_questions.specs.Questions.{asked_by};
 
 use crate::question::Question;
-use dv_forms::want::{Call, Keyed, Leaf, Want};
+use dv_forms::want::{Call, Keyed, Leaf, Want, member_want};
 use dv_forms::words::form_of;
 use serde_json::Value as Json;
 
@@ -72,19 +73,27 @@ pub fn all_suit(question: &Question<'_>, levels: u32, want: Want, json: &Json) -
     }
 }
 
+fn is_scalar(json: &Json) -> bool
+    ensures { result ≡ is_scalar (view json.now) }
+{
+    match json {
+        Json::Null | Json::Bool(_) | Json::Number(_) | Json::String(_) => true,
+        Json::Array(_) | Json::Object(_) => false,
+    }
+}
+
 /// The same of a member of an array of a value: what is neither an array nor an object has no text
 /// that is asked of.
 #[cycle(ask)]
-#[tactic(auto, using(crate::proofs::Members::null_suits, crate::proofs::Members::boolean_suits, crate::proofs::Members::number_suits, crate::proofs::Members::string_suits))]
+#[tactic(auto, using(crate::proofs::Members::scalar_suits))]
 fn member_suits(question: &Question<'_>, levels: u32, json: &Json) -> bool
     ensures { result
         ≡ all_suit (asked_by question.now) levels (member_want (view json.now)) (view json.now) }
 {
-    match json {
-        Json::Null | Json::Bool(_) | Json::Number(_) | Json::String(_) => true,
-        Json::Array(_) => all_suit(question, levels, Want::Value, json),
-        Json::Object(_) => all_suit(question, levels, Want::Keyed(Keyed::Failure), json),
+    if is_scalar(json) {
+        return true;
     }
+    all_suit(question, levels, member_want(json), json)
 }
 
 #[cycle(ask)]
