@@ -160,44 +160,45 @@ parts_of v n ms b is h =
       class = ap (λ c. is_of_class c (object ms)) (sym is) ∙ keys.1;
     }
 
-mutual
-  pub failure_of : (v n : ℕ) (table : List Class) (d : Data) → IsFine v n (want.Keyed keyed.Failure) d
-      → (f : Failure) × IsFailure table d f
-  failure_of v zero table (object ms) h =
-      let deep : depth (object ms) ≤ 0 = h.deep in absurd (omega (arith, deep))
-  failure_of v (suc n) table (object ms) h = failure_by v n table ms (is_first_error (object ms)) refl h
-  failure_of v n table null h = let no : fits v (want.Keyed keyed.Failure) null ≡ true = fits_fine h in cc
-  failure_of v n table (boolean b) h =
-      let no : fits v (want.Keyed keyed.Failure) (boolean b) ≡ true = fits_fine h in cc
-  failure_of v n table (number x) h =
-      let no : fits v (want.Keyed keyed.Failure) (number x) ≡ true = fits_fine h in cc
-  failure_of v n table (string text) h =
-      let no : fits v (want.Keyed keyed.Failure) (string text) ≡ true = fits_fine h in cc
-  failure_of v n table (array ds) h =
-      let no : fits v (want.Keyed keyed.Failure) (array ds) ≡ true = fits_fine h in cc
+-- failures that nest to so many levels read
+abbrev AreRead : ℕ → ℕ → List Class → Type 0
+AreRead v n table = (d : Data) → IsFine v n (want.Keyed keyed.Failure) d → (f : Failure) × IsFailure table d f
 
-  failure_by : (v n : ℕ) (table : List Class) (ms : Members) (b : Bool) → is_first_error (object ms) ≡ b
-      → IsFine v (suc n) (want.Keyed keyed.Failure) (object ms) → (f : Failure) × IsFailure table (object ms) f
-  failure_by v n table ms true is h =
-      let p = parts_of v (suc n) ms true is h in
-      let all = and_parts (is_some (get_member (codes "index") ms) && is_some (get_member (codes "sub") ms))
-      (is_empty (get_member (codes "message") ms)) p.class in
-      let two = and_parts (is_some (get_member (codes "index") ms)) (is_some (get_member (codes "sub") ms)) all.0 in
-      let c = class_key v n table ms h p.fail in
-      let i = index_key v n ms h two.0 in
-      let s = there (get_member (codes "sub") ms) two.1 in
-      let f = failure_of v n table s.0 (under (codes "sub") h refl s.1) in (
-        first_error c.0 i.0 f.0,
-        a_first_error ms c.0 i.0 s.0 f.0 is (first_error_only v ms h.suit) c.1 i.1
-            (empty_key (get_member (codes "message") ms) all.1) s.1 f.1,
-      )
-  failure_by v n table ms false is h =
-      let p = parts_of v (suc n) ms false is h in
-      let none = and_parts (not (is_some (get_member (codes "index") ms)))
-      (not (is_some (get_member (codes "sub") ms))) p.class in
-      let c = class_key v n table ms h p.fail in
-      let t = text_key v n ms h p.message in
-      (plain_failure c.0 t.0, a_failure ms c.0 t.0 is (plain_only v ms h.suit none.0 none.1) c.1 t.1)
+failure_by : (v n : ℕ) (table : List Class) → AreRead v n table → (ms : Members) (b : Bool)
+    → is_first_error (object ms) ≡ b
+    → IsFine v (suc n) (want.Keyed keyed.Failure) (object ms) → (f : Failure) × IsFailure table (object ms) f
+failure_by v n table read ms true is h =
+    let p = parts_of v (suc n) ms true is h in
+    let all = and_parts (is_some (get_member (codes "index") ms) && is_some (get_member (codes "sub") ms))
+    (is_empty (get_member (codes "message") ms)) p.class in
+    let two = and_parts (is_some (get_member (codes "index") ms)) (is_some (get_member (codes "sub") ms)) all.0 in
+    let c = class_key v n table ms h p.fail in
+    let i = index_key v n ms h two.0 in
+    let s = there (get_member (codes "sub") ms) two.1 in
+    let f = read s.0 (under (codes "sub") h refl s.1) in (
+      first_error c.0 i.0 f.0,
+      a_first_error ms c.0 i.0 s.0 f.0 is (first_error_only v ms h.suit) c.1 i.1
+          (empty_key (get_member (codes "message") ms) all.1) s.1 f.1,
+    )
+failure_by v n table read ms false is h =
+    let p = parts_of v (suc n) ms false is h in
+    let none = and_parts (not (is_some (get_member (codes "index") ms)))
+    (not (is_some (get_member (codes "sub") ms))) p.class in
+    let c = class_key v n table ms h p.fail in
+    let t = text_key v n ms h p.message in
+    (plain_failure c.0 t.0, a_failure ms c.0 t.0 is (plain_only v ms h.suit none.0 none.1) c.1 t.1)
+
+no_failure : (v : ℕ) (table : List Class) → AreRead v 0 table
+no_failure v table (object ms) h = let deep : depth (object ms) ≤ 0 = h.deep in absurd (omega (arith, deep))
+no_failure v table d h = let fit : fits v (want.Keyed keyed.Failure) d ≡ true = fits_fine h in cc
+
+failure_fine : (v n : ℕ) (table : List Class) → AreRead v n table → AreRead v (suc n) table
+failure_fine v n table read (object ms) h = failure_by v n table read ms (is_first_error (object ms)) refl h
+failure_fine v n table read d h = let fit : fits v (want.Keyed keyed.Failure) d ≡ true = fits_fine h in cc
+
+failure_of : (v n : ℕ) (table : List Class) → AreRead v n table
+failure_of v zero table = no_failure v table
+failure_of v (suc n) table = failure_fine v n table (failure_of v n table)
 
 -- ---- values
 
